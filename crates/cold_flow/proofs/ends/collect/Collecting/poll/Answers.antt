@@ -1,0 +1,26 @@
+use Rattle.std.proofs.Common.{rules, ◌≡◌, ◌++◌, ◌∷◌, [], refl}
+use Rattle.cold_flow.specs.GatherLaws.{gathers_value, gathers_end, gathers_so_far}
+use Rattle.cold_flow.proofs.ends.collect.Collecting.poll.Goals as goal
+
+pub returns-then-is_err-clause-gathers : goal.returns-then-is_err-clause-gathers
+returns-then-is_err-clause-gathers g c =
+    let after = rw c.in-Ready-Value.field-0-is at c.in-Ready-Value.ensures.narrows in
+    let same : c.push.new.self.items ≡ c.loop-taken.self.values.items = rw (c.push.ensures.items, c.is_err.ensures.negation, c.if-is_err.true) in
+    rw (c.loop-taken.invariant.before, same) (refl, refl, c.loop-taken.invariant.within _ (gathers_so_far _ _ (g.met.R.Run.begins _)))
+
+pub returns-in-Ready-End-clause-gathers : goal.returns-in-Ready-End-clause-gathers
+returns-in-Ready-End-clause-gathers g c =
+    let came = rw c.in-Ready-End.field-0-is at c.in-Ready-End.ensures.narrows in
+    rw (c.loop-taken.invariant.before, c.replace-values.ensures.value, c.replace-values.ensures.after)
+    (refl, c.new-empty.ensures.items, c.loop-taken.invariant.within _ (gathers_end _ _ _ came))
+
+pub loop-taken-preserved : goal.loop-taken-preserved
+loop-taken-preserved g c =
+    let after = rw c.in-Ready-Value.field-0-is at c.in-Ready-Value.ensures.narrows in
+    let more : c.push.new.self.items ≡ c.loop-taken.self.values.items ++ c.in-Ready-Value.value ∷ [] = rw (c.push.ensures.items, c.is_err.ensures.negation, c.if-is_err.false) in
+    record {
+      before = c.loop-taken.invariant.before;
+      going = c.loop-taken.invariant.going;
+      within = λ t h. c.loop-taken.invariant.within t (gathers_value _ _ _ _ _ after more t h);
+      kept = search rules;
+    }

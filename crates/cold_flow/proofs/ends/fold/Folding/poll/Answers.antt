@@ -1,0 +1,15 @@
+use Rattle.std.proofs.Common.{rules}
+use Rattle.cold_flow.specs.FoldLaws.{folds_value}
+use Rattle.cold_flow.proofs.ends.fold.Folding.poll.Goals as goal
+
+pub loop-taken-preserved : goal.loop-taken-preserved
+loop-taken-preserved g c =
+    let after = rw c.in-Ready-Value.field-0-is at c.in-Ready-Value.ensures.narrows in
+    let made = rw c.loop-taken.invariant.same at c.apply-next.ensures in
+    record {
+      before = c.loop-taken.invariant.before;
+      going = c.loop-taken.invariant.going;
+      same = c.loop-taken.invariant.same;
+      folds = folds_value _ _ _ _ _ _ _ _ c.loop-taken.invariant.folds after made;
+      kept = search rules;
+    }

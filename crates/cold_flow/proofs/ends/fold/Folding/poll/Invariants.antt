@@ -1,0 +1,13 @@
+use Rattle.std.proofs.Common.{◌≡◌, None}
+use Rattle.futures.specs.Task.{Keeps}
+use Rattle.cold_flow.specs.Fold.{Folds}
+use Rattle.cold_flow.proofs.ends.fold.Folding.poll.Given as goal
+
+abbrev pub invariant-loop-taken : goal.invariant-loop-taken
+invariant-loop-taken g l = record {
+  before : l.initial.self.cause ≡ None;
+  going : l.self.cause ≡ None;
+  same : l.self.function ≡ l.initial.self.function;
+  folds : Folds (g.G.Apply.gives l.initial.self.function) l.initial.self.state (g.R.Run.may l.initial.self.run) l.self.state (g.R.Run.may l.self.run);
+  kept : Keeps l.initial.cx l.cx;
+}

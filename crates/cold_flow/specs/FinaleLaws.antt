@@ -1,0 +1,70 @@
+-- Laws of operators that change how their source ends.
+use Rattle.std.specs.Prelude.{◌≡◌, List, [], ◌++◌, Option, Some, None, refl}
+use Rattle.std.proofs.Common.{ap, sym, ◌∙◌, inl, inr, append_assoc}
+use Rattle.std.proofs.lemmas.List.{append-nil}
+use Rattle.cold_flow.specs.declared.cause.Cause.{Cause}
+use Rattle.cold_flow.specs.declared.cause.Cause.TheVariants.{Finished, Failed, Cancelled, Refused}
+use Rattle.cold_flow.specs.declared.operators.catch_with.Caught.{Caught}
+use Rattle.cold_flow.specs.declared.operators.catch_with.Caught.TheVariants.{End, Last, Fault}
+use Rattle.cold_flow.specs.Trace.{Trace, ended_by}
+use Rattle.cold_flow.specs.Poll.{Traces, After, Through, Beginnings}
+use Rattle.cold_flow.specs.Finale.{Finale, added, with_finale, caught_by, catching, completing}
+use Rattle.cold_flow.specs.Laws.{Monotone, Through-after, led-begins}
+
+module _ {A E : Type 0} (finale : Cause E → Finale A E) where
+  pub finale-monotone : Monotone (with_finale finale)
+  finale-monotone t u (inl e) = inl (ap (with_finale finale) e)
+  finale-monotone (xs, None) u (inr h) =
+      inr (
+        refl,
+        (
+          h.1.0 ++ added finale u.1,
+          ap (λ (ys : List A). ys ++ (h.1.0 ++ added finale u.1)) (append-nil xs) ∙ sym (append_assoc xs h.1.0 (added finale u.1))
+              ∙ ap (λ (ys : List A). ys ++ added finale u.1) h.1.1,
+        ),
+      )
+  finale-monotone (xs, Some k) u (inr h) = cc
+
+  -- a value passes
+  pub finale_passes : (old new : Traces A E) (v : A) → After old v new
+      → After (Through (with_finale finale) old) v (Through (with_finale finale) new)
+  finale_passes old new v after =
+      Through-after (with_finale finale) (with_finale finale) old new v v (λ u. refl) after
+
+  -- the end of the source becomes a last value and an end
+  pub finale_last : (source : Traces A E) (k : Cause E) (v : A) → finale k ≡ (Some v, Finished) → source (ended_by [] k)
+      → After (Through (with_finale finale) source) v (Beginnings (ended_by [] Finished))
+  finale_last source k v is came t h = record {
+    given = ended_by [] k;
+    came = came;
+    begins = rw is (led-begins v t (ended_by [] Finished) h);
+  }
+
+  -- the end of the source becomes an end
+  pub finale_ends : (source : Traces A E) (k j : Cause E) → finale k ≡ (None, j) → source (ended_by [] k)
+      → Through (with_finale finale) source (ended_by [] j)
+  finale_ends source k j is came = record { given = ended_by [] k; came = came; begins = rw is (inl refl) }
+
+caught-cause : {A E : Type 0} (c : Caught A E) → (caught_by c).1 ≡ Cancelled → ⊥
+caught-cause End e = cc
+caught-cause (Last v) e = cc
+caught-cause (Fault f) e = cc
+
+some-cause : {E : Type 0} (j k : Cause E) → Some j ≡ Some k → j ≡ k
+some-cause j k e = cc
+
+pub catching-cause : {A E : Type 0} (g : E → Caught A E) (t : Trace A E) (k : Option (Cause E))
+    → (with_finale (catching g) t).1 ≡ Some Cancelled → t.1 ≡ Some Cancelled
+catching-cause g (xs, None) k e = cc
+catching-cause g (xs, Some Finished) k e = cc
+catching-cause g (xs, Some (Failed f)) k e = absurd (caught-cause (g f) (some-cause _ _ e))
+catching-cause g (xs, Some Cancelled) k e = refl
+catching-cause g (xs, Some (Refused r)) k e = cc
+
+pub completing-cause : {A E : Type 0} (g : Cause E → Option A) (t : Trace A E) (k : Option (Cause E))
+    → (with_finale (completing g) t).1 ≡ Some Cancelled → t.1 ≡ Some Cancelled
+completing-cause g (xs, None) k e = cc
+completing-cause g (xs, Some Finished) k e = cc
+completing-cause g (xs, Some (Failed f)) k e = cc
+completing-cause g (xs, Some Cancelled) k e = refl
+completing-cause g (xs, Some (Refused r)) k e = cc

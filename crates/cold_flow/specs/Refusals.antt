@@ -1,0 +1,15 @@
+use Rattle.std.specs.Prelude.{ℕ}
+use Rattle.cold_flow.specs.declared.refusal.Refusal.{Refusal}
+use Rattle.cold_flow.specs.declared.refusal.Refusal.TheVariants.{TooLarge, PolicyNeedsBuffer, BadLimit, NoMemory, SubscribersFull, EmitsFull, Spent, NotPositive, TooManyWorkers}
+
+-- the number under which a refusal is printed
+abbrev pub number_of : Refusal → ℕ
+number_of TooLarge = 1
+number_of PolicyNeedsBuffer = 2
+number_of BadLimit = 3
+number_of NoMemory = 4
+number_of SubscribersFull = 5
+number_of EmitsFull = 6
+number_of Spent = 7
+number_of NotPositive = 8
+number_of TooManyWorkers = 9

@@ -1,0 +1,5 @@
+//! Flows that come from nothing but values.
+
+pub mod listed;
+pub mod range;
+pub mod scripted;

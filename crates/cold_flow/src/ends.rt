@@ -1,0 +1,18 @@
+//! What collects a run.
+
+ghost use Rattle.std.specs.Prelude.{◌≡◌, None};
+
+use crate::ends::first_value::First;
+use crate::run::Run;
+
+pub mod collect;
+pub mod first_value;
+pub mod fold;
+pub mod to_list;
+
+/// Waits for the first value of `run`: Kotlin's `first`.
+pub fn first<R: Run>(run: R) -> First<R>
+    ensures { (result.run ≡ run) × (result.answer ≡ None) }
+{
+    First { run, answer: None }
+}

@@ -1,0 +1,13 @@
+//! Operators over one source.
+
+pub mod catch_with;
+pub mod closing;
+pub mod distinct;
+pub mod drop_first;
+pub mod few;
+pub mod filter;
+pub mod map;
+pub mod on_completion;
+pub mod sift;
+pub mod take;
+pub mod transform;

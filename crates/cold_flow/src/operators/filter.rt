@@ -1,0 +1,51 @@
+//! `filter`: the values that a test answers true.
+
+ghost use Rattle.std.specs.Prelude.{Some, None, filter as kept_values, if◌then◌else◌, refl};
+ghost use Rattle.cold_flow.specs.Trace.{on_values};
+ghost use Rattle.cold_flow.specs.Poll.{Makes, MakesExactly, IsWithinPolls};
+
+use crate::apply::Apply;
+use crate::flow::Flow;
+use crate::operators::sift::{Sift, Sifted};
+
+/// Passes on the values that the test answers true.
+#[derive(Clone, Copy)]
+pub struct Testing<G> {
+    test: G,
+}
+
+/// The values of `source` that `test` answers true: Kotlin's `filter`.
+///
+/// After 64 values that were left out a poll yields. Any end of the source passes, a failure too.
+/// Cancelled, it cancels the source and ends by `Cause::Cancelled`.
+pub fn filter<F: Flow, G: Apply<F::Item, Out = bool>>(source: F, test: G) -> Sifted<F, Testing<G>>
+    ensures gives { Makes (on_values (kept_values (G.gives test))) (F.may source) (⟦<Sifted<F, Testing<G>> as Flow>⟧.may result) }
+    ensures exact { MakesExactly (on_values (kept_values (G.gives test))) (F.may source) (⟦<Sifted<F, Testing<G>> as Flow>⟧.may result) }
+    ensures lasts { IsWithinPolls (F.polls source) (⟦<Sifted<F, Testing<G>> as Flow>⟧.polls result) }
+{
+    Sifted::new(source, Testing { test })
+}
+
+impl<T: Copy, G: Apply<T, Out = bool>> Sift<T> for Testing<G> {
+    ghost use Rattle.cold_flow.specs.SiftLaws.{filter-step};
+
+    type Out = T;
+
+    ghost passes = { λ s. kept_values (G.gives s.test) };
+
+    ghost keeps = { λ s x. if G.gives s.test x then Some x else None };
+
+    ghost after = { λ s _. s };
+
+    fn sift(&mut self, value: T) -> Option<T> {
+        if self.test.apply(value) {
+            Some(value)
+        } else {
+            None
+        }
+    }
+
+    ghost none = { λ _. refl };
+
+    ghost step = { λ s. filter-step (G.gives s.test) };
+}

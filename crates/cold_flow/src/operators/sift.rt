@@ -1,0 +1,120 @@
+//! What `filter`, `drop_first` and `distinct` have in common: each value of the source passes or is left out.
+
+ghost use Rattle.std.specs.Prelude.{◌≡◌, List, [], ◌∷◌, Option};
+ghost use Rattle.std.specs.List.{cons_option};
+ghost use Rattle.cold_flow.specs.Trace.{on_values, so_far, ended_by};
+ghost use Rattle.std.proofs.Common.{ap};
+ghost use Rattle.cold_flow.specs.Poll.{Through, Makes, MakesExactly, IsWithinPolls};
+ghost use Rattle.cold_flow.specs.Laws.{Through-begins, Through-over};
+
+use crate::event::Event;
+use crate::flow::Flow;
+use crate::refusal::Refusal;
+use crate::run::{BUDGET, Finite, Run};
+use futures::task::{Context, Poll};
+
+/// Which values an operator passes on, and as what.
+pub trait Sift<T>: Copy {
+    /// What passes.
+    type Out: Copy;
+
+    // What becomes of the values to come.
+    ghost passes: { Self → List T → List Self.Out };
+
+    // What becomes of the next value.
+    ghost keeps: { Self → T → Option Self.Out };
+
+    // How it goes on after the next value.
+    ghost after: { Self → T → Self };
+
+    /// What passes of the next value of the source, if anything.
+    fn sift(&mut self, value: T) -> Option<Self::Out>
+        ensures keeps { result ≡ keeps self.old value }
+        ensures after { self.new ≡ after self.old value };
+
+    ghost none: { (s : Self) → passes s [] ≡ [] };
+
+    ghost step: { (s : Self) (x : T) (xs : List T) → passes s (x ∷ xs) ≡ cons_option (keeps s x) (passes (after s x) xs) };
+}
+
+/// The flow of an operator that passes values on or leaves them out, and its run over a run of the source.
+#[derive(Drop)]
+pub struct Sifted<S, M> {
+    source: S,
+    sift: M,
+}
+
+impl<F: Flow, M: Sift<F::Item>> Sifted<F, M> {
+    /// What `sift` passes of each value of `source`.
+    pub fn new(source: F, sift: M) -> Sifted<F, M>
+        ensures gives { Makes (on_values (M.passes sift)) (F.may source) (⟦<Sifted<F, M> as Flow>⟧.may result) }
+        ensures exact { MakesExactly (on_values (M.passes sift)) (F.may source) (⟦<Sifted<F, M> as Flow>⟧.may result) }
+        ensures lasts { IsWithinPolls (F.polls source) (⟦<Sifted<F, M> as Flow>⟧.polls result) }
+    {
+        Sifted { source, sift }
+    }
+}
+
+impl<F: Flow, M: Sift<F::Item>> Flow for Sifted<F, M> {
+    ghost use Rattle.cold_flow.specs.Laws.{Through-uncancelled};
+
+    type Item = M::Out;
+
+    type Fault = F::Fault;
+
+    type Running = Sifted<F::Running, M>;
+
+    ghost may = { λ f. Through (on_values (M.passes f.sift)) (F.may f.source) };
+
+    ghost polls = { λ f. F.polls f.source };
+
+    fn start(&self) -> Result<Sifted<F::Running, M>, Refusal> {
+        Ok(Sifted {
+            source: self.source.start()?,
+            sift: self.sift,
+        })
+    }
+
+    ghost uncancelled = { λ f. Through-uncancelled _ _ (λ _ _ e. e) (F.uncancelled f.source) };
+}
+
+impl<S: Run, M: Sift<S::Item>> Run for Sifted<S, M> {
+    type Item = M::Out;
+
+    type Fault = S::Fault;
+
+    ghost may = { λ r. Through (on_values (M.passes r.sift)) (S.may r.source) };
+
+    ghost ended = { λ r. S.ended r.source };
+
+    ghost stopped = { λ r. S.stopped r.source };
+
+    ghost polls = { λ r. S.polls r.source };
+
+    fn poll_next(&mut self, cx: &mut Context<'_>) -> Poll<Event<M::Out, S::Fault>> {
+        for _asked in 0..BUDGET {
+            match self.source.poll_next(cx) {
+                Poll::Ready(Event::Value(value)) => {
+                    if let Some(kept) = self.sift.sift(value) {
+                        return Poll::Ready(Event::Value(kept));
+                    }
+                }
+                Poll::Ready(Event::End(cause)) => return Poll::Ready(Event::End(cause)),
+                Poll::Pending => return Poll::Pending,
+            }
+        }
+        cx.yield_now()
+    }
+
+    fn cancel(&mut self) {
+        self.source.cancel();
+    }
+
+    ghost begins = { λ r. Through-begins _ _ (S.begins r.source) };
+
+    ghost over = { λ r k e. Through-over _ _ k k (ap (λ xs. ended_by xs k) (M.none r.sift)) (ap so_far (M.none r.sift)) (S.over r.source k e) };
+}
+
+impl<S: Finite, M: Sift<S::Item>> Finite for Sifted<S, M> {
+    ghost is_finite = { λ r. S.Finite.is_finite r.source };
+}

@@ -1,0 +1,124 @@
+//! `transform`: up to four values for each value.
+
+ghost use Rattle.std.specs.Prelude.{◌+◌, ◌*◌, IsTrue, ◌||◌};
+ghost use Rattle.std.specs.Iterator.{count_map};
+ghost use Rattle.cold_flow.specs.declared.operators.few.Few.TheVariants.{Zero};
+ghost use Rattle.cold_flow.specs.Poll.{Through, Makes, MakesExactly, IsWithinPolls, is_going};
+ghost use Rattle.cold_flow.specs.Few.{few_len, is_zero, held_then, transform_trace};
+
+use crate::apply::Apply;
+use crate::event::Event;
+use crate::flow::Flow;
+use crate::operators::few::Few;
+use crate::refusal::Refusal;
+use crate::run::{BUDGET, Finite, Run};
+use futures::task::{Context, Poll};
+
+/// The flow of `transform`.
+#[derive(Drop)]
+pub struct Transformed<F, G> {
+    source: F,
+    function: G,
+}
+
+/// The values that `function` answers for each value of `source`, joined in order: Kotlin's `transform`, with at most four
+/// `emit` calls for each value.
+///
+/// They come one a poll; the source is asked when none is held. After 64 answers without values a poll yields. Any end of the
+/// source passes, a failure too, after the values before it. Cancelled, it cancels the source, gives up the values that it holds,
+/// and ends by `Cause::Cancelled`.
+pub fn transform<F: Flow, U: Copy, G: Apply<F::Item, Out = Few<U>>>(
+    source: F,
+    function: G,
+) -> Transformed<F, G>
+    ensures gives { Makes (transform_trace (G.gives function)) (F.may source) (⟦<Transformed<F, G> as Flow>⟧.may result) }
+    ensures exact { MakesExactly (transform_trace (G.gives function)) (F.may source) (⟦<Transformed<F, G> as Flow>⟧.may result) }
+    ensures lasts { IsWithinPolls (count_map (λ n. 4 * n) (F.polls source)) (⟦<Transformed<F, G> as Flow>⟧.polls result) }
+{
+    Transformed { source, function }
+}
+
+impl<U: Copy, F: Flow, G: Apply<F::Item, Out = Few<U>>> Flow for Transformed<F, G> {
+    ghost use Rattle.cold_flow.specs.Laws.{Through-uncancelled};
+
+    type Item = U;
+
+    type Fault = F::Fault;
+
+    type Running = TransformedRun<F::Running, G, U>;
+
+    ghost may = { λ f. Through (transform_trace (G.gives f.function)) (F.may f.source) };
+
+    ghost polls = { λ f. count_map (λ n. 4 * n) (F.polls f.source) };
+
+    fn start(&self) -> Result<TransformedRun<F::Running, G, U>, Refusal> {
+        Ok(TransformedRun {
+            source: self.source.start()?,
+            function: self.function,
+            held: Few::Zero,
+        })
+    }
+
+    ghost uncancelled = { λ f. Through-uncancelled _ _ (λ _ _ e. e) (F.uncancelled f.source) };
+}
+
+/// The run of `transform`.
+#[derive(Drop)]
+pub struct TransformedRun<S: Run, G, U> {
+    source: S,
+    function: G,
+    // What was answered for the source's last value and not yet given.
+    held: Few<U>,
+    ghost going: { IsTrue (is_zero held || is_going (S.ended source)) },
+}
+
+impl<U: Copy, S: Run, G: Apply<S::Item, Out = Few<U>>> Run for TransformedRun<S, G, U> {
+    ghost use Rattle.cold_flow.specs.Laws.{Through-begins};
+    ghost use Rattle.cold_flow.specs.FewLaws.{held-over};
+
+    type Item = U;
+
+    type Fault = S::Fault;
+
+    ghost may = { λ r. Through (held_then (G.gives r.function) r.held) (S.may r.source) };
+
+    ghost ended = { λ r. S.ended r.source };
+
+    ghost stopped = { λ r. S.stopped r.source };
+
+    ghost polls = { λ r. count_map (λ n. 4 * n + few_len r.held) (S.polls r.source) };
+
+    #[tactic(auto, using(crate::specs::FewLaws::held_gives, crate::specs::FewLaws::asked_gives, crate::specs::FewLaws::asked_skips))]
+    fn poll_next(&mut self, cx: &mut Context<'_>) -> Poll<Event<U, S::Fault>> {
+        if let Some((value, rest)) = self.held.split_first() {
+            self.held = rest;
+            return Poll::Ready(Event::Value(value));
+        }
+        for _asked in 0..BUDGET {
+            match self.source.poll_next(cx) {
+                Poll::Ready(Event::Value(value)) => {
+                    if let Some((first, rest)) = self.function.apply(value).split_first() {
+                        self.held = rest;
+                        return Poll::Ready(Event::Value(first));
+                    }
+                }
+                Poll::Ready(Event::End(cause)) => return Poll::Ready(Event::End(cause)),
+                Poll::Pending => return Poll::Pending,
+            }
+        }
+        cx.yield_now()
+    }
+
+    fn cancel(&mut self) {
+        self.source.cancel();
+        self.held = Few::Zero;
+    }
+
+    ghost begins = { λ r. Through-begins _ _ (S.begins r.source) };
+
+    ghost over = { λ r k e. held-over (G.gives r.function) r.held (S.ended r.source) _ k r.going e (S.over r.source k e) };
+}
+
+impl<U: Copy, S: Finite, G: Apply<S::Item, Out = Few<U>>> Finite for TransformedRun<S, G, U> {
+    ghost is_finite = { λ r. S.Finite.is_finite r.source };
+}

@@ -1,0 +1,65 @@
+//! Why a call is refused.
+
+ghost use Rattle.std.specs.Prelude.{◌≡◌};
+ghost use Rattle.cold_flow.specs.Refusals.{number_of};
+ghost use Rattle.cold_flow.specs.declared.refusal.Refusal.TheVariants.{NoMemory};
+
+use std::alloc::{AllocError, AllocFailed};
+
+/// Why a call was refused. A call says in its own documentation which of these it may answer, and in which order.
+#[derive(Clone, Copy, Debug, PartialEq, Eq)]
+pub enum Refusal {
+    /// The capacity of a flow or a buffer is over 65,536.
+    TooLarge,
+    /// A policy that drops values wants a flow with a capacity above 0.
+    PolicyNeedsBuffer,
+    /// Subscribers, emissions in flight or seats are 0 or over 1,024, or the first number is over 2^62.
+    BadLimit,
+    /// A growth was refused for want of memory.
+    NoMemory,
+    /// Each place for a subscription, or each seat, is taken.
+    SubscribersFull,
+    /// The emission would have to wait, and each ticket is out.
+    EmitsFull,
+    /// The numbers below 2^62 are used up.
+    Spent,
+    /// A count of 0 where at least 1 is wanted.
+    NotPositive,
+    /// More than 1,024 inner flows at once.
+    TooManyWorkers,
+}
+
+impl Refusal {
+    /// The number under which the refusal is printed and documented, from 1 to 9.
+    pub fn number(self) -> u8
+        ensures { result ≡ number_of self }
+    {
+        match self {
+            Refusal::TooLarge => 1,
+            Refusal::PolicyNeedsBuffer => 2,
+            Refusal::BadLimit => 3,
+            Refusal::NoMemory => 4,
+            Refusal::SubscribersFull => 5,
+            Refusal::EmitsFull => 6,
+            Refusal::Spent => 7,
+            Refusal::NotPositive => 8,
+            Refusal::TooManyWorkers => 9,
+        }
+    }
+}
+
+impl From<AllocError> for Refusal {
+    ghost from_gives = { λ _ refusal. refusal ≡ NoMemory };
+
+    fn from(_error: AllocError) -> Refusal {
+        Refusal::NoMemory
+    }
+}
+
+impl<T: Drop> From<AllocFailed<T>> for Refusal {
+    ghost from_gives = { λ _ refusal. refusal ≡ NoMemory };
+
+    fn from(_error: AllocFailed<T>) -> Refusal {
+        Refusal::NoMemory
+    }
+}
