@@ -1,0 +1,10 @@
+pub mod Histories
+pub mod Oldest
+pub mod Rings
+pub mod Showing
+pub mod Polls
+pub mod Narrowing
+pub mod Deliveries
+pub mod ChannelSteps
+pub mod Counts
+pub mod Totals

@@ -1,0 +1,12 @@
+-- Which capacities a buffer may have.
+use Rattle.std.specs.Prelude.{ℕ, ◌==◌, nat_lt, if◌then◌else◌, Option, Some, None, ◌≡◌, ◌⊎◌}
+use Rattle.cold_flow.specs.declared.refusal.Refusal.{Refusal}
+use Rattle.cold_flow.specs.declared.refusal.Refusal.TheVariants.{TooLarge, NotPositive, NoMemory}
+
+-- why a buffer of that capacity is refused, if it is
+abbrev pub refused_capacity : ℕ → Option Refusal
+refused_capacity capacity = (if nat_lt 65536 capacity then Some TooLarge else (if capacity == 0 then Some NotPositive else None))
+
+-- a capacity that a buffer may have was refused for want of memory alone
+abbrev pub WasRefused : ℕ → Refusal → Type 0
+WasRefused capacity refusal = (refused_capacity capacity ≡ Some refusal) ⊎ ((refused_capacity capacity ≡ None) × (refusal ≡ NoMemory))

@@ -1,0 +1,86 @@
+-- What the channel holds, and what its two sides know.
+use Rattle.std.specs.Prelude.{◌≡◌, ◌≢◌, ℕ, Bool, true, false, Option, Some, None, List, [], ◌∷◌, ◌++◌, ◌⊎◌, map, length}
+use mathlib.Core.Option.{some}
+use lib.ListN.{get_elem?}
+use Rattle.flow_buffer.specs.declared.side.Fate.{Fate}
+use Rattle.cold_flow.specs.declared.cause.Cause.{Cause}
+use Rattle.cold_flow.specs.declared.event.Event.{Event}
+use Rattle.cold_flow.specs.declared.event.Event.TheVariants.{Value, End}
+use Rattle.flow_buffer.specs.declared.side.Side.{Side}
+use Rattle.flow_buffer.specs.History.{is_taken, is_held, is_dropped, picked, marked, Rises, IsSettled, DropsOne}
+
+module _ {T E : Type 0} where
+  -- what the feed knows, and what the drain knows
+  abbrev pub feed_side : Bool → Option (Cause E) → List (Bool × T) → Side T E
+  feed_side lossy sent produced = record { feeds = true; drains = false; lossy = lossy; sent = sent; produced = produced; got = None; taken = []; history = [] }
+
+  abbrev pub drain_side : Bool → Option (Cause E) → List (ℕ × T) → List (Fate × T) → Side T E
+  drain_side lossy got taken history = record { feeds = false; drains = true; lossy = lossy; sent = None; produced = []; got = got; taken = taken; history = history }
+
+  -- one pass of both sides, before the channel is used
+  abbrev pub fresh_side : Side T E
+  fresh_side = record { feeds = true; drains = true; lossy = false; sent = None; produced = []; got = None; taken = []; history = [] }
+
+  -- a pass of no side
+  abbrev pub spare_side : Side T E
+  spare_side = record { feeds = false; drains = false; lossy = false; sent = None; produced = []; got = None; taken = []; history = [] }
+
+  -- both sides in one pass again
+  abbrev pub joined_side : Side T E → Side T E → Side T E
+  joined_side v w = record { feeds = true; drains = true; lossy = v.lossy; sent = v.sent; produced = v.produced; got = w.got; taken = w.taken; history = w.history }
+
+  -- the feed after a new value was dropped, which the proof of the call names
+  abbrev pub missed_side : Option T → Side T E → Side T E
+  missed_side None v = v
+  missed_side (Some x) v = feed_side v.lossy None (v.produced ++ (true, x) ∷ [])
+
+  -- there is one feed, which knows what was produced and dropped, and which end was sent
+  abbrev pub FitsFeed : ℕ → Bool → Option (Cause E) → List (Bool × T) → ℕ → Side T E → Type 0
+  FitsFeed feed lossy sent produced pass v = v.feeds ≡ true → (pass ≡ feed) × (v.lossy ≡ lossy) × (v.sent ≡ sent) × (v.produced ≡ produced)
+
+  -- there is one drain, which knows what was taken. One that has an end has the one that was sent, and knows what became of all
+  abbrev pub FitsDrain : ℕ → Bool → Option (Cause E) → List (ℕ × T) → List (Fate × T) → ℕ → Side T E → Type 0
+  FitsDrain drain lossy sent taken history pass v = v.drains ≡ true → (pass ≡ drain) × (v.lossy ≡ lossy) × (v.taken ≡ taken) × (v.got ≢ None → (v.got ≡ sent) × (v.history ≡ history))
+
+  -- the end is the last message, and comes once it is sent
+  abbrev pub IsLast : Option (Cause E) → List (Event T E) → Type 0
+  IsLast sent last = (last ≡ []) ⊎ ((cause : Cause E) × (sent ≡ Some cause) × (last ≡ End cause ∷ []))
+
+  -- the values that the channel holds are the held ones of the history, in order. Those that were taken lie below them
+  pub record Buffers (items : List (Event T E)) (views : List (Side T E)) : Type 0 where
+    pub feed : ℕ
+    pub drain : ℕ
+    pub lossy : Bool
+    pub sent : Option (Cause E)
+    pub settled : List (Fate × T)
+    pub pending : List (Fate × T)
+    pub last : List (Event T E)
+    pub holds : items ≡ map (λ e. Value e.1) (picked is_held (length settled) pending) ++ last
+    pub ends : IsLast sent last
+    pub below : picked is_held 0 settled ≡ []
+    pub above : picked is_taken (length settled) pending ≡ []
+    pub lossless : lossy ≡ false → picked is_dropped 0 (settled ++ pending) ≡ []
+    pub feeds : (pass : ℕ) (v : Side T E) → get_elem? views pass ≡ some v → FitsFeed feed lossy sent (marked (settled ++ pending)) pass v
+    pub drains : (pass : ℕ) (v : Side T E) → get_elem? views pass ≡ some v → FitsDrain drain lossy sent (picked is_taken 0 settled) (settled ++ pending) pass v
+
+  -- the value joins at the back
+  abbrev pub Sends : Side T E → Event T E → Side T E → Type 0
+  Sends v (Value x) w = w ≡ feed_side v.lossy None (v.produced ++ (false, x) ∷ [])
+  Sends v (End cause) w = w ≡ feed_side v.lossy (Some cause) v.produced
+
+  -- the feed takes the oldest out, which is dropped
+  abbrev pub Overwrites : Side T E → Event T E → Side T E → Type 0
+  Overwrites v item w = DropsOne v.produced w.produced × (w ≡ feed_side v.lossy None w.produced)
+
+  -- the drain takes the oldest; with the end it learns what became of all
+  abbrev pub Takes : Side T E → Event T E → Side T E → Type 0
+  Takes v (Value x) w = ((i : ℕ) × (w ≡ drain_side v.lossy None (v.taken ++ (i, x) ∷ []) v.history)) × Rises 0 w.taken
+  Takes v (End cause) w = (w ≡ drain_side v.lossy (Some cause) v.taken w.history) × IsSettled v.lossy v.taken w.history
+
+  -- what the feed learns of the channel's content before the end: it is what a history of the produced values holds
+  abbrev pub Looks : Side T E → List (Event T E) → Type 0
+  Looks v items = (history : List (Fate × T)) × (marked history ≡ v.produced) × (items ≡ map (λ e. Value e.1) (picked is_held 0 history))
+
+  -- a feed and a drain tell of one history: the feed of what was produced and dropped in it, the drain of what was taken. The drain's end is the feed's, and then its history is that one
+  abbrev pub Agree : List (Bool × T) → Option (Cause E) → List (ℕ × T) → Option (Cause E) → List (Fate × T) → Type 0
+  Agree produced sent taken got known = (history : List (Fate × T)) × (marked history ≡ produced) × (picked is_taken 0 history ≡ taken) × (got ≢ None → (got ≡ sent) × (known ≡ history))

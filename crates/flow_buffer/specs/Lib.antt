@@ -1,0 +1,11 @@
+pub mod Capacity
+pub mod Endings
+pub mod History
+pub mod Contents
+pub mod Stored
+pub mod Buffered
+pub mod Delivery
+pub mod DeliveryLaws
+pub mod Channel
+pub mod Sides
+pub mod Feed

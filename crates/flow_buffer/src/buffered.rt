@@ -1,0 +1,149 @@
+//! The run of a buffer in one task.
+
+ghost use Rattle.std.specs.Prelude.{◌≡◌, ◌<◌, ◌||◌, ◌==◌, List, [], length, Option, Some, None, IsTrue, IsSome, is_none};
+ghost use Rattle.futures.specs.Poll.{OnPending};
+ghost use Rattle.futures.specs.Task.{IsArmed, Keeps};
+ghost use Rattle.futures.specs.declared.task.Poll.TheVariants.{Ready};
+ghost use Rattle.cold_flow.specs.declared.event.Event.TheVariants.{End};
+ghost use Rattle.cold_flow.specs.Poll.{Narrows, Within, end_of, after_cancel, Approaches, IsReady};
+ghost use Rattle.flow_buffer.specs.declared.fill.Fill.TheVariants.{Pending};
+ghost use Rattle.flow_buffer.specs.Buffered.{Fills, Takes, Cancels};
+ghost use Rattle.flow_buffer.specs.Contents.{Contents, taken_of, dropped_of};
+ghost use Rattle.flow_buffer.specs.Delivery.{StoreGives, store_polls};
+ghost use Rattle.flow_buffer.specs.Endings.{is_going, given};
+ghost use Rattle.flow_buffer.specs.Sides.{saturated};
+ghost use Rattle.flow_buffer.specs.Stored.{Shows};
+
+use crate::ending::Ending;
+use crate::fill::Fill;
+use crate::store::Store;
+use cold_flow::{Cause, Event, Finite, Run};
+use futures::task::{Context, Poll};
+
+/// The run of a buffer in one task: its source's run, and the values that were produced and not yet taken.
+#[derive(Drop)]
+pub struct Buffered<S: Run> {
+    pub(crate) source: S,
+    pub(crate) store: Store<S::Item, S::Fault>,
+    ghost places: { 0 < store.held.capacity },
+    // Once an end was seen, the source is asked no more.
+    ghost settled: { IsTrue (is_going store.ending || S.stopped source) },
+    // The end is given once none is held.
+    ghost emptied: { IsTrue (is_none (given store.ending) || (length store.held.items == 0)) },
+}
+
+impl<S: Run> Buffered<S> {
+    /// Fills the buffer once: asks the source, unless the buffer is full under `Policy::Suspend` or the end was seen, and
+    /// puts its answer.
+    ///
+    /// Where it answers `Fill::Pending`, the task is woken once the source may have more.
+    pub fn poll_fill(&mut self, cx: &mut Context<'_>) -> Fill
+        ensures fills { Fills S.may self.old.source self.old.store result self.new.source self.new.store }
+        ensures narrows { Within (StoreGives self.old.store (S.may self.old.source)) (StoreGives self.new.store (S.may self.new.source)) }
+        ensures armed { result ≡ Pending → IsArmed cx.new }
+        ensures kept { Keeps cx.old cx.new }
+    {
+        if !self.store.ending.is_going() {
+            return Fill::Ended;
+        }
+        if self.store.is_stuck() {
+            return Fill::Full;
+        }
+        match self.source.poll_next(cx) {
+            Poll::Ready(Event::Value(value)) => self.store.put(value),
+            Poll::Ready(Event::End(cause)) => {
+                self.store.ending = Ending::Kept(cause);
+                Fill::Ended
+            }
+            Poll::Pending => Fill::Pending,
+        }
+    }
+
+    /// How many values were taken: a count that stays at 2^64 - 1 once it is there.
+    pub fn taken_count(&self) -> u64
+        ensures { (contents : Contents S.Item) → Shows self.now.store contents → result ≡ saturated (length (taken_of contents)) }
+    {
+        self.store.taken
+    }
+
+    /// How many values were dropped by the policy: a count that stays at 2^64 - 1 once it is there.
+    pub fn dropped_count(&self) -> u64
+        ensures { (contents : Contents S.Item) → Shows self.now.store contents → result ≡ saturated (length (dropped_of contents)) }
+    {
+        self.store.dropped
+    }
+}
+
+impl<S: Run> Run for Buffered<S> {
+    ghost use Rattle.flow_buffer.specs.DeliveryLaws.{delivering_begins, delivering_over};
+
+    type Item = S::Item;
+
+    type Fault = S::Fault;
+
+    ghost may = { λ r. StoreGives r.store (S.may r.source) };
+
+    ghost ended = { λ r. given r.store.ending };
+
+    ghost stopped = { λ r. S.stopped r.source };
+
+    ghost polls = { λ r. store_polls r.store (S.polls r.source) };
+
+    ghost prompt = { λ r. S.prompt r.source };
+
+    /// Gives the oldest held value without asking the source. Where none is held, it fills once and gives the value or the
+    /// end that came; the end comes once none is held.
+    fn poll_next(&mut self, cx: &mut Context<'_>) -> Poll<Event<S::Item, S::Fault>>
+        ensures takes { Takes S.may self.old.source self.old.store result self.new.source self.new.store }
+        ensures narrows { Narrows (StoreGives self.old.store (S.may self.old.source)) result (StoreGives self.new.store (S.may self.new.source)) }
+        ensures ends { given self.new.store.ending ≡ end_of result }
+        ensures stops { IsSome (end_of result) → IsTrue (S.stopped self.new.source) }
+        ensures stays { (k : _) → given self.old.store.ending ≡ Some k → result ≡ Ready (End k) }
+        ensures approaches { Approaches (store_polls self.old.store (S.polls self.old.source)) result (store_polls self.new.store (S.polls self.new.source)) }
+        ensures prompt { IsTrue (S.prompt self.old.source) → IsReady result × IsTrue (S.prompt self.new.source) }
+        ensures armed { OnPending result (IsArmed cx.new) }
+        ensures kept { Keeps cx.old cx.new }
+    {
+        if let Some(value) = self.store.take() {
+            return Poll::Ready(Event::Value(value));
+        }
+        if let Some(cause) = self.store.ending.settle() {
+            return Poll::Ready(Event::End(cause));
+        }
+        match self.source.poll_next(cx) {
+            Poll::Ready(Event::Value(value)) => {
+                self.store.count_taken();
+                Poll::Ready(Event::Value(value))
+            }
+            Poll::Ready(Event::End(cause)) => {
+                self.store.ending = Ending::Given(cause);
+                Poll::Ready(Event::End(cause))
+            }
+            Poll::Pending => Poll::Pending,
+        }
+    }
+
+    /// Cancels the source and gives up what is held; both counts stay. Where the end was given, it changes nothing.
+    fn cancel(&mut self)
+        ensures cancels { Cancels self.old.store self.new.store }
+        ensures ends { given self.new.store.ending ≡ Some (after_cancel (given self.old.store.ending)) }
+        ensures stops { IsTrue (S.stopped self.new.source) }
+    {
+        if let Ending::Given(_) = self.store.ending {
+            return;
+        }
+        self.source.cancel();
+        self.store.give_up();
+        self.store.ending = Ending::Given(Cause::Cancelled);
+    }
+
+    ghost begins = { λ r. delivering_begins r.store.held.capacity r.store.policy r.store.held.items r.store.ending (S.may r.source) (S.begins r.source) };
+
+    ghost over = { λ r k e. delivering_over r.store.held.capacity r.store.policy r.store.held.items r.store.ending (S.may r.source) k e };
+}
+
+impl<S: Finite> Finite for Buffered<S> {
+    ghost use Rattle.flow_buffer.specs.DeliveryLaws.{finite_left};
+
+    ghost is_finite = { λ r. finite_left r.store.ending (length r.store.held.items) (S.polls r.source) (S.Finite.is_finite r.source) };
+}

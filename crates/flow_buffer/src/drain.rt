@@ -1,0 +1,65 @@
+//! The side of a buffer between two threads that takes values out.
+
+ghost use Rattle.std.specs.Prelude.{◌≡◌, length, Option};
+ghost use Rattle.crossbeam_channel.specs.Claims.{view as knows, IsSeatAt};
+ghost use Rattle.crossbeam_channel.specs.Ends.{receives_on};
+ghost use Rattle.flow_buffer.specs.Channel.{drain_side};
+ghost use Rattle.flow_buffer.specs.History.{Rises};
+ghost use Rattle.flow_buffer.specs.Sides.{Draining, saturated, Gave, IsEndKnown};
+
+use crate::steps::{Knowledge, Receiver, receive};
+use cold_flow::{Cause, Event};
+use std::marker::Model;
+use std::sync::Wait;
+
+/// The collector's side of a buffer between two threads.
+///
+/// It is kept until its end. Where it is let go before, the feed may wait for good.
+#[derive(Drop)]
+pub struct Drain<T: Copy, E: Copy> {
+    pub(crate) receiver: Receiver<T, E>,
+    pub(crate) pass: Knowledge<T, E>,
+    // How many values were taken. It stays at its greatest.
+    pub(crate) taken: u64,
+    // The end that was received.
+    pub(crate) end: Option<Cause<E>>,
+}
+
+impl<T: Copy, E: Copy> Model for Drain<T, E> {
+    ghost Value = { Draining T E };
+
+    ghost view = { λ d. record { channel = record { table = (receives_on d.receiver).stamps.shared.table_id; key = (receives_on d.receiver).stamps.shared.key }; lossy = (knows d.pass).lossy; taken = (knows d.pass).taken; end = d.end; history = (knows d.pass).history } };
+
+    ghost invariant = { λ d. IsSeatAt (receives_on d.receiver) d.pass × (knows d.pass ≡ drain_side (knows d.pass).lossy d.end (knows d.pass).taken (knows d.pass).history) × (d.taken ≡ saturated (length (knows d.pass).taken)) × Rises 0 (knows d.pass).taken × IsEndKnown d.end (knows d.pass).lossy (knows d.pass).taken (knows d.pass).history };
+}
+
+impl<T: Copy, E: Copy> Drain<T, E> {
+    /// The oldest value that was put in and neither taken nor dropped, or the end, which every later call gives again.
+    ///
+    /// It waits while the buffer is empty. With the end it is known what became of every value that the feed produced:
+    /// each was taken or dropped, and under `Policy::Suspend` none was dropped. That the feed puts anything in isn't claimed.
+    pub fn next(&mut self, rt: &impl Wait) -> Event<T, E>
+        ensures gave { Gave self.old result self.new }
+    {
+        if let Some(cause) = self.end {
+            return Event::End(cause);
+        }
+        match receive(rt, &self.receiver, &mut self.pass) {
+            Event::Value(value) => {
+                self.taken = self.taken.saturating_add(1);
+                Event::Value(value)
+            }
+            Event::End(cause) => {
+                self.end = Some(cause);
+                Event::End(cause)
+            }
+        }
+    }
+
+    /// How many values were taken: a count that stays at 2^64 - 1 once it is there.
+    pub fn taken_count(&self) -> u64
+        ensures { result ≡ saturated (length self.now.taken) }
+    {
+        self.taken
+    }
+}

@@ -1,0 +1,41 @@
+//! How far a buffer in one task is from its end.
+
+ghost use Rattle.std.specs.Prelude.{◌≡◌};
+ghost use Rattle.flow_buffer.specs.Endings.{is_going, seen, settled};
+
+use cold_flow::Cause;
+
+/// How far a buffer is from its end.
+#[derive(Clone, Copy)]
+pub enum Ending<E> {
+    /// Its source may give more.
+    Going,
+    /// The source's end was seen, and is kept until none is held.
+    Kept(Cause<E>),
+    /// The end was given, or the buffer was cancelled. Every later poll gives it again.
+    Given(Cause<E>),
+}
+
+impl<E: Copy> Ending<E> {
+    // May the source be asked?
+    pub(crate) fn is_going(&self) -> bool
+        ensures { result ≡ is_going self.now }
+    {
+        matches!(self, Ending::Going)
+    }
+
+    // The end that was seen, which is given now.
+    pub(crate) fn settle(&mut self) -> Option<Cause<E>>
+        ensures cause { result ≡ seen self.old }
+        ensures settled { self.new ≡ settled self.old }
+    {
+        match *self {
+            Ending::Going => None,
+            Ending::Kept(cause) => {
+                *self = Ending::Given(cause);
+                Some(cause)
+            }
+            Ending::Given(cause) => Some(cause),
+        }
+    }
+}

@@ -1,0 +1,91 @@
+//! The feed's end of the channel.
+
+ghost use Rattle.std.specs.Prelude.{◌≡◌, ◌≢◌, true, false, Option, Some, None, is_some};
+ghost use Rattle.crossbeam_channel.specs.Claims.{view as knows, IsSeatAt};
+ghost use Rattle.crossbeam_channel.specs.Ends.{sends_on, receives_on, ruled_capacity};
+ghost use Rattle.flow_buffer.specs.Channel.{feed_side};
+ghost use Rattle.flow_buffer.specs.Sides.{Feeding, may_drop, saturated, drops, Filled};
+
+use crate::fill::Fill;
+use crate::steps::{Knowledge, Receiver, Sender, put, send};
+use cold_flow::{Cause, Event, Policy};
+use std::marker::Model;
+use std::sync::Wait;
+
+/// The feed's end of the channel. It must be spent, which asks that an end was sent: so no drain waits in vain.
+pub struct Inlet<T: Copy, E: Copy> {
+    pub(crate) sender: Sender<T, E>,
+    // Takes the oldest value out, where the policy lets a full buffer drop it.
+    pub(crate) receiver: Receiver<T, E>,
+    pub(crate) pass: Knowledge<T, E>,
+    pub(crate) policy: Policy,
+    // How many values were dropped. It stays at its greatest.
+    pub(crate) dropped: u64,
+    // The end that was sent.
+    pub(crate) sent: Option<Cause<E>>,
+}
+
+impl<T: Copy, E: Copy> Model for Inlet<T, E> {
+    ghost Value = { Feeding T E };
+
+    ghost view = { λ f. record { channel = record { table = (sends_on f.sender).stamps.shared.table_id; key = (sends_on f.sender).stamps.shared.key }; capacity = ruled_capacity (sends_on f.sender); policy = f.policy; produced = (knows f.pass).produced; sent = f.sent } };
+
+    ghost invariant = { λ f. (receives_on f.receiver ≡ sends_on f.sender) × IsSeatAt (sends_on f.sender) f.pass × (knows f.pass ≡ feed_side (may_drop f.policy) f.sent (knows f.pass).produced) × (f.dropped ≡ saturated (drops (knows f.pass).produced)) };
+}
+
+impl<T: Copy, E: Copy> Inlet<T, E> {
+    // Puts a value in, as the policy says where the channel is full.
+    pub(crate) fn fill(&mut self, rt: &impl Wait, value: T) -> Fill
+        requires unended { self.old.sent ≡ None }
+        ensures fill { Filled self.old.capacity self.old.policy self.old.produced value result self.new.produced }
+        ensures same { self.new ≡ record self.old { produced = self.new.produced } }
+    {
+        let fill = put(
+            rt,
+            &self.sender,
+            &self.receiver,
+            &mut self.pass,
+            self.policy,
+            value,
+        );
+        if fill.is_loss() {
+            self.dropped = self.dropped.saturating_add(1);
+        }
+        fill
+    }
+
+    // Sends the end, which waits for a place and is never dropped.
+    pub(crate) fn finish(&mut self, rt: &impl Wait, cause: Cause<E>)
+        requires unended { self.old.sent ≡ None }
+        ensures { self.new ≡ record self.old { sent = Some cause } }
+    {
+        send(rt, &self.sender, &mut self.pass, Event::End(cause));
+        self.sent = Some(cause);
+    }
+
+    pub(crate) fn has_ended(&self) -> bool
+        ensures { result ≡ is_some self.now.sent }
+    {
+        self.sent.is_some()
+    }
+
+    pub(crate) fn dropped_count(&self) -> u64
+        ensures { result ≡ saturated (drops self.now.produced) }
+    {
+        self.dropped
+    }
+
+    // Lets the channel go, once an end was sent.
+    pub(crate) fn spend(self)
+        requires ended { self.sent ≢ None }
+    {
+        let Inlet {
+            sender: _,
+            receiver: _,
+            pass: _,
+            policy: _,
+            dropped: _,
+            sent: _,
+        } = self;
+    }
+}

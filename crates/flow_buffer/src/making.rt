@@ -1,0 +1,61 @@
+//! Making a buffer in one task.
+
+ghost use Rattle.std.specs.Prelude.{◌≡◌, List, [], Some, None, IfOk, IsTrue, MatchResult};
+ghost use Rattle.cold_flow.specs.declared.cause.Cause.{Cause};
+ghost use Rattle.cold_flow.specs.declared.policy.Policy.TheVariants.{Suspend, DropOldest};
+ghost use Rattle.cold_flow.specs.Trace.{ended_by};
+ghost use Rattle.cold_flow.specs.Poll.{Within, Fixes, IsWithinPolls};
+ghost use Rattle.flow_buffer.specs.Capacity.{refused_capacity};
+ghost use Rattle.flow_buffer.specs.Delivery.{Delivered, GivesLatest};
+
+use crate::buffer_flow::Buffer;
+use crate::capacity::checked;
+use cold_flow::{Flow, Policy, Refusal};
+use std::alloc::Global;
+
+/// Puts a buffer of that capacity behind the flow: Kotlin's `buffer`, whose default capacity is left out.
+///
+/// Under `Policy::Suspend` it gives all that its source gives. Under `Policy::DropOldest` a run that ends gave the last value
+/// of its source last.
+///
+/// Refused, in this order, with `Refusal::TooLarge` for a capacity over 65,536, and `Refusal::NotPositive` for 0.
+pub fn buffer<F: Flow>(
+    alloc: Global,
+    source: F,
+    capacity: u64,
+    policy: Policy,
+) -> Result<Buffer<F>, Refusal>
+    ensures made { MatchResult result (λ made. (refused_capacity capacity ≡ None) × (made.source ≡ source) × (made.capacity ≡ capacity) × (made.policy ≡ policy)) (λ refusal. refused_capacity capacity ≡ Some refusal) }
+    ensures gives { IfOk result (λ made. Within (Delivered capacity policy [] (F.may source)) (⟦<Buffer<F> as Flow>⟧.may made)) }
+    ensures exact { IfOk result (λ made. policy ≡ Suspend → (whole : _) → Fixes whole (F.may source) → Fixes whole (⟦<Buffer<F> as Flow>⟧.may made)) }
+    ensures latest { IfOk result (λ made. policy ≡ DropOldest → GivesLatest (F.may source) (⟦<Buffer<F> as Flow>⟧.may made)) }
+    ensures lasts { IfOk result (λ made. IsWithinPolls (F.polls source) (⟦<Buffer<F> as Flow>⟧.polls made)) }
+    ensures prompt { IfOk result (λ made. IsTrue (F.prompt source) → IsTrue (⟦<Buffer<F> as Flow>⟧.prompt made)) }
+{
+    let capacity = checked(capacity)?;
+    Ok(Buffer {
+        source,
+        capacity,
+        policy,
+        alloc,
+    })
+}
+
+/// Keeps only the latest value that the collector did not take yet: Kotlin's `conflate`, a buffer of capacity 1 under
+/// `Policy::DropOldest`. A run that ends gave the last value of its source last.
+pub fn conflate<F: Flow>(alloc: Global, source: F) -> Buffer<F>
+    ensures source { result.source ≡ source }
+    ensures capacity { result.capacity ≡ 1 }
+    ensures policy { result.policy ≡ DropOldest }
+    ensures gives { Within (Delivered 1 DropOldest [] (F.may source)) (⟦<Buffer<F> as Flow>⟧.may result) }
+    ensures latest { GivesLatest (F.may source) (⟦<Buffer<F> as Flow>⟧.may result) }
+    ensures lasts { IsWithinPolls (F.polls source) (⟦<Buffer<F> as Flow>⟧.polls result) }
+    ensures prompt { IsTrue (F.prompt source) → IsTrue (⟦<Buffer<F> as Flow>⟧.prompt result) }
+{
+    Buffer {
+        source,
+        capacity: 1,
+        policy: Policy::DropOldest,
+        alloc,
+    }
+}

@@ -1,0 +1,191 @@
+//! The steps of both sides on the channel, one function for each kind.
+
+ghost use Rattle.std.specs.Prelude.{◌≡◌, ◌++◌, [], ◌∷◌, ◌<◌, true, false, length, Option, Some, None, IfOk, MatchBool};
+ghost use Rattle.crossbeam_channel.specs.Claims.{view as knows, IsSeatAt};
+ghost use Rattle.crossbeam_channel.specs.Ends.{sends_on, receives_on, ruled_capacity};
+ghost use Rattle.crossbeam_channel.specs.Fifo.{Held};
+ghost use Rattle.flow_buffer.specs.Channel.{Sends, Overwrites, Takes, Looks, feed_side, drain_side};
+ghost use Rattle.flow_buffer.specs.Sides.{WasFull, Filled, may_drop};
+ghost use Rattle.flow_buffer.specs.History.{DropsOne};
+
+use crate::fill::Fill;
+use crate::rule::{Buffering, Missed, Missing, Overwriting, Sending, Taking};
+use crate::side::Side;
+use cold_flow::{Event, Policy};
+use crossbeam_channel::{Pass, RuledReceiver, RuledSender, TrySendError};
+use std::marker::Brand;
+use std::sync::Wait;
+
+pub(crate) type Sender<T, E> = RuledSender<Event<T, E>, Side<T, E>, Buffering>;
+
+pub(crate) type Receiver<T, E> = RuledReceiver<Event<T, E>, Side<T, E>, Buffering>;
+
+pub(crate) type Knowledge<T, E> = Pass<Event<T, E>, Side<T, E>>;
+
+// Waits for a place. A send that finds no receiver is made again.
+pub(crate) fn send<T: Copy, E: Copy, R: Wait>(
+    rt: &R,
+    sender: &Sender<T, E>,
+    pass: &mut Knowledge<T, E>,
+    item: Event<T, E>,
+)
+    requires channel { IsSeatAt (sends_on sender.now) pass.old }
+    requires unended { knows pass.old ≡ feed_side (knows pass.old).lossy None (knows pass.old).produced }
+    ensures channel { IsSeatAt (sends_on sender.now) pass.new }
+    ensures sent { Sends (knows pass.old) item (knows pass.new) }
+{
+    for _ in rt.forever() {
+        if sender.send_as::<Sending, R>(rt, pass, item).is_ok() {
+            return;
+        }
+    }
+    unreachable!()
+}
+
+// Sends the value unless the channel is full.
+pub(crate) fn offer<T: Copy, E: Copy, R: Wait>(
+    rt: &R,
+    sender: &Sender<T, E>,
+    pass: &mut Knowledge<T, E>,
+    value: T,
+) -> bool
+    requires channel { IsSeatAt (sends_on sender.now) pass.old }
+    requires unended { knows pass.old ≡ feed_side (knows pass.old).lossy None (knows pass.old).produced }
+    ensures channel { IsSeatAt (sends_on sender.now) pass.new }
+    ensures sent { MatchBool result (knows pass.new ≡ feed_side (knows pass.old).lossy None ((knows pass.old).produced ++ (false, value) ∷ [])) ((knows pass.new ≡ knows pass.old) × WasFull (ruled_capacity (sends_on sender.now)) (knows pass.old).produced) }
+{
+    for _ in rt.forever() {
+        match sender.try_send_as::<Sending, R>(rt, pass, Event::Value(value)) {
+            Ok(()) => return true,
+            Err(TrySendError::Full(_)) => return false,
+            Err(_) => {}
+        }
+    }
+    unreachable!()
+}
+
+// Takes the oldest value out, if there is one.
+pub(crate) fn drop_oldest<T: Copy, E: Copy, R: Wait>(
+    rt: &R,
+    receiver: &Receiver<T, E>,
+    pass: &mut Knowledge<T, E>,
+) -> bool
+    requires channel { IsSeatAt (receives_on receiver.now) pass.old }
+    requires unended { knows pass.old ≡ feed_side true None (knows pass.old).produced }
+    ensures channel { IsSeatAt (receives_on receiver.now) pass.new }
+    ensures dropped { MatchBool result (DropsOne (knows pass.old).produced (knows pass.new).produced × (knows pass.new ≡ feed_side true None (knows pass.new).produced)) (knows pass.new ≡ knows pass.old) }
+{
+    receiver.try_recv_as::<Overwriting, R>(rt, pass).is_ok()
+}
+
+// Notes that a new value was dropped.
+fn note<T: Copy, E: Copy, W: Missed<T>>(sender: &Sender<T, E>, pass: &mut Knowledge<T, E>, value: T)
+    requires value { W.value ≡ Some value }
+    requires channel { IsSeatAt (sends_on sender.now) pass.old }
+    requires unended { knows pass.old ≡ feed_side true None (knows pass.old).produced }
+    ensures channel { IsSeatAt (sends_on sender.now) pass.new }
+    ensures dropped { knows pass.new ≡ feed_side true None ((knows pass.old).produced ++ (true, value) ∷ []) }
+{
+    let _spare = sender.another::<Missing<W>>(pass);
+}
+
+pub(crate) fn drop_latest<T: Copy, E: Copy>(
+    sender: &Sender<T, E>,
+    pass: &mut Knowledge<T, E>,
+    value: T,
+)
+    requires channel { IsSeatAt (sends_on sender.now) pass.old }
+    requires unended { knows pass.old ≡ feed_side true None (knows pass.old).produced }
+    ensures channel { IsSeatAt (sends_on sender.now) pass.new }
+    ensures dropped { knows pass.new ≡ feed_side true None ((knows pass.old).produced ++ (true, value) ∷ []) }
+{
+    note::<T, E, Brand>(sender, pass, value);
+}
+
+// Puts a value in, as the policy says.
+pub(crate) fn put<T: Copy, E: Copy, R: Wait>(
+    rt: &R,
+    sender: &Sender<T, E>,
+    receiver: &Receiver<T, E>,
+    pass: &mut Knowledge<T, E>,
+    policy: Policy,
+    value: T,
+) -> Fill
+    requires ends { receives_on receiver.now ≡ sends_on sender.now }
+    requires channel { IsSeatAt (sends_on sender.now) pass.old }
+    requires unended { knows pass.old ≡ feed_side (may_drop policy) None (knows pass.old).produced }
+    ensures channel { IsSeatAt (sends_on sender.now) pass.new }
+    ensures unended { knows pass.new ≡ feed_side (may_drop policy) None (knows pass.new).produced }
+    ensures fill { Filled (ruled_capacity (sends_on sender.now)) policy (knows pass.old).produced value result (knows pass.new).produced }
+{
+    match policy {
+        Policy::Suspend => {
+            send(rt, sender, pass, Event::Value(value));
+            Fill::Took
+        }
+        Policy::DropOldest => put_over_oldest(rt, sender, receiver, pass, value),
+        Policy::DropLatest => put_or_drop(rt, sender, pass, value),
+    }
+}
+
+// Puts a value in, over the oldest one where the channel is full.
+fn put_over_oldest<T: Copy, E: Copy, R: Wait>(
+    rt: &R,
+    sender: &Sender<T, E>,
+    receiver: &Receiver<T, E>,
+    pass: &mut Knowledge<T, E>,
+    value: T,
+) -> Fill
+    requires ends { receives_on receiver.now ≡ sends_on sender.now }
+    requires channel { IsSeatAt (sends_on sender.now) pass.old }
+    requires unended { knows pass.old ≡ feed_side true None (knows pass.old).produced }
+    ensures channel { IsSeatAt (sends_on sender.now) pass.new }
+    ensures unended { knows pass.new ≡ feed_side true None (knows pass.new).produced }
+    ensures fill { Filled (ruled_capacity (sends_on sender.now)) Policy.DropOldest (knows pass.old).produced value result (knows pass.new).produced }
+{
+    if offer(rt, sender, pass, value) {
+        return Fill::Took;
+    }
+    let dropped = drop_oldest(rt, receiver, pass);
+    send(rt, sender, pass, Event::Value(value));
+    if dropped { Fill::Overwrote } else { Fill::Took }
+}
+
+// Puts a value in, or drops it where the channel is full.
+fn put_or_drop<T: Copy, E: Copy, R: Wait>(
+    rt: &R,
+    sender: &Sender<T, E>,
+    pass: &mut Knowledge<T, E>,
+    value: T,
+) -> Fill
+    requires channel { IsSeatAt (sends_on sender.now) pass.old }
+    requires unended { knows pass.old ≡ feed_side true None (knows pass.old).produced }
+    ensures channel { IsSeatAt (sends_on sender.now) pass.new }
+    ensures unended { knows pass.new ≡ feed_side true None (knows pass.new).produced }
+    ensures fill { Filled (ruled_capacity (sends_on sender.now)) Policy.DropLatest (knows pass.old).produced value result (knows pass.new).produced }
+{
+    if offer(rt, sender, pass, value) {
+        return Fill::Took;
+    }
+    drop_latest(sender, pass, value);
+    Fill::Dropped
+}
+
+// Waits for a message. A receive that finds no sender is made again.
+pub(crate) fn receive<T: Copy, E: Copy, R: Wait>(
+    rt: &R,
+    receiver: &Receiver<T, E>,
+    pass: &mut Knowledge<T, E>,
+) -> Event<T, E>
+    requires channel { IsSeatAt (receives_on receiver.now) pass.old }
+    requires unended { knows pass.old ≡ drain_side (knows pass.old).lossy None (knows pass.old).taken (knows pass.old).history }
+    ensures channel { IsSeatAt (receives_on receiver.now) pass.new }
+    ensures taken { Takes (knows pass.old) result (knows pass.new) }
+{
+    for _ in rt.forever() {
+        if let Ok(item) = receiver.recv_as::<Taking, R>(rt, pass) {
+            return item;
+        }
+    }
+    unreachable!()
+}

@@ -1,0 +1,43 @@
+use Rattle.std.proofs.Common.{rules}
+use Rattle.flow_merge.specs.Counting.{after_question, after_wait}
+use Rattle.flow_merge.proofs.flows.combine.CombinedRunRun.poll_next.Goals as goal
+
+pub returns-in-Ready-Some-Value-clause-narrows : goal.returns-in-Ready-Some-Value-clause-narrows
+returns-in-Ready-Some-Value-clause-narrows g c =
+    let asked = rw (c.in-Ready-Some-Value.field-0-is, c.in-Ready-Some-Value.field-0-0-is) at c.in-Ready-Some-Value.ensures.asked in
+    rw (c.in-Ready-Some-Value.ensures.going, c.turns.invariant.begun) (λ t h. c.turns.invariant.within _ (asked t h))
+
+pub returns-in-Ready-Some-End-clause-narrows : goal.returns-in-Ready-Some-End-clause-narrows
+returns-in-Ready-Some-End-clause-narrows g c =
+    let asked = rw (c.in-Ready-Some-End.field-0-is, c.in-Ready-Some-End.field-0-0-is) at c.in-Ready-Some-End.ensures.asked in
+    rw c.turns.invariant.begun (c.turns.invariant.within _ asked)
+
+pub turns-preserved-in-Ready-None : goal.turns-preserved-in-Ready-None
+turns-preserved-in-Ready-None g c =
+    let asked = rw c.in-Ready-None.field-0-is at c.in-Ready-None.ensures.asked in
+    let fewer = rw c.in-Ready-None.field-0-is at c.in-Ready-None.ensures.approaches in
+    record {
+      begun = c.turns.invariant.begun;
+      going = c.in-Ready-None.ensures.going;
+      within = λ t h. c.turns.invariant.within t (asked t h);
+      approaches = λ h. after_question _ _ _ _ (c.turns.invariant.approaches h) fewer;
+      kept = search rules;
+    }
+
+pub returns-then-waited-clause-narrows : goal.returns-then-waited-clause-narrows
+returns-then-waited-clause-narrows g c =
+    rw (c.in-Pending.ensures.going, c.turns.invariant.begun) (λ t h. c.turns.invariant.within _ (c.in-Pending.ensures.asked t h))
+
+pub turns-preserved : goal.turns-preserved
+turns-preserved g c =
+    record {
+      begun = c.turns.invariant.begun;
+      going = c.in-Pending.ensures.going;
+      within = λ t h. c.turns.invariant.within t (c.in-Pending.ensures.asked t h);
+      approaches = λ h. after_wait _ _ _ _ (c.turns.invariant.approaches h) c.in-Pending.ensures.approaches;
+      kept = search rules;
+    }
+
+pub returns-clause-narrows : goal.returns-clause-narrows
+returns-clause-narrows g c =
+    rw (c.yield_now.ensures.pending, c.turns.invariant.begun, c.turns.invariant.going) c.turns.invariant.within

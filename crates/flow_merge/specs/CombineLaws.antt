@@ -1,0 +1,366 @@
+-- Laws of `combine`.
+use Rattle.std.specs.Prelude.{◌≡◌, Bool, true, false, IsTrue, List, [], ◌∷◌, ◌++◌, Option, Some, None, ◌⊎◌, refl}
+use Rattle.std.proofs.Common.{sym, ◌∙◌, ap, subst, inl, inr}
+use Rattle.cold_flow.specs.declared.cause.Cause.{Cause}
+use Rattle.cold_flow.specs.declared.cause.Cause.TheVariants.{Finished, Failed, Cancelled, Refused}
+use Rattle.cold_flow.specs.declared.event.Event.{Event}
+use Rattle.cold_flow.specs.Trace.{Trace, ◌⊑◌, so_far, ended_by, led_by}
+use Rattle.cold_flow.specs.Poll.{Traces, Within, After, Beginnings}
+use Rattle.cold_flow.specs.Laws.{begins-any, led-begins, ended-begins}
+use Rattle.flow_merge.specs.declared.flows.turn.Turn.{Turn}
+use Rattle.flow_merge.specs.declared.flows.turn.Turn.TheVariants.{Left, Right}
+use Rattle.futures.specs.declared.task.Poll.TheVariants.{Ready}
+use Rattle.flow_merge.specs.Asking.{Asks}
+use Rattle.flow_merge.specs.Combine.{with_result, result_of, Combines, OrFinished, turn_to, is_open, MayCombine, rest_of_left, rest_of_right, after_end, in_turn, combine_trace}
+use Rattle.flow_merge.specs.Combine.Combines.{stops, left_gives, right_gives, left_passes, right_passes, finishes, left_fails, right_fails}
+
+-- whatever b allows, a allows: where a side must not answer pending, it must not later on
+abbrev pub Looser : Bool → Bool → Type 0
+Looser a b = IsTrue a → IsTrue b
+
+-- whatever new may give, old could give after the result of these latest values, if there is one
+abbrev pub AfterResult : {A B C E : Type 0} → (A × B → C) → Option A → Option B → Traces C E → Traces C E → Type 0
+AfterResult {A} {B} {C} {E} g l r old new = (t : Trace C E) → new t → old (with_result g l r t)
+
+module _ {A E : Type 0} where
+  -- a side may have given nothing more
+  side_begins : (finished : Bool) (source : Traces A E) → source (so_far []) → (t : Trace A E) × OrFinished finished source t
+  side_begins true source h = (ended_by [] Finished, refl)
+  side_begins false source h = (so_far [], h)
+
+  -- what goes on from a trace that begins with x begins with x
+  begins-led : (x : A) (t w : Trace A E) → led_by x t ⊑ w → (rest : Trace A E) × (w ≡ led_by x rest) × (t ⊑ rest)
+  begins-led x t w (inl e) = (t, sym e, inl refl)
+  begins-led x t w (inr h) = ((t.0 ++ h.1.0, w.1), ap (λ (xs : List A). (xs, w.1)) (sym h.1.1), inr (h.0, (h.1.0, refl)))
+
+module _ {A B C E : Type 0} (g : A × B → C) where
+  -- a side that may answer pending gives no less than one that may not
+  loosen : (p q p' q' : Bool) → Looser p p' → Looser q q' → (turn : Turn) (l : Option A) (r : Option B) (t : Trace A E) (u : Trace B E) (out : Trace C E)
+      → Combines g p' q' turn l r t u out → Combines g p q turn l r t u out
+  loosen p q p' q' h k _ _ _ _ _ _ stops = stops
+  loosen p q p' q' h k _ _ _ _ _ _ (left_gives {l = l} {r = r} {t = t} {u = u} {out = out} x c) = left_gives x (loosen p q p' q' h k Right (Some x) r t u out c)
+  loosen p q p' q' h k _ _ _ _ _ _ (right_gives {l = l} {r = r} {t = t} {u = u} {out = out} y c) = right_gives y (loosen p q p' q' h k Left l (Some y) t u out c)
+  loosen p q p' q' h k _ _ _ _ _ _ (left_passes {l = l} {r = r} {t = t} {u = u} {out = out} e c) = left_passes (λ is. e (h is)) (loosen p q p' q' h k Right l r t u out c)
+  loosen p q p' q' h k _ _ _ _ _ _ (right_passes {l = l} {r = r} {t = t} {u = u} {out = out} e c) = right_passes (λ is. e (k is)) (loosen p q p' q' h k Left l r t u out c)
+  loosen p q p' q' h k _ _ _ _ _ _ finishes = finishes
+  loosen p q p' q' h k _ _ _ _ _ _ (left_fails j e) = left_fails j e
+  loosen p q p' q' h k _ _ _ _ _ _ (right_fails j e) = right_fails j e
+
+  -- traces that go on from these may give all that these may
+  extends : (p q : Bool) (turn : Turn) (l : Option A) (r : Option B) (t : Trace A E) (u : Trace B E) (out : Trace C E) (t' : Trace A E) (u' : Trace B E)
+      → Combines g p q turn l r t u out → t ⊑ t' → u ⊑ u' → Combines g p q turn l r t' u' out
+  extends p q _ _ _ _ _ _ t' u' stops h k = stops
+  extends p q _ _ _ _ _ _ t' u' (left_gives {l = l} {r = r} {t = t} {u = u} {out = out} x c) h k =
+      let led = begins-led x t t' h in
+      rw led.1 (left_gives x (extends p q Right (Some x) r t u out led.0 u' c led.2 k))
+  extends p q _ _ _ _ _ _ t' u' (right_gives {l = l} {r = r} {t = t} {u = u} {out = out} y c) h k =
+      let led = begins-led y u u' k in
+      rw led.1 (right_gives y (extends p q Left l (Some y) t u out t' led.0 c h led.2))
+  extends p q _ _ _ _ _ _ t' u' (left_passes {l = l} {r = r} {t = t} {u = u} {out = out} e c) h k =
+      left_passes (λ is. sym (ended-begins [] Finished t' (subst (λ (x : Trace A E). x ⊑ t') (e is) h))) (extends p q Right l r t u out t' u' c h k)
+  extends p q _ _ _ _ _ _ t' u' (right_passes {l = l} {r = r} {t = t} {u = u} {out = out} e c) h k =
+      right_passes (λ is. sym (ended-begins [] Finished u' (subst (λ (x : Trace B E). x ⊑ u') (e is) k))) (extends p q Left l r t u out t' u' c h k)
+  extends p q _ _ _ _ _ _ t' u' finishes h k =
+      rw (← (ended-begins [] Finished t' h), ← (ended-begins [] Finished u' k)) finishes
+  extends p q _ _ _ _ _ _ t' u' (left_fails j e) h k = rw (← (ended-begins [] j t' h)) (left_fails j e)
+  extends p q _ _ _ _ _ _ t' u' (right_fails j e) h k = rw (← (ended-begins [] j u' k)) (right_fails j e)
+
+  result-end : (l : Option A) (r : Option B) (out : Trace C E) → (with_result g l r out).1 ≡ out.1
+  result-end None r out = refl
+  result-end (Some x) None out = refl
+  result-end (Some x) (Some y) out = refl
+
+  -- it ends by `Cancelled` only where a side does
+  cancelled-side : (p q : Bool) (turn : Turn) (l : Option A) (r : Option B) (t : Trace A E) (u : Trace B E) (out : Trace C E)
+      → Combines g p q turn l r t u out → out.1 ≡ Some Cancelled → (t.1 ≡ Some Cancelled) ⊎ (u.1 ≡ Some Cancelled)
+  cancelled-side p q _ _ _ _ _ _ stops e = absurd (cc)
+  cancelled-side p q _ _ _ _ _ _ (left_gives {l = l} {r = r} {t = t} {u = u} {out = out} x c) e =
+      cancelled-side p q Right (Some x) r t u out c (sym (result-end (Some x) r out) ∙ e)
+  cancelled-side p q _ _ _ _ _ _ (right_gives {l = l} {r = r} {t = t} {u = u} {out = out} y c) e =
+      cancelled-side p q Left l (Some y) t u out c (sym (result-end l (Some y) out) ∙ e)
+  cancelled-side p q _ _ _ _ _ _ (left_passes {l = l} {r = r} {t = t} {u = u} {out = out} h c) e = cancelled-side p q Right l r t u out c e
+  cancelled-side p q _ _ _ _ _ _ (right_passes {l = l} {r = r} {t = t} {u = u} {out = out} h c) e = cancelled-side p q Left l r t u out c e
+  cancelled-side p q _ _ _ _ _ _ finishes e = absurd (cc)
+  cancelled-side p q _ _ _ _ _ _ (left_fails j h) e = inl e
+  cancelled-side p q _ _ _ _ _ _ (right_fails j h) e = inr e
+
+  pub combine_uncancelled : (p q : Bool) (left : Traces A E) (right : Traces B E) → ((xs : List A) → left (ended_by xs Cancelled) → ⊥)
+      → ((ys : List B) → right (ended_by ys Cancelled) → ⊥) → (zs : List C) → MayCombine g p q Left None None left right (ended_by zs Cancelled) → ⊥
+  combine_uncancelled p q left right none_left none_right zs h =
+      elim (cancelled-side p q Left None None h.of_left h.of_right (ended_by zs Cancelled) h.combines refl) [
+        | inl k ↦ none_left h.of_left.0 (subst (λ (o : Option (Cause E)). left (h.of_left.0, o)) k h.left_came)
+        | inr k ↦ none_right h.of_right.0 (subst (λ (o : Option (Cause E)). right (h.of_right.0, o)) k h.right_came)
+      ]
+
+  pub combine_begins : (p q : Bool) (turn : Turn) (l : Option A) (r : Option B) (lf rf : Bool) (left : Traces A E) (right : Traces B E)
+      → left (so_far []) → right (so_far []) → MayCombine g p q turn l r (OrFinished lf left) (OrFinished rf right) (so_far [])
+  combine_begins p q turn l r lf rf left right h k =
+      let a = side_begins lf left h in
+      let b = side_begins rf right k in
+      record { of_left = a.0; of_right = b.0; left_came = a.1; right_came = b.1; combines = stops }
+
+  pub combine_starts : (p q p' q' : Bool) (left left' : Traces A E) (right right' : Traces B E) → Looser p p' → Looser q q' → Within left left' → Within right right'
+      → Within (MayCombine g p q Left None None left right) (MayCombine g p' q' Left None None left' right')
+  combine_starts p q p' q' left left' right right' h k inside_left inside_right t c = record {
+    of_left = c.of_left;
+    of_right = c.of_right;
+    left_came = inside_left c.of_left c.left_came;
+    right_came = inside_right c.of_right c.right_came;
+    combines = loosen p q p' q' h k _ _ _ _ _ _ c.combines;
+  }
+
+  -- the left's turn, where it has not finished
+  combine_left_gives : (p q p' : Bool) (l : Option A) (r : Option B) (rf : Bool) (old new : Traces A E) (right : Traces B E) (x : A)
+      → Looser p p' → After old x new
+      → AfterResult g (Some x) r (MayCombine g p q Left l r old (OrFinished rf right)) (MayCombine g p' q (turn_to Right rf) (Some x) r new (OrFinished rf right))
+  combine_left_gives p q p' l r false old new right x h after t c = record {
+    of_left = led_by x c.of_left;
+    of_right = c.of_right;
+    left_came = after c.of_left c.left_came;
+    right_came = c.right_came;
+    combines = left_gives x (loosen p q p' q h (λ e. e) _ _ _ _ _ _ c.combines);
+  }
+  combine_left_gives p q p' l r true old new right x h after t c = record {
+    of_left = led_by x c.of_left;
+    of_right = c.of_right;
+    left_came = after c.of_left c.left_came;
+    right_came = c.right_came;
+    combines = left_gives x (right_passes (λ _. c.right_came) (loosen p q p' q h (λ e. e) _ _ _ _ _ _ c.combines));
+  }
+
+  pub combine_left_waits : (p q p' : Bool) (l : Option A) (r : Option B) (rf : Bool) (old new : Traces A E) (right : Traces B E)
+      → Looser p p' → (IsTrue p → ⊥) → Within old new
+      → Within (MayCombine g p q Left l r old (OrFinished rf right)) (MayCombine g p' q (turn_to Right rf) l r new (OrFinished rf right))
+  combine_left_waits p q p' l r false old new right h waits within t c = record {
+    of_left = c.of_left;
+    of_right = c.of_right;
+    left_came = within c.of_left c.left_came;
+    right_came = c.right_came;
+    combines = left_passes (λ is. absurd (waits is)) (loosen p q p' q h (λ e. e) _ _ _ _ _ _ c.combines);
+  }
+  combine_left_waits p q p' l r true old new right h waits within t c = record {
+    of_left = c.of_left;
+    of_right = c.of_right;
+    left_came = within c.of_left c.left_came;
+    right_came = c.right_came;
+    combines = loosen p q p' q h (λ e. e) _ _ _ _ _ _ c.combines;
+  }
+
+  pub combine_left_finishes : (p q p' : Bool) (l : Option A) (r : Option B) (old new : Traces A E) (right : Traces B E)
+      → Looser p p' → old (ended_by [] Finished)
+      → Within (MayCombine g p q Left l r old (OrFinished false right)) (MayCombine g p' q Right l r (OrFinished true new) (OrFinished false right))
+  combine_left_finishes p q p' l r old new right h came t c = record {
+    of_left = c.of_left;
+    of_right = c.of_right;
+    left_came = subst old (sym c.left_came) came;
+    right_came = c.right_came;
+    combines = left_passes (λ _. c.left_came) (loosen p q p' q h (λ e. e) _ _ _ _ _ _ c.combines);
+  }
+
+  pub combine_left_last : (p q : Bool) (l : Option A) (r : Option B) (old : Traces A E) (right : Traces B E) → old (ended_by [] Finished)
+      → MayCombine g p q Left l r old (OrFinished true right) (ended_by [] Finished)
+  combine_left_last p q l r old right came =
+      record { of_left = ended_by [] Finished; of_right = ended_by [] Finished; left_came = came; right_came = refl; combines = finishes }
+
+  pub combine_left_fails : (p q : Bool) (l : Option A) (r : Option B) (rf : Bool) (old : Traces A E) (right : Traces B E) (k : Cause E)
+      → right (so_far []) → old (ended_by [] k) → (k ≡ Finished → ⊥) → MayCombine g p q Left l r old (OrFinished rf right) (ended_by [] k)
+  combine_left_fails p q l r rf old right k begun came fails =
+      let b = side_begins rf right begun in
+      record { of_left = ended_by [] k; of_right = b.0; left_came = came; right_came = b.1; combines = left_fails k fails }
+
+  -- the right's turn, where it has not finished
+  combine_right_gives : (p q q' : Bool) (l : Option A) (r : Option B) (lf : Bool) (left : Traces A E) (old new : Traces B E) (y : B)
+      → Looser q q' → After old y new
+      → AfterResult g l (Some y) (MayCombine g p q Right l r (OrFinished lf left) old) (MayCombine g p q' (turn_to Left lf) l (Some y) (OrFinished lf left) new)
+  combine_right_gives p q q' l r false left old new y h after t c = record {
+    of_left = c.of_left;
+    of_right = led_by y c.of_right;
+    left_came = c.left_came;
+    right_came = after c.of_right c.right_came;
+    combines = right_gives y (loosen p q p q' (λ e. e) h _ _ _ _ _ _ c.combines);
+  }
+  combine_right_gives p q q' l r true left old new y h after t c = record {
+    of_left = c.of_left;
+    of_right = led_by y c.of_right;
+    left_came = c.left_came;
+    right_came = after c.of_right c.right_came;
+    combines = right_gives y (left_passes (λ _. c.left_came) (loosen p q p q' (λ e. e) h _ _ _ _ _ _ c.combines));
+  }
+
+  pub combine_right_waits : (p q q' : Bool) (l : Option A) (r : Option B) (lf : Bool) (left : Traces A E) (old new : Traces B E)
+      → Looser q q' → (IsTrue q → ⊥) → Within old new
+      → Within (MayCombine g p q Right l r (OrFinished lf left) old) (MayCombine g p q' (turn_to Left lf) l r (OrFinished lf left) new)
+  combine_right_waits p q q' l r false left old new h waits within t c = record {
+    of_left = c.of_left;
+    of_right = c.of_right;
+    left_came = c.left_came;
+    right_came = within c.of_right c.right_came;
+    combines = right_passes (λ is. absurd (waits is)) (loosen p q p q' (λ e. e) h _ _ _ _ _ _ c.combines);
+  }
+  combine_right_waits p q q' l r true left old new h waits within t c = record {
+    of_left = c.of_left;
+    of_right = c.of_right;
+    left_came = c.left_came;
+    right_came = within c.of_right c.right_came;
+    combines = loosen p q p q' (λ e. e) h _ _ _ _ _ _ c.combines;
+  }
+
+  pub combine_right_finishes : (p q q' : Bool) (l : Option A) (r : Option B) (left : Traces A E) (old new : Traces B E)
+      → Looser q q' → old (ended_by [] Finished)
+      → Within (MayCombine g p q Right l r (OrFinished false left) old) (MayCombine g p q' Left l r (OrFinished false left) (OrFinished true new))
+  combine_right_finishes p q q' l r left old new h came t c = record {
+    of_left = c.of_left;
+    of_right = c.of_right;
+    left_came = c.left_came;
+    right_came = subst old (sym c.right_came) came;
+    combines = right_passes (λ _. c.right_came) (loosen p q p q' (λ e. e) h _ _ _ _ _ _ c.combines);
+  }
+
+  pub combine_right_last : (p q : Bool) (l : Option A) (r : Option B) (left : Traces A E) (old : Traces B E) → old (ended_by [] Finished)
+      → MayCombine g p q Right l r (OrFinished true left) old (ended_by [] Finished)
+  combine_right_last p q l r left old came =
+      record { of_left = ended_by [] Finished; of_right = ended_by [] Finished; left_came = refl; right_came = came; combines = finishes }
+
+  pub combine_right_fails : (p q : Bool) (l : Option A) (r : Option B) (lf : Bool) (left : Traces A E) (old : Traces B E) (k : Cause E)
+      → left (so_far []) → old (ended_by [] k) → (k ≡ Finished → ⊥) → MayCombine g p q Right l r (OrFinished lf left) old (ended_by [] k)
+  combine_right_fails p q l r lf left old k begun came fails =
+      let a = side_begins lf left begun in
+      record { of_left = a.0; of_right = ended_by [] k; left_came = a.1; right_came = came; combines = right_fails k fails }
+
+  asks_result : (l : Option A) (r : Option B) (given : Option (Event C E)) (old new : Traces C E) → given ≡ result_of g l r → AfterResult g l r old new
+      → Asks old (Ready given) new
+  asks_result None r given old new e h = subst (λ (o : Option (Event C E)). Asks old (Ready o) new) (sym e) h
+  asks_result (Some x) None given old new e h = subst (λ (o : Option (Event C E)). Asks old (Ready o) new) (sym e) h
+  asks_result (Some x) (Some y) given old new e h = subst (λ (o : Option (Event C E)). Asks old (Ready o) new) (sym e) h
+
+  -- a value of the side whose turn it is
+  pub asks_left : (p q p' : Bool) (turn next : Turn) (lf rf : Bool) (l : Option A) (r : Option B) (old new : Traces A E) (right : Traces B E) (x : A)
+      (given : Option (Event C E)) → turn ≡ Left → lf ≡ false → next ≡ turn_to Right rf → given ≡ result_of g (Some x) r → Looser p p' → After old x new
+      → Asks (MayCombine g p q turn l r (OrFinished lf old) (OrFinished rf right)) (Ready given)
+      (MayCombine g p' q next (Some x) r (OrFinished lf new) (OrFinished rf right))
+  asks_left p q p' turn next lf rf l r old new right x given is going passes gives h after =
+      asks_result (Some x) r given _ _ gives
+      (subst (λ (b : Bool). AfterResult g (Some x) r (MayCombine g p q turn l r (OrFinished b old) (OrFinished rf right)) (MayCombine g p' q next (Some x) r (OrFinished b new) (OrFinished rf right))) (sym going)
+      (subst (λ (t : Turn). AfterResult g (Some x) r (MayCombine g p q t l r old (OrFinished rf right)) (MayCombine g p' q next (Some x) r new (OrFinished rf right))) (sym is)
+      (subst (λ (t : Turn). AfterResult g (Some x) r (MayCombine g p q Left l r old (OrFinished rf right)) (MayCombine g p' q t (Some x) r new (OrFinished rf right))) (sym passes)
+      (combine_left_gives p q p' l r rf old new right x h after))))
+
+  pub asks_right : (p q q' : Bool) (turn next : Turn) (lf rf : Bool) (l : Option A) (r : Option B) (left : Traces A E) (old new : Traces B E) (y : B)
+      (given : Option (Event C E)) → turn ≡ Right → rf ≡ false → next ≡ turn_to Left lf → given ≡ result_of g l (Some y) → Looser q q' → After old y new
+      → Asks (MayCombine g p q turn l r (OrFinished lf left) (OrFinished rf old)) (Ready given)
+      (MayCombine g p q' next l (Some y) (OrFinished lf left) (OrFinished rf new))
+  asks_right p q q' turn next lf rf l r left old new y given is going passes gives h after =
+      asks_result l (Some y) given _ _ gives
+      (subst (λ (b : Bool). AfterResult g l (Some y) (MayCombine g p q turn l r (OrFinished lf left) (OrFinished b old)) (MayCombine g p q' next l (Some y) (OrFinished lf left) (OrFinished b new))) (sym going)
+      (subst (λ (t : Turn). AfterResult g l (Some y) (MayCombine g p q t l r (OrFinished lf left) old) (MayCombine g p q' next l (Some y) (OrFinished lf left) new)) (sym is)
+      (subst (λ (t : Turn). AfterResult g l (Some y) (MayCombine g p q Right l r (OrFinished lf left) old) (MayCombine g p q' t l (Some y) (OrFinished lf left) new)) (sym passes)
+      (combine_right_gives p q q' l r lf left old new y h after))))
+
+-- the side whose turn comes next has not finished
+pub open-after_left : (lf rf : Bool) → IsTrue (is_open Left lf rf) → IsTrue (is_open (turn_to Right rf) lf rf)
+open-after_left lf true h = h
+open-after_left lf false h = refl
+
+pub open-after_right : (lf rf : Bool) → IsTrue (is_open Right lf rf) → IsTrue (is_open (turn_to Left lf) lf rf)
+open-after_right true rf h = h
+open-after_right false rf h = refl
+
+pub not-finished_left : (lf rf : Bool) → IsTrue (is_open Left lf rf) → lf ≡ false
+not-finished_left true rf h = absurd (cc)
+not-finished_left false rf h = refl
+
+pub not-finished_right : (lf rf : Bool) → IsTrue (is_open Right lf rf) → rf ≡ false
+not-finished_right lf true h = absurd (cc)
+not-finished_right lf false h = refl
+
+-- ---- where no side answers pending
+
+module _ {A B C E : Type 0} (g : A × B → C) where
+  abbrev right_first : Option A → Option B → Trace A E → List B → Option (Cause E) → Trace C E
+  right_first l r t [] f = after_end f (rest_of_left g r t)
+  right_first l r t (y ∷ ys) f = with_result g l (Some y) (in_turn g l (Some y) t.0 t.1 ys f)
+
+  abbrev from_turn : Turn → Option A → Option B → Trace A E → Trace B E → Trace C E
+  from_turn Left l r t u = in_turn g l r t.0 t.1 u.0 u.1
+  from_turn Right l r t u = right_first l r t u.0 u.1
+
+  result-begins : (l : Option A) (r : Option B) (t u : Trace C E) → t ⊑ u → with_result g l r t ⊑ with_result g l r u
+  result-begins None r t u h = h
+  result-begins (Some x) None t u h = h
+  result-begins (Some x) (Some y) t u h = led-begins (g (x, y)) t u h
+
+  left-first : (l : Option A) (r : Option B) (x : A) (xs : List A) (e : Option (Cause E)) (ys : List B) (f : Option (Cause E))
+      → with_result g (Some x) r (right_first (Some x) r (xs, e) ys f) ≡ in_turn g l r (x ∷ xs) e ys f
+  left-first l r x xs e [] f = refl
+  left-first l r x xs e (y ∷ ys) f = refl
+
+  no-more_left : (r : Option B) (e : Option (Cause E)) → rest_of_left g r ([], e) ≡ ([], e)
+  no-more_left None e = refl
+  no-more_left (Some y) e = refl
+
+  no-more_right : (l : Option A) (f : Option (Cause E)) → rest_of_right g l ([], f) ≡ ([], f)
+  no-more_right None f = refl
+  no-more_right (Some x) f = refl
+
+  -- after an end at which nothing more comes there is that end
+  after-end_alone : (e : Option (Cause E)) → after_end {C = C} e (ended_by [] Finished) ≡ ([], e)
+  after-end_alone None = refl
+  after-end_alone (Some Finished) = refl
+  after-end_alone (Some (Failed f)) = refl
+  after-end_alone (Some Cancelled) = refl
+  after-end_alone (Some (Refused why)) = refl
+
+  after-end_by : (k : Cause E) (rest : Trace C E) → (k ≡ Finished → ⊥) → after_end (Some k) rest ≡ ended_by [] k
+  after-end_by Finished rest fails = absurd (fails refl)
+  after-end_by (Failed e) rest fails = refl
+  after-end_by Cancelled rest fails = refl
+  after-end_by (Refused why) rest fails = refl
+
+  left-over : (l : Option A) (r : Option B) (ys : List B) (f : Option (Cause E))
+      → right_first l r (ended_by [] Finished) ys f ≡ rest_of_right g l (ys, f)
+  left-over l r [] f = ap (after_end f) (no-more_left r (Some Finished)) ∙ after-end_alone f ∙ sym (no-more_right l f)
+  left-over None r (y ∷ ys) f = refl
+  left-over (Some x) r (y ∷ ys) f = refl
+
+  right-over : (l : Option A) (r : Option B) (xs : List A) (e : Option (Cause E)) → in_turn g l r xs e [] (Some Finished) ≡ rest_of_left g r (xs, e)
+  right-over l r [] e = ap (after_end e) (no-more_right l (Some Finished)) ∙ after-end_alone e ∙ sym (no-more_left r e)
+  right-over l None (x ∷ xs) e = refl
+  right-over l (Some y) (x ∷ xs) e = refl
+
+  -- where no side answers pending, it gives what the values make in turn
+  alternates : (turn : Turn) (l : Option A) (r : Option B) (t : Trace A E) (u : Trace B E) (out : Trace C E)
+      → Combines g true true turn l r t u out → out ⊑ from_turn turn l r t u
+  alternates _ _ _ _ _ _ stops = begins-any _
+  alternates _ _ _ _ _ _ (left_gives {l = l} {r = r} {t = t} {u = u} {out = out} x c) =
+      subst (λ (w : Trace C E). with_result g (Some x) r out ⊑ w) (left-first l r x t.0 t.1 u.0 u.1)
+      (result-begins (Some x) r _ _ (alternates Right (Some x) r t u out c))
+  alternates _ _ _ _ _ _ (right_gives {l = l} {r = r} {t = t} {u = u} {out = out} y c) =
+      result-begins l (Some y) _ _ (alternates Left l (Some y) t u out c)
+  alternates _ _ _ _ _ _ (left_passes {l = l} {r = r} {t = t} {u = u} {out = out} e c) =
+      let over : out ⊑ right_first l r (ended_by [] Finished) u.0 u.1 = subst (λ (w : Trace A E). out ⊑ right_first l r w u.0 u.1) (e refl) (alternates Right l r t u out c) in
+      subst (λ (w : Trace A E). out ⊑ in_turn g l r w.0 w.1 u.0 u.1) (sym (e refl)) (subst (λ (w : Trace C E). out ⊑ w) (left-over l r u.0 u.1) over)
+  alternates _ _ _ _ _ _ (right_passes {l = l} {r = r} {t = t} {u = u} {out = out} e c) =
+      let over : out ⊑ in_turn g l r t.0 t.1 [] (Some Finished) = subst (λ (w : Trace B E). out ⊑ in_turn g l r t.0 t.1 w.0 w.1) (e refl) (alternates Left l r t u out c) in
+      subst (λ (w : Trace B E). out ⊑ right_first l r t w.0 w.1) (sym (e refl)) (subst (λ (w : Trace C E). out ⊑ w) (right-over l r t.0 t.1) over)
+  alternates Left _ _ _ _ _ (finishes {l = l} {r = r}) = inl (sym (no-more_right l (Some Finished)))
+  alternates Right _ _ _ _ _ (finishes {l = l} {r = r}) = inl (sym (no-more_left r (Some Finished)))
+  alternates _ _ _ _ _ _ (left_fails {l = l} {r = r} {u = u} k fails) = inl (sym (after-end_by k _ fails))
+  alternates _ _ _ _ _ _ (right_fails {l = l} {r = r} {t = t} k fails) = inl (sym (after-end_by k _ fails))
+
+  -- Where each side may give only the beginnings of one trace, and no side answers pending, a combine gives the beginnings of what it makes of both.
+  combine_fixed : (left : Traces A E) (right : Traces B E) (a : Trace A E) (b : Trace B E) → Within (Beginnings a) left → Within (Beginnings b) right
+      → Within (Beginnings (combine_trace g a b)) (MayCombine g true true Left None None left right)
+  combine_fixed left right a b of_left of_right t h =
+      alternates Left None None a b t (extends g true true Left None None h.of_left h.of_right t a b h.combines (of_left _ h.left_came) (of_right _ h.right_came))
+
+  pub combine_exact : (p q : Bool) (left : Traces A E) (right : Traces B E) (a : Trace A E) (b : Trace B E) → IsTrue p → IsTrue q
+      → Within (Beginnings a) left → Within (Beginnings b) right → Within (Beginnings (combine_trace g a b)) (MayCombine g p q Left None None left right)
+  combine_exact p q left right a b h k of_left of_right t c =
+      combine_fixed left right a b of_left of_right t
+      (record {
+        of_left = c.of_left;
+        of_right = c.of_right;
+        left_came = c.left_came;
+        right_came = c.right_came;
+        combines = loosen g true true p q (λ _. h) (λ _. k) _ _ _ _ _ _ c.combines;
+      })

@@ -1,0 +1,42 @@
+-- Inner sources one after the other.
+use Rattle.std.specs.Prelude.{◌≡◌, List, [], ◌∷◌, ◌++◌, Option, Some, None, ◌⊎◌, map}
+use Rattle.std.specs.List.{AllZip}
+use Rattle.cold_flow.specs.declared.cause.Cause.{Cause}
+use Rattle.cold_flow.specs.declared.cause.Cause.TheVariants.{Finished, Failed, Cancelled, Refused}
+use Rattle.cold_flow.specs.declared.refusal.Refusal.TheVariants.{NoMemory}
+use Rattle.cold_flow.specs.Trace.{Trace, ◌⊑◌, ended_by}
+use Rattle.cold_flow.specs.Poll.{Traces, OrRefused}
+
+-- t, and then u where t has finished
+abbrev pub followed_by : {B E : Type 0} → Trace B E → Trace B E → Trace B E
+followed_by (xs, None) u = (xs, None)
+followed_by (xs, Some Finished) u = (xs ++ u.0, u.1)
+followed_by (xs, Some (Failed e)) u = (xs, Some (Failed e))
+followed_by (xs, Some Cancelled) u = (xs, Some Cancelled)
+followed_by (xs, Some (Refused r)) u = (xs, Some (Refused r))
+
+-- the traces joined in their order while each is finished, and after them the end
+abbrev pub joined : {B E : Type 0} → List (Trace B E) → Option (Cause E) → Trace B E
+joined [] last = ([], last)
+joined (t ∷ ts) last = followed_by t (joined ts last)
+
+-- what the inner run that stands may give; where none stands, nothing more comes of it
+abbrev pub MayStand : {B E R : Type 0} → (R → Traces B E) → Option R → Traces B E
+MayStand may None t = t ≡ ended_by [] Finished
+MayStand may (Some r) t = may r t
+
+-- What a concatenation may give: the beginnings of the trace that stands and of the inner traces after it, joined in the order in which
+-- the outer gives their values, up to the outer's end. An inner flow gives what it may, or its start is refused.
+pub record MayConcat {A B E R : Type 0} (inner : A → Traces B E) (may : R → Traces B E) (standing : Option R) (outer : Traces A E) (t : Trace B E) : Type 0 where
+  pub of_standing : Trace B E
+  pub of_outer : Trace A E
+  pub of_inner : List (Trace B E)
+  pub standing_came : MayStand may standing of_standing
+  pub outer_came : outer of_outer
+  pub inner_came : AllZip (λ x. OrRefused (inner x)) of_outer.0 of_inner
+  pub begins : t ⊑ followed_by of_standing (joined of_inner of_outer.1)
+
+-- An end that may be given comes after the inner traces of the outer's values, joined; or it is that a start was refused.
+abbrev pub JoinsOrRefused : {A B E : Type 0} → (A → Trace B E) → Trace A E → Traces B E → Type 0
+JoinsOrRefused {A} {B} {E} whole o may =
+    (xs : List B) (k : Cause E) → may (ended_by xs k) → (k ≡ Refused NoMemory) ⊎ (ended_by xs k ≡ joined (map whole o.0) o.1)

@@ -1,0 +1,12 @@
+pub mod Asking
+pub mod Counting
+pub mod Zip
+pub mod ZipLaws
+pub mod Concat
+pub mod ConcatLaws
+pub mod Combine
+pub mod CombineLaws
+pub mod Standing
+pub mod StandingLaws
+pub mod Merge
+pub mod MergeLaws

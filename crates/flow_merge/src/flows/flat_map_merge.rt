@@ -1,0 +1,312 @@
+//! Several inner flows at once.
+
+ghost use Rattle.std.specs.Prelude.{◌≡◌, ◌+◌, ◌<◌, ◌≤◌, ◌↔◌, ◌⊎◌, true, false, [], None, IsSome, IsTrue, IfOk, IsOk, Err, ◌&&◌, vec_len};
+ghost use Rattle.futures.specs.Poll.{OnPending};
+ghost use Rattle.futures.specs.Task.{IsArmed, Keeps};
+ghost use Rattle.cold_flow.specs.declared.refusal.Refusal.TheVariants.{NotPositive, TooManyWorkers};
+ghost use Rattle.cold_flow.specs.Poll.{Unless, Within, Narrows};
+ghost use Rattle.flow_merge.specs.Combine.{OrFinished};
+ghost use Rattle.flow_merge.specs.Asking.{Asks};
+ghost use Rattle.flow_merge.specs.Standing.{all_stopped, StandAfter};
+ghost use Rattle.flow_merge.specs.Merge.{MayMerge, AsksOuter};
+
+use crate::flows::standing::{ask_at, cancel_all};
+use cold_flow::{Apply, BUDGET, Cause, Event, Flow, Refusal, Run};
+use futures::task::{Context, Poll};
+use std::alloc::Global;
+
+/// The most inner flows of one `flat_map_merge` that may be collected at once.
+pub const MAX_WORKERS: u32 = 1_024;
+
+/// The flow of `flat_map_merge`.
+#[derive(Drop)]
+pub struct Merged<S, G> {
+    alloc: Global,
+    outer: S,
+    function: G,
+    limit: u32,
+    ghost positive: { 0 < limit },
+}
+
+/// Kotlin's `flatMapMerge`: the inner flows that `function` answers for the outer values, at most `limit` of them at once (Kotlin's
+/// `concurrency`). Their values come as they come: the order between inner flows is not claimed.
+///
+/// Refused with `Refusal::NotPositive` where `limit` is 0 and with `Refusal::TooManyWorkers` where it is over `MAX_WORKERS`. A failure of
+/// the outer or of an inner flow is the end at once and cancels all others, whose values not yet given are lost; so is an inner start
+/// that is refused, or a place for its run: then the end is `Cause::Refused`. The places for inner runs are taken from `alloc` as they
+/// are needed.
+pub fn flat_map_merge<
+    B: Copy,
+    E: Copy,
+    S: Flow<Fault = E>,
+    F: Flow<Item = B, Fault = E>,
+    G: Apply<S::Item, Out = F>,
+>(alloc: Global, outer: S, function: G, limit: u32) -> Result<Merged<S, G>, Refusal>
+    ensures gives { IfOk result (λ f. Within (MayMerge limit (λ x. F.may (G.gives function x)) F.Running.may [] (S.may outer)) (⟦<Merged<S, G> as Flow>⟧.may f)) }
+    ensures not_positive { (result ≡ Err NotPositive) ↔ (limit ≡ 0) }
+    ensures too_many { (result ≡ Err TooManyWorkers) ↔ (MAX_WORKERS < limit) }
+    ensures accepted { 0 < limit → limit ≤ MAX_WORKERS → IsOk result }
+{
+    if limit == 0 {
+        return Err(Refusal::NotPositive);
+    }
+    if limit > MAX_WORKERS {
+        return Err(Refusal::TooManyWorkers);
+    }
+    Ok(Merged {
+        alloc,
+        outer,
+        function,
+        limit,
+    })
+}
+
+/// A run of `flat_map_merge`.
+#[derive(Drop)]
+pub struct MergedRun<O: Run, F: Flow, G, E> {
+    outer: O,
+    outer_finished: bool,
+    function: G,
+    limit: u32,
+    // The inner runs that stand, in the order of their starts.
+    runs: Vec<F::Running>,
+    // The index of the inner run that is asked next, so that none is asked twice while another waits.
+    next: usize,
+    ended: Option<Cause<E>>,
+    ghost positive: { 0 < limit },
+    ghost few: { vec_len runs ≤ limit },
+    ghost settled: { IsSome ended → IsTrue (O.stopped outer && all_stopped F.Running.stopped runs.items) },
+}
+
+impl<
+    B: Copy,
+    E: Copy,
+    S: Flow<Fault = E>,
+    F: Flow<Item = B, Fault = E>,
+    G: Apply<S::Item, Out = F>,
+> Flow for Merged<S, G> {
+    ghost use Rattle.flow_merge.specs.MergeLaws.{merge_uncancelled};
+
+    type Item = B;
+
+    type Fault = E;
+
+    type Running = MergedRun<S::Running, F, G, E>;
+
+    ghost may = { λ f. MayMerge f.limit (λ x. F.may (G.gives f.function x)) F.Running.may [] (S.may f.outer) };
+
+    #[tactic(auto, using(crate::specs::MergeLaws::merge_outer_waits))]
+    fn start(&self) -> Result<MergedRun<S::Running, F, G, E>, Refusal> {
+        Ok(MergedRun {
+            outer: self.outer.start()?,
+            outer_finished: false,
+            function: self.function,
+            limit: self.limit,
+            runs: Vec::new(self.alloc),
+            next: 0,
+            ended: None,
+        })
+    }
+
+    ghost uncancelled = { λ f. merge_uncancelled f.limit _ (λ x. F.uncancelled (G.gives f.function x)) F.Running.may (S.may f.outer) (S.uncancelled f.outer) };
+}
+
+impl<
+    B: Copy,
+    E: Copy,
+    O: Run<Fault = E>,
+    F: Flow<Item = B, Fault = E>,
+    G: Apply<O::Item, Out = F>,
+> Run for MergedRun<O, F, G, E> {
+    ghost use Rattle.cold_flow.specs.Laws.{Unless-begins, Unless-over};
+    ghost use Rattle.flow_merge.specs.MergeLaws.{merge_begun, outer_begins};
+
+    type Item = B;
+
+    type Fault = E;
+
+    ghost may = { λ r. Unless r.ended (MayMerge r.limit (λ x. F.may (G.gives r.function x)) F.Running.may r.runs.items (OrFinished r.outer_finished (O.may r.outer))) };
+
+    ghost ended = { λ r. r.ended };
+
+    ghost stopped = { λ r. O.stopped r.outer && all_stopped F.Running.stopped r.runs.items };
+
+    fn poll_next(&mut self, cx: &mut Context<'_>) -> Poll<Event<B, E>> {
+        if let Some(cause) = self.ended {
+            return Poll::Ready(Event::End(cause));
+        }
+        match self.ask_all(cx) {
+            Poll::Ready(Event::Value(value)) => Poll::Ready(Event::Value(value)),
+            Poll::Ready(Event::End(cause)) => {
+                self.outer.cancel();
+                cancel_all(&mut self.runs);
+                self.ended = Some(cause);
+                Poll::Ready(Event::End(cause))
+            }
+            Poll::Pending => Poll::Pending,
+        }
+    }
+
+    fn cancel(&mut self) {
+        self.outer.cancel();
+        cancel_all(&mut self.runs);
+        if self.ended.is_none() {
+            self.ended = Some(Cause::Cancelled);
+        }
+    }
+
+    ghost begins = { λ r. Unless-begins r.ended _ (merge_begun r.limit _ _ r.runs.items _ F.Running.begins (outer_begins r.outer_finished (O.may r.outer) (O.begins r.outer))) };
+
+    ghost over = { λ r. Unless-over r.ended _ };
+}
+
+impl<
+    B: Copy,
+    E: Copy,
+    O: Run<Fault = E>,
+    F: Flow<Item = B, Fault = E>,
+    G: Apply<O::Item, Out = F>,
+> MergedRun<O, F, G, E> {
+    // Asks the outer run once, and starts an inner run of a value that it gives. A cause that ends the whole is given back.
+    fn ask_outer(&mut self, cx: &mut Context<'_>) -> Poll<Option<Cause<E>>>
+        requires going { self.old.ended ≡ None }
+        requires unfinished { self.old.outer_finished ≡ false }
+        requires room { vec_len self.old.runs < self.old.limit }
+        ensures asked { AsksOuter (MayMerge self.old.limit (λ x. F.may (G.gives self.old.function x)) F.Running.may self.old.runs.items (OrFinished self.old.outer_finished (O.may self.old.outer))) result (MayMerge self.new.limit (λ x. F.may (G.gives self.new.function x)) F.Running.may self.new.runs.items (OrFinished self.new.outer_finished (O.may self.new.outer))) }
+        ensures going { self.new.ended ≡ None }
+        ensures limit { self.new.limit ≡ self.old.limit }
+        ensures standing { (vec_len self.old.runs ≤ vec_len self.new.runs) × (vec_len self.new.runs ≤ vec_len self.old.runs + 1) }
+        ensures waits { OnPending result (vec_len self.new.runs ≡ vec_len self.old.runs) }
+        ensures armed { OnPending result (IsArmed cx.new) }
+        ensures kept { Keeps cx.old cx.new }
+    {
+        match self.outer.poll_next(cx) {
+            Poll::Ready(Event::Value(value)) => {
+                if self.runs.reserve(1).is_err() {
+                    return Poll::Ready(Some(Cause::Refused(Refusal::NoMemory)));
+                }
+                match self.function.apply(value).start() {
+                    Ok(run) => {
+                        self.runs.push_reserved(run);
+                        Poll::Ready(None)
+                    }
+                    Err(refusal) => Poll::Ready(Some(Cause::Refused(refusal))),
+                }
+            }
+            Poll::Ready(Event::End(cause)) => {
+                if let Cause::Finished = cause {
+                    self.outer_finished = true;
+                    return Poll::Ready(None);
+                }
+                Poll::Ready(Some(cause))
+            }
+            Poll::Pending => Poll::Pending,
+        }
+    }
+
+    // Asks the outer while fewer than `limit` inner runs stand, and each inner run that stands at most once.
+    fn ask_all(&mut self, cx: &mut Context<'_>) -> Poll<Event<B, E>>
+        requires { self.old.ended ≡ None }
+        ensures narrows { Narrows (MayMerge self.old.limit (λ x. F.may (G.gives self.old.function x)) F.Running.may self.old.runs.items (OrFinished self.old.outer_finished (O.may self.old.outer))) result (MayMerge self.new.limit (λ x. F.may (G.gives self.new.function x)) F.Running.may self.new.runs.items (OrFinished self.new.outer_finished (O.may self.new.outer))) }
+        ensures going { self.new.ended ≡ None }
+        ensures armed { OnPending result (IsArmed cx.new) }
+        ensures kept { Keeps cx.old cx.new }
+    {
+        let mut unanswered = 0;
+        // How many of the runs that stand answered pending in this poll, and whether the outer did.
+        let mut asked = 0;
+        let mut outer_waits = false;
+        'questions: while unanswered < BUDGET {
+            if self.wants_outer(asked, outer_waits) {
+                self.next = self.place_after(asked);
+                match self.ask_outer(cx) {
+                    Poll::Ready(None) => unanswered += 1,
+                    Poll::Ready(Some(cause)) => return Poll::Ready(Event::End(cause)),
+                    Poll::Pending => outer_waits = true,
+                }
+            } else if asked < self.runs.len() {
+                match self.ask_next(cx) {
+                    Poll::Ready(None) => unanswered += 1,
+                    Poll::Ready(Some(Event::Value(value))) => return Poll::Ready(Event::Value(
+                        value,
+                    )),
+                    Poll::Ready(Some(Event::End(cause))) => return Poll::Ready(Event::End(cause)),
+                    Poll::Pending => asked += 1,
+                }
+            } else if asked > 0 {
+                return Poll::Pending;
+            } else if outer_waits {
+                return Poll::Pending;
+            } else {
+                // No run stands, and the outer has finished.
+                return Poll::Ready(Event::End(Cause::Finished));
+            }
+        }
+        cx.yield_now()
+    }
+
+    // Whether the outer is to be asked, once `asked` of the runs that stand were: before any of them or after all, so that a run that is
+    // started now comes behind those that wait.
+    fn wants_outer(&self, asked: usize, outer_waits: bool) -> bool
+        ensures unfinished { IsTrue result → self.now.outer_finished ≡ false }
+        ensures room { IsTrue result → vec_len self.now.runs < self.now.limit }
+        ensures silent { IsTrue result → outer_waits ≡ false }
+        ensures otherwise { result ≡ false → asked ≡ 0 → vec_len self.now.runs ≡ 0 → outer_waits ≡ false → self.now.outer_finished ≡ true }
+    {
+        if self.outer_finished {
+            return false;
+        }
+        if outer_waits {
+            return false;
+        }
+        if self.runs.len() >= self.limit as usize {
+            return false;
+        }
+        if asked == 0 {
+            return true;
+        }
+        asked == self.runs.len()
+    }
+
+    // The index of the run that is asked next, if one is started now: that run, where all others were asked.
+    fn place_after(&self, asked: usize) -> usize
+        ensures { (result ≡ self.now.next) ⊎ (result ≡ vec_len self.now.runs) }
+    {
+        if asked == self.runs.len() {
+            return self.runs.len();
+        }
+        self.next
+    }
+
+    // Asks the inner run whose turn it is. One that has finished leaves.
+    fn ask_next(&mut self, cx: &mut Context<'_>) -> Poll<Option<Event<B, E>>>
+        requires going { self.old.ended ≡ None }
+        requires stands { 0 < vec_len self.old.runs }
+        ensures asked { Asks (MayMerge self.old.limit (λ x. F.may (G.gives self.old.function x)) F.Running.may self.old.runs.items (OrFinished self.old.outer_finished (O.may self.old.outer))) result (MayMerge self.new.limit (λ x. F.may (G.gives self.new.function x)) F.Running.may self.new.runs.items (OrFinished self.new.outer_finished (O.may self.new.outer))) }
+        ensures going { self.new.ended ≡ None }
+        ensures limit { self.new.limit ≡ self.old.limit }
+        ensures standing { StandAfter result (vec_len self.old.runs) (vec_len self.new.runs) }
+        ensures armed { OnPending result (IsArmed cx.new) }
+        ensures kept { Keeps cx.old cx.new }
+    {
+        if self.next >= self.runs.len() {
+            self.next = 0;
+        }
+        match ask_at(&mut self.runs, self.next, cx) {
+            Poll::Ready(Event::Value(value)) => {
+                self.next += 1;
+                Poll::Ready(Some(Event::Value(value)))
+            }
+            Poll::Ready(Event::End(cause)) => {
+                if let Cause::Finished = cause {
+                    return Poll::Ready(None);
+                }
+                Poll::Ready(Some(Event::End(cause)))
+            }
+            Poll::Pending => {
+                self.next += 1;
+                Poll::Pending
+            }
+        }
+    }
+}
