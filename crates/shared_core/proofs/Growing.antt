@@ -1,0 +1,145 @@
+-- What was accepted stays, and each subscription goes on from where it was.
+use Rattle.std.proofs.Common.{◌≡◌, ℕ, zero, suc, ◌-◌, Bool, true, false, cond, ◌&&◌, ◌==◌, List, [], ◌∷◌, ◌++◌, length, drop, map, Some, slice_get, refl, sym, ap, ◌∙◌, subst, arith, append_assoc}
+use Rattle.std.proofs.lemmas.List.{append-nil, map-append, drop-append-le}
+use Rattle.std.proofs.lemmas.Option.{none-some, same_Some}
+use Rattle.std.proofs.Math.ListN.{length-map}
+use Rattle.shared_core.specs.Flow.{State, Subscription, empty, open_next, change, receive_first, lose_first, received_next, lost_next, pending, capacity, values}
+use Rattle.shared_core.specs.Calls.{Call, after}
+use Rattle.shared_core.specs.Story.{BeginsWith, GoesOn, Grows, BeginsWithCache, GrowthLaw, CacheLaw}
+use Rattle.shared_core.proofs.Pending.{pending-closed}
+use Rattle.shared_core.specs.Accepting.{IsSound}
+use Rattle.shared_core.proofs.Sound.{sound-empty, sound-after}
+use Rattle.shared_core.proofs.Walks.{OverEvents, after_over}
+
+begins_same : {X : Type 0} (xs : List X) → BeginsWith xs xs
+begins_same xs = ([], sym (append-nil xs))
+
+begins_then : {X : Type 0} (xs ys zs : List X) → BeginsWith xs ys → BeginsWith ys zs → BeginsWith xs zs
+begins_then xs ys zs first second = (first.0 ++ second.0, second.1 ∙ ap (λ front. front ++ second.0) first.1 ∙ append_assoc xs first.0 second.0)
+
+on_same : (s : Subscription) → GoesOn s s
+on_same s = record { start = refl; received = begins_same s.received; lost = begins_same s.lost; closed = λ _. refl }
+
+on_then : (s t u : Subscription) → GoesOn s t → GoesOn t u → GoesOn s u
+on_then s t u first second = record {
+  start = second.start ∙ first.start;
+  received = begins_then s.received t.received u.received first.received second.received;
+  lost = begins_then s.lost t.lost u.lost first.lost second.lost;
+  closed = λ closed. second.closed (ap (λ (v : Subscription). v.live) (first.closed closed) ∙ closed) ∙ first.closed closed;
+}
+
+on_receive_first : (s : Subscription) (indexes : List ℕ) → (s.live ≡ false → indexes ≡ []) → GoesOn s (receive_first s indexes)
+on_receive_first s [] none = on_same s
+on_receive_first s (i ∷ rest) none = record {
+  start = refl;
+  received = (i ∷ [], refl);
+  lost = begins_same s.lost;
+  closed = λ closed. absurd (let h = none closed in cc);
+}
+
+on_lose_first : (s : Subscription) (indexes : List ℕ) → (s.live ≡ false → indexes ≡ []) → GoesOn s (lose_first s indexes)
+on_lose_first s [] none = on_same s
+on_lose_first s (i ∷ rest) none = record {
+  start = refl;
+  received = begins_same s.received;
+  lost = (i ∷ [], refl);
+  closed = λ closed. absurd (let h = none closed in cc);
+}
+
+on_close : (s : Subscription) → GoesOn s (record s { live = false })
+on_close s = record {
+  start = refl;
+  received = begins_same s.received;
+  lost = begins_same s.lost;
+  closed = λ closed. ap (λ b. record s { live = b }) (sym closed);
+}
+
+on_cond : (b : Bool) (s t : Subscription) → GoesOn s t → GoesOn s (cond b t s)
+on_cond true s t on = on
+on_cond false s t on = on_same s
+
+-- ---- lists of subscriptions
+
+abbrev AllGoOn : List Subscription → List Subscription → Type 0
+AllGoOn xs ys = (k : ℕ) (s : Subscription) → slice_get xs k ≡ Some s → (later : Subscription) × (slice_get ys k ≡ Some later) × GoesOn s later
+
+all_changed : (n : ℕ) (f : Subscription → Subscription) → ((s : Subscription) → GoesOn s (f s)) → (xs : List Subscription) → AllGoOn xs (change n f xs)
+all_changed n f on [] k s gets = absurd (none-some s gets)
+all_changed zero f on (x ∷ xs) zero s gets = (f x, refl, subst (λ t. GoesOn t (f x)) (same_Some x s gets) (on x))
+all_changed zero f on (x ∷ xs) (suc k) s gets = (s, gets, on_same s)
+all_changed (suc n) f on (x ∷ xs) zero s gets = (x, refl, subst (λ t. GoesOn t x) (same_Some x s gets) (on_same x))
+all_changed (suc n) f on (x ∷ xs) (suc k) s gets = all_changed n f on xs k s gets
+
+all_mapped : (f : Subscription → Subscription) → ((s : Subscription) → GoesOn s (f s)) → (xs : List Subscription) → AllGoOn xs (map f xs)
+all_mapped f on [] k s gets = absurd (none-some s gets)
+all_mapped f on (x ∷ xs) zero s gets = (f x, refl, subst (λ t. GoesOn t (f x)) (same_Some x s gets) (on x))
+all_mapped f on (x ∷ xs) (suc k) s gets = all_mapped f on xs k s gets
+
+all_pushed : (xs : List Subscription) (new : Subscription) → AllGoOn xs (xs ++ new ∷ [])
+all_pushed [] new k s gets = absurd (none-some s gets)
+all_pushed (x ∷ xs) new zero s gets = (s, gets, on_same s)
+all_pushed (x ∷ xs) new (suc k) s gets = all_pushed xs new k s gets
+
+last_pushed : (xs : List Subscription) (new : Subscription) → slice_get (xs ++ new ∷ []) (length xs) ≡ Some new
+last_pushed [] new = refl
+last_pushed (x ∷ xs) new = last_pushed xs new
+
+module _ {T : Type 0} where
+  grows_same : (M : State T) → Grows M M
+  grows_same M = record { accepted = begins_same M.accepted; subscriptions = λ k s gets. (s, gets, on_same s) }
+
+  grows_then : {M N K : State T} → Grows M N → Grows N K → Grows M K
+  grows_then {M = M} {N = N} {K = K} first second = record {
+    accepted = begins_then M.accepted N.accepted K.accepted first.accepted second.accepted;
+    subscriptions = λ k s gets.
+        let mid = first.subscriptions k s gets in
+        let last = second.subscriptions k mid.0 mid.1 in
+        (last.0, last.1, on_then s mid.0 last.0 mid.2 last.2);
+  }
+
+  grows-events : OverEvents {T = T} Grows
+  grows-events = record {
+    quiet = record {
+      same = grows_same;
+      then = λ first second. grows_then first second;
+      accepts = λ emitter v M. record { accepted = ((emitter, v) ∷ [], refl); subscriptions = λ k s gets. (s, gets, on_same s) };
+      loses = λ M. record {
+        accepted = begins_same M.accepted;
+        subscriptions = all_mapped _ (λ s. on_cond (s.live && (length (pending (length M.accepted) s) == capacity M.parameters)) s (lost_next (length M.accepted) s)
+            (on_lose_first s (pending (length M.accepted) s) (pending-closed (length M.accepted) s))) M.subscriptions;
+      };
+      opens = λ M. record { accepted = begins_same M.accepted; subscriptions = all_pushed M.subscriptions _ };
+      closes = λ k M. record { accepted = begins_same M.accepted; subscriptions = all_changed k (λ s. record s { live = false }) on_close M.subscriptions };
+      resets = λ M. record { accepted = begins_same M.accepted; subscriptions = λ k s gets. (s, gets, on_same s) };
+      tickets = λ M tickets. record { accepted = begins_same M.accepted; subscriptions = λ k s gets. (s, gets, on_same s) };
+    };
+    receives = λ k M. record {
+      accepted = begins_same M.accepted;
+      subscriptions = all_changed k (received_next (length M.accepted)) (λ s. on_receive_first s (pending (length M.accepted) s) (pending-closed (length M.accepted) s)) M.subscriptions;
+    };
+  }
+
+  begins_with_cache : (M : State T) (later : List (Call T)) → IsSound M → BeginsWithCache M (after later (open_next M))
+  begins_with_cache M later sound =
+      let start = length M.accepted - M.cached in
+      let opened : Subscription = record { start = start; received = []; lost = []; live = true } in
+      let grown = after_over grows-events later (open_next M) in
+      let on = grown.subscriptions (length M.subscriptions) opened (last_pushed M.subscriptions opened) in
+      let all = grown.accepted in
+      let N = after later (open_next M) in (
+        on.0,
+        on.1,
+        (
+          all.0,
+          all.1,
+          ap (λ i. drop i (values N.accepted)) on.2.start ∙ ap (λ xs. drop start (values xs)) all.1
+              ∙ ap (drop start) (map-append (λ (e : ℕ × T). e.1) M.accepted all.0)
+              ∙ drop-append-le start (values M.accepted) (values all.0) (omega (arith, length-map M.accepted (λ (e : ℕ × T). e.1))),
+        ),
+      )
+
+pub growth_law : (T : Type 0) → GrowthLaw T
+growth_law T M calls = after_over grows-events calls M
+
+pub cache_law : (T : Type 0) → CacheLaw T
+cache_law T p calls later = begins_with_cache (after calls (empty p)) later (sound-after calls (empty p) (sound-empty p))

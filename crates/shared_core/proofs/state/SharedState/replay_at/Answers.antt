@@ -1,0 +1,8 @@
+use Rattle.std.proofs.Common.{◌∙◌, ap, sym, slice_get}
+use Rattle.shared_core.specs.Shown.{Seen}
+use Rattle.shared_core.proofs.Bodies.{cache_shown}
+use Rattle.shared_core.proofs.state.SharedState.replay_at.Goals as goal
+
+pub returns : goal.returns
+returns g c = λ M shows.
+    sym c.get.ensures ∙ ap (λ (seen : Seen _). slice_get seen.cache c.args.index) c.self.view_is ∙ ap (λ xs. slice_get xs c.args.index) (cache_shown c.args.self.now M shows)

@@ -1,0 +1,154 @@
+-- What each subscription receives in every run of calls on a new flow, told by the calls, the replies to them, and what
+-- contracts see.
+use Rattle.std.specs.Prelude.{◌≡◌, ◌≢◌, ℕ, ◌+◌, ◌-◌, ◌<◌, ◌≤◌, ◌⊎◌, true, List, [], ◌∷◌, ◌++◌, length, take, drop, Option, None, Some, Ok, IsSome, slice_get}
+use Rattle.std.specs.List.{filter_map, range_with_len, Contains, All}
+use Rattle.shared_core.specs.declared.answers.Tried.TheVariants as tried
+use Rattle.shared_core.specs.declared.answers.Begun.TheVariants as begun
+use Rattle.shared_core.specs.declared.answers.Next.TheVariants.{Closed}
+use Rattle.shared_core.specs.Flow.{Parameters, drop_oldest, capacity, empty, values, values_at}
+use Rattle.shared_core.specs.Calls.{Call, trying, starting, subscribing, receiving, cancelling, Reply, to_try, to_start, to_subscribe, to_receive, to_cancel, replies, after}
+use Rattle.shared_core.specs.Shown.{Seen, seen_of}
+use Rattle.shared_core.specs.Story.{Interleaves, given_to, emitted, if_waiting, by_emitter}
+
+-- the calls made on a new flow, the replies to them, and what contracts see afterwards
+pub record Run (T : Type 0) : Type 0 where
+  pub calls : List (Call T)
+  pub replies : List (Reply T)
+  pub seen : Seen T
+
+-- the run of these calls on a flow made with these parameters
+abbrev pub run_of : {T : Type 0} → Parameters → List (Call T) → Run T
+run_of p calls = record { calls = calls; replies = replies calls (empty p); seen = seen_of (after calls (empty p)) }
+
+-- A moment of a run: a call and its reply, between the calls before it and those after it.
+pub record Moment {T : Type 0} (run : Run T) (call : Call T) (reply : Reply T) : Type 0 where
+  pub before : List (Call T)
+  pub later : List (Call T)
+  pub called : run.calls ≡ before ++ call ∷ later
+  pub replied : slice_get run.replies (length before) ≡ Some reply
+
+-- the run up to the moment
+abbrev pub until : {T : Type 0} {run : Run T} {call : Call T} {reply : Reply T} → Moment run call reply → Run T
+until {run = run} moment = run_of run.seen.parameters moment.before
+
+-- ---- emissions
+
+-- the emissions that wait, each with its emitter
+abbrev pub waiting : {T : Type 0} → Run T → List (ℕ × T)
+waiting run = filter_map (λ ticket. if_waiting ticket.1) run.seen.out
+
+-- the emissions that were accepted, each with its emitter: as many of those emitted as have a number
+abbrev pub accepted : {T : Type 0} → Run T → List (ℕ × T)
+accepted run = take (run.seen.next_number - run.seen.parameters.first) (emitted run.calls run.replies)
+
+-- What was accepted, and then what waits, is what was emitted, in the order of the calls; so it is for each emitter.
+pub record EachEmitterInItsOwnOrder {T : Type 0} (run : Run T) : Type 0 where
+  pub all : accepted run ++ waiting run ≡ emitted run.calls run.replies
+  pub of_each : (emitter : ℕ)
+      → by_emitter emitter (accepted run) ++ by_emitter emitter (waiting run) ≡ by_emitter emitter (emitted run.calls run.replies)
+
+-- the number, the emitter and the value of an emission that was accepted at once
+abbrev pub acceptance : {T : Type 0} → Call T → Reply T → Option (ℕ × (ℕ × T))
+acceptance (trying emitter v) (to_try (Ok (tried.Accepted number))) = Some (number, (emitter, v))
+acceptance (starting emitter v) (to_start (Ok (begun.Accepted number))) = Some (number, (emitter, v))
+acceptance _ _ = None
+
+-- a reply's number counts, from the first number on, the emissions accepted before
+abbrev pub NumbersCountWhatWasAccepted : {T : Type 0} → Run T → Type 0
+NumbersCountWhatWasAccepted {T} run =
+    (call : Call T) (reply : Reply T) (number : ℕ) (emission : ℕ × T) → acceptance call reply ≡ Some (number, emission) → Moment run call reply
+    → (index : ℕ) × (number ≡ run.seen.parameters.first + index) × (slice_get (accepted run) index ≡ Some emission)
+
+-- ---- subscriptions
+
+-- the moment when the subscription with this number was opened
+abbrev pub Opening : {T : Type 0} → Run T → ℕ → Type 0
+Opening run n = Moment run subscribing (to_subscribe (Ok (record { 0 = n })))
+
+-- the moment when it was cancelled
+abbrev pub Cancellation : {T : Type 0} → Run T → ℕ → Type 0
+Cancellation run n = Moment run (cancelling n) (to_cancel true)
+
+-- the values that the replies to its `next` gave
+abbrev pub received : {T : Type 0} → ℕ → Run T → List T
+received n run = given_to n run.calls run.replies
+
+-- the replay cache as it stood at the start, followed by all values accepted from then until now
+abbrev pub cache_then_later : {T : Type 0} → Run T → Run T → List T
+cache_then_later start now = start.seen.cache ++ drop (length (accepted start)) (values (accepted now))
+
+-- the list ends so
+abbrev pub EndsWith : {X : Type 0} → List X → List X → Type 0
+EndsWith {X} back xs = (front : List X) × (xs ≡ front ++ back)
+
+-- How a subscription lost the value at this index of its list: an emission was accepted while all places of the subscription
+-- were taken, and the value was the oldest of those pending for it.
+pub record IsDropped {T : Type 0} (run : Run T) (n : ℕ) (opening : Opening run n) (index : ℕ) : Type 0 where
+  pub call : Call T
+  pub reply : Reply T
+  pub accepts : IsSome (acceptance call reply)
+  pub moment : Moment run call reply
+  pub pending : List T
+  pub was_pending : Contains (until moment).seen.live (n, pending)
+  pub was_full : length pending ≡ capacity run.seen.parameters
+  pub was_oldest : pending ≡ drop index (cache_then_later (until opening) (until moment))
+
+-- What a live subscription received, then what is pending for it, is the replay cache at its start followed by all later
+-- accepted values, less those that its policy dropped. `kept` and `dropped` are indexes of that list.
+pub record ReceivesCacheThenLater {T : Type 0} (run : Run T) (n : ℕ) (opening : Opening run n) (pending : List T) : Type 0 where
+  pub kept : List ℕ
+  pub dropped : List ℕ
+  pub received_then_pending_is_cache_then_later : received n run ++ pending ≡ values_at (cache_then_later (until opening) run) kept
+  -- both rise, and together they are all indexes, each once
+  pub in_order_and_once : Interleaves kept dropped (range_with_len 0 (length (cache_then_later (until opening) run)))
+  pub in_order_of_acceptance : EndsWith (cache_then_later (until opening) run) (values (accepted run))
+  pub only_drop_oldest_drops : run.seen.parameters.overflow ≢ drop_oldest → dropped ≡ []
+  pub only_the_oldest_when_full : All (IsDropped run n opening) dropped
+
+abbrev pub EachReceivesCacheThenLater : {T : Type 0} → Run T → Type 0
+EachReceivesCacheThenLater {T} run =
+    (n : ℕ) (opening : Opening run n) (pending : List T) → Contains run.seen.live (n, pending) → ReceivesCacheThenLater run n opening pending
+
+-- each live subscription was opened by one of the calls
+abbrev pub EachLiveWasOpened : {T : Type 0} → Run T → Type 0
+EachLiveWasOpened {T} run = (n : ℕ) (pending : List T) → Contains run.seen.live (n, pending) → Opening run n
+
+-- a subscription that was opened is live, or was cancelled
+abbrev pub LiveUntilCancelled : {T : Type 0} → Run T → Type 0
+LiveUntilCancelled {T} run =
+    (n : ℕ) (opening : Opening run n) → ((pending : List T) × Contains run.seen.live (n, pending)) ⊎ Cancellation run n
+
+-- from the call with this index on, each `next` of this number is answered with `Closed`
+abbrev pub IsClosedFrom : {T : Type 0} → ℕ → ℕ → Run T → Type 0
+IsClosedFrom from n run =
+    (index : ℕ) → from ≤ index → slice_get run.calls index ≡ Some (receiving n) → slice_get run.replies index ≡ Some (to_receive Closed)
+
+-- Until it was cancelled a subscription was live. It has what it received before, and each later `next` is `Closed`.
+pub record ReceivesNoMore {T : Type 0} (run : Run T) (n : ℕ) (end : Cancellation run n) : Type 0 where
+  pub was_live : (pending : List T) × Contains (until end).seen.live (n, pending)
+  pub has_what_it_had : received n run ≡ received n (until end)
+  pub closed : IsClosedFrom (length end.before) n run
+
+abbrev pub NothingAfterCancellation : {T : Type 0} → Run T → Type 0
+NothingAfterCancellation run = (n : ℕ) (end : Cancellation run n) → ReceivesNoMore run n end
+
+-- a number that no subscription has receives nothing
+abbrev pub NothingWithoutOpening : {T : Type 0} → Run T → Type 0
+NothingWithoutOpening run =
+    (n : ℕ) → (n < run.seen.parameters.first) ⊎ (run.seen.parameters.first + run.seen.subscriptions ≤ n)
+    → IsClosedFrom 0 n run × (received n run ≡ [])
+
+-- ---- the whole
+
+pub record Headline {T : Type 0} (run : Run T) : Type 0 where
+  pub each_receives_cache_then_later : EachReceivesCacheThenLater run
+  pub each_emitter_in_its_own_order : EachEmitterInItsOwnOrder run
+  pub numbers_count_what_was_accepted : NumbersCountWhatWasAccepted run
+  pub each_live_was_opened : EachLiveWasOpened run
+  pub live_until_cancelled : LiveUntilCancelled run
+  pub nothing_after_cancellation : NothingAfterCancellation run
+  pub nothing_without_opening : NothingWithoutOpening run
+
+-- what holds of every run
+abbrev pub OfEveryRun : (T : Type 0) → (Run T → Type 0) → Type 0
+OfEveryRun T part = (p : Parameters) (calls : List (Call T)) → part (run_of p calls)

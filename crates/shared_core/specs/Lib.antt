@@ -1,0 +1,12 @@
+pub mod Flow
+pub mod Calls
+pub mod Shown
+pub mod Queues
+pub mod Places
+pub mod Kept
+pub mod Story
+pub mod Accepting
+pub mod Runs
+pub mod Events
+pub mod Headline
+pub mod Made

@@ -1,0 +1,22 @@
+//! What each subscription receives.
+
+ghost use Rattle.shared_core.specs.Headline.{OfEveryRun, EachReceivesCacheThenLater, EachEmitterInItsOwnOrder, NumbersCountWhatWasAccepted, EachLiveWasOpened, LiveUntilCancelled, NothingAfterCancellation, NothingWithoutOpening};
+
+/// For every list of calls on a new flow, what a subscription received, then what is pending for it, is the replay cache at
+/// its start followed by all later accepted emissions, in order and once, each emitter's in its own order, less just the
+/// values its policy dropped; after cancellation nothing is received.
+///
+/// Received are the values in the replies to `next`. Accepted are the emissions in the order of the calls that began them,
+/// without those that were refused, full or dropped, or were removed while they waited, and without those that still wait.
+/// Of a cancelled subscription this holds as it was at the cancellation; its pending values are given up.
+///
+/// Not claimed: that any call is made.
+pub fn each_subscription_receives_cache_then_later<T: Copy>()
+    ensures each_receives_cache_then_later { OfEveryRun T EachReceivesCacheThenLater }
+    ensures each_emitter_in_its_own_order { OfEveryRun T EachEmitterInItsOwnOrder }
+    ensures numbers_count_what_was_accepted { OfEveryRun T NumbersCountWhatWasAccepted }
+    ensures each_live_was_opened { OfEveryRun T EachLiveWasOpened }
+    ensures live_until_cancelled { OfEveryRun T LiveUntilCancelled }
+    ensures nothing_after_cancellation { OfEveryRun T NothingAfterCancellation }
+    ensures nothing_without_opening { OfEveryRun T NothingWithoutOpening }
+{}

@@ -1,0 +1,25 @@
+//! Kotlin's shared flow on one thread, with every call proved against a model of its documentation.
+//!
+//! `SharedState` is the flow. Its page has a picture of the state, and says what a slow subscription meets.
+//! `each_subscription_has_its_story` says what holds over any list of calls. The model is read first in `specs/Flow.antt` and
+//! `specs/Calls.antt`.
+#![tactic(auto)]
+
+mod answers;
+mod call;
+mod config;
+mod headline;
+mod ids;
+mod laws;
+mod place;
+mod queue;
+mod state;
+mod tickets;
+
+pub use answers::{Begun, Emit, Next, Tried, Withdrawn};
+pub use call::{Call, Reply};
+pub use config::Config;
+pub use headline::each_subscription_receives_cache_then_later;
+pub use ids::{SubId, Ticket};
+pub use laws::each_subscription_has_its_story;
+pub use state::SharedState;

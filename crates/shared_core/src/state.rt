@@ -1,0 +1,176 @@
+//! A shared flow on one thread: Kotlin's `MutableSharedFlow`, with each of its suspensions an answer that the caller sees.
+//!
+//! An accepted emission gets the next number. Its value joins the replay cache, and is pending for each live subscription
+//! until that receives or loses it. With `replay` 2 and `extra` 2, after the emissions 0 to 5:
+//!
+//! ```text
+//! emissions    0  1  2  3  4  5          next_number is 6
+//! cache                    4  5          the latest ones, for a subscription that comes now
+//! live     a                  5          it received 0 to 4
+//!          b         2  3  4  5          it received 0 and 1, and all its places are taken
+//! spare                                  an empty place for each subscription that may still come
+//! accepted                 t  u          tickets of 4 and 5, which waited and weren't asked about since
+//! waiting                        v  w    tickets of emissions without room, the oldest first
+//! ```
+//!
+//! # A slow subscription
+//!
+//! Here `b` is slow. What it meets is up to the policy of the flow.
+//!
+//! - `Suspend`: it loses nothing and holds up every emitter. `try_emit` answers `Full`, `start_emit` gives a ticket and the
+//!   emission waits. Each `next` of `b` makes room, and the oldest waiting emission is accepted at once.
+//! - `DropOldest`: the emission is accepted and `b` loses 2. Subscription `a` loses nothing.
+//! - `DropLatest`: the emission is dropped, for `a` and for the cache too.
+//!
+//! Without a live subscription there is always room. A subscription that is cancelled gives up what it has pending.
+//!
+//! # A flow without places
+//!
+//! Where `replay` and `extra` are both 0, no value can be kept for later. `start_emit` hands its value over: it is pending for
+//! each live subscription, and the emission isn't finished until all of them received it or were cancelled. Its ticket stands
+//! in `accepted` from the start. A `try_emit` can't wait for that and answers `Full`.
+//!
+//! # Memory
+//!
+//! `new` reserves all memory. Of the calls only `run` takes more, for the replies.
+
+ghost use Rattle.std.specs.Prelude.{◌≡◌, IfOk, IfSome, IfNone, IsOkUnless, OnOk, OnErr};
+ghost use Rattle.shared_core.specs.Flow.{empty};
+ghost use Rattle.shared_core.specs.Kept.{parameters_of, making_refusal};
+ghost use Rattle.shared_core.specs.Runs.{Runs, call_of, reply_of};
+ghost use Rattle.shared_core.specs.Calls as calls;
+ghost use Rattle.shared_core.specs.Shown.{Follows, Shows};
+
+mod emissions;
+mod replay;
+mod subscriptions;
+
+use crate::call::{Call, Reply};
+use crate::config::Config;
+use crate::place::Place;
+use crate::queue::{Queue, spare_queues};
+use crate::tickets::{Accepted, Held, Waiting};
+use cold_flow::Refusal;
+use std::alloc::Global;
+use std::marker::Model;
+
+/// A shared flow on one thread: Kotlin's `MutableSharedFlow`. It never completes.
+///
+/// Contracts see it as the last state of a model: the list of all accepted emissions, and for each subscription what it
+/// received and what it lost. Each call answers what the model answers, and leaves a state that shows the model after it.
+/// They don't see which emitter an accepted emission came from.
+#[derive(Drop)]
+pub struct SharedState<T: Copy> {
+    config: Config,
+    /// The number of the next accepted emission.
+    next_number: u64,
+    /// How many subscriptions were made.
+    subscribed: u64,
+    /// The latest accepted values, at most `replay` of them.
+    cache: Queue<T>,
+    /// The live subscriptions, by rising numbers.
+    live: Vec<Place<T>>,
+    /// Empty queues for the subscriptions to come.
+    spare: Vec<Queue<T>>,
+    /// How many tickets were given.
+    given: u64,
+    /// The accepted emissions whose ticket is out, the oldest ticket first.
+    accepted: Queue<Held<Accepted>>,
+    /// The emissions that wait for room, the oldest first. Their tickets are later than those of accepted ones.
+    waiting: Queue<Held<Waiting<T>>>,
+}
+
+impl<T: Copy> Model for SharedState<T> {
+    ghost use Rattle.std.specs.Prelude.{◌++◌, map, length, vec_capacity};
+    ghost use Rattle.shared_core.specs.Shown.{Seen};
+    ghost use Rattle.shared_core.specs.Kept.{AreNumbered, IsCache, ArePlaces, AreTickets, parameters_of, shown_accepted, shown_waiting};
+
+    ghost Value = { Seen T };
+
+    ghost view = { λ s. record {
+      parameters = parameters_of s.config;
+      next_number = s.next_number;
+      cache = s.cache.values;
+      live = map (λ p. (p.number, p.pending.values)) s.live.items;
+      subscriptions = s.subscribed;
+      tickets = s.given;
+      out = map shown_accepted s.accepted.values ++ map shown_waiting s.waiting.values;
+    } };
+
+    ghost invariant = { λ s. record {
+      numbers : AreNumbered s.config s.next_number s.subscribed s.given (length s.waiting.values);
+      cache : IsCache s.config s.cache;
+      places : ArePlaces s.config s.live.items (vec_capacity s.live) s.spare.items (vec_capacity s.spare);
+      tickets : AreTickets s.config s.next_number s.accepted s.waiting;
+    } };
+}
+
+impl<T: Copy> SharedState<T> {
+    /// A flow without subscriptions: Kotlin's `MutableSharedFlow(replay, extraBufferCapacity, onBufferOverflow)`.
+    ///
+    /// Reserves all memory that the flow will use. Refused, in this order: `TooLarge` where `replay` and `extra` are over
+    /// 65,536 together; `PolicyNeedsBuffer` where both are 0 and the policy isn't `Suspend`; `BadLimit` where `subscribers` or
+    /// `emits` is 0 or over 1,024, or `first` is over 2^62; `NoMemory`.
+    pub fn new(alloc: Global, config: Config) -> Result<SharedState<T>, Refusal>
+        ensures refused { IfSome (making_refusal config) (λ refusal. result ≡ Err refusal) }
+        ensures made { IfNone (making_refusal config) (IsOkUnless result Refusal.NoMemory) }
+        ensures shows { IfOk result (λ made. Shows made (empty (parameters_of config))) }
+    {
+        if let Some(refusal) = config.refusal() {
+            return Err(refusal);
+        }
+        let subscribers = config.subscribers as usize;
+        let capacity = (config.replay + config.extra) as usize;
+        let cache = Queue::new(alloc, config.replay as usize)?;
+        let live = Vec::with_capacity(alloc, subscribers)?;
+        let spare = spare_queues(alloc, subscribers, capacity.max(1))?;
+        let accepted = Queue::new(alloc, config.emits as usize)?;
+        let waiting = Queue::new(alloc, config.emits as usize)?;
+        Ok(SharedState {
+            config,
+            next_number: config.first,
+            subscribed: 0,
+            cache,
+            live,
+            spare,
+            given: 0,
+            accepted,
+            waiting,
+        })
+    }
+
+    /// Makes one call.
+    fn make(&mut self, call: Call<T>) -> Reply<T>
+        ensures { Follows (calls.step (call_of call)) self.old (reply_of result) self.new }
+    {
+        match call {
+            Call::Try(emitter, value) => Reply::Tried(self.try_emit(emitter, value)),
+            Call::Start(emitter, value) => Reply::Begun(self.start_emit(emitter, value)),
+            Call::Poll(ticket) => Reply::Emit(self.poll_emit(ticket)),
+            Call::Withdraw(ticket) => Reply::Withdrawn(self.cancel_emit(ticket)),
+            Call::Subscribe => Reply::Sub(self.subscribe()),
+            Call::Next(id) => Reply::Next(self.next(id)),
+            Call::Cancel(id) => Reply::Cancelled(self.cancel(id)),
+            Call::Reset => {
+                self.reset_replay();
+                Reply::Reset
+            }
+            Call::Count => Reply::Count(self.subscription_count()),
+        }
+    }
+
+    /// Makes the calls in order, and adds the reply to each to `out`.
+    ///
+    /// Room for the replies is reserved first. Where there is no memory for that, the refusal is `NoMemory` and no call was made.
+    pub fn run(&mut self, calls: &[Call<T>], out: &mut Vec<Reply<T>>) -> Result<(), Refusal>
+        ensures memory { IsOkUnless result Refusal.NoMemory }
+        ensures ok { OnOk result (Runs calls.now self.old out.old.items out.new.items self.new) }
+        ensures err { OnErr result ((self.new ≡ self.old) × (out.new.items ≡ out.old.items)) }
+    {
+        out.reserve(calls.len())?;
+        for call in calls {
+            out.push_reserved(self.make(*call));
+        }
+        Ok(())
+    }
+}

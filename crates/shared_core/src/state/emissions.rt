@@ -1,0 +1,273 @@
+//! Emissions, and their tickets.
+
+ghost use Rattle.std.specs.Prelude.{◌≡◌, ◌==◌, ◌+◌, ◌<◌, ◌≤◌, true, not, nat_lt, length};
+ghost use Rattle.shared_core.specs.Flow.{number_limit, places, waits, stands};
+ghost use Rattle.shared_core.specs.Accepting.{with_accepted, without_oldest_of, waiting_in, room_in, fate_in, fate_of, Settles, SettlesOnce, with_ticket, finished_in};
+ghost use Rattle.shared_core.specs.Calls as calls;
+ghost use Rattle.shared_core.specs.Shown.{Follows};
+
+use crate::answers::{Begun, Emit, Tried, Withdrawn};
+use crate::config::NUMBER_LIMIT;
+use crate::ids::Ticket;
+use crate::place::{drop_from_each, each_below, each_past, push_to_each};
+use crate::state::SharedState;
+use crate::tickets::{Accepted, Held, Waiting, held_at};
+use cold_flow::{Policy, Refusal};
+
+/// What an emission comes to, before it is asked whether it may wait.
+#[derive(Clone, Copy)]
+enum Fate {
+    /// It is accepted.
+    Enters,
+    /// It is accepted, and each subscription with all its places taken loses its oldest value.
+    PushesIn,
+    /// It is accepted without a place of its own, and finished once each subscription has it.
+    HandedOver,
+    /// It isn't accepted and leaves nothing.
+    Dropped,
+    /// There is no room for it.
+    HeldUp,
+}
+
+impl<T: Copy> SharedState<T> {
+    /// How many values a subscription may have pending: 1 in a flow without places, for the hand-over.
+    fn limit(&self) -> usize
+        ensures { result ≡ places self.now.parameters }
+    {
+        let capacity = (self.config.replay + self.config.extra) as usize;
+        capacity.max(1)
+    }
+
+    /// Whether each live subscription has a place left.
+    fn has_room(&self) -> bool
+        ensures { result ≡ room_in self.now }
+    {
+        each_below(&self.live, self.limit())
+    }
+
+    /// Whether the numbers are used up, with one for each emission that waits.
+    fn is_spent(&self) -> bool
+        ensures spent { result ≡ (self.now.next_number + waiting_in self.now == number_limit) }
+        ensures bound { self.now.next_number + waiting_in self.now ≤ number_limit }
+    {
+        self.next_number + self.waiting.len() as u64 == NUMBER_LIMIT
+    }
+
+    /// What an emission comes to that begins now.
+    fn fate(&self) -> Fate
+        ensures { fate_of result ≡ fate_in self.now }
+    {
+        if self.live.is_empty() {
+            return Fate::Enters;
+        }
+        if self.config.replay + self.config.extra == 0 {
+            if self.waiting.len() > 0 || !self.has_room() {
+                return Fate::HeldUp;
+            }
+            return Fate::HandedOver;
+        }
+        if self.has_room() {
+            return Fate::Enters;
+        }
+        match self.config.policy {
+            Policy::Suspend => Fate::HeldUp,
+            Policy::DropLatest => Fate::Dropped,
+            Policy::DropOldest => Fate::PushesIn,
+        }
+    }
+
+    /// The value is pending for each live subscription, and the latest of the replay cache. Answers its number.
+    fn accept(&mut self, value: T) -> u64
+        requires numbers { self.old.next_number + waiting_in self.old < number_limit }
+        requires room { room_in self.old ≡ true }
+        ensures number { result ≡ self.old.next_number }
+        ensures accepted { self.new ≡ with_accepted value self.old }
+    {
+        let number = self.next_number;
+        push_to_each(&mut self.live, value);
+        self.cache.push_latest(value);
+        self.next_number += 1;
+        number
+    }
+
+    /// Accepts the value, after each subscription with all its places taken lost its oldest one.
+    fn push_in(&mut self, value: T) -> u64
+        requires { self.old.next_number + waiting_in self.old < number_limit }
+        ensures number { result ≡ self.old.next_number }
+        ensures accepted { self.new ≡ with_accepted value (without_oldest_of (places self.old.parameters) self.old) }
+    {
+        let limit = self.limit();
+        drop_from_each(&mut self.live, limit);
+        self.accept(value)
+    }
+
+    /// Whether each ticket is out.
+    fn is_full(&self) -> bool
+        ensures { result ≡ not (nat_lt (length self.now.out) self.now.parameters.emits) }
+    {
+        self.accepted.len() + self.waiting.len() >= self.config.emits as usize
+    }
+
+    /// Gives a ticket to the accepted emission with this index.
+    fn keep_accepted(&mut self, index: u64) -> Ticket
+        requires numbers { self.old.parameters.first + self.old.tickets < number_limit }
+        requires space { length self.old.out < self.old.parameters.emits }
+        requires accepted { self.old.parameters.first + index < self.old.next_number }
+        requires alone { waiting_in self.old ≡ 0 }
+        ensures ticket { result.0 ≡ self.old.parameters.first + self.old.tickets }
+        ensures given { self.new ≡ with_ticket (stands index) self.old }
+    {
+        let ticket = self.config.first + self.given;
+        self.accepted.push(Held {
+            ticket,
+            emission: Accepted { index },
+        });
+        self.given += 1;
+        Ticket(ticket)
+    }
+
+    /// Gives a ticket to an emission that waits.
+    fn keep_waiting(&mut self, emitter: u32, value: T) -> Ticket
+        requires numbers { self.old.parameters.first + self.old.tickets < number_limit }
+        requires space { length self.old.out < self.old.parameters.emits }
+        requires room { self.old.next_number + waiting_in self.old < number_limit }
+        ensures ticket { result.0 ≡ self.old.parameters.first + self.old.tickets }
+        ensures given { self.new ≡ with_ticket (waits emitter value) self.old }
+    {
+        let ticket = self.config.first + self.given;
+        self.waiting.push(Held {
+            ticket,
+            emission: Waiting { emitter, value },
+        });
+        self.given += 1;
+        Ticket(ticket)
+    }
+
+    /// Accepts the emission that waits longest, where there is room. Answers whether it did.
+    fn accept_waiting(&mut self) -> bool
+        ensures { SettlesOnce self.old result self.new }
+    {
+        let Some(oldest) = self.waiting.first() else {
+            return false;
+        };
+        if !self.has_room() {
+            return false;
+        }
+        let _oldest = self.waiting.pop();
+        let index = self.next_number - self.config.first;
+        let _number = self.accept(oldest.emission.value);
+        self.accepted.push(Held {
+            ticket: oldest.ticket,
+            emission: Accepted { index },
+        });
+        true
+    }
+
+    /// Accepts waiting emissions, the oldest first, while there is room. One that began later never passes one that waits.
+    pub(crate) fn settle(&mut self)
+        ensures { Settles self.old self.new }
+    {
+        while self.accept_waiting() {}
+    }
+
+    /// Emits a value where that can be done at once: Kotlin's `tryEmit`, which answers true for `Accepted` and `Dropped`.
+    ///
+    /// `Full` where the emission would have to wait, and wherever somebody is live in a flow without places. Refused as `Spent`
+    /// where the numbers below 2^62 are used up, with one for each emission that waits. The emitter's number has no part in the
+    /// answer: the flow keeps it only with an emission that waits.
+    pub fn try_emit(&mut self, emitter: u32, value: T) -> Result<Tried<u64>, Refusal>
+        ensures { Follows (calls.try_emit emitter value) self.old result self.new }
+    {
+        if self.is_spent() {
+            return Err(Refusal::Spent);
+        }
+        match self.fate() {
+            Fate::Enters => Ok(Tried::Accepted(self.accept(value))),
+            Fate::PushesIn => Ok(Tried::Accepted(self.push_in(value))),
+            Fate::Dropped => Ok(Tried::Dropped),
+            Fate::HandedOver | Fate::HeldUp => Ok(Tried::Full),
+        }
+    }
+
+    /// Begins an emission: Kotlin's `emit`, up to where it suspends.
+    ///
+    /// `Waiting` gives a ticket for an emission that isn't finished. It is out until `poll_emit` answers `Done` or `cancel_emit`
+    /// takes it back. Refused as `Spent` where the numbers below 2^62 of emissions, or of tickets, are used up, and then as
+    /// `EmitsFull` where a ticket is needed and `emits` of them are out; a refusal changes nothing.
+    pub fn start_emit(&mut self, emitter: u32, value: T) -> Result<Begun<u64, Ticket>, Refusal>
+        ensures { Follows (calls.start_emit emitter value) self.old result self.new }
+    {
+        if self.is_spent() || self.config.first + self.given == NUMBER_LIMIT {
+            return Err(Refusal::Spent);
+        }
+        match self.fate() {
+            Fate::Enters => Ok(Begun::Accepted(self.accept(value))),
+            Fate::PushesIn => Ok(Begun::Accepted(self.push_in(value))),
+            Fate::Dropped => Ok(Begun::Dropped),
+            Fate::HandedOver => {
+                if self.is_full() {
+                    return Err(Refusal::EmitsFull);
+                }
+                let index = self.accept(value) - self.config.first;
+                Ok(Begun::Waiting(self.keep_accepted(index)))
+            }
+            Fate::HeldUp => {
+                if self.is_full() {
+                    return Err(Refusal::EmitsFull);
+                }
+                Ok(Begun::Waiting(self.keep_waiting(emitter, value)))
+            }
+        }
+    }
+
+    /// Whether the accepted emission is finished: in a flow without places, whether it is pending for nobody.
+    fn is_finished(&self, index: u64) -> bool
+        requires { self.now.parameters.first + index < self.now.next_number }
+        ensures { result ≡ finished_in index self.now }
+    {
+        if self.config.replay + self.config.extra > 0 {
+            return true;
+        }
+        each_past(&self.live, index, self.next_number - self.config.first)
+    }
+
+    /// Asks whether an emission is finished: Kotlin's `emit`, where it resumes.
+    ///
+    /// `Done` gives the number of the accepted emission and takes the ticket back. A ticket that isn't out is `Gone`.
+    pub fn poll_emit(&mut self, ticket: Ticket) -> Emit
+        ensures { Follows (calls.poll_emit ticket.0) self.old result self.new }
+    {
+        let Some(at) = held_at(&self.accepted, ticket.0) else {
+            return match held_at(&self.waiting, ticket.0) {
+                None => Emit::Gone,
+                Some(_) => Emit::Waiting,
+            };
+        };
+        let index = self.accepted.get(at).emission.index;
+        if !self.is_finished(index) {
+            return Emit::Waiting;
+        }
+        let _done = self.accepted.remove(at);
+        Emit::Done(self.config.first + index)
+    }
+
+    /// Gives an emission up and takes its ticket back: Kotlin's `emit`, cancelled while it is suspended.
+    ///
+    /// `Removed` where it waited: it was never accepted. `Left` gives the number of one that was accepted: its value stays with
+    /// its subscriptions. A ticket that isn't out is `Gone`.
+    pub fn cancel_emit(&mut self, ticket: Ticket) -> Withdrawn<u64>
+        ensures { Follows (calls.cancel_emit ticket.0) self.old result self.new }
+    {
+        if let Some(at) = held_at(&self.accepted, ticket.0) {
+            let accepted = self.accepted.remove(at);
+            return Withdrawn::Left(self.config.first + accepted.emission.index);
+        }
+        match held_at(&self.waiting, ticket.0) {
+            None => Withdrawn::Gone,
+            Some(at) => {
+                let _waiting = self.waiting.remove(at);
+                Withdrawn::Removed
+            }
+        }
+    }
+}

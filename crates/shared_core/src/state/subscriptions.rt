@@ -1,0 +1,84 @@
+//! Subscriptions, and what they receive.
+
+ghost use Rattle.std.specs.Prelude.{◌≡◌, length};
+ghost use Rattle.shared_core.specs.Flow.{live_count};
+ghost use Rattle.shared_core.specs.Calls as calls;
+ghost use Rattle.shared_core.specs.Shown.{Follows, Reads};
+
+use crate::answers::Next;
+use crate::config::NUMBER_LIMIT;
+use crate::ids::SubId;
+use crate::place::{Place, place_of};
+use crate::state::SharedState;
+use cold_flow::Refusal;
+
+impl<T: Copy> SharedState<T> {
+    /// A new subscription, which starts at the oldest value of the replay cache: Kotlin's `collect`, as it begins.
+    ///
+    /// Refused as `Spent` where the numbers below 2^62 are used up, and then as `SubscribersFull` where `subscribers` are live.
+    pub fn subscribe(&mut self) -> Result<SubId, Refusal>
+        ensures { Follows calls.subscribe self.old result self.new }
+    {
+        let number = self.config.first + self.subscribed;
+        if number == NUMBER_LIMIT {
+            return Err(Refusal::Spent);
+        }
+        let Some(mut pending) = self.spare.pop() else {
+            return Err(Refusal::SubscribersFull);
+        };
+        pending.copy_from(&self.cache);
+        self.live.push_reserved(Place { number, pending });
+        self.subscribed += 1;
+        Ok(SubId(number))
+    }
+
+    /// Receives the oldest value that the subscription has pending: Kotlin's `collect`, for one value.
+    ///
+    /// `Nothing` where none is pending, and `Closed` where the subscription isn't live. After a value, emissions that wait are
+    /// accepted while there is room.
+    pub fn next(&mut self, id: SubId) -> Next<T>
+        ensures { Follows (calls.next_value id.0) self.old result self.new }
+    {
+        let Some(at) = place_of(&self.live, id.0) else {
+            return Next::Closed;
+        };
+        let place = &mut self.live[at];
+        let Some(value) = place.pending.pop() else {
+            return Next::Nothing;
+        };
+        self.settle();
+        Next::Value(value)
+    }
+
+    /// Ends a subscription and gives up what it has pending: Kotlin's `collect`, cancelled. Answers whether it was live.
+    ///
+    /// Emissions that wait are then accepted while there is room.
+    pub fn cancel(&mut self, id: SubId) -> bool
+        ensures { Follows (calls.cancel id.0) self.old result self.new }
+    {
+        let Some(at) = place_of(&self.live, id.0) else {
+            return false;
+        };
+        let place = self.live.remove(at);
+        self.spare.push_reserved(place.into_spare());
+        self.settle();
+        true
+    }
+
+    /// How many values the subscription has pending, and 0 where it isn't live.
+    pub fn pending(&self, id: SubId) -> u64
+        ensures { Reads (calls.pending_count id.0) self.now result }
+    {
+        match place_of(&self.live, id.0) {
+            None => 0,
+            Some(at) => self.live[at].pending.len() as u64,
+        }
+    }
+
+    /// How many subscriptions are live: Kotlin's `subscriptionCount`, as a plain number.
+    pub fn subscription_count(&self) -> u32
+        ensures { Reads live_count self.now result }
+    {
+        self.live.len() as u32
+    }
+}

@@ -1,0 +1,6 @@
+pub mod Lists
+pub mod Sums
+pub mod ValueSteps
+pub mod CountSteps
+pub mod Seats
+pub mod Calls

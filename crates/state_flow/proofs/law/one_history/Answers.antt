@@ -1,0 +1,23 @@
+use Rattle.std.proofs.Common.{sym, subst, arith}
+use Rattle.state_flow.specs.History.{Continues}
+use Rattle.state_flow.proofs.Lists.{picks_on}
+use Rattle.state_flow.proofs.Sums.{collectors_in-le-shares_in}
+use Rattle.state_flow.proofs.law.one_history.Goals as goal
+
+pub returns : goal.returns
+returns g c = record {
+  history = λ key s r. record {
+    history_at = r.history_at;
+    begins = r.at_making;
+    turns = r.turns;
+    grows = r.grows;
+    is_history = r.is_history r.turns (let is = r.turns_is in omega arith) (omega arith);
+    seen = λ i v at. let mine = r.each i v at in (mine.turn_by, mine.seen_is);
+    collected = λ i v at. let mine = r.each i v at in
+        picks_on v.collected v.seen (r.history_at r.turns) (subst (Continues (r.history_at r.turns)) (sym mine.seen_is) (r.grows v.turn r.turns mine.turn_by (omega arith))) mine.picks;
+    collectors = r.collecting;
+    at_most = let few = collectors_in-le-shares_in s.views (λ i v e. (r.each i v e).has_share) in let within = r.within in omega arith;
+  };
+  two_seats = λ key s r i j v w at at' le. let a = r.each i v at in let b = r.each j w at' in
+      subst (λ seen. Continues seen v.seen) (sym b.seen_is) (subst (Continues (r.history_at w.turn)) (sym a.seen_is) (r.grows v.turn w.turn le b.turn_by));
+}

@@ -1,0 +1,92 @@
+-- What the calls say of a seat or a collector, as it was before the call and as it is after it.
+-- `after.seen` is the whole history at the one step that the call made on the value.
+use Rattle.std.specs.Prelude.{◌≡◌, ◌≢◌, ℕ, ◌<◌, ◌≤◌, Bool, List, [], ◌∷◌, ◌++◌, Option, Some, None, MatchOption, MatchBool}
+use Rattle.futures.specs.declared.task.Poll.{Poll}
+use Rattle.futures.specs.declared.task.Poll.TheVariants.{Ready, Pending}
+use Rattle.state_flow.specs.declared.view.View.{View}
+use Rattle.state_flow.specs.History.{last_of, Continues, Writes, IsHistory, Picks}
+use Rattle.state_flow.specs.Views.{stepped_to, keeper, counting, starting, stopping}
+
+-- what a poll gave
+abbrev pub taken : {T : Type 0} → Poll T → Option T
+taken (Ready x) = Some x
+taken Pending = None
+
+module _ {T : Type 0} where
+  -- the history begins with all that the seat had seen and was told
+  pub record Extends (before : View T) (history : List T) : Type 0 where
+    pub seen : Continues history before.seen
+    pub told : Continues history before.told
+
+  -- one step on the value, later in the order of all steps on it than those that the seat knew of
+  pub record StepsOnce (before after : View T) : Type 0 where
+    pub later : before.turn < after.turn
+    pub later_than_told : before.told_turn < after.turn
+    pub only : after ≡ stepped_to after.seen after.turn before
+
+  -- one load, at which the history's last value was x
+  pub record Reads (before : View T) (x : T) (after : View T) : Type 0 where
+    pub one_step : StepsOnce before after
+    pub extends : Extends before after.seen
+    pub is_history : IsHistory after.seen
+    pub current : last_of after.seen ≡ Some x
+
+  -- one swap, which wrote x at one point of the history
+  pub record Sets (before : View T) (x : T) (after : View T) : Type 0 where
+    pub one_step : StepsOnce before after
+    pub found : List T
+    pub extends : Extends before found
+    pub is_history : IsHistory found
+    pub writes : Writes found x after.seen
+
+  -- one compare_exchange, which answers true exactly where the value was `expect`, and then writes `update`
+  pub record Compares (before : View T) (expect update : T) (answer : Bool) (after : View T) : Type 0 where
+    pub one_step : StepsOnce before after
+    pub found : List T
+    pub extends : Extends before found
+    pub is_history : IsHistory found
+    pub answers : MatchBool answer ((last_of found ≡ Some expect) × Writes found update after.seen) ((last_of found ≢ Some expect) × (after.seen ≡ found))
+
+  -- what a collector has collected after it was given a value, or nothing
+  abbrev pub with_given : List T → Option T → List T
+  with_given collected None = collected
+  with_given collected (Some x) = collected ++ x ∷ []
+
+  -- One load by a collector: it gives the history's last value, or nothing where that is the last one that it gave.
+  -- What it gave since it began is a subsequence of the value history without equal neighbours
+  pub record Collects (before : View T) (given : Option T) (after : View T) : Type 0 where
+    pub later : before.turn < after.turn
+    pub only : after ≡ record (stepped_to after.seen after.turn before) { collected = after.collected }
+    pub extends : Extends before after.seen
+    pub is_history : IsHistory after.seen
+    pub value : T
+    pub current : last_of after.seen ≡ Some value
+    pub answers : MatchOption given (last_of before.collected ≡ Some value) (λ x. (x ≡ value) × (last_of before.collected ≢ Some value))
+    pub received : after.collected ≡ with_given before.collected given
+    pub subsequence : Picks after.collected after.seen
+
+  -- a seat took another back, and made one load
+  pub record TakesBack (before other after : View T) : Type 0 where
+    pub one_step : StepsOnce (keeper before other) after
+    pub extends : Continues after.seen before.seen
+    pub extends_other : Continues after.seen other.seen
+    pub is_history : IsHistory after.seen
+
+  -- one load of the number of collectors
+  pub record Counts (before : View T) (answer : ℕ) (after : View T) : Type 0 where
+    pub later : before.count_turn < after.count_turn
+    pub only : after ≡ counting answer after.count_turn before
+    pub at_most : answer ≤ 1024
+
+  -- one step that adds one to the number of collectors: the seat is among them, and has collected nothing
+  pub record Begins (before after : View T) : Type 0 where
+    pub later : before.count_turn < after.count_turn
+    pub only : after ≡ starting after.counted after.count_turn before
+    pub counts_it : 0 < after.counted
+    pub at_most : after.counted ≤ 1024
+
+  -- one step that takes one from the number of collectors
+  pub record Ends (before after : View T) : Type 0 where
+    pub later : before.count_turn < after.count_turn
+    pub only : after ≡ stopping after.counted after.count_turn before
+    pub below : after.counted < 1024

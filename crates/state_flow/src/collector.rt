@@ -1,0 +1,108 @@
+//! A seat that collects the values of a state flow.
+ghost use Rattle.std.specs.Prelude.{◌≡◌, [], true};
+ghost use Rattle.std.specs.Arc.{arc_value};
+ghost use Rattle.futures.specs.Poll.{OnPending};
+ghost use Rattle.futures.specs.Task.{IsArmed, Keeps};
+ghost use Rattle.state_flow.specs.Views.{place_of, IsSeated};
+ghost use Rattle.state_flow.specs.Calls.{Collects, Ends, taken};
+
+use crate::flow::StateFlow;
+use crate::seat::StateSeat;
+use crate::view::View;
+use atomic_table::Seat;
+use cold_flow::Word;
+use futures::task::{Context, Poll};
+use std::alloc::{Allocator, Global};
+use std::marker::Model;
+use std::sync::Arc;
+
+/// A collector of a state flow: what runs inside Kotlin's `collect`. What it gives, over all its asks, is a subsequence
+/// of the value history without equal neighbours.
+///
+/// It must be spent, by [`cancel`](Collector::cancel). Contracts see which flow it is, and the collector's [`View`].
+pub struct Collector<T: Word, A: Allocator = Global> {
+    flow: Arc<StateFlow<T, A>, A>,
+    // A token of no bytes, with what the proofs know of the seat.
+    seat: Seat<(), View<T>>,
+    // The seat's share, for the seat that `cancel` gives back.
+    share: u32,
+    // The last value given.
+    last: Option<T>,
+}
+
+impl<T: Word, A: Allocator> Model for Collector<T, A> {
+    ghost use Rattle.std.specs.Prelude.{◌≡◌, true};
+    ghost use Rattle.std.specs.Arc.{arc_value};
+    ghost use Rattle.state_flow.specs.History.{last_of};
+    ghost use Rattle.state_flow.specs.Views.{Place, place_of, IsSeated};
+
+    ghost Value = { Place T };
+
+    ghost view = { λ s. place_of s.seat };
+
+    ghost invariant = { λ s. IsSeated s.seat (arc_value s.flow).table.shared.table_id s.share true × (last_of s.seat.me.0.collected ≡ s.last) };
+}
+
+impl<T: Word, A: Allocator> Collector<T, A> {
+    pub(crate) fn over(
+        flow: Arc<StateFlow<T, A>, A>,
+        seat: Seat<(), View<T>>,
+        share: u32,
+    ) -> Collector<T, A>
+        requires seated { IsSeated seat (arc_value flow).table.shared.table_id share true }
+        requires fresh { seat.me.0.collected ≡ [] }
+        ensures { result ≡ place_of seat }
+    {
+        Collector {
+            flow,
+            seat,
+            share,
+            last: None,
+        }
+    }
+
+    /// The value where it differs from the last one that this collector gave, else nothing; by one load. The first ask
+    /// gives the value. Kotlin has no such call: there `collect` suspends where this answers `None`.
+    pub fn try_next(&mut self) -> Option<T>
+        ensures same_flow { self.new.flow ≡ self.old.flow }
+        ensures received { Collects self.old.view result self.new.view }
+    {
+        let flow = &self.flow;
+        let value = T::from_word(flow.gather(&mut self.seat));
+        if self.last == Some(value) {
+            return None;
+        }
+        self.last = Some(value);
+        Some(value)
+    }
+
+    /// The same as a poll: pending where there is nothing to give, and then it has yielded, that is, asked to be polled
+    /// again. One turn of Kotlin's `collect`.
+    pub fn poll_next(&mut self, cx: &mut Context<'_>) -> Poll<T>
+        ensures same_flow { self.new.flow ≡ self.old.flow }
+        ensures received { Collects self.old.view (taken result) self.new.view }
+        ensures armed { OnPending result (IsArmed cx.new) }
+        ensures kept { Keeps cx.old cx.new }
+    {
+        match self.try_next() {
+            Some(value) => Poll::Ready(value),
+            None => cx.yield_now(),
+        }
+    }
+
+    /// Ends the collecting, and gives the seat back: what Kotlin does where the coroutine that collects is cancelled. The
+    /// number of collectors goes down by one.
+    pub fn cancel(self) -> StateSeat<T, A>
+        ensures same_flow { result.flow ≡ self.flow }
+        ensures ends { Ends self.view result.view }
+    {
+        let Collector {
+            flow,
+            mut seat,
+            share,
+            last: _,
+        } = self;
+        flow.end(&mut seat);
+        StateSeat::over(flow, seat, share)
+    }
+}

@@ -1,0 +1,46 @@
+//! The two words that the seats of a state flow share.
+ghost use Rattle.std.specs.Prelude.{◌≡◌, ◌<◌, ◌≤◌, ◌⊎◌, ◌↔◌, IfOk, IfErr};
+ghost use Rattle.state_flow.specs.Views.{opening};
+ghost use Rattle.cold_flow.specs.declared.refusal.Refusal.TheVariants.{BadLimit, NoMemory};
+
+use crate::plays::OneHistory;
+use crate::seat::StateSeat;
+use crate::view::View;
+use atomic_table::Table;
+use cold_flow::{Refusal, Word};
+use std::alloc::{Allocator, Global};
+use std::sync::Arc;
+
+mod steps;
+
+const MOST_SEATS: u32 = 1024;
+
+/// A value that threads share: what all seats of one state flow own together. Kotlin's `MutableStateFlow`, of which a
+/// program holds [`StateSeat`]s alone.
+#[derive(Drop)]
+pub struct StateFlow<T: Word, A: Allocator = Global> {
+    // Word 0 is the value, and word 1 the number of collectors.
+    pub(crate) table: Table<(), View<T>, (T, u32), OneHistory, A>,
+    ghost two_words: { table.shared.table_id.words ≡ 2 },
+}
+
+impl<T: Word, A: Allocator + Clone> StateFlow<T, A> {
+    /// Makes a state flow that holds `value`, and gives its first seat: `MutableStateFlow(value)`. Of that seat `seats - 1`
+    /// more can be taken. The flow is let go with the last of its seats.
+    ///
+    /// Refused with 3 where `seats` is 0 or over 1,024, then with 4.
+    pub fn new(alloc: A, value: T, seats: u32) -> Result<StateSeat<T, A>, Refusal>
+        ensures opens { IfOk result (λ seat. seat.view ≡ opening value seats) }
+        ensures few { IfOk result (λ _. (0 < seats) × (seats ≤ 1024)) }
+        ensures bad_limit { IfErr result (λ r. (r ≡ BadLimit) ↔ ((seats ≡ 0) ⊎ (1024 < seats))) }
+        ensures refusals { IfErr result (λ r. (r ≡ BadLimit) ⊎ (r ≡ NoMemory)) }
+    {
+        if seats == 0 || seats > MOST_SEATS {
+            return Err(Refusal::BadLimit);
+        }
+        let words = [value.to_word(), 0];
+        let (table, seat) = Table::of_words(alloc.clone()?, &words, &(value, seats))?;
+        let flow = Arc::new(alloc, StateFlow { table })?;
+        Ok(StateSeat::over(flow, seat, seats))
+    }
+}

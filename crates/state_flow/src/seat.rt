@@ -1,0 +1,148 @@
+//! A place at a state flow: it reads the value, sets it, and can begin to collect.
+ghost use Rattle.std.specs.Prelude.{◌≡◌, ◌+◌, ◌<◌, ◌≤◌, ◌⊎◌, false, IfOk, IfErr, OnErr};
+ghost use Rattle.std.specs.Arc.{arc_value};
+ghost use Rattle.state_flow.specs.Views.{place_of, IsSeated, giver, taker};
+ghost use Rattle.state_flow.specs.Calls.{Reads, Sets, Compares, TakesBack, Counts, Begins};
+ghost use Rattle.cold_flow.specs.declared.refusal.Refusal.TheVariants.{SubscribersFull, NoMemory};
+
+use crate::collector::Collector;
+use crate::flow::StateFlow;
+use crate::view::View;
+use atomic_table::Seat;
+use cold_flow::{Refusal, Word};
+use std::alloc::{Allocator, Global};
+use std::marker::{Brand, Model};
+use std::sync::Arc;
+
+/// A place at a state flow, from which one thread at a time reads and sets the value. Another thread gets a seat of its
+/// own by [`take_seat`](StateSeat::take_seat). No call of a seat takes a lock or waits. A seat that is dropped takes its
+/// share with it.
+///
+/// Contracts see which flow it is, and the seat's [`View`].
+#[derive(Drop)]
+pub struct StateSeat<T: Word, A: Allocator = Global> {
+    flow: Arc<StateFlow<T, A>, A>,
+    // A token of no bytes, with what the proofs know of the seat.
+    seat: Seat<(), View<T>>,
+    // How many seats can be made of this one, itself among them.
+    share: u32,
+}
+
+impl<T: Word, A: Allocator> Model for StateSeat<T, A> {
+    ghost use Rattle.std.specs.Prelude.{false};
+    ghost use Rattle.std.specs.Arc.{arc_value};
+    ghost use Rattle.state_flow.specs.Views.{Place, place_of, IsSeated};
+
+    ghost Value = { Place T };
+
+    ghost view = { λ s. place_of s.seat };
+
+    ghost invariant = { λ s. IsSeated s.seat (arc_value s.flow).table.shared.table_id s.share false };
+}
+
+impl<T: Word, A: Allocator> StateSeat<T, A> {
+    pub(crate) fn over(
+        flow: Arc<StateFlow<T, A>, A>,
+        seat: Seat<(), View<T>>,
+        share: u32,
+    ) -> StateSeat<T, A>
+        requires { IsSeated seat (arc_value flow).table.shared.table_id share false }
+        ensures { result ≡ place_of seat }
+    {
+        StateSeat { flow, seat, share }
+    }
+
+    /// The value, by one load: Kotlin's `value`.
+    pub fn value(&mut self) -> T
+        ensures same_flow { self.new.flow ≡ self.old.flow }
+        ensures value { Reads self.old.view result self.new.view }
+    {
+        let flow = &self.flow;
+        flow.load(&mut self.seat)
+    }
+
+    /// Sets the value, by one swap: Kotlin's `value = ..`. A value that is equal to the present one changes nothing.
+    pub fn set(&mut self, value: T)
+        ensures same_flow { self.new.flow ≡ self.old.flow }
+        ensures value { Sets self.old.view value self.new.view }
+    {
+        let flow = &self.flow;
+        flow.swap(&mut self.seat, value);
+    }
+
+    /// Sets the value to `update` where it is equal to `expect`, by one compare_exchange, and says whether it was equal:
+    /// Kotlin's `compareAndSet`. With all three equal it answers true and changes nothing.
+    pub fn compare_and_set(&mut self, expect: T, update: T) -> bool
+        ensures same_flow { self.new.flow ≡ self.old.flow }
+        ensures value { Compares self.old.view expect update result self.new.view }
+    {
+        let flow = &self.flow;
+        flow.compare_exchange(&mut self.seat, expect, update)
+    }
+
+    /// The number of collectors, by one load: Kotlin's `subscriptionCount.value`.
+    pub fn collectors(&mut self) -> u32
+        ensures same_flow { self.new.flow ≡ self.old.flow }
+        ensures count { Counts self.old.view result self.new.view }
+    {
+        let flow = &self.flow;
+        flow.count(&mut self.seat)
+    }
+
+    /// How many more seats can be made of this one. Kotlin has no such call, since every holder of a flow may use it.
+    pub fn spare(&self) -> u32
+        ensures { result + 1 ≡ self.now.view.share }
+    {
+        self.share - 1
+    }
+
+    /// Takes a new seat, which begins with all that this one has seen. Of the new one `share` more can be taken; this one
+    /// has `share + 1` fewer to give. Kotlin has no such call.
+    ///
+    /// Refused with 4 where the flow can have no further owner, then with 5 where `share + 1` is over `spare()`.
+    pub fn take_seat(&mut self, share: u32) -> Result<StateSeat<T, A>, Refusal>
+        ensures same_flow { self.new.flow ≡ self.old.flow }
+        ensures taken { IfOk result (λ seat. (seat.flow ≡ self.old.flow) × (seat.view ≡ taker (share + 1) self.old.view)) }
+        ensures left { IfOk result (λ _. self.new.view ≡ giver (share + 1) self.old.view) }
+        ensures enough { IfOk result (λ _. share + 1 < self.old.view.share) }
+        ensures unchanged { OnErr result (self.new.view ≡ self.old.view) }
+        ensures refusals { IfErr result (λ r. (r ≡ NoMemory) ⊎ ((r ≡ SubscribersFull) × (self.old.view.share ≤ share + 1))) }
+    {
+        let flow = Arc::try_clone(&self.flow)?;
+        if share >= self.spare() {
+            return Err(Refusal::SubscribersFull);
+        }
+        let seat = flow.split::<Brand>(&mut self.seat, share + 1);
+        self.share -= share + 1;
+        Ok(StateSeat::over(flow, seat, share + 1))
+    }
+
+    /// Takes back another seat of the same flow, with all its share, and makes one load: from then on this seat has seen
+    /// what both had. Kotlin has no such call.
+    pub fn give_back(&mut self, other: StateSeat<T, A>)
+        requires { other.flow ≡ self.old.flow }
+        ensures same_flow { self.new.flow ≡ self.old.flow }
+        ensures joined { TakesBack self.old.view other.view self.new.view }
+    {
+        let StateSeat { flow, seat, share } = other;
+        flow.join(&mut self.seat, seat);
+        // A join tells nothing of how the two histories go together; the load does.
+        flow.load(&mut self.seat);
+        self.share += share;
+    }
+
+    /// Begins to collect: Kotlin's `collect`. The number of collectors goes up by one, and the collector has collected
+    /// nothing yet.
+    pub fn collect(self) -> Collector<T, A>
+        ensures same_flow { result.flow ≡ self.flow }
+        ensures begins { Begins self.view result.view }
+    {
+        let StateSeat {
+            flow,
+            mut seat,
+            share,
+        } = self;
+        flow.begin(&mut seat);
+        Collector::over(flow, seat, share)
+    }
+}
