@@ -1,0 +1,10 @@
+pub mod Splitting
+pub mod Digits
+pub mod Transfers
+pub mod Picturing
+pub mod Making
+pub mod Caching
+pub mod Running
+pub mod Single
+pub mod Cutting
+pub mod Gathering

@@ -1,0 +1,97 @@
+//! Runs a script of commands on flows: the script comes on standard input, its answers go to standard output.
+//!
+//! The status is 0 at the end of the script, 1 for a fault, which is named on standard error, and 2, with nothing
+//! written, where the command line is no engine.
+#![tactic(auto)]
+
+mod actions;
+mod answer;
+mod binding;
+mod command;
+mod fault;
+mod fields;
+mod gathered;
+mod input;
+mod items;
+mod keyword;
+mod lines;
+mod listing;
+mod names;
+mod output;
+mod pipe;
+mod runner;
+mod script;
+mod segments;
+mod source;
+mod stage;
+#[cfg(test)]
+mod tests;
+mod words;
+
+use clap::error::ErrorKind;
+use clap::{Arg, Command};
+use fault::ScriptFault;
+use script::{Engine, run_script};
+use std::alloc::Global;
+use std::io::{BufWriter, Write};
+use std::process::ExitCode;
+use std::{env, io};
+
+/// Why the program ends early.
+#[derive(Clone, Copy, Debug, PartialEq, Eq)]
+enum Stop {
+    /// The command line has another word, or asks for help.
+    Usage,
+    Fault(ScriptFault),
+}
+
+/// The engine that the command line names.
+fn engine_of(alloc: Global, words: &[String]) -> Result<Engine, Stop> {
+    let engine = Arg::new(alloc, "engine").value_parser(["core"].as_slice());
+    let Ok(command) = Command::new(alloc, "flow_runner").arg(engine) else {
+        return Err(Stop::Fault(ScriptFault::NoMemory));
+    };
+    match command.try_get_matches_from(words) {
+        Ok(_) => Ok(Engine::Core),
+        Err(error) => match error.kind() {
+            ErrorKind::OutOfMemory => Err(Stop::Fault(ScriptFault::NoMemory)),
+            _ => Err(Stop::Usage),
+        },
+    }
+}
+
+/// Runs the script on standard input.
+fn run(rt: &HostRuntime) -> Result<(), Stop> {
+    let alloc = rt.alloc();
+    let words = match env::args(rt) {
+        Ok(words) => words,
+        Err(error) => {
+            return Err(match error.kind() {
+                io::ErrorKind::OutOfMemory => Stop::Fault(ScriptFault::NoMemory),
+                _ => Stop::Usage,
+            });
+        }
+    };
+    let Ok(words) = words.collect::<Vec<String>>(alloc) else {
+        return Err(Stop::Fault(ScriptFault::NoMemory));
+    };
+    let engine = engine_of(alloc, words.as_slice())?;
+    let Ok(mut writer) = BufWriter::new(alloc, io::writer(rt)) else {
+        return Err(Stop::Fault(ScriptFault::NoMemory));
+    };
+    let ran = run_script(rt, &mut rt.reader(), &mut writer, engine);
+    // A script that ended early leaves the answers of the lines before in the buffer.
+    let _ = writer.flush();
+    ran.map_err(Stop::Fault)
+}
+
+fn main(rt: HostRuntime) -> ExitCode {
+    match run(&rt) {
+        Ok(()) => ExitCode::SUCCESS,
+        Err(Stop::Usage) => ExitCode::from(2),
+        Err(Stop::Fault(fault)) => {
+            let _ = eprintln!(rt; "flow_runner: {fault}");
+            ExitCode::from(1)
+        }
+    }
+}

@@ -1,0 +1,4 @@
+pub mod Countdown
+pub mod Lights
+pub mod LightLaws
+pub mod Uncancelled

@@ -1,0 +1,31 @@
+//! What a subscription receives, of a program's calls and the replies that it got.
+
+ghost use Rattle.std.specs.Prelude.{◌≡◌, [], IfOk, IfSome, IfNone, IsOkUnless};
+ghost use Rattle.shared_core.specs.Kept.{making_refusal};
+ghost use Rattle.shared_core.specs.Headline.{Headline};
+ghost use Rattle.shared_core.specs.Made.{run_made};
+
+use cold_flow::Refusal;
+use shared_core::{Call, Config, Reply, SharedState, each_subscription_receives_cache_then_later};
+use std::alloc::Global;
+
+/// Makes the calls on a new flow, and gives the flow with the replies.
+///
+/// What each subscription received by these replies, then what is pending for it in the flow, is the replay cache at its
+/// start followed by all later accepted emissions, in order and once, less just the values its policy dropped.
+pub fn run_new_flow<T: Copy>(
+    alloc: Global,
+    config: Config,
+    calls: &[Call<T>],
+    replies: &mut Vec<Reply<T>>,
+) -> Result<SharedState<T>, Refusal>
+    requires { replies.old.items ≡ [] }
+    ensures refused { IfSome (making_refusal config) (λ refusal. result ≡ Err refusal) }
+    ensures made { IfNone (making_refusal config) (IsOkUnless result Refusal.NoMemory) }
+    ensures headline { IfOk result (λ flow. Headline (run_made calls.now replies.new.items flow)) }
+{
+    each_subscription_receives_cache_then_later::<T>();
+    let mut flow = SharedState::new(alloc, config)?;
+    flow.run(calls, replies)?;
+    Ok(flow)
+}
