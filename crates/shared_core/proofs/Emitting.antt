@@ -1,7 +1,8 @@
 -- What a try, and the start of an emission, answer and leave, by the emission's fate.
-use Rattle.std.proofs.Common.{◌≡◌, ◌≢◌, ℕ, ◌+◌, ◌-◌, ◌<◌, ◌≤◌, Bool, true, false, cond, ◌||◌, ◌⊎◌, ⊎_elim, eqb, ltb, [], ◌∷◌, ◌++◌, length, Result, Ok, Err, refl, sym, ap, ◌∙◌, subst, arith, length-append}
+use Rattle.std.proofs.Common.{◌≡◌, ◌≢◌, ℕ, ◌+◌, ◌-◌, ◌<◌, ◌≤◌, Bool, true, false, cond, ◌&&◌, ◌||◌, ◌⊎◌, ⊎_elim, eqb, ltb, List, [], ◌∷◌, ◌++◌, length, drop, map, Result, Ok, Err, refl, sym, ap, ◌∙◌, subst, arith, length-append}
 use Rattle.std.proofs.Math.Bool.{or-true}
-use Rattle.std.proofs.lemmas.Bool.{eqb-false, eq-eqb, ne_eqb}
+use Rattle.std.proofs.lemmas.Bool.{eqb-false, eq-eqb, ne_eqb, ltb-true}
+use Rattle.std.specs.List.{list_all}
 use Rattle.cold_flow.specs.declared.refusal.Refusal.{Refusal}
 use Rattle.cold_flow.specs.declared.refusal.Refusal.TheVariants.{EmitsFull, Spent}
 use Rattle.shared_core.specs.declared.ids.Ticket.{Ticket}
@@ -10,7 +11,7 @@ use Rattle.shared_core.specs.declared.answers.Tried.TheVariants as tried
 use Rattle.shared_core.specs.declared.answers.Begun.{Begun}
 use Rattle.shared_core.specs.declared.answers.Begun.TheVariants as begun
 use Rattle.shared_core.specs.Flow.{State, Standing, Parameters, Overflow, waits, stands, is_out, accept, lose_oldest, give, number, number_limit, capacity, places, has_room, waiting_count, out_count}
-use Rattle.shared_core.specs.Calls.{Call, step, trying, starting, try_emit, try_by, start_emit, start_by, wait_with, fate, fate_by, Fate, enters, pushes_in, handed_over, dropped, held_up, numbers_spent, tickets_spent}
+use Rattle.shared_core.specs.Calls.{Call, step, trying, starting, try_emit, try_by, start_emit, start_by, wait_with, fate, fate_by, without_room, Fate, enters, pushes_in, handed_over, dropped, held_up, numbers_spent, tickets_spent}
 use Rattle.shared_core.specs.Shown.{Seen, seen_of, Shows, Follows}
 use Rattle.shared_core.specs.Accepting.{IsSound, with_accepted, without_oldest_of, with_ticket, waiting_in, room_in, fate_in}
 use Rattle.shared_core.proofs.Sound.{sound-lose_oldest}
@@ -34,7 +35,27 @@ pub is_handed : (live all waiting : ℕ) (overflow : Overflow) → live ≢ 0 �
 is_handed live all waiting overflow some none first =
     let a = ne_eqb live 0 some in let b = eq-eqb all 0 none in let c = eq-eqb waiting 0 first in rw (a, b, c) refl
 
+-- the fates beside a live subscription in a flow with places
+pub by_room : (live all waiting : ℕ) (room : Bool) (overflow : Overflow) → live ≢ 0 → all ≢ 0 → fate_by live all waiting room overflow ≡ cond room enters (without_room overflow)
+by_room live all waiting room overflow some places = let a = ne_eqb live 0 some in let b = ne_eqb all 0 places in rw (a, b) refl
+
+and_both : (a b : Bool) → (a && b) ≡ true → (a ≡ true) × (b ≡ true)
+and_both true b both = (refl, both)
+and_both false b both = absurd (cc)
+
 module _ {T : Type 0} where
+  -- where there is room nobody loses a value
+  none_lost : (limit : ℕ) (live : List (ℕ × List T)) → list_all (λ e. ltb (length e.1) limit) live ≡ true → map (λ e. cond (eqb (length e.1) limit) (e.0, drop 1 e.1) e) live ≡ live
+  none_lost limit [] room = refl
+  none_lost limit (e ∷ live) room =
+      let both = and_both (ltb (length e.1) limit) (list_all (λ d. ltb (length d.1) limit) live) room in
+      let below = ltb-true (length e.1) limit both.0 in
+      let short : eqb (length e.1) limit ≡ false = ne_eqb (length e.1) limit (λ full. omega (arith, below, full)) in
+      ap (λ b. cond b (e.0, drop 1 e.1) e ∷ map (λ d. cond (eqb (length d.1) limit) (d.0, drop 1 d.1) d) live) short ∙ ap (λ xs. e ∷ xs) (none_lost limit live both.1)
+
+  unchanged : (old : Seen T) → room_in old ≡ true → without_oldest_of (places old.parameters) old ≡ old
+  unchanged old room = ap (λ xs. record old { live = xs }) (none_lost (places old.parameters) old.live room)
+
   pub waiting_count-seen : (M : State T) → waiting_count M ≡ waiting_in (seen_of M)
   unfolding waiting_count seen_of
   waiting_count-seen M = waiting_numbered M.parameters.first M.tickets
@@ -130,10 +151,17 @@ module _ {T : Type 0} where
           follows_by (trying emitter v) (try_emit emitter v) _ old _ M (accept emitter v M) shows
           (try_is enters fated M shows ∙ ap (λ n. (Ok (tried.Accepted n), accept emitter v M)) (number_shown M shows)) refl (accepted_shown emitter v old M shows)
 
-      pub try_pushes : pushes_in ≡ fate_in old → Follows (try_emit emitter v) old (Ok (tried.Accepted old.next_number)) (with_accepted v (without_oldest_of (places old.parameters) old))
-      try_pushes fated M shows =
+      try_takes : pushes_in ≡ fate_in old → Follows (try_emit emitter v) old (Ok (tried.Accepted old.next_number)) (with_accepted v (without_oldest_of (places old.parameters) old))
+      try_takes fated M shows =
           follows_by (trying emitter v) (try_emit emitter v) _ old _ M (accept emitter v (lose_oldest M)) shows
           (try_is pushes_in fated M shows ∙ ap (λ n. (Ok (tried.Accepted n), accept emitter v (lose_oldest M))) (number_shown M shows)) refl (pushed_shown emitter v old fated M shows)
+
+      pub try_pushes : (pushes_in ≡ fate_in old) ⊎ ((enters ≡ fate_in old) × (room_in old ≡ true))
+          → Follows (try_emit emitter v) old (Ok (tried.Accepted old.next_number)) (with_accepted v (without_oldest_of (places old.parameters) old))
+      try_pushes fated =
+          ⊎_elim (λ takes. try_takes takes)
+          (λ (fits : (enters ≡ fate_in old) × (room_in old ≡ true)).
+          subst (λ (seen : Seen T). Follows (try_emit emitter v) old (Ok (tried.Accepted old.next_number)) (with_accepted v seen)) (sym (unchanged old fits.1)) (try_enters fits.0)) fated
 
       pub try_stays : (f : Fate) (answer : Result (Tried ℕ) Refusal) → f ≡ fate_in old → ((M : State T) → try_by f emitter v M ≡ (answer, M)) → Follows (try_emit emitter v) old answer old
       try_stays f answer fated stays M shows =
@@ -176,10 +204,17 @@ module _ {T : Type 0} where
           follows_by (starting emitter v) (start_emit emitter v) _ old _ M (accept emitter v M) shows
           (start_is enters fated M shows ∙ ap (λ n. (Ok (begun.Accepted n), accept emitter v M)) (number_shown M shows)) refl (accepted_shown emitter v old M shows)
 
-      pub start_pushes : pushes_in ≡ fate_in old → Follows (start_emit emitter v) old (Ok (begun.Accepted old.next_number)) (with_accepted v (without_oldest_of (places old.parameters) old))
-      start_pushes fated M shows =
+      start_takes : pushes_in ≡ fate_in old → Follows (start_emit emitter v) old (Ok (begun.Accepted old.next_number)) (with_accepted v (without_oldest_of (places old.parameters) old))
+      start_takes fated M shows =
           follows_by (starting emitter v) (start_emit emitter v) _ old _ M (accept emitter v (lose_oldest M)) shows
           (start_is pushes_in fated M shows ∙ ap (λ n. (Ok (begun.Accepted n), accept emitter v (lose_oldest M))) (number_shown M shows)) refl (pushed_shown emitter v old fated M shows)
+
+      pub start_pushes : (pushes_in ≡ fate_in old) ⊎ ((enters ≡ fate_in old) × (room_in old ≡ true))
+          → Follows (start_emit emitter v) old (Ok (begun.Accepted old.next_number)) (with_accepted v (without_oldest_of (places old.parameters) old))
+      start_pushes fated =
+          ⊎_elim (λ takes. start_takes takes)
+          (λ (fits : (enters ≡ fate_in old) × (room_in old ≡ true)).
+          subst (λ (seen : Seen T). Follows (start_emit emitter v) old (Ok (begun.Accepted old.next_number)) (with_accepted v seen)) (sym (unchanged old fits.1)) (start_enters fits.0)) fated
 
       pub start_dropped : dropped ≡ fate_in old → Follows (start_emit emitter v) old (Ok begun.Dropped) old
       start_dropped fated M shows =

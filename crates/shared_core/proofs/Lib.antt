@@ -15,10 +15,14 @@ pub mod Growing
 pub mod Walks
 pub mod Running
 pub mod Telling
-pub mod PlaceFacts
+pub mod Entries
+pub mod Latest
+pub mod Standing
+pub mod Rings
 pub mod Accepted
 pub mod Emitting
 pub mod Ticketing
+pub mod Asking
 pub mod Bodies
 pub mod Steps
 pub mod Sound

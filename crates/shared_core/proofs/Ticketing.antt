@@ -26,7 +26,7 @@ use Rattle.shared_core.proofs.Settling.{settle-full, settle-none, settle-first, 
 use Rattle.shared_core.proofs.Steps.{length-change, index-low, shown_sound}
 use Rattle.shared_core.proofs.Accepted.{seen-accept, has_room-seen, finished-seen}
 use Rattle.shared_core.proofs.Emitting.{follows_by}
-use Rattle.shared_core.proofs.Bodies.{list_any-map, map-remove}
+use Rattle.shared_core.proofs.Entries.{list_any-map, map-remove}
 
 module _ {X : Type 0} where
   get_left : (xs ys : List X) (k : ℕ) (x : X) → slice_get xs k ≡ Some x → slice_get (xs ++ ys) k ≡ Some x

@@ -1,5 +1,5 @@
 -- What the steps of the calls make of what contracts see.
-use Rattle.std.specs.Prelude.{◌≡◌, ℕ, ◌+◌, ◌-◌, ◌<◌, ◌≤◌, Bool, true, false, not, ◌||◌, ◌==◌, nat_lt, if◌then◌else◌, [], ◌∷◌, ◌++◌, length, drop, map}
+use Rattle.std.specs.Prelude.{◌≡◌, ℕ, ◌+◌, ◌-◌, ◌<◌, ◌≤◌, Bool, true, false, not, ◌||◌, ◌⊎◌, ◌==◌, nat_lt, if◌then◌else◌, [], ◌∷◌, ◌++◌, length, drop, map}
 use Rattle.std.specs.List.{AllByRecursion, filter, list_all}
 use Rattle.shared_core.specs.declared.state.emissions.Fate.{Fate}
 use Rattle.shared_core.specs.declared.state.emissions.Fate.TheVariants as code
@@ -40,12 +40,14 @@ abbrev pub fate_in : {T : Type 0} → Seen T → calls.Fate
 fate_in seen =
     calls.fate_by (length seen.live) (capacity seen.parameters) (waiting_in seen) (room_in seen) seen.parameters.overflow
 
-abbrev pub fate_of : Fate → calls.Fate
-fate_of code.Enters = calls.enters
-fate_of code.PushesIn = calls.pushes_in
-fate_of code.HandedOver = calls.handed_over
-fate_of code.Dropped = calls.dropped
-fate_of code.HeldUp = calls.held_up
+-- What the code takes an emission's fate for. Where the oldest values are dropped it asks nobody for room: an emission that
+-- enters there pushes in, and finds nobody with all places taken.
+abbrev pub HasFate : {T : Type 0} → Seen T → Fate → Type 0
+HasFate seen code.Enters = calls.enters ≡ fate_in seen
+HasFate seen code.PushesIn = (calls.pushes_in ≡ fate_in seen) ⊎ ((calls.enters ≡ fate_in seen) × (room_in seen ≡ true))
+HasFate seen code.HandedOver = calls.handed_over ≡ fate_in seen
+HasFate seen code.Dropped = calls.dropped ≡ fate_in seen
+HasFate seen code.HeldUp = calls.held_up ≡ fate_in seen
 
 -- an accepted emission is finished in a flow with places, and else where each live subscription has fewer values pending
 -- than were accepted from it on

@@ -108,6 +108,15 @@ poll_at k gone M = (emit.Gone, M)
 unfoldable pub poll_emit : {T : Type 0} → ℕ → State T → Emit × State T
 poll_emit n M = poll_at (index M n) (ticket_at M.tickets (index M n)) M
 
+abbrev pub says_done : Emit → Bool
+says_done (emit.Done n) = true
+says_done emit.Waiting = false
+says_done emit.Gone = false
+
+-- whether a poll would answer that the emission is done
+abbrev pub would_be_done : {T : Type 0} → ℕ → State T → Bool
+would_be_done n M = says_done (poll_emit n M).0
+
 abbrev pub cancel_emit_at : {T : Type 0} → Option ℕ → Standing T → State T → Withdrawn ℕ × State T
 cancel_emit_at k (waits emitter v) M = (withdrawn.Removed, take_back k M)
 cancel_emit_at k (stands i) M = (withdrawn.Left (number M i), take_back k M)

@@ -1,13 +1,13 @@
 -- What holds of the fields of a shared flow between any two calls.
-use Rattle.std.specs.Prelude.{◌≡◌, Bool, true, false, not, ◌&&◌, ◌||◌, ◌==◌, nat_le, if◌then◌else◌, ℕ, ◌+◌, ◌<◌, ◌≤◌, List, [], length, Option, Some, None}
+use Rattle.std.specs.Prelude.{◌≡◌, Bool, true, false, not, ◌&&◌, ◌||◌, ◌==◌, nat_le, if◌then◌else◌, ℕ, ◌+◌, ◌<◌, ◌≤◌, length, Option, Some, None}
 use Rattle.std.specs.List.{All}
 use Rattle.cold_flow.specs.declared.refusal.Refusal.{Refusal}
 use Rattle.cold_flow.specs.declared.refusal.Refusal.TheVariants.{TooLarge, PolicyNeedsBuffer, BadLimit}
 use Rattle.cold_flow.specs.declared.policy.Policy.{Policy}
 use Rattle.cold_flow.specs.declared.policy.Policy.TheVariants.{Suspend, DropOldest, DropLatest}
 use Rattle.shared_core.specs.declared.config.Config.{Config}
-use Rattle.shared_core.specs.declared.place.Place.{Place}
 use Rattle.shared_core.specs.Queues.{Queued}
+use Rattle.shared_core.specs.Ringed.{Ringed}
 use Rattle.shared_core.specs.declared.tickets.Held.{Held}
 use Rattle.shared_core.specs.declared.tickets.Accepted.{Accepted}
 use Rattle.shared_core.specs.declared.tickets.Waiting.{Waiting}
@@ -57,19 +57,12 @@ pub record AreNumbered (config : Config) (next_number subscribed given waiting :
   pub subscriptions : config.first + subscribed ≤ number_limit
   pub tickets : config.first + given ≤ number_limit
 
-pub record IsCache {T : Type 0} (config : Config) (cache : Queued T) : Type 0 where
-  pub limit : cache.limit ≡ config.replay
-  pub within : length cache.values ≤ config.replay
-
--- each place, taken or spare, has as many entries as the flow wants, and there is one for each subscriber
-pub record ArePlaces {T : Type 0} (config : Config) (live : List (Place T)) (live_room : ℕ) (spare : List (Queued T)) (spare_room : ℕ) : Type 0 where
+-- the ring has what the flow was made with
+pub record IsRingOf {T : Type 0} (config : Config) (ring : Ringed T) : Type 0 where
   pub capacity : config.replay + config.extra ≤ 65536
-  pub subscribers : config.subscribers ≤ 1024
-  pub live_limits : All (λ p. (p.pending.limit ≡ places (parameters_of config)) × (length p.pending.values ≤ places (parameters_of config))) live
-  pub spare_limits : All (λ q. (q.limit ≡ places (parameters_of config)) × (q.values ≡ [])) spare
-  pub one_each : length live + length spare ≡ config.subscribers
-  pub live_within : config.subscribers ≤ live_room
-  pub spare_within : config.subscribers ≤ spare_room
+  pub replay : ring.replay ≡ config.replay
+  pub limit : ring.limit ≡ places (parameters_of config)
+  pub subscribers : ring.subscribers ≡ config.subscribers
 
 -- no more tickets are out than may be, and those of accepted emissions name emissions that were accepted
 pub record AreTickets {T : Type 0} (config : Config) (next_number : ℕ) (accepted : Queued (Held Accepted)) (waiting : Queued (Held (Waiting T))) : Type 0 where

@@ -2,6 +2,7 @@ pub mod Flow
 pub mod Calls
 pub mod Shown
 pub mod Queues
+pub mod Ringed
 pub mod Places
 pub mod Kept
 pub mod Story

@@ -13,6 +13,7 @@ mod ids;
 mod laws;
 mod place;
 mod queue;
+mod ring;
 mod state;
 mod tickets;
 

@@ -79,37 +79,6 @@ impl<T: Copy> Queue<T> {
         value
     }
 
-    /// Lets all values go.
-    pub fn clear(&mut self)
-        ensures { self.new ≡ record self.old { values = [] } }
-    {
-        self.items.clear();
-    }
-
-    /// Adds the value, and lets the oldest one go where that is one too many.
-    pub fn push_latest(&mut self, value: T)
-        ensures { self.new ≡ record self.old { values = drop ((length self.old.values + 1) - self.old.limit) (self.old.values ++ value ∷ []) } }
-    {
-        if self.limit == 0 {
-            return;
-        }
-        if self.items.len() == self.limit {
-            let _oldest = self.items.pop_front();
-        }
-        self.items.push_back_reserved(value);
-    }
-
-    /// Takes over the values of another queue.
-    pub fn copy_from(&mut self, other: &Queue<T>)
-        requires empty { self.old.values ≡ [] }
-        requires room { length other.now.values ≤ self.old.limit }
-        ensures { self.new ≡ record self.old { values = other.now.values } }
-    {
-        for i in 0..other.len() {
-            self.push(other.get(i));
-        }
-    }
-
     /// The value at this index from the oldest one on.
     pub fn get(&self, index: usize) -> T
         requires { index < length self.now.values }
@@ -117,21 +86,4 @@ impl<T: Copy> Queue<T> {
     {
         self.items[index]
     }
-}
-
-/// Empty queues with room for `limit` values each.
-pub fn spare_queues<T: Copy>(
-    alloc: Global,
-    count: usize,
-    limit: usize,
-) -> Result<Vec<Queue<T>>, AllocError>
-    ensures queues { IfOk result (λ v. All (λ q. (q.limit ≡ limit) × (q.values ≡ [])) v.items) }
-    ensures len { IfOk result (λ v. length v.items ≡ count) }
-    ensures capacity { IfOk result (λ v. count ≤ vec_capacity v) }
-{
-    let mut queues = Vec::with_capacity(alloc, count)?;
-    while queues.len() < count {
-        queues.push_reserved(Queue::new(alloc, limit)?);
-    }
-    Ok(queues)
 }

@@ -4,14 +4,15 @@
 //! until that receives or loses it. With `replay` 2 and `extra` 2, after the emissions 0 to 5:
 //!
 //! ```text
-//! emissions    0  1  2  3  4  5          next_number is 6
+//! emissions    0  1  2  3  4  5          the next one has number 6
 //! cache                    4  5          the latest ones, for a subscription that comes now
 //! live     a                  5          it received 0 to 4
 //!          b         2  3  4  5          it received 0 and 1, and all its places are taken
-//! spare                                  an empty place for each subscription that may still come
 //! accepted                 t  u          tickets of 4 and 5, which waited and weren't asked about since
 //! waiting                        v  w    tickets of emissions without room, the oldest first
 //! ```
+//!
+//! The values 2 to 5 are kept once, in a ring (`ring.rt`); `cache`, `a` and `b` are numbers that say where they stand in it.
 //!
 //! # A slow subscription
 //!
@@ -47,8 +48,8 @@ mod subscriptions;
 
 use crate::call::{Call, Reply};
 use crate::config::Config;
-use crate::place::Place;
-use crate::queue::{Queue, spare_queues};
+use crate::queue::Queue;
+use crate::ring::Ring;
 use crate::tickets::{Accepted, Held, Waiting};
 use cold_flow::Refusal;
 use std::alloc::Global;
@@ -62,16 +63,10 @@ use std::marker::Model;
 #[derive(Drop)]
 pub struct SharedState<T: Copy> {
     config: Config,
-    /// The number of the next accepted emission.
-    next_number: u64,
+    /// The last accepted values, with the replay cache and the place of each live subscription.
+    ring: Ring<T>,
     /// How many subscriptions were made.
     subscribed: u64,
-    /// The latest accepted values, at most `replay` of them.
-    cache: Queue<T>,
-    /// The live subscriptions, by rising numbers.
-    live: Vec<Place<T>>,
-    /// Empty queues for the subscriptions to come.
-    spare: Vec<Queue<T>>,
     /// How many tickets were given.
     given: u64,
     /// The accepted emissions whose ticket is out, the oldest ticket first.
@@ -81,27 +76,26 @@ pub struct SharedState<T: Copy> {
 }
 
 impl<T: Copy> Model for SharedState<T> {
-    ghost use Rattle.std.specs.Prelude.{◌++◌, map, length, vec_capacity};
+    ghost use Rattle.std.specs.Prelude.{◌++◌, map, length};
     ghost use Rattle.shared_core.specs.Shown.{Seen};
-    ghost use Rattle.shared_core.specs.Kept.{AreNumbered, IsCache, ArePlaces, AreTickets, parameters_of, shown_accepted, shown_waiting};
+    ghost use Rattle.shared_core.specs.Kept.{AreNumbered, IsRingOf, AreTickets, parameters_of, shown_accepted, shown_waiting};
 
     ghost Value = { Seen T };
 
     ghost view = { λ s. record {
       parameters = parameters_of s.config;
-      next_number = s.next_number;
-      cache = s.cache.values;
-      live = map (λ p. (p.number, p.pending.values)) s.live.items;
+      next_number = s.ring.next_number;
+      cache = s.ring.cache;
+      live = s.ring.live;
       subscriptions = s.subscribed;
       tickets = s.given;
       out = map shown_accepted s.accepted.values ++ map shown_waiting s.waiting.values;
     } };
 
     ghost invariant = { λ s. record {
-      numbers : AreNumbered s.config s.next_number s.subscribed s.given (length s.waiting.values);
-      cache : IsCache s.config s.cache;
-      places : ArePlaces s.config s.live.items (vec_capacity s.live) s.spare.items (vec_capacity s.spare);
-      tickets : AreTickets s.config s.next_number s.accepted s.waiting;
+      numbers : AreNumbered s.config s.ring.next_number s.subscribed s.given (length s.waiting.values);
+      ring : IsRingOf s.config s.ring;
+      tickets : AreTickets s.config s.ring.next_number s.accepted s.waiting;
     } };
 }
 
@@ -119,20 +113,13 @@ impl<T: Copy> SharedState<T> {
         if let Some(refusal) = config.refusal() {
             return Err(refusal);
         }
-        let subscribers = config.subscribers as usize;
-        let capacity = (config.replay + config.extra) as usize;
-        let cache = Queue::new(alloc, config.replay as usize)?;
-        let live = Vec::with_capacity(alloc, subscribers)?;
-        let spare = spare_queues(alloc, subscribers, capacity.max(1))?;
+        let ring = Ring::new(alloc, &config)?;
         let accepted = Queue::new(alloc, config.emits as usize)?;
         let waiting = Queue::new(alloc, config.emits as usize)?;
         Ok(SharedState {
             config,
-            next_number: config.first,
+            ring,
             subscribed: 0,
-            cache,
-            live,
-            spare,
             given: 0,
             accepted,
             waiting,

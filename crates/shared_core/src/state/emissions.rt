@@ -1,15 +1,14 @@
 //! Emissions, and their tickets.
 
-ghost use Rattle.std.specs.Prelude.{◌≡◌, ◌==◌, ◌+◌, ◌<◌, ◌≤◌, true, not, nat_lt, length};
+ghost use Rattle.std.specs.Prelude.{if◌then◌else◌, ◌≡◌, ◌==◌, ◌+◌, ◌<◌, ◌≤◌, true, not, nat_lt, length};
 ghost use Rattle.shared_core.specs.Flow.{number_limit, places, waits, stands};
-ghost use Rattle.shared_core.specs.Accepting.{with_accepted, without_oldest_of, waiting_in, room_in, fate_in, fate_of, Settles, SettlesOnce, with_ticket, finished_in};
+ghost use Rattle.shared_core.specs.Accepting.{with_accepted, without_oldest_of, waiting_in, room_in, HasFate, Settles, SettlesOnce, with_ticket, finished_in};
 ghost use Rattle.shared_core.specs.Calls as calls;
-ghost use Rattle.shared_core.specs.Shown.{Follows};
+ghost use Rattle.shared_core.specs.Shown.{Follows, Reads};
 
 use crate::answers::{Begun, Emit, Tried, Withdrawn};
 use crate::config::NUMBER_LIMIT;
 use crate::ids::Ticket;
-use crate::place::{drop_from_each, each_below, each_past, push_to_each};
 use crate::state::SharedState;
 use crate::tickets::{Accepted, Held, Waiting, held_at};
 use cold_flow::{Policy, Refusal};
@@ -19,7 +18,7 @@ use cold_flow::{Policy, Refusal};
 enum Fate {
     /// It is accepted.
     Enters,
-    /// It is accepted, and each subscription with all its places taken loses its oldest value.
+    /// It is accepted, and each subscription with all its places taken, if there is one, loses its oldest value.
     PushesIn,
     /// It is accepted without a place of its own, and finished once each subscription has it.
     HandedOver,
@@ -30,19 +29,11 @@ enum Fate {
 }
 
 impl<T: Copy> SharedState<T> {
-    /// How many values a subscription may have pending: 1 in a flow without places, for the hand-over.
-    fn limit(&self) -> usize
-        ensures { result ≡ places self.now.parameters }
-    {
-        let capacity = (self.config.replay + self.config.extra) as usize;
-        capacity.max(1)
-    }
-
     /// Whether each live subscription has a place left.
     fn has_room(&self) -> bool
         ensures { result ≡ room_in self.now }
     {
-        each_below(&self.live, self.limit())
+        self.ring.has_room()
     }
 
     /// Whether the numbers are used up, with one for each emission that waits.
@@ -50,14 +41,14 @@ impl<T: Copy> SharedState<T> {
         ensures spent { result ≡ (self.now.next_number + waiting_in self.now == number_limit) }
         ensures bound { self.now.next_number + waiting_in self.now ≤ number_limit }
     {
-        self.next_number + self.waiting.len() as u64 == NUMBER_LIMIT
+        self.ring.next_number() + self.waiting.len() as u64 == NUMBER_LIMIT
     }
 
     /// What an emission comes to that begins now.
     fn fate(&self) -> Fate
-        ensures { fate_of result ≡ fate_in self.now }
+        ensures { HasFate self.now result }
     {
-        if self.live.is_empty() {
+        if self.ring.live_len() == 0 {
             return Fate::Enters;
         }
         if self.config.replay + self.config.extra == 0 {
@@ -66,13 +57,22 @@ impl<T: Copy> SharedState<T> {
             }
             return Fate::HandedOver;
         }
-        if self.has_room() {
-            return Fate::Enters;
-        }
         match self.config.policy {
-            Policy::Suspend => Fate::HeldUp,
-            Policy::DropLatest => Fate::Dropped,
+            Policy::Suspend => self.enters_or(Fate::HeldUp),
+            Policy::DropLatest => self.enters_or(Fate::Dropped),
+            // Whether anybody has all places taken, the pass that takes the oldest value from them finds out.
             Policy::DropOldest => Fate::PushesIn,
+        }
+    }
+
+    /// What an emission comes to where room decides.
+    fn enters_or(&self, without_room: Fate) -> Fate
+        ensures { result ≡ (if room_in self.now then Fate.Enters else without_room) }
+    {
+        if self.has_room() {
+            Fate::Enters
+        } else {
+            without_room
         }
     }
 
@@ -83,11 +83,7 @@ impl<T: Copy> SharedState<T> {
         ensures number { result ≡ self.old.next_number }
         ensures accepted { self.new ≡ with_accepted value self.old }
     {
-        let number = self.next_number;
-        push_to_each(&mut self.live, value);
-        self.cache.push_latest(value);
-        self.next_number += 1;
-        number
+        self.ring.accept(value)
     }
 
     /// Accepts the value, after each subscription with all its places taken lost its oldest one.
@@ -96,9 +92,8 @@ impl<T: Copy> SharedState<T> {
         ensures number { result ≡ self.old.next_number }
         ensures accepted { self.new ≡ with_accepted value (without_oldest_of (places self.old.parameters) self.old) }
     {
-        let limit = self.limit();
-        drop_from_each(&mut self.live, limit);
-        self.accept(value)
+        self.ring.drop_oldest();
+        self.ring.accept(value)
     }
 
     /// Whether each ticket is out.
@@ -154,8 +149,7 @@ impl<T: Copy> SharedState<T> {
             return false;
         }
         let _oldest = self.waiting.pop();
-        let index = self.next_number - self.config.first;
-        let _number = self.accept(oldest.emission.value);
+        let index = self.accept(oldest.emission.value) - self.config.first;
         self.accepted.push(Held {
             ticket: oldest.ticket,
             emission: Accepted { index },
@@ -228,7 +222,7 @@ impl<T: Copy> SharedState<T> {
         if self.config.replay + self.config.extra > 0 {
             return true;
         }
-        each_past(&self.live, index, self.next_number - self.config.first)
+        self.ring.is_past(self.config.first + index)
     }
 
     /// Asks whether an emission is finished: Kotlin's `emit`, where it resumes.
@@ -249,6 +243,17 @@ impl<T: Copy> SharedState<T> {
         }
         let _done = self.accepted.remove(at);
         Emit::Done(self.config.first + index)
+    }
+
+    /// Whether `poll_emit` would answer `Done` now. The ticket stays out, so whoever keeps a sleeping emitter can tell when it
+    /// is worth waking.
+    pub fn is_done(&self, ticket: Ticket) -> bool
+        ensures { Reads (calls.would_be_done ticket.0) self.now result }
+    {
+        match held_at(&self.accepted, ticket.0) {
+            None => false,
+            Some(at) => self.is_finished(self.accepted.get(at).emission.index),
+        }
     }
 
     /// Gives an emission up and takes its ticket back: Kotlin's `emit`, cancelled while it is suspended.

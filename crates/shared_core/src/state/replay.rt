@@ -12,7 +12,7 @@ impl<T: Copy> SharedState<T> {
     pub fn reset_replay(&mut self)
         ensures { Leaves calls.reset self.old self.new }
     {
-        self.cache.clear();
+        self.ring.reset();
     }
 
     /// How many values the replay cache holds: the size of Kotlin's `replayCache`.
@@ -20,7 +20,7 @@ impl<T: Copy> SharedState<T> {
         ensures count { result ≡ length self.now.cache }
         ensures shows { Reads (λ M. length (cache M)) self.now result }
     {
-        self.cache.len() as u64
+        self.ring.replay_len() as u64
     }
 
     /// A value of Kotlin's `replayCache`, by its index from the oldest one on.
@@ -28,6 +28,6 @@ impl<T: Copy> SharedState<T> {
         requires { index < length self.now.cache }
         ensures { Reads (λ M. slice_get (cache M) index) self.now (Some result) }
     {
-        self.cache.get(index as usize)
+        self.ring.replay_at(index as usize)
     }
 }

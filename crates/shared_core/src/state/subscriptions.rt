@@ -8,7 +8,6 @@ ghost use Rattle.shared_core.specs.Shown.{Follows, Reads};
 use crate::answers::Next;
 use crate::config::NUMBER_LIMIT;
 use crate::ids::SubId;
-use crate::place::{Place, place_of};
 use crate::state::SharedState;
 use cold_flow::Refusal;
 
@@ -23,11 +22,10 @@ impl<T: Copy> SharedState<T> {
         if number == NUMBER_LIMIT {
             return Err(Refusal::Spent);
         }
-        let Some(mut pending) = self.spare.pop() else {
+        if self.ring.live_len() == self.config.subscribers as usize {
             return Err(Refusal::SubscribersFull);
-        };
-        pending.copy_from(&self.cache);
-        self.live.push_reserved(Place { number, pending });
+        }
+        self.ring.open(number);
         self.subscribed += 1;
         Ok(SubId(number))
     }
@@ -39,11 +37,10 @@ impl<T: Copy> SharedState<T> {
     pub fn next(&mut self, id: SubId) -> Next<T>
         ensures { Follows (calls.next_value id.0) self.old result self.new }
     {
-        let Some(at) = place_of(&self.live, id.0) else {
+        let Some(at) = self.ring.place_of(id.0) else {
             return Next::Closed;
         };
-        let place = &mut self.live[at];
-        let Some(value) = place.pending.pop() else {
+        let Some(value) = self.ring.receive(at) else {
             return Next::Nothing;
         };
         self.settle();
@@ -56,11 +53,10 @@ impl<T: Copy> SharedState<T> {
     pub fn cancel(&mut self, id: SubId) -> bool
         ensures { Follows (calls.cancel id.0) self.old result self.new }
     {
-        let Some(at) = place_of(&self.live, id.0) else {
+        let Some(at) = self.ring.place_of(id.0) else {
             return false;
         };
-        let place = self.live.remove(at);
-        self.spare.push_reserved(place.into_spare());
+        self.ring.close(at);
         self.settle();
         true
     }
@@ -69,9 +65,9 @@ impl<T: Copy> SharedState<T> {
     pub fn pending(&self, id: SubId) -> u64
         ensures { Reads (calls.pending_count id.0) self.now result }
     {
-        match place_of(&self.live, id.0) {
+        match self.ring.place_of(id.0) {
             None => 0,
-            Some(at) => self.live[at].pending.len() as u64,
+            Some(at) => self.ring.pending_at(at),
         }
     }
 
@@ -79,6 +75,6 @@ impl<T: Copy> SharedState<T> {
     pub fn subscription_count(&self) -> u32
         ensures { Reads live_count self.now result }
     {
-        self.live.len() as u32
+        self.ring.live_len() as u32
     }
 }

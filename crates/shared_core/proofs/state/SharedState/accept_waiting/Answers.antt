@@ -6,7 +6,7 @@ use Rattle.shared_core.specs.declared.tickets.Accepted.{Accepted}
 use Rattle.shared_core.specs.Queues.{Queued}
 use Rattle.shared_core.specs.Shown.{Seen}
 use Rattle.shared_core.specs.Accepting.{with_accepted}
-use Rattle.shared_core.proofs.Bodies.{none_first, some_first}
+use Rattle.shared_core.proofs.Entries.{none_first, some_first}
 use Rattle.shared_core.proofs.Ticketing.{shown_out, count_waiting, length-out, landed, one_more_accepted, settles_full, settles_none, settles_once}
 use Rattle.shared_core.proofs.state.SharedState.accept_waiting.Goals as goal
 
@@ -22,44 +22,26 @@ returns-in_default g c =
 taken_first : {X : Type 0} (before after : Queued X) (x : X) → x ∷ drop 1 before.values ≡ before.values → after ≡ record before { values = drop 1 before.values } → before.values ≡ x ∷ after.values
 taken_first before after x more rest = sym more ∙ ap (λ (q : Queued _). x ∷ q.values) (sym rest)
 
-pub accept-number-requires-clause-numbers : goal.accept-number-requires-clause-numbers
-accept-number-requires-clause-numbers g c =
+pub accept-requires-clause-numbers : goal.accept-requires-clause-numbers
+accept-requires-clause-numbers g c =
     let ws = c.self.inside.waiting.values in
     let before = taken_first c.self.inside.waiting c.pop-oldest.new.self c.in-Some.oldest (sym (some_first ws c.in-Some.oldest (sym c.in-Some.ensures))) c.pop-oldest.ensures.rest in
     omega (arith, c.self.invariant.numbers.emissions, ap length before, count_waiting c.self.inside.accepted.values c.pop-oldest.new.self.values)
-
-pub push-requires : goal.push-requires
-push-requires g c =
-    let us = c.self.inside.accepted.values in
-    let ws = c.self.inside.waiting.values in
-    let before = taken_first c.self.inside.waiting c.pop-oldest.new.self c.in-Some.oldest (sym (some_first ws c.in-Some.oldest (sym c.in-Some.ensures))) c.pop-oldest.ensures.rest in
-    let seen = c.self-2.view_is ∙ c.accept-number.ensures.accepted in
-    omega (
-      arith,
-      c.self.invariant.tickets.within,
-      ap length before,
-      length-out us c.pop-oldest.new.self.values,
-      length-out c.self-2.inside.accepted.values c.self-2.inside.waiting.values,
-      ap (λ (s : Seen _). length s.out) seen,
-      ap (λ (s : Seen _). s.parameters.emits) seen,
-      c.self-2.invariant.tickets.accepted_limit,
-    )
 
 pub invariant_of-self-2 : goal.invariant_of-self-2
 invariant_of-self-2 g c =
     let us = c.self.inside.accepted.values in
     let ws = c.self.inside.waiting.values in
     let before = taken_first c.self.inside.waiting c.pop-oldest.new.self c.in-Some.oldest (sym (some_first ws c.in-Some.oldest (sym c.in-Some.ensures))) c.pop-oldest.ensures.rest in
-    let seen = c.self-2.view_is ∙ c.accept-number.ensures.accepted in
+    let seen = c.self-2.view_is ∙ c.accept.ensures.accepted in
     let kept = c.self-2.invariant.tickets in
     let config = c.self-2.inside.config in
-    let i = c.self.inside.next_number - c.self.inside.config.first in
+    let i = c.accept.result - c.self-2.inside.config.first in
     let pushed : c.push.new.self.values ≡ c.self-2.inside.accepted.values ++ landed i c.in-Some.oldest ∷ [] = ap (λ (q : Queued _). q.values) c.push.ensures in
-    let is_index = λ (h : Held Accepted). config.first + h.emission.index < c.self-2.inside.next_number in
+    let is_index = λ (h : Held Accepted). config.first + h.emission.index < c.self-2.inside.ring.next_number in
     record {
       numbers = c.self-2.invariant.numbers;
-      cache = c.self-2.invariant.cache;
-      places = c.self-2.invariant.places;
+      ring = c.self-2.invariant.ring;
       tickets = record {
         emits = kept.emits;
         accepted_limit = ap (λ (q : Queued _). q.limit) c.push.ensures ∙ kept.accepted_limit;
@@ -78,7 +60,7 @@ invariant_of-self-2 g c =
         indexes =
             All-same is_index c.push.new.self.values (c.self-2.inside.accepted.values ++ landed i c.in-Some.oldest ∷ []) pushed
             (All-push is_index c.self-2.inside.accepted.values (landed i c.in-Some.oldest) kept.indexes
-            (omega (arith, c.self.invariant.numbers.counted, ap (λ (s : Seen _). s.next_number) seen, ap (λ (s : Seen _). s.parameters.first) seen)));
+            (omega (arith, c.accept.ensures.number, c.self.invariant.numbers.counted, ap (λ (s : Seen _). s.next_number) seen, ap (λ (s : Seen _). s.parameters.first) seen)));
       };
     }
 
@@ -89,18 +71,21 @@ returns g c =
     let ws = c.self.inside.waiting.values in
     let oldest = c.in-Some.oldest in
     let rest = c.pop-oldest.new.self.values in
-    let i = c.self.inside.next_number - c.self.inside.config.first in
+    let i = c.accept.result - c.self-2.inside.config.first in
     let before = taken_first c.self.inside.waiting c.pop-oldest.new.self oldest (sym (some_first ws oldest (sym c.in-Some.ensures))) c.pop-oldest.ensures.rest in
-    let seen = c.self-2.view_is ∙ c.accept-number.ensures.accepted in
+    let seen = c.self-2.view_is ∙ c.accept.ensures.accepted in
     let us_after = c.self-2.inside.accepted.values in
     let ws_after = c.self-2.inside.waiting.values in
-    let index_is = ap (λ (s : Seen _). s.next_number - s.parameters.first) c.self.view_is in
+    let index_is =
+    ap (λ n. n - c.self-2.inside.config.first) c.accept.ensures.number
+    ∙ ap (λ (s : Seen _). c.self.inside.ring.next_number - s.parameters.first) seen
+    ∙ ap (λ (s : Seen _). s.next_number - s.parameters.first) c.self.view_is in
     let shown =
     ap (λ vs. shown_out vs ws_after) (ap (λ (q : Queued _). q.values) c.push.ensures) ∙ one_more_accepted us_after us ws_after rest (landed i oldest) (ap (λ (s : Seen _). s.out) seen) in
     settles_once now _ us oldest rest i index_is
     (ap (λ (s : Seen _). s.out) (sym c.self.view_is) ∙ ap (shown_out us) before)
     (sym c.has_room.ensures ∙ c.if-not-has_room.false)
     (ap (λ (s : Seen _). record s { out = shown_out c.push.new.self.values ws_after }) c.self-2.view_is
-    ∙ ap (λ xs. record c.accept-number.new.self { out = xs }) shown
-    ∙ ap (λ (s : Seen _). record s { out = shown_out (us ++ landed i oldest ∷ []) rest }) c.accept-number.ensures.accepted
+    ∙ ap (λ xs. record c.accept.new.self { out = xs }) shown
+    ∙ ap (λ (s : Seen _). record s { out = shown_out (us ++ landed i oldest ∷ []) rest }) c.accept.ensures.accepted
     ∙ ap (λ (s : Seen _). record (with_accepted oldest.emission.value s) { out = shown_out (us ++ landed i oldest ∷ []) rest }) c.self.view_is)

@@ -19,14 +19,13 @@ invariant_of-self g c =
     let shorter = length-remove us c.in-Some.at (slice_get_within us c.in-Some.at c.remove-accepted.result c.remove-accepted.ensures.value) in
     record {
       numbers = c.self.invariant.numbers;
-      cache = c.self.invariant.cache;
-      places = c.self.invariant.places;
+      ring = c.self.invariant.ring;
       tickets = record {
         emits = kept.emits;
         accepted_limit = ap (λ (q : Queued _). q.limit) c.remove-accepted.ensures.rest ∙ kept.accepted_limit;
         waiting_limit = kept.waiting_limit;
         within = omega (arith, kept.within, ap length rest, shorter);
-        indexes = still_indexes (λ (h : Held Accepted). c.self.inside.config.first + h.emission.index < c.self.inside.next_number) us c.remove-accepted.new.self.values c.in-Some.at rest kept.indexes;
+        indexes = still_indexes (λ (h : Held Accepted). c.self.inside.config.first + h.emission.index < c.self.inside.ring.next_number) us c.remove-accepted.new.self.values c.in-Some.at rest kept.indexes;
       };
     }
 

@@ -19,8 +19,7 @@ invariant_of-self g c =
         subscriptions = kept.numbers.subscriptions;
         tickets = omega (arith, numbers);
       };
-      cache = kept.cache;
-      places = kept.places;
+      ring = kept.ring;
       tickets = record {
         emits = kept.tickets.emits;
         accepted_limit = kept.tickets.accepted_limit;

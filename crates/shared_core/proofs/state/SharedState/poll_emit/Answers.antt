@@ -39,11 +39,11 @@ is_accepted config next us at h indexes gets = holds_there (λ (h : Held Accepte
 
 pub is_finished-requires : goal.is_finished-requires
 is_finished-requires g c =
-    rw (← c.self.view_is) (is_accepted c.self.inside.config c.self.inside.next_number c.self.inside.accepted.values c.in-Some.at c.get-index.result c.self.invariant.tickets.indexes c.get-index.ensures)
+    rw (← c.self.view_is) (is_accepted c.self.inside.config c.self.inside.ring.next_number c.self.inside.accepted.values c.in-Some.at c.get-index.result c.self.invariant.tickets.indexes c.get-index.ensures)
 
 pub overflow_add-result : goal.overflow_add-result
 overflow_add-result g c =
-    let accepted = is_accepted c.self.inside.config c.self.inside.next_number c.self.inside.accepted.values c.in-Some.at c.get-index.result c.self.invariant.tickets.indexes c.get-index.ensures in
+    let accepted = is_accepted c.self.inside.config c.self.inside.ring.next_number c.self.inside.accepted.values c.in-Some.at c.get-index.result c.self.invariant.tickets.indexes c.get-index.ensures in
     omega (arith, accepted, c.self.invariant.numbers.emissions)
 
 pub invariant_of-self : goal.invariant_of-self
@@ -54,14 +54,13 @@ invariant_of-self g c =
     let shorter = length-remove us c.in-Some.at (slice_get_within us c.in-Some.at c.remove-done.result c.remove-done.ensures.value) in
     record {
       numbers = c.self.invariant.numbers;
-      cache = c.self.invariant.cache;
-      places = c.self.invariant.places;
+      ring = c.self.invariant.ring;
       tickets = record {
         emits = kept.emits;
         accepted_limit = ap (λ (q : Queued _). q.limit) c.remove-done.ensures.rest ∙ kept.accepted_limit;
         waiting_limit = kept.waiting_limit;
         within = omega (arith, kept.within, ap length rest, shorter);
-        indexes = still_indexes (λ (h : Held Accepted). c.self.inside.config.first + h.emission.index < c.self.inside.next_number) us c.remove-done.new.self.values c.in-Some.at rest kept.indexes;
+        indexes = still_indexes (λ (h : Held Accepted). c.self.inside.config.first + h.emission.index < c.self.inside.ring.next_number) us c.remove-done.new.self.values c.in-Some.at rest kept.indexes;
       };
     }
 
@@ -69,7 +68,7 @@ pub returns-then-not-is_finished : goal.returns-then-not-is_finished
 returns-then-not-is_finished g c =
     let now = c.args.self.now in
     let held = c.get-index.result in
-    let accepted = is_accepted c.self.inside.config c.self.inside.next_number c.self.inside.accepted.values c.in-Some.at held c.self.invariant.tickets.indexes c.get-index.ensures in
+    let accepted = is_accepted c.self.inside.config c.self.inside.ring.next_number c.self.inside.accepted.values c.in-Some.at held c.self.invariant.tickets.indexes c.get-index.ensures in
     poll_unfinished now c.in-Some.at c.args.ticket.0 held.emission.index
     (held_accepted now c.self.inside.accepted.values c.self.inside.waiting.values (ap (λ (seen : Seen _). seen.out) (sym c.self.view_is)) c.in-Some.at c.args.ticket.0 held c.get-index.ensures c.in-Some.ensures.found)
     (subst (λ (seen : Seen _). seen.parameters.first + held.emission.index < seen.next_number) c.self.view_is accepted)
@@ -83,7 +82,7 @@ returns g c =
     let at = c.in-Some.at in
     let held = c.get-index.result in
     let out = ap (λ (seen : Seen _). seen.out) (sym c.self.view_is) in
-    let accepted = is_accepted c.self.inside.config c.self.inside.next_number us at held c.self.invariant.tickets.indexes c.get-index.ensures in
+    let accepted = is_accepted c.self.inside.config c.self.inside.ring.next_number us at held c.self.invariant.tickets.indexes c.get-index.ensures in
     let follows = poll_done now at c.args.ticket.0 held.emission.index (held_accepted now us ws out at c.args.ticket.0 held c.get-index.ensures c.in-Some.ensures.found)
     (subst (λ (seen : Seen _). seen.parameters.first + held.emission.index < seen.next_number) c.self.view_is accepted)
     (sym c.is_finished.ensures ∙ c.if-not-is_finished.false) in

@@ -1,50 +1,51 @@
-use Rattle.std.proofs.Common.{◌≡◌, ◌∙◌, length, map, ap, sym, subst, arith}
-use Rattle.std.proofs.Math.ListN.{length-map}
-use Rattle.std.specs.List.{All}
+use Rattle.std.proofs.Common.{refl, ap, ◌∙◌, arith}
 use Rattle.shared_core.specs.Flow.{places}
-use Rattle.shared_core.specs.Kept.{parameters_of}
-use Rattle.shared_core.specs.Places.{without_oldest}
-use Rattle.shared_core.specs.Accepting.{with_accepted, without_oldest_of}
+use Rattle.shared_core.specs.Ringed.{Ringed, with_value}
 use Rattle.shared_core.specs.Shown.{Seen}
-use Rattle.shared_core.proofs.Bodies.{shown}
-use Rattle.shared_core.proofs.PlaceFacts.{IsPlace, IsBelow, places_without_oldest, below_without_oldest, room_from_below, shown-without_oldest}
+use Rattle.shared_core.proofs.Rings.{push_step}
+use Rattle.shared_core.proofs.Ticketing.{count_waiting}
 use Rattle.shared_core.proofs.state.SharedState.push_in.Goals as goal
+
+pub accept-requires-clause-numbers : goal.accept-requires-clause-numbers
+accept-requires-clause-numbers g c =
+    let numbers = rw (← c.self.view_is) at c.requires in
+    omega (arith, numbers, ap (λ (r : Ringed _). r.next_number) c.drop_oldest.ensures.dropped)
 
 pub invariant_of-self : goal.invariant_of-self
 invariant_of-self g c =
-    let items = c.self.inside.live.items in
-    let limit = places (parameters_of c.self.inside.config) in
     let kept = c.self.invariant in
+    let ring = c.accept.ensures.accepted ∙ ap (with_value c.args.value) c.drop_oldest.ensures.dropped in
+    let numbers = rw (← c.self.view_is) at c.requires in
+    let waiting = count_waiting c.self.inside.accepted.values c.self.inside.waiting.values in
+    let next = ap (λ (r : Ringed _). r.next_number) ring in
     record {
-      numbers = kept.numbers;
-      cache = kept.cache;
-      places = record {
-        capacity = kept.places.capacity;
-        subscribers = kept.places.subscribers;
-        live_limits = subst (All (IsPlace limit)) (sym c.drop_from_each.ensures.items) (places_without_oldest limit items c.limit-limit.result kept.places.live_limits);
-        spare_limits = kept.places.spare_limits;
-        one_each = omega (arith, kept.places.one_each, ap length c.drop_from_each.ensures.items, length-map items (without_oldest c.limit-limit.result));
-        live_within = omega (arith, kept.places.live_within, c.drop_from_each.ensures.capacity);
-        spare_within = kept.places.spare_within;
+      numbers = record {
+        counted = omega (arith, kept.numbers.counted, next);
+        emissions = omega (arith, numbers, waiting, next);
+        subscriptions = kept.numbers.subscriptions;
+        tickets = kept.numbers.tickets;
       };
-      tickets = kept.tickets;
+      ring = record {
+        capacity = kept.ring.capacity;
+        replay = ap (λ (r : Ringed _). r.replay) ring ∙ kept.ring.replay;
+        limit = ap (λ (r : Ringed _). r.limit) ring ∙ kept.ring.limit;
+        subscribers = ap (λ (r : Ringed _). r.subscribers) ring ∙ kept.ring.subscribers;
+      };
+      tickets = record {
+        emits = kept.tickets.emits;
+        accepted_limit = kept.tickets.accepted_limit;
+        waiting_limit = kept.tickets.waiting_limit;
+        within = kept.tickets.within;
+        indexes = λ k d within. let this = kept.tickets.indexes k d within in omega (arith, this, next);
+      };
     }
 
-pub accept-requires-clause-room : goal.accept-requires-clause-room
-accept-requires-clause-room g c =
-    let items = c.self.inside.live.items in
-    let limit = places (parameters_of c.self.inside.config) in
-    let same : c.limit-limit.result ≡ limit = rw (← c.self.view_is) at c.limit-limit.ensures in
-    let below : All (IsBelow limit) (map (without_oldest limit) items) = below_without_oldest limit items c.self.invariant.places.live_limits (omega arith) in
-    let is : c.drop_from_each.new.places.items ≡ map (without_oldest limit) items = c.drop_from_each.ensures.items ∙ ap (λ l. map (without_oldest l) items) same in
-    room_from_below limit c.drop_from_each.new.places.items (subst (All (IsBelow limit)) (sym is) below)
+pub returns-clause-number : goal.returns-clause-number
+returns-clause-number g c = c.accept.ensures.number ∙ ap (λ (r : Ringed _). r.next_number) c.drop_oldest.ensures.dropped ∙ ap (λ (s : Seen _). s.next_number) c.self.view_is
 
 pub returns-clause-accepted : goal.returns-clause-accepted
 returns-clause-accepted g c =
     let now = c.args.self.now in
-    let items = c.self.inside.live.items in
-    let lost = ap (map shown) c.drop_from_each.ensures.items ∙ shown-without_oldest c.limit-limit.result items ∙ ap (λ l. (without_oldest_of l (record now { live = map shown items })).live) c.limit-limit.ensures in
-    c.accept.ensures.accepted
-    ∙ ap (λ (seen : Seen _). with_accepted c.args.value (record seen { live = map shown c.drop_from_each.new.places.items })) c.self.view_is
-    ∙ ap (λ xs. with_accepted c.args.value (record now { live = xs })) lost
-    ∙ ap (λ (seen : Seen _). with_accepted c.args.value (record now { live = (without_oldest_of (places now.parameters) seen).live })) c.self.view_is
+    let kept = c.self.invariant.ring in
+    push_step _ now c.self.inside.ring c.accept.new.self c.self.view_is refl c.args.value (places now.parameters) c.drop_oldest.new.self kept.replay
+    (kept.limit ∙ ap (λ (s : Seen _). places s.parameters) c.self.view_is) c.drop_oldest.ensures.dropped c.accept.ensures.accepted

@@ -5,4 +5,4 @@ use Rattle.shared_core.proofs.state.SharedState.replay_at.Goals as goal
 
 pub returns : goal.returns
 returns g c = λ M shows.
-    sym c.get.ensures ∙ ap (λ (seen : Seen _). slice_get seen.cache c.args.index) c.self.view_is ∙ ap (λ xs. slice_get xs c.args.index) (cache_shown c.args.self.now M shows)
+    sym c.replay_at.ensures ∙ ap (λ (seen : Seen _). slice_get seen.cache c.args.index) c.self.view_is ∙ ap (λ xs. slice_get xs c.args.index) (cache_shown c.args.self.now M shows)

@@ -1,7 +1,7 @@
-use Rattle.std.proofs.Common.{◌∙◌, ⊎_elim, Ok, ap, sym, refl}
+use Rattle.std.proofs.Common.{◌∙◌, ⊎_elim, Ok, sym, refl, subst}
 use Rattle.shared_core.specs.declared.answers.Tried.TheVariants as tried
 use Rattle.shared_core.specs.Calls.{dropped, handed_over, held_up}
-use Rattle.shared_core.specs.Accepting.{fate_of}
+use Rattle.shared_core.specs.Accepting.{HasFate}
 use Rattle.shared_core.proofs.Emitting.{try_spent, try_enters, try_pushes, try_stays, within_limit}
 use Rattle.shared_core.proofs.state.SharedState.try_emit.Goals as goal
 
@@ -32,6 +32,6 @@ pub returns-in-HandedOver : goal.returns-in-HandedOver
 returns-in-HandedOver g c =
     let stays = try_stays c.args.emitter c.args.value c.args.self.now (sym c.is_spent.ensures.spent ∙ c.if-is_spent.false) in
     ⊎_elim
-    (λ hands. stays handed_over (Ok tried.Full) (ap fate_of (sym hands) ∙ c.fate.ensures) (λ M. refl))
-    (λ holds. stays held_up (Ok tried.Full) (ap fate_of (sym holds) ∙ c.fate.ensures) (λ M. refl))
+    (λ hands. stays handed_over (Ok tried.Full) (subst (HasFate c.args.self.now) hands c.fate.ensures) (λ M. refl))
+    (λ holds. stays held_up (Ok tried.Full) (subst (HasFate c.args.self.now) holds c.fate.ensures) (λ M. refl))
     c.in-HandedOver.is

@@ -1,0 +1,48 @@
+use Rattle.std.proofs.Common.{◌+◌, length, map, set, Some, refl, ap, sym, ◌∙◌, subst, arith}
+use Rattle.std.proofs.lemmas.List.{length-set}
+use Rattle.std.proofs.lemmas.List.Elements.{All-set}
+use Rattle.std.specs.Option.{option_copied}
+use Rattle.shared_core.specs.declared.place.Place.{Place}
+use Rattle.shared_core.specs.Places.{IsWithin, shown_place}
+use Rattle.shared_core.specs.Ringed.{Ringed, Receives}
+use Rattle.shared_core.proofs.Rings.{received_within, receives_some, receives_none}
+use Rattle.shared_core.proofs.ring.Ring.receive.Goals as goal
+
+pub returns-in_err-value : goal.returns-in_err-value
+returns-in_err-value g c =
+    let ring = c.self.inside in
+    let live = ap (λ (r : Ringed _). r.live) (sym c.self.view_is) in
+    rw c.from_residual.ensures
+    (receives_none ring.next_number ring.values.items ring.places.items c.args.self.now.live live c.args.at c.index-place.result.now c.requires c.index-place.ensures c.len.result c.len.ensures.len c.self.invariant.within
+    c.args.self.now refl (sym c.get.ensures ∙ ap option_copied c.in_err-value.was))
+
+pub invariant_of-self : goal.invariant_of-self
+invariant_of-self g c =
+    let kept = c.self.invariant in
+    let ring = c.self.inside in
+    let place = c.index-place.result.now in
+    let next : Place = record place { position = place.position + 1 } in
+    let live = ap (λ (r : Ringed _). r.live) (sym c.self.view_is) in
+    let moved : IsWithin ring.next_number (length ring.values.items) next =
+    received_within ring.next_number ring.values.items ring.places.items c.args.self.now.live live c.args.at place c.requires c.index-place.ensures c.len.result c.len.ensures.len kept.within
+    c.in_ok-value.field-0.now (sym c.get.ensures ∙ ap option_copied c.in_ok-value.was) in
+    record {
+      capacity = kept.capacity;
+      kept = kept.kept;
+      numbers = kept.numbers;
+      cache = kept.cache;
+      within = All-set (IsWithin ring.next_number (length ring.values.items)) ring.places.items c.args.at next moved kept.within;
+      seats = (omega (arith, kept.seats.0, length-set ring.places.items c.args.at next), kept.seats.1, kept.seats.2);
+    }
+
+pub returns : goal.returns
+returns g c =
+    let ring = c.self.inside in
+    let place = c.index-place.result.now in
+    let next : Place = record place { position = place.position + 1 } in
+    let old = c.args.self.now in
+    let live = ap (λ (r : Ringed _). r.live) (sym c.self.view_is) in
+    subst (Receives old c.args.at (Some c.in_ok-value.field-0.now))
+    (ap (λ (r : Ringed _). record r { live = map (shown_place ring.next_number ring.values.items) (set ring.places.items c.args.at next) }) (sym c.self.view_is))
+    (receives_some ring.next_number ring.values.items ring.places.items old.live live c.args.at place c.requires c.index-place.ensures c.len.result c.len.ensures.len c.self.invariant.within
+    old c.in_ok-value.field-0.now refl (sym c.get.ensures ∙ ap option_copied c.in_ok-value.was))

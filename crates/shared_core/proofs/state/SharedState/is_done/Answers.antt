@@ -1,0 +1,24 @@
+use Rattle.std.proofs.Common.{◌+◌, ◌<◌, sym, ap, subst}
+use Rattle.shared_core.specs.declared.tickets.Held.{Held}
+use Rattle.shared_core.specs.Shown.{Seen}
+use Rattle.shared_core.proofs.Ticketing.{holds_there, held_accepted}
+use Rattle.shared_core.proofs.Asking.{done_where, done_nowhere}
+use Rattle.shared_core.proofs.state.SharedState.is_done.Goals as goal
+
+pub returns-in-None : goal.returns-in-None
+returns-in-None g c =
+    let us = c.self.inside.accepted.values in
+    let ws = c.self.inside.waiting.values in
+    done_nowhere c.args.self.now c.args.ticket.0 us ws (ap (λ (seen : Seen _). seen.out) (sym c.self.view_is)) c.in-None.ensures.none
+
+pub returns-in-Some : goal.returns-in-Some
+returns-in-Some g c =
+    let now = c.args.self.now in
+    let us = c.self.inside.accepted.values in
+    let ws = c.self.inside.waiting.values in
+    let held = c.get.result in
+    let accepted = holds_there (λ (h : Held _). c.self.inside.config.first + h.emission.index < c.self.inside.ring.next_number) us c.in-Some.at held c.self.invariant.tickets.indexes c.get.ensures in
+    done_where now c.args.ticket.0 c.in-Some.at held.emission.index
+    (held_accepted now us ws (ap (λ (seen : Seen _). seen.out) (sym c.self.view_is)) c.in-Some.at c.args.ticket.0 held c.get.ensures c.in-Some.ensures.found)
+    (subst (λ (seen : Seen _). seen.parameters.first + held.emission.index < seen.next_number) c.self.view_is accepted)
+    c.is_finished.result (sym c.is_finished.ensures)

@@ -1,0 +1,231 @@
+//! The last accepted values, kept once for the replay cache and for each live subscription.
+//!
+//! No value is moved or copied again when it is accepted: a subscription is a place with a position, the number of the
+//! emission that it receives next, and the cache is a length. With `replay` 2 and `extra` 2, after the emissions 0 to 6:
+//!
+//! ```text
+//!                 accepted long ago   |  values, the latest ones  |
+//!                                     +------+------+------+------+
+//! number              0     1     2   |   3  |   4  |   5  |   6  |   7  next_number
+//!                                     +------+------+------+------+
+//! cached                                            |<---- 2 ---->|      for a subscription that comes now
+//! places    a                                                         ^  position 7: nothing is pending
+//!           b                             ^  position 3: it has all it may pending
+//!           c                                           ^  position 5: the emissions 5 and 6 are pending
+//! waiting                                                                v  w   emissions without room, the oldest first
+//! ```
+//!
+//! The next emission takes the place of value 3, so `b` has to receive or lose that before: a drop moves the positions that
+//! stand at the oldest value. What waits is kept with the tickets (`tickets.rt`), since it has no number yet.
+
+ghost use Rattle.std.specs.Prelude.{◌≡◌, ◌==◌, ◌+◌, ◌<◌, ◌≤◌, true, false, nat_lt, length, [], ◌∷◌, ◌++◌, IfOk, IfSome, IfNone, slice_get};
+ghost use Rattle.std.specs.List.{list_all, list_any, remove};
+ghost use Rattle.shared_core.specs.Flow.{number_limit, capacity};
+ghost use Rattle.shared_core.specs.Kept.{parameters_of};
+ghost use Rattle.shared_core.specs.Ringed.{empty_ring, has_space, with_value, without_oldest, Receives};
+
+use crate::config::Config;
+use crate::place::{Place, each_past, move_past, place_of};
+use circular_buffer::HeapCircularBuffer;
+use std::alloc::{AllocError, Global};
+use std::marker::Model;
+
+/// The last accepted values, and who has yet to receive which of them.
+#[derive(Drop)]
+pub struct Ring<T: Copy> {
+    /// The last accepted values, the oldest first: as many as a subscription may have pending.
+    values: HeapCircularBuffer<T>,
+    /// The number of the next accepted emission.
+    next_number: u64,
+    /// How many of the latest values the replay cache holds.
+    cached: usize,
+    /// How many it may hold.
+    replay: usize,
+    /// The places of live subscriptions, by rising numbers.
+    places: Vec<Place>,
+    /// How many subscriptions may be live.
+    subscribers: usize,
+}
+
+impl<T: Copy> Model for Ring<T> {
+    ghost use Rattle.std.specs.Prelude.{◌-◌, map, length, vec_capacity};
+    ghost use Rattle.circular_buffer.specs.Buffer.{keep_last};
+    ghost use Rattle.shared_core.specs.Ringed.{Ringed};
+    ghost use Rattle.shared_core.specs.Places.{IsRing, shown_place};
+
+    ghost Value = { Ringed T };
+
+    ghost view = { λ r. record {
+      next_number = r.next_number;
+      cache = keep_last r.cached r.values.items;
+      live = map (shown_place r.next_number r.values.items) r.places.items;
+      replay = r.replay;
+      limit = r.values.capacity;
+      subscribers = r.subscribers;
+    } };
+
+    ghost invariant = { λ r. IsRing r.values r.next_number r.cached r.replay r.places.items (vec_capacity r.places) r.subscribers };
+}
+
+impl<T: Copy> Ring<T> {
+    /// An empty ring, with memory for all that it will hold.
+    pub fn new(alloc: Global, config: &Config) -> Result<Ring<T>, AllocError>
+        requires capacity { capacity (parameters_of config.now) ≤ 65536 }
+        requires subscribers { config.now.subscribers ≤ 1024 }
+        requires first { config.now.first ≤ number_limit }
+        ensures { IfOk result (λ r. r ≡ empty_ring (parameters_of config.now)) }
+    {
+        let limit = (config.replay + config.extra).max(1) as usize;
+        let subscribers = config.subscribers as usize;
+        let values = HeapCircularBuffer::with_capacity(alloc, limit)?;
+        let places = Vec::with_capacity(alloc, subscribers)?;
+        Ok(Ring {
+            values,
+            next_number: config.first,
+            cached: 0,
+            replay: config.replay as usize,
+            places,
+            subscribers,
+        })
+    }
+
+    /// The number of the next accepted emission.
+    pub fn next_number(&self) -> u64
+        ensures number { result ≡ self.now.next_number }
+        ensures bound { self.now.next_number ≤ number_limit }
+    {
+        self.next_number
+    }
+
+    /// How many values a subscription may have pending.
+    fn limit(&self) -> u64
+        ensures limit { result ≡ self.now.limit }
+        ensures bound { (0 < self.now.limit) × (self.now.limit ≤ 65536) }
+    {
+        self.values.capacity() as u64
+    }
+
+    /// Whether each live subscription has fewer values pending than it may: none stands at the oldest value of a full ring.
+    pub fn has_room(&self) -> bool
+        ensures { result ≡ has_space self.now }
+    {
+        let limit = self.limit();
+        if self.next_number < limit {
+            return true;
+        }
+        each_past(&self.places, self.next_number - limit)
+    }
+
+    /// Whether each live subscription has received or lost the emission with this number.
+    pub fn is_past(&self, number: u64) -> bool
+        requires { number < self.now.next_number }
+        ensures { result ≡ list_all (λ e. nat_lt (number + length e.1) self.now.next_number) self.now.live }
+    {
+        each_past(&self.places, number)
+    }
+
+    /// The value is pending for each live subscription, and the latest of the replay cache. Answers its number.
+    pub fn accept(&mut self, value: T) -> u64
+        requires numbers { self.old.next_number < number_limit }
+        requires room { has_space self.old ≡ true }
+        ensures number { result ≡ self.old.next_number }
+        ensures accepted { self.new ≡ with_value value self.old }
+    {
+        let number = self.next_number;
+        let _overwritten = self.values.push_back(value);
+        self.cached = (self.cached + 1).min(self.replay);
+        self.next_number = number + 1;
+        number
+    }
+
+    /// Each live subscription that has all it may pending loses its oldest value.
+    pub fn drop_oldest(&mut self)
+        ensures dropped { self.new ≡ without_oldest self.old }
+        ensures room { has_space self.new ≡ true }
+    {
+        let limit = self.limit();
+        if self.next_number < limit {
+            return;
+        }
+        move_past(&mut self.places, self.next_number - limit);
+    }
+
+    /// Where the live subscription with this number stands in their list.
+    pub fn place_of(&self, number: u64) -> Option<usize>
+        ensures found { IfSome result (λ i. (e : _) × (slice_get self.now.live i ≡ Some e) × (e.0 ≡ number)) }
+        ensures none { IfNone result (list_any (λ e. e.0 == number) self.now.live ≡ false) }
+    {
+        place_of(&self.places, number)
+    }
+
+    /// The live subscription at this index receives its oldest pending value, where it has one.
+    pub fn receive(&mut self, at: usize) -> Option<T>
+        requires { at < length self.old.live }
+        ensures { Receives self.old at result self.new }
+    {
+        let place = self.places[at];
+        let pending = (self.next_number - place.position) as usize;
+        let value = *self.values.get(self.values.len() - pending)?;
+        self.places[at] = Place {
+            position: place.position + 1,
+            ..place
+        };
+        Some(value)
+    }
+
+    /// How many values the live subscription at this index has pending.
+    pub fn pending_at(&self, at: usize) -> u64
+        requires { at < length self.now.live }
+        ensures { (e : _) × (slice_get self.now.live at ≡ Some e) × (result ≡ length e.1) }
+    {
+        self.next_number - self.places[at].position
+    }
+
+    /// How many subscriptions are live.
+    pub fn live_len(&self) -> usize
+        ensures count { result ≡ length self.now.live }
+        ensures bound { (length self.now.live ≤ self.now.subscribers) × (self.now.subscribers ≤ 1024) }
+    {
+        self.places.len()
+    }
+
+    /// A new subscription with this number, which starts at the oldest value of the replay cache.
+    pub fn open(&mut self, number: u64)
+        requires { length self.old.live < self.old.subscribers }
+        ensures { self.new ≡ record self.old { live = self.old.live ++ (number, self.old.cache) ∷ [] } }
+    {
+        let position = self.next_number - self.cached as u64;
+        self.places.push_reserved(Place { number, position });
+    }
+
+    /// The subscription at this index isn't live any more.
+    pub fn close(&mut self, at: usize)
+        requires { at < length self.old.live }
+        ensures { self.new ≡ record self.old { live = remove self.old.live at } }
+    {
+        let _place = self.places.remove(at);
+    }
+
+    /// Empties the replay cache. What is pending stays.
+    pub fn reset(&mut self)
+        ensures { self.new ≡ record self.old { cache = [] } }
+    {
+        self.cached = 0;
+    }
+
+    /// How many values the replay cache holds.
+    pub fn replay_len(&self) -> usize
+        ensures { result ≡ length self.now.cache }
+    {
+        self.cached
+    }
+
+    /// The value of the replay cache at this index from the oldest one on.
+    pub fn replay_at(&self, index: usize) -> T
+        requires { index < length self.now.cache }
+        ensures { slice_get self.now.cache index ≡ Some result }
+    {
+        let oldest = self.values.len() - self.cached;
+        *self.values.get(oldest + index).unwrap()
+    }
+}
