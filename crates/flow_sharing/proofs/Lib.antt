@@ -1,0 +1,5 @@
+pub mod Commands
+pub mod Examples
+pub mod Courses
+pub mod Sharings
+pub mod StateSharings

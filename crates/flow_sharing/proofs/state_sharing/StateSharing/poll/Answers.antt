@@ -1,0 +1,33 @@
+use Rattle.std.proofs.Common.{refl, sym, ap, ◌∙◌, ◌≡◌, is_some}
+use Rattle.flow_sharing.proofs.StateSharings.{acts_not, acts_so, shares_on, shares_off}
+use Rattle.flow_sharing.proofs.state_sharing.StateSharing.poll.Goals as goal
+use Rattle.flow_sharing.proofs.state_sharing.StateSharing.poll.Goals.{then-turn, else-turn}
+
+pub returns-then-is_some-clause-acts : goal.returns-then-is_some-clause-acts
+returns-then-is_some-clause-acts g c =
+    let ended = ap is_some (sym c.fault.ensures) ∙ sym c.is_some.ensures ∙ c.if-is_some.true in
+    let same : c.over.result.count ≡ c.collectors-count.result = cc (c.over.ensures, c.of-turn.ensures.count) in
+    (_, rw same c.collectors-count.ensures.count, acts_not _ _ _ _ _ _ _ _ _ _ _ ended refl refl)
+
+pub returns-clause-shows : goal.returns-clause-shows
+returns-clause-shows g c history shows =
+    let same : c.if-turn.self.strategy ≡ c.of-turn.result.strategy =
+    elim c.if-turn.branch [
+      | then-turn w ↦ rw w.self-is w.take_events.ensures.same.3
+      | else-turn w ↦ rw w.self-is refl
+    ] in
+    rw (same, c.of-turn.ensures.count) (c.of-turn.ensures.shows history shows)
+
+pub returns-clause-acts : goal.returns-clause-acts
+returns-clause-acts g c =
+    let going = ap is_some (sym c.fault.ensures) ∙ sym c.is_some.ensures ∙ c.if-is_some.false in (
+      c.collectors-count.new.self.view,
+      rw c.of-turn.ensures.count c.collectors-count.ensures.count,
+      acts_so _ _ _ _ _ _ _ _ _ _ _ going c.of-turn.result.command
+          (λ history shows. rw c.of-turn.ensures.count (c.of-turn.ensures.command history shows))
+          c.obey.new.self.upstream.course c.obey.new.self.seat.view c.in_ok-obey.ensures.obeys
+          (elim c.if-turn.branch [
+            | then-turn w ↦ rw w.self-is (shares_on _ _ _ _ _ _ _ w.if-turn.true w.take_events.ensures.takes)
+            | else-turn w ↦ rw w.self-is (shares_off _ _ _ _ _ _ _ w.if-turn.false refl refl)
+          ]),
+    )

@@ -1,0 +1,8 @@
+pub mod Strategies
+pub mod Keeping
+pub mod Shown
+pub mod Polls
+pub mod Courses
+pub mod Offers
+pub mod Sharings
+pub mod StateSharings

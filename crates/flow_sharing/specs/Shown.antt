@@ -1,0 +1,21 @@
+-- What a strategy keeps of a history.
+use Rattle.std.specs.Prelude.{◌≡◌, if◌then◌else◌}
+use Rattle.std.specs.List.{list_any}
+use Rattle.flow_sharing.specs.declared.started.Started.{Started}
+use Rattle.flow_sharing.specs.declared.audience.Audience.{Audience}
+use Rattle.flow_sharing.specs.declared.audience.Audience.TheVariants.{Awaited, Present, Gone}
+use Rattle.flow_sharing.specs.declared.strategy.Strategy.{Strategy}
+use Rattle.flow_sharing.specs.Strategies.{History, latest, was_visited, is_visited, stretch, beginning, is_due, is_on}
+
+-- of the counts: whether there was one over 0 before the present stretch, when that began, and whether a reset was due in it
+abbrev pub audience_of : Started → History → Audience
+audience_of started history =
+    if is_visited history then Present
+    else if was_visited history then Gone (beginning history) (list_any (is_due started) (stretch history))
+    else Awaited
+
+-- the strategy keeps what this history comes to
+pub record Shows (strategy : Strategy) (history : History) : Type 0 where
+  pub latest_is : strategy.latest ≡ latest history
+  pub audience_is : strategy.audience ≡ audience_of strategy.started history
+  pub on_is : strategy.on ≡ is_on strategy.started history

@@ -1,0 +1,41 @@
+//! `share_in`: a cold flow, shared.
+
+ghost use Rattle.std.specs.Prelude.{◌≡◌, [], None, IfOk, IsOkUnless};
+ghost use Rattle.flow_sharing.specs.declared.course.Course.TheVariants.{Idle};
+ghost use Rattle.flow_sharing.specs.Shown.{Shows};
+
+use crate::outlet::Outlet;
+use crate::sharing::Sharing;
+use crate::started::Started;
+use crate::strategy::Strategy;
+use crate::upstream::Upstream;
+use cold_flow::{Flow, Refusal, Word};
+use shared_flow::SharedFlow;
+use std::sync::Wait;
+
+/// Shares `upstream`: what one run of it gives is emitted into `flow`, for all its subscriptions, while `started` says so. Kotlin's
+/// `shareIn`, where a coroutine does what a caller of [`Sharing::poll`] does here.
+///
+/// Its emitter has the id 0. Nobody else is to emit into the flow. Refused as `NoMemory`, and then nothing is shared.
+pub fn share_in<T: Word, F: Flow<Item = T>>(
+    rt: &impl Wait,
+    flow: &mut SharedFlow<T>,
+    upstream: F,
+    started: Started,
+) -> Result<Sharing<T, F>, Refusal>
+    ensures flow { IfOk result (λ sharing. sharing.flow ≡ flow.old) }
+    ensures upstream { IfOk result (λ sharing. sharing.upstream ≡ record { flow = upstream; course = Idle }) }
+    ensures idle { IfOk result (λ sharing. sharing.outlet.waiting ≡ None) }
+    ensures started { IfOk result (λ sharing. (sharing.strategy.started ≡ started) × Shows sharing.strategy []) }
+    ensures memory { IsOkUnless result Refusal.NoMemory }
+    ensures same { flow.new ≡ flow.old }
+{
+    let mut owner = flow.dup(rt)?;
+    let emitter = owner.emitter(rt, 0)?;
+    Ok(Sharing {
+        flow: owner,
+        outlet: Outlet::new(emitter),
+        upstream: Upstream::new(upstream),
+        strategy: Strategy::new(started),
+    })
+}

@@ -1,0 +1,4 @@
+pub mod OneKeys
+pub mod Configs
+pub mod Refusals
+pub mod Policies

@@ -1,0 +1,6 @@
+use Rattle.shared_core.specs.Calls.{cancelling}
+use Rattle.shared_flow.proofs.Configs.{stays}
+use Rattle.shared_flow.proofs.laws.cancel.Goals as goal
+
+pub invariant_of-shared : goal.invariant_of-shared
+invariant_of-shared g c = stays c.shared.inside.config c.shared.inside.flow c.cancel-cancelled.new.self (cancelling c.args.id.0) c.shared.invariant (λ M shows. (c.cancel-cancelled.ensures M shows).1)

@@ -1,0 +1,5 @@
+pub mod OneKey
+pub mod Guarded
+pub mod Polls
+pub mod Sleeping
+pub mod Parties

@@ -1,0 +1,146 @@
+//! Tasks that wait for something under the lock.
+
+ghost use Rattle.std.specs.Prelude.{◌≡◌, ◌≤◌, ◌↔◌, true, false, None, [], IfOk, IfNone};
+ghost use Rattle.slab.specs.Slab.{slab_len, entries};
+ghost use Rattle.futures.specs.Task.{IsArmed, Keeps};
+ghost use Rattle.shared_flow.specs.Sleeping.{SleepsAt};
+
+use crate::wakes::Wakes;
+use futures::task::{Context, Poll, Source, Waker};
+use shared_core::{SharedState, Ticket};
+use slab::Slab;
+use std::alloc::{AllocError, Global};
+
+/// One that sleeps: the number of its subscription or ticket, and the waker of its task.
+#[derive(Drop)]
+pub(crate) struct Sleeper {
+    number: u64,
+    waker: Option<Waker>,
+}
+
+/// Where a subscription or an emission slept last. Somebody else may sleep there by now.
+#[derive(Clone, Copy, Drop)]
+pub struct Bed {
+    key: Option<usize>,
+}
+
+impl Bed {
+    /// Of one that didn't sleep yet.
+    pub fn new() -> Bed
+        ensures { result.key ≡ None }
+    {
+        Bed { key: None }
+    }
+}
+
+/// The subscriptions, or the emissions, that sleep. Room for each of them is reserved.
+#[derive(Drop)]
+pub(crate) struct Sleepers {
+    source: Source,
+    sleeping: Slab<Sleeper>,
+}
+
+impl Sleepers {
+    /// Nobody sleeps, and so many may.
+    pub fn new(alloc: Global, count: usize) -> Result<Sleepers, AllocError>
+        ensures nobody { IfOk result (λ sleepers. slab_len sleepers.sleeping ≡ 0) }
+        ensures room { IfOk result (λ sleepers. count ≤ sleepers.sleeping.capacity) }
+    {
+        let sleeping = Slab::with_capacity(alloc, count)?;
+        Ok(Sleepers {
+            source: Source::new(),
+            sleeping,
+        })
+    }
+
+    /// The task of this poll sleeps until the one with this number is woken. Without a place for it, which no flow comes to,
+    /// the task yields.
+    pub fn sleep(&mut self, number: u64, bed: &mut Bed, cx: &mut Context<'_>)
+        ensures armed { IsArmed cx.new }
+        ensures kept { Keeps cx.old cx.new }
+    {
+        if !self.is_in(number, bed) && !self.lie_down(number, bed) {
+            let _again: Poll<()> = cx.yield_now();
+            return;
+        }
+        let Some(sleeper) = bed.key.and_then(|key| self.sleeping.get_mut(key)) else {
+            let _again: Poll<()> = cx.yield_now();
+            return;
+        };
+        let _asleep: Poll<()> = cx.register(&self.source, &mut sleeper.waker);
+    }
+
+    /// Whether the one with this number sleeps there.
+    fn is_in(&self, number: u64, bed: &Bed) -> bool
+        ensures { (result ≡ true) ↔ SleepsAt self.now.sleeping bed.now.key number }
+    {
+        match bed.key {
+            None => false,
+            Some(key) => match self.sleeping.get(key) {
+                None => false,
+                Some(sleeper) => sleeper.number == number,
+            },
+        }
+    }
+
+    /// Takes a place, where one is left, and says whether it did.
+    fn lie_down(&mut self, number: u64, bed: &mut Bed) -> bool
+        ensures lies { result ≡ true → SleepsAt self.new.sleeping bed.new.key number }
+        ensures full { result ≡ false → (self.new ≡ self.old) × (self.old.sleeping.capacity ≤ slab_len self.old.sleeping) }
+        ensures room { self.new.sleeping.capacity ≡ self.old.sleeping.capacity }
+    {
+        if self.sleeping.len() >= self.sleeping.capacity() {
+            return false;
+        }
+        let waker = None;
+        bed.key = Some(self.sleeping.insert_reserved(Sleeper { number, waker }));
+        true
+    }
+
+    /// The one with this number sleeps no more. Its waker can't be thrown away, so its own task is woken.
+    pub fn rise(&mut self, number: u64, bed: &Bed, wakes: &mut Wakes)
+        ensures up { SleepsAt self.new.sleeping bed.now.key number → ⊥ }
+        ensures room { self.new.sleeping.capacity ≡ self.old.sleeping.capacity }
+    {
+        if !self.is_in(number, bed) {
+            return;
+        }
+        let Some(key) = bed.key else {
+            return;
+        };
+        if let Some(sleeper) = self.sleeping.try_remove(key) {
+            wakes.add(sleeper.waker);
+        }
+    }
+
+    /// The number of one that sleeps.
+    pub fn any(&self) -> Option<u64>
+        ensures nobody { IfNone result (entries self.now.sleeping ≡ []) }
+    {
+        let (_, sleeper) = self.sleeping.iter().next()?;
+        Some(sleeper.number)
+    }
+
+    /// Wakes all.
+    pub fn wake_all(&mut self, wakes: &mut Wakes)
+        ensures room { self.new.sleeping.capacity ≡ self.old.sleeping.capacity }
+    {
+        self.sleeping.retain(|_, sleeper| {
+            wakes.add(sleeper.waker.take());
+            false
+        });
+    }
+
+    /// Wakes those whose emission is done.
+    pub fn wake_done<T: Copy>(&mut self, flow: &SharedState<T>, wakes: &mut Wakes)
+        ensures room { self.new.sleeping.capacity ≡ self.old.sleeping.capacity }
+    {
+        self.sleeping.retain(|_, sleeper| {
+            let is_done = flow.is_done(Ticket(sleeper.number));
+            if is_done {
+                wakes.add(sleeper.waker.take());
+            }
+            !is_done
+        });
+    }
+}
