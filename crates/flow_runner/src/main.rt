@@ -4,34 +4,9 @@
 //! written, where the command line is no engine.
 #![tactic(auto)]
 
-mod actions;
-mod answer;
-mod binding;
-mod command;
-mod fault;
-mod fields;
-mod gathered;
-mod input;
-mod items;
-mod keyword;
-mod lines;
-mod listing;
-mod names;
-mod output;
-mod pipe;
-mod runner;
-mod script;
-mod segments;
-mod source;
-mod stage;
-#[cfg(test)]
-mod tests;
-mod words;
-
 use clap::error::ErrorKind;
 use clap::{Arg, Command};
-use fault::ScriptFault;
-use script::{Engine, run_script};
+use flow_script::{Engine, ScriptFault, run_script};
 use std::alloc::Global;
 use std::io::{BufWriter, Write};
 use std::process::ExitCode;
@@ -60,8 +35,8 @@ fn engine_of(alloc: Global, words: &[String]) -> Result<Engine, Stop> {
     }
 }
 
-/// Runs the script on standard input.
-fn run(rt: &HostRuntime) -> Result<(), Stop> {
+/// The engine that the program's own command line names.
+fn asked_engine(rt: &HostRuntime) -> Result<Engine, Stop> {
     let alloc = rt.alloc();
     let words = match env::args(rt) {
         Ok(words) => words,
@@ -75,23 +50,33 @@ fn run(rt: &HostRuntime) -> Result<(), Stop> {
     let Ok(words) = words.collect::<Vec<String>>(alloc) else {
         return Err(Stop::Fault(ScriptFault::NoMemory));
     };
-    let engine = engine_of(alloc, words.as_slice())?;
-    let Ok(mut writer) = BufWriter::new(alloc, io::writer(rt)) else {
-        return Err(Stop::Fault(ScriptFault::NoMemory));
-    };
-    let ran = run_script(rt, &mut rt.reader(), &mut writer, engine);
-    // A script that ended early leaves the answers of the lines before in the buffer.
-    let _ = writer.flush();
-    ran.map_err(Stop::Fault)
+    engine_of(alloc, words.as_slice())
 }
 
-fn main(rt: HostRuntime) -> ExitCode {
-    match run(&rt) {
-        Ok(()) => ExitCode::SUCCESS,
-        Err(Stop::Usage) => ExitCode::from(2),
-        Err(Stop::Fault(fault)) => {
+/// Names the fault on standard error, and gives the status of such an end.
+fn status_of(rt: &HostRuntime, stop: Stop) -> ExitCode {
+    match stop {
+        Stop::Usage => ExitCode::from(2),
+        Stop::Fault(fault) => {
             let _ = eprintln!(rt; "flow_runner: {fault}");
             ExitCode::from(1)
         }
+    }
+}
+
+fn main(rt: HostRuntime) -> ExitCode {
+    let engine = match asked_engine(&rt) {
+        Ok(engine) => engine,
+        Err(stop) => return status_of(&rt, stop),
+    };
+    let Ok(mut writer) = BufWriter::new(rt.alloc(), io::writer(&rt)) else {
+        return status_of(&rt, Stop::Fault(ScriptFault::NoMemory));
+    };
+    let ran = run_script(&rt, &mut rt.reader(), &mut writer, engine);
+    // A script that ended early leaves the answers of the lines before in the buffer.
+    let _ = writer.flush();
+    match ran {
+        Ok(()) => ExitCode::SUCCESS,
+        Err(fault) => status_of(&rt, Stop::Fault(fault)),
     }
 }

@@ -1,0 +1,16 @@
+use Rattle.std.proofs.Common.{refl}
+use Rattle.shared_core.specs.Calls as calls
+use Rattle.flow_script.specs.declared.answer.Answer.TheVariants.{Done}
+use Rattle.flow_script.specs.Worlds.{call_on, flow_index_in, silently}
+use Rattle.flow_script.proofs.Picturing.{at_name, no_flow, on_flow}
+use Rattle.flow_script.proofs.runner.Runner.reset.Goals as goal
+
+pub returns-in_err-flow : goal.returns-in_err-flow
+returns-in_err-flow c = λ world p.
+    at_name flow_index_in (call_on (silently calls.reset) (λ done. Done) world) c.args.self.now _ world c.args.name.now c.in_ok-index.index _ p c.in_ok-index.ensures
+    (rw c.from_residual-in_err-flow.ensures (no_flow (silently calls.reset) (λ done. Done) c.args.self.now world c.in_ok-index.index p c.in_err-flow.ensures.variant.1))
+
+pub returns : goal.returns
+returns c = λ world p.
+    at_name flow_index_in (call_on (silently calls.reset) (λ done. Done) world) c.args.self.now _ world c.args.name.now c.in_ok-index.index _ p c.in_ok-index.ensures
+    (on_flow (silently calls.reset) (λ done. Done) c.args.self.now _ world c.in_ok-index.index c.in_ok-flow.flow.now c.reset_replay.new.self tt p (c.in_ok-flow.ensures.variant.0 refl) c.in_ok-flow.ensures.value (λ M shown. (refl, c.reset_replay.ensures M shown)) refl refl refl)

@@ -1,0 +1,101 @@
+-- What a script answers: a function of its bytes and of what is noted of its lines.
+use Rattle.std.specs.Prelude.{◌≡◌, ℕ, ◌+◌, List, [], ◌∷◌, ◌++◌, length, Option, Some, None, Result, Ok, Err, nat_lt, ◌==◌, ◌<◌, ◌≤◌, ◌⊎◌, if◌then◌else◌}
+use Rattle.std.specs.Io.KnownBytes.{Appends, Keeps, Consumes, IsAtEnd}
+use Rattle.flow_script.specs.declared.answer.Answer.{Answer}
+use Rattle.flow_script.specs.declared.answer.Answer.TheVariants.{BadCommand}
+use Rattle.flow_script.specs.declared.fault.ScriptFault.{ScriptFault}
+use Rattle.flow_script.specs.declared.fault.ScriptFault.TheVariants.{Read, TooLong, Write, NoMemory}
+use Rattle.flow_script.specs.Answers.{line_of}
+use Rattle.flow_script.specs.Commands.{command_of}
+use Rattle.flow_script.specs.Words.{◌>>=◌}
+use Rattle.flow_script.specs.declared.runner.Runner.{Runner}
+use Rattle.flow_script.specs.Lines.{lines_of, words_of, starts_with_hash}
+use Rattle.flow_script.specs.Output.{AppendsFront}
+use Rattle.flow_script.specs.Pictures.{Pictures}
+use Rattle.flow_script.specs.Worlds.{World, Outcome, Note, plain, empty_world, step}
+
+-- the text of one line or more, and the world after them
+pub record Reply : Type 0 where
+  pub text : List ℕ
+  pub after : World
+
+abbrev pub silent : World → Reply
+silent world = record { text = []; after = world }
+
+abbrev pub answered : ℕ → World → Option Outcome → Reply
+answered number world None = record { text = line_of (BadCommand number); after = world }
+answered number world (Some outcome) = record { text = line_of outcome.answer; after = outcome.after }
+
+-- the reply to a line of these words, which is so long
+abbrev pub reply_to : Note → ℕ → World → ℕ → List (List ℕ) → Reply
+reply_to note number world size [] = silent world
+reply_to note number world size (first ∷ words) =
+    if starts_with_hash first then silent world
+    else (if nat_lt 1024 size then answered number world None
+    else answered number world (command_of first words >>= (λ order. step note order world)))
+
+-- the reply to the line with this number
+unfoldable pub reply_of : Note → ℕ → World → List ℕ → Reply
+reply_of note number world line = reply_to note number world (length line) (words_of line)
+
+-- what is noted of some lines
+abbrev pub Notes : Type 0
+Notes = List (ℕ × Note)
+
+abbrev pub note_at : ℕ → Notes → Note
+note_at number [] = plain
+note_at number (entry ∷ entries) = if number == entry.0 then entry.1 else note_at number entries
+
+-- the replies to lines from this number on, one after another
+abbrev pub replies_to : Notes → ℕ → World → List (List ℕ) → Reply
+replies_to notes number world [] = silent world
+replies_to notes number world (line ∷ lines) =
+    let reply = reply_of (note_at number notes) number world line in
+    let rest = replies_to notes (number + 1) reply.after lines in
+    record { text = reply.text ++ rest.text; after = rest.after }
+
+abbrev pub text_of_lines : Notes → List (List ℕ) → List ℕ
+text_of_lines notes lines = (replies_to notes 1 empty_world lines).text
+
+-- THE ANSWER TEXT of a script, where this is noted of its lines
+abbrev pub text_of_script : Notes → List ℕ → List ℕ
+text_of_script notes script = text_of_lines notes (lines_of script)
+
+abbrev pub text_of_answer : Option Answer → List ℕ
+text_of_answer None = []
+text_of_answer (Some answer) = line_of answer
+
+-- The answer is the reply's, and the runner pictures the world after it.
+pub record Gives (reply : Reply) (new : Runner) (answer : Option Answer) : Type 0 where
+  pub text : reply.text ≡ text_of_answer answer
+  pub pictured : Pictures new reply.after
+
+-- In whatever world the runner pictures, the line is answered as the world has it.
+abbrev pub Replies : ℕ → List ℕ → Runner → Runner → Option Answer → Type 0
+Replies number line old new answer = (world : World) → Pictures old world → (note : Note) × Gives (reply_of note number world line) new answer
+
+-- The whole text was written; where writing failed, a front of it; where memory was refused, the answers of the lines before.
+abbrev pub Writes : Option (List ℕ) → Option (List ℕ) → List ℕ → Result (Unit {0}) ScriptFault → Type 0
+Writes old new script (Ok done) = (notes : Notes) × Appends old new (text_of_script notes script)
+Writes old new script (Err Write) = (notes : Notes) × AppendsFront old new (text_of_script notes script)
+Writes old new script (Err NoMemory) = (notes : Notes) × (before : List (List ℕ)) × (after : List (List ℕ)) × (lines_of script ≡ before ++ after) × Appends old new (text_of_lines notes before)
+Writes old new script (Err Read) = ⊥
+Writes old new script (Err TooLong) = ⊥
+
+-- an answer's line was written, or a front of it, or none for want of memory
+abbrev pub WritesAnswer : Option (List ℕ) → Option (List ℕ) → Option Answer → Result (Unit {0}) ScriptFault → Type 0
+WritesAnswer old new answer (Ok done) = Appends old new (text_of_answer answer)
+WritesAnswer old new answer (Err Write) = AppendsFront old new (text_of_answer answer)
+WritesAnswer old new answer (Err NoMemory) = Keeps old new
+WritesAnswer old new answer (Err Read) = ⊥
+WritesAnswer old new answer (Err TooLong) = ⊥
+
+-- WHAT RUNNING A SCRIPT DOES, by what the reader had left and has left, and by what the writer held and holds.
+-- All of the input was read, and its text was written, or a front of it, or the answers of the lines before
+-- memory was refused. Past the limit, and where reading failed, nothing was written.
+abbrev pub Runs : Option (List ℕ) → Option (List ℕ) → Option (List ℕ) → Option (List ℕ) → Result (Unit {0}) ScriptFault → Type 0
+Runs left rest old new (Ok done) = (script : List ℕ) × Consumes left rest script × IsAtEnd rest × (length script ≤ 1048576) × Writes old new script (Ok done)
+Runs left rest old new (Err Write) = (script : List ℕ) × Consumes left rest script × IsAtEnd rest × (length script ≤ 1048576) × Writes old new script (Err Write)
+Runs left rest old new (Err NoMemory) = Keeps old new ⊎ ((script : List ℕ) × Consumes left rest script × IsAtEnd rest × (length script ≤ 1048576) × Writes old new script (Err NoMemory))
+Runs left rest old new (Err Read) = Keeps old new
+Runs left rest old new (Err TooLong) = Keeps old new × ((bytes : List ℕ) × Consumes left rest bytes × (1048576 < length bytes))

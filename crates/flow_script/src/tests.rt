@@ -1,0 +1,219 @@
+//! Scripts with known answers, and readers and writers that fail.
+
+ghost use Rattle.std.specs.Prelude.{◌≡◌, IfOk};
+ghost use Rattle.flow_script.specs.Scripts.{Notes, text_of_script};
+
+mod buffers;
+mod pipes;
+mod rows;
+mod sharings;
+mod streams;
+
+use crate::fault::ScriptFault;
+use crate::script::{Engine, run_script};
+use rows::ROWS;
+use std::alloc::AllocGlobal;
+use std::random::RandomSource;
+use std::sync::Wait;
+use std::test::Fail;
+use streams::{Failure, Sink, Tap};
+
+/// The first of the rows, and its answers.
+const SCRIPT: &[u8] =
+    b"shared f 0 2 suspend\nsub f a\ntry f 1\ntry f 2\ntry f 3\nnext a\ntry f 3\nnext a\nnext a\nnext a\ncancel a\nnext a\n";
+
+const TEXT: &[u8] =
+    b"ok\nok\naccepted\naccepted\nfull\nvalue 1\naccepted\nvalue 2\nvalue 3\npending\nok\nclosed\n";
+
+/// What a script answers.
+fn answers(rt: &(impl Wait + RandomSource + AllocGlobal), script: &[u8]) -> Result<Vec<u8>, Fail>
+    ensures { IfOk result (λ text. (notes : Notes) × (text.items ≡ text_of_script notes script.now)) }
+{
+    let mut reader = script;
+    let mut text = Vec::new(rt.alloc());
+    run_script(rt, &mut reader, &mut text, Engine::Core)?;
+    Ok(text)
+}
+
+#[test]
+fn each_row_gives_its_answers(rt: HostRuntime) -> Result<(), Fail> {
+    for row in ROWS {
+        let mut script = row.script.replace(rt.alloc(), " ; ", "\n")?;
+        script.push_str("\n")?;
+        let mut want = row.answers.replace(rt.alloc(), " ; ", "\n")?;
+        want.push_str("\n")?;
+        let text = answers(&rt, script.as_bytes())?;
+        assert_eq!(rt; text.as_slice(), want.as_bytes(), "at {}", row.name);
+    }
+    Ok(())
+}
+
+/// Lines, and how they are answered.
+const LINES: &[(&[u8], &[u8])] = &[
+    (b"", b""),
+    (
+        b"shared f 0 1 suspend\nbogus f",
+        b"ok\nline 2: bad command\n",
+    ),
+    (b"\n# x\ntry f 1\n", b"line 3: bad command\n"),
+    (b"shared f 0 1 suspend\r\n  count   f  \r\n", b"ok\n0\n"),
+    (
+        b"shared f 0 1 suspend\ncount f\r",
+        b"ok\nline 2: bad command\n",
+    ),
+    (
+        b"shared f 0 1 suspend\ncount f\r\r\n",
+        b"ok\nline 2: bad command\n",
+    ),
+    (b"   \n \r\n\t\n", b"line 3: bad command\n"),
+    (b"#x\n  # y\nx # z\n", b"line 3: bad command\n"),
+    (
+        b"shared f 0 0 oldest\nshared f 1 0 oldest\nshared f 0 0 oldest\n",
+        b"refused 2\nok\nline 3: bad command\n",
+    ),
+    (
+        b"shared f 0 1 drop\nshared f 0 1\nshared f 0 1 suspend 1\n",
+        b"line 1: bad command\nline 2: bad command\nline 3: bad command\n",
+    ),
+    (b"shared f 18446744073709551615 1 suspend\n", b"refused 1\n"),
+    (
+        b"shared abcdefghijklmnop 0 1 latest\nshared abcdefghijklmnopq 0 1 latest\nshared 1a 0 1 latest\n",
+        b"ok\nline 2: bad command\nline 3: bad command\n",
+    ),
+    (
+        b"shared f 0 1 suspend\nsub f f\nsub f a\nsub f a\nsub a b\nnext f\ntry a 1\ncancel f\n",
+        b"ok\nline 2: bad command\nok\nline 4: bad command\nline 5: bad command\nline 6: bad command\nline 7: bad command\nline 8: bad command\n",
+    ),
+    (
+        b"shared f 0 0 suspend\nsub f a\nemit f a 1\nemit f e 1\nemit f e 2\npoll f\npoll a\nwithdraw e\nwithdraw e\nnext e\n",
+        b"ok\nok\nline 3: bad command\nwaiting\nline 5: bad command\nline 6: bad command\nline 7: bad command\nleft\ngone\nline 10: bad command\n",
+    ),
+    (
+        b"shared f 3 0 suspend\ntry f 18446744073709551615\ntry f 0\ncache f\nreset f\ncache f\ncount f\n",
+        b"ok\naccepted\naccepted\n[18446744073709551615,0]\nok\n[]\n0\n",
+    ),
+    (
+        b"state s 1\nstate s 2\nset s\nset x 1\ncas s 1\nvalue c\ncollect s s\ncollect s c\ncollect s c\n",
+        b"ok\nline 2: bad command\nline 3: bad command\nline 4: bad command\nline 5: bad command\nline 6: bad command\nline 7: bad command\nok\nline 9: bad command\n",
+    ),
+    (
+        b"state s 1\ncollect s c\nset c 2\ntry s 2\nsub s a\nreset s\ncache s\nnext s\ncancel s\ncount c\ncollect c d\ncollect s d 1\n",
+        b"ok\nok\nline 3: bad command\nline 4: bad command\nline 5: bad command\nline 6: bad command\nline 7: bad command\nline 8: bad command\nline 9: bad command\nline 10: bad command\nline 11: bad command\nline 12: bad command\n",
+    ),
+    (
+        b"shared f 0 1 suspend\nsub f a\nset f 1\ncas f 1 2\nvalue f\ncollect f c\nvalue a\nstate f 1\n",
+        b"ok\nok\nline 3: bad command\nline 4: bad command\nline 5: bad command\nline 6: bad command\nline 7: bad command\nline 8: bad command\n",
+    ),
+    (
+        b"state s 18446744073709551615\nvalue s\nstate t 18446744073709551616\nset s 0\nvalue s\ncount s\n",
+        b"ok\nvalue 18446744073709551615\nline 3: bad command\nok\nvalue 0\n0\n",
+    ),
+];
+
+#[test]
+fn each_form_of_a_line_is_answered(rt: HostRuntime) -> Result<(), Fail> {
+    for (script, want) in LINES {
+        let text = answers(&rt, script)?;
+        assert_eq!(rt; text.as_slice(), *want);
+    }
+    Ok(())
+}
+
+/// Adds a line of this length that counts a flow's subscriptions.
+fn push_long_line(script: &mut Vec<u8>, len: usize) -> Result<(), Fail> {
+    script.extend_from_slice(b"count f")?;
+    for _ in 7..len {
+        script.push(b' ')?;
+    }
+    script.push(b'\n')?;
+    Ok(())
+}
+
+#[test]
+fn a_line_has_at_most_1024_bytes(rt: HostRuntime) -> Result<(), Fail> {
+    let mut script = Vec::new(rt.alloc());
+    script.extend_from_slice(b"shared f 0 1 suspend\n")?;
+    push_long_line(&mut script, 1024)?;
+    push_long_line(&mut script, 1025)?;
+    let text = answers(&rt, &script)?;
+    assert_eq!(rt; text.as_slice(), b"ok\n0\nline 3: bad command\n".as_slice());
+    Ok(())
+}
+
+#[test]
+fn a_failing_read_writes_nothing(rt: HostRuntime) -> Result<(), Fail> {
+    for fails_at in 1..SCRIPT.len() + 2 {
+        let mut tap = Tap::new(SCRIPT, fails_at);
+        let mut text = Vec::new(rt.alloc());
+        let ran = run_script(&rt, &mut tap, &mut text, Engine::Core);
+        assert_eq!(rt; ran, Err(ScriptFault::Read), "at {fails_at}");
+        assert_eq!(rt; text.len(), 0, "at {fails_at}");
+    }
+    Ok(())
+}
+
+#[test]
+fn a_failing_write_leaves_a_front_of_the_text(rt: HostRuntime) -> Result<(), Fail> {
+    for failure in [Failure::Error, Failure::Nothing] {
+        for fails_at in 1..TEXT.len() + 1 {
+            let mut sink = Sink::new(rt.alloc(), fails_at, failure);
+            let mut script = SCRIPT;
+            let ran = run_script(&rt, &mut script, &mut sink, Engine::Core);
+            assert_eq!(rt; ran, Err(ScriptFault::Write), "at {fails_at}");
+            let front = TEXT.get(..fails_at - 1).ok_or("the text is longer")?;
+            assert_eq!(rt; sink.taken(), front, "at {fails_at}");
+        }
+    }
+    Ok(())
+}
+
+#[test]
+fn short_writes_leave_the_whole_text(rt: HostRuntime) -> Result<(), Fail> {
+    let mut sink = Sink::new(rt.alloc(), 0, Failure::Nothing);
+    let mut script = SCRIPT;
+    let ran = run_script(&rt, &mut script, &mut sink, Engine::Core);
+    assert_eq!(rt; ran, Ok(()));
+    assert_eq!(rt; sink.taken(), TEXT);
+    Ok(())
+}
+
+#[test]
+fn a_failing_flush_leaves_the_whole_text(rt: HostRuntime) -> Result<(), Fail> {
+    let mut sink = Sink::new(rt.alloc(), 0, Failure::Flush);
+    let mut script = SCRIPT;
+    let ran = run_script(&rt, &mut script, &mut sink, Engine::Core);
+    assert_eq!(rt; ran, Err(ScriptFault::Write));
+    assert_eq!(rt; sink.taken(), TEXT);
+    Ok(())
+}
+
+#[test]
+fn a_script_past_the_limit_is_too_long(rt: HostRuntime) -> Result<(), Fail> {
+    for (more, want) in [(0, Ok(())), (1, Err(ScriptFault::TooLong))] {
+        let mut script = Vec::new(rt.alloc());
+        for _ in 0..1_048_576 + more {
+            script.push(b'#')?;
+        }
+        let mut text = Vec::new(rt.alloc());
+        let mut rest = script.as_slice();
+        let ran = run_script(&rt, &mut rest, &mut text, Engine::Core);
+        assert_eq!(rt; ran, want);
+        assert_eq!(rt; text.len(), 0);
+    }
+    Ok(())
+}
+
+#[test]
+fn tens_of_thousands_of_names_are_found_fast(rt: HostRuntime) -> Result<(), Fail> {
+    let mut script = String::new(rt.alloc());
+    script.push_str("shared f 0 0 suspend\n")?;
+    let mut want = String::new(rt.alloc());
+    want.push_str("ok\n")?;
+    for n in 0..65_000 {
+        write!(script, "emit f e{n} 1\n")?;
+        want.push_str("accepted\n")?;
+    }
+    let text = answers(&rt, script.as_bytes())?;
+    assert_eq!(rt; text.as_slice() == want.as_bytes(), true);
+    Ok(())
+}
