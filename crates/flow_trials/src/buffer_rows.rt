@@ -51,6 +51,17 @@ fn answered<R: Run<Item = u64, Fault = u64>>(
 // buffers_oldest
 #[test]
 fn buffers_drop_the_oldest(rt: HostRuntime) -> Result<(), Fail> {
+    const LINES: &[Line] = &[
+        Line::Fill(Fill::Took),
+        Line::Fill(Fill::Took),
+        Line::Fill(Fill::Overwrote),
+        Line::Value(2),
+        Line::Fill(Fill::Pending),
+        Line::Value(3),
+        Line::Value(4),
+        Line::End(Cause::Finished),
+        Line::Fill(Fill::Ended),
+    ];
     let task = MockTask::new(&rt)?;
     let steps = vec![in rt.alloc();
         Step::Value(1),
@@ -66,18 +77,7 @@ fn buffers_drop_the_oldest(rt: HostRuntime) -> Result<(), Fail> {
         Policy::DropOldest,
     )?;
     let mut buffered = flow.start()?;
-    let lines = [
-        Line::Fill(Fill::Took),
-        Line::Fill(Fill::Took),
-        Line::Fill(Fill::Overwrote),
-        Line::Value(2),
-        Line::Fill(Fill::Pending),
-        Line::Value(3),
-        Line::Value(4),
-        Line::End(Cause::Finished),
-        Line::Fill(Fill::Ended),
-    ];
-    assert_eq!(rt; answered(&task, &mut buffered, &lines), lines.len());
+    assert_eq!(rt; answered(&task, &mut buffered, LINES), LINES.len());
     assert_eq!(rt; buffered.taken_count(), 3);
     assert_eq!(rt; buffered.dropped_count(), 1);
     Ok(())
@@ -86,6 +86,13 @@ fn buffers_drop_the_oldest(rt: HostRuntime) -> Result<(), Fail> {
 // buffers_latest
 #[test]
 fn buffers_drop_the_latest(rt: HostRuntime) -> Result<(), Fail> {
+    const LINES: &[Line] = &[
+        Line::Fill(Fill::Took),
+        Line::Fill(Fill::Dropped),
+        Line::Value(1),
+        Line::Value(3),
+        Line::End(Cause::Finished),
+    ];
     let task = MockTask::new(&rt)?;
     let flow = buffer(
         rt.alloc(),
@@ -94,14 +101,7 @@ fn buffers_drop_the_latest(rt: HostRuntime) -> Result<(), Fail> {
         Policy::DropLatest,
     )?;
     let mut buffered = flow.start()?;
-    let lines = [
-        Line::Fill(Fill::Took),
-        Line::Fill(Fill::Dropped),
-        Line::Value(1),
-        Line::Value(3),
-        Line::End(Cause::Finished),
-    ];
-    assert_eq!(rt; answered(&task, &mut buffered, &lines), lines.len());
+    assert_eq!(rt; answered(&task, &mut buffered, LINES), LINES.len());
     assert_eq!(rt; buffered.taken_count(), 2);
     assert_eq!(rt; buffered.dropped_count(), 1);
     Ok(())
@@ -110,6 +110,13 @@ fn buffers_drop_the_latest(rt: HostRuntime) -> Result<(), Fail> {
 // buffers_suspend
 #[test]
 fn buffers_wait(rt: HostRuntime) -> Result<(), Fail> {
+    const LINES: &[Line] = &[
+        Line::Fill(Fill::Took),
+        Line::Fill(Fill::Full),
+        Line::Value(1),
+        Line::Value(2),
+        Line::End(Cause::Failed(6)),
+    ];
     let task = MockTask::new(&rt)?;
     let flow = buffer(
         rt.alloc(),
@@ -118,14 +125,7 @@ fn buffers_wait(rt: HostRuntime) -> Result<(), Fail> {
         Policy::Suspend,
     )?;
     let mut buffered = flow.start()?;
-    let lines = [
-        Line::Fill(Fill::Took),
-        Line::Fill(Fill::Full),
-        Line::Value(1),
-        Line::Value(2),
-        Line::End(Cause::Failed(6)),
-    ];
-    assert_eq!(rt; answered(&task, &mut buffered, &lines), lines.len());
+    assert_eq!(rt; answered(&task, &mut buffered, LINES), LINES.len());
     assert_eq!(rt; buffered.taken_count(), 2);
     assert_eq!(rt; buffered.dropped_count(), 0);
     Ok(())
@@ -158,10 +158,7 @@ fn buffers_have_limits(rt: HostRuntime) -> Result<(), Fail> {
 // conflating_buffer
 #[test]
 fn conflating_keeps_the_latest(rt: HostRuntime) -> Result<(), Fail> {
-    let task = MockTask::new(&rt)?;
-    let flow = conflate(rt.alloc(), of::<u64, u64>(vec![in rt.alloc(); 1, 2, 3]?));
-    let mut buffered = flow.start()?;
-    let lines = [
+    const LINES: &[Line] = &[
         Line::Fill(Fill::Took),
         Line::Fill(Fill::Overwrote),
         Line::Fill(Fill::Overwrote),
@@ -170,32 +167,59 @@ fn conflating_keeps_the_latest(rt: HostRuntime) -> Result<(), Fail> {
         Line::End(Cause::Finished),
         Line::Fill(Fill::Ended),
     ];
-    assert_eq!(rt; answered(&task, &mut buffered, &lines), lines.len());
+    let task = MockTask::new(&rt)?;
+    let flow = conflate(rt.alloc(), of::<u64, u64>(vec![in rt.alloc(); 1, 2, 3]?));
+    let mut buffered = flow.start()?;
+    assert_eq!(rt; answered(&task, &mut buffered, LINES), LINES.len());
     Ok(())
 }
 
 #[test]
 fn cancelling_gives_up_what_is_held(rt: HostRuntime) -> Result<(), Fail> {
-    let task = MockTask::new(&rt)?;
-    let flow = buffer(rt.alloc(), range::<u64>(0, 9), 2, Policy::DropOldest)?;
-    let mut buffered = flow.start()?;
-    let lines = [
+    const LINES: &[Line] = &[
         Line::Fill(Fill::Took),
         Line::Fill(Fill::Took),
         Line::Fill(Fill::Overwrote),
         Line::Value(1),
     ];
-    assert_eq!(rt; answered(&task, &mut buffered, &lines), lines.len());
-    buffered.cancel();
-    let cancelled = [
+    const CANCELLED: &[Line] = &[
         Line::End(Cause::Cancelled),
         Line::Fill(Fill::Ended),
         Line::End(Cause::Cancelled),
     ];
-    assert_eq!(rt; answered(&task, &mut buffered, &cancelled), cancelled.len());
+    let task = MockTask::new(&rt)?;
+    let flow = buffer(rt.alloc(), range::<u64>(0, 9), 2, Policy::DropOldest)?;
+    let mut buffered = flow.start()?;
+    assert_eq!(rt; answered(&task, &mut buffered, LINES), LINES.len());
+    buffered.cancel();
+    assert_eq!(rt; answered(&task, &mut buffered, CANCELLED), CANCELLED.len());
     assert_eq!(rt; buffered.taken_count(), 1);
     assert_eq!(rt; buffered.dropped_count(), 1);
     Ok(())
+}
+
+/// Pumps once.
+fn pump<U: Run<Item = u64, Fault = u64>>(
+    rt: &impl Wait,
+    task: &MockTask,
+    feed: &mut Feed<U>,
+) -> Fill {
+    task.enter(|cx| feed.pump(rt, cx))
+}
+
+/// Does each pump answer as wanted?
+fn fills<U: Run<Item = u64, Fault = u64>>(
+    rt: &impl Wait,
+    task: &MockTask,
+    feed: &mut Feed<U>,
+    wanted: &[Fill],
+) -> bool {
+    for fill in wanted {
+        if pump(rt, task, feed) != *fill {
+            return false;
+        }
+    }
+    true
 }
 
 /// Pumps until the end, and says how many values were dropped.
@@ -205,7 +229,7 @@ fn feed_all<R: Wait + RandomSource + AllocGlobal, U: Run<Item = u64, Fault = u64
 ) -> Option<u64> {
     let task = MockTask::new(rt).ok()?;
     for _ in rt.forever() {
-        if task.enter(|cx| feed.pump(rt, cx)) == Fill::Ended {
+        if pump(rt, &task, feed) == Fill::Ended {
             break;
         }
     }
@@ -301,15 +325,13 @@ fn split_drops_the_latest_and_keeps_the_first(rt: HostRuntime) -> Result<(), Fai
 // feed_cancelled
 #[test]
 fn cancelled_feed_ends_the_drain(rt: HostRuntime) -> Result<(), Fail> {
+    const BOTH_TAKEN: &[Fill] = &[Fill::Took, Fill::Took];
     let task = MockTask::new(&rt)?;
     let values = vec![in rt.alloc(); 1, 2, 3]?;
     let (mut feed, mut drain) = split(rt.alloc(), of::<u64, u64>(values), 4, Policy::Suspend)?;
-    let lent = &mut feed;
-    let first = task.enter(|cx| lent.pump(&rt, cx));
-    let lent = &mut feed;
-    let second = task.enter(|cx| lent.pump(&rt, cx));
+    let took = fills(&rt, &task, &mut feed, BOTH_TAKEN);
     feed.cancel(&rt);
-    assert!(rt; first == Fill::Took && second == Fill::Took);
+    assert!(rt; took);
     assert_eq!(rt; drain.next(&rt), Event::Value(1));
     assert_eq!(rt; drain.next(&rt), Event::Value(2));
     assert_eq!(rt; drain.next(&rt), Event::End(Cause::Cancelled));
@@ -321,79 +343,106 @@ fn cancelled_feed_ends_the_drain(rt: HostRuntime) -> Result<(), Fail> {
 // A feed that ended, and one whose source has nothing yet.
 #[test]
 fn feed_sends_one_end(rt: HostRuntime) -> Result<(), Fail> {
+    const ONE_END: &[Fill] = &[Fill::Pending, Fill::Ended, Fill::Ended];
     let task = MockTask::new(&rt)?;
     let steps = vec![in rt.alloc(); Step::Pending, Step::Fail(6)]?;
     let (mut feed, mut drain) = split(rt.alloc(), scripted::<u64, u64>(steps), 1, Policy::Suspend)?;
-    for wanted in [Fill::Pending, Fill::Ended, Fill::Ended] {
-        let lent = &mut feed;
-        let fill = task.enter(|cx| lent.pump(&rt, cx));
-        assert!(rt; fill == wanted);
-    }
+    let ended = fills(&rt, &task, &mut feed, ONE_END);
     feed.cancel(&rt);
+    assert!(rt; ended);
     assert_eq!(rt; drain.next(&rt), Event::End(Cause::Failed(6)));
     assert_eq!(rt; drain.next(&rt), Event::End(Cause::Failed(6)));
     assert_eq!(rt; drain.taken_count(), 0);
     Ok(())
 }
 
+/// Pumps and takes in turn. Are the values the numbers from 0 up, each taken right after it was put in?
+fn taken_in_turn<U: Run<Item = u64, Fault = u64>>(
+    rt: &impl Wait,
+    task: &MockTask,
+    feed: &mut Feed<U>,
+    drain: &mut Drain<u64, u64>,
+) -> bool {
+    for number in 0..1000 {
+        if pump(rt, task, feed) != Fill::Took || drain.next(rt) != Event::Value(number) {
+            return false;
+        }
+    }
+    true
+}
+
+/// How many values a buffer of capacity 1 drops that is emptied after each value, and how many it gave.
+fn emptied_split<R: Wait + RandomSource + AllocGlobal>(
+    rt: &R,
+    policy: Policy,
+) -> Result<(bool, u64, u64), Fail> {
+    let task = MockTask::new(rt)?;
+    let (mut feed, mut drain) = split(rt.alloc(), range::<u64>(0, 1000), 1, policy)?;
+    let all_came = taken_in_turn(rt, &task, &mut feed, &mut drain);
+    let dropped = feed.dropped_count();
+    feed.cancel(rt);
+    Ok((all_came, dropped, drain.taken_count()))
+}
+
 // A buffer that is emptied after each value is never full.
 #[test]
 fn emptied_split_drops_nothing(rt: HostRuntime) -> Result<(), Fail> {
-    let task = MockTask::new(&rt)?;
-    for policy in [Policy::DropOldest, Policy::DropLatest] {
-        let (mut feed, mut drain) = split(rt.alloc(), range::<u64>(0, 1000), 1, policy)?;
-        let mut all_took = true;
-        for number in 0..1000 {
-            let lent = &mut feed;
-            let fill = task.enter(|cx| lent.pump(&rt, cx));
-            all_took = all_took && fill == Fill::Took && drain.next(&rt) == Event::Value(number);
-        }
-        let dropped = feed.dropped_count();
-        feed.cancel(&rt);
-        assert!(rt; all_took);
-        assert_eq!(rt; dropped, 0);
-        assert_eq!(rt; drain.taken_count(), 1000);
-    }
+    assert_eq!(rt; emptied_split(&rt, Policy::DropOldest)?, (true, 0, 1000));
+    assert_eq!(rt; emptied_split(&rt, Policy::DropLatest)?, (true, 0, 1000));
     Ok(())
+}
+
+/// What a buffer of capacity 1 gives that is never emptied while it is filled: whether the pumps answered as wanted, the
+/// count of dropped values, and then the two events.
+fn full_split<R: Wait + RandomSource + AllocGlobal>(
+    rt: &R,
+    policy: Policy,
+    wanted: &[Fill],
+) -> Result<(bool, u64, Event<u64, u64>, Event<u64, u64>), Fail> {
+    const THE_END: &[Fill] = &[Fill::Ended];
+    let task = MockTask::new(rt)?;
+    let (mut feed, mut drain) = split(rt.alloc(), range::<u64>(0, 3), 1, policy)?;
+    let filled = fills(rt, &task, &mut feed, wanted);
+    let dropped = feed.dropped_count();
+    let first = drain.next(rt);
+    let ended = fills(rt, &task, &mut feed, THE_END);
+    let second = drain.next(rt);
+    feed.cancel(rt);
+    Ok((filled && ended, dropped, first, second))
 }
 
 // A buffer that is never emptied while it is filled.
 #[test]
 fn full_split_drops_by_its_policy(rt: HostRuntime) -> Result<(), Fail> {
-    let task = MockTask::new(&rt)?;
-    for (policy, wanted, left) in [
-        (Policy::DropOldest, Fill::Overwrote, 2),
-        (Policy::DropLatest, Fill::Dropped, 0),
-    ] {
-        let (mut feed, mut drain) = split(rt.alloc(), range::<u64>(0, 3), 1, policy)?;
-        for wanted in [Fill::Took, wanted, wanted] {
-            let lent = &mut feed;
-            let fill = task.enter(|cx| lent.pump(&rt, cx));
-            assert!(rt; fill == wanted);
-        }
-        assert_eq!(rt; feed.dropped_count(), 2);
-        assert_eq!(rt; drain.next(&rt), Event::Value(left));
-        let lent = &mut feed;
-        let ended = task.enter(|cx| lent.pump(&rt, cx));
-        assert!(rt; ended == Fill::Ended);
-        assert_eq!(rt; drain.next(&rt), Event::End(Cause::Finished));
-        feed.cancel(&rt);
-    }
+    const OVERWRITTEN: &[Fill] = &[Fill::Took, Fill::Overwrote, Fill::Overwrote];
+    const DROPPED: &[Fill] = &[Fill::Took, Fill::Dropped, Fill::Dropped];
+    let end = Event::End(Cause::Finished);
+    assert_eq!(rt;
+        full_split(&rt, Policy::DropOldest, OVERWRITTEN)?,
+        (true, 2, Event::Value(2), end)
+    );
+    assert_eq!(rt;
+        full_split(&rt, Policy::DropLatest, DROPPED)?,
+        (true, 2, Event::Value(0), end)
+    );
     Ok(())
+}
+
+/// Why no buffer of that capacity can be split between two threads, where it can't.
+fn refused_split<R: Wait + AllocGlobal>(rt: &R, capacity: u64) -> Option<Refusal> {
+    match split(rt.alloc(), range::<u64>(0, 1), capacity, Policy::Suspend) {
+        Ok((feed, _drain)) => {
+            feed.cancel(rt);
+            None
+        }
+        Err(refusal) => Some(refusal),
+    }
 }
 
 #[test]
 fn split_has_limits(rt: HostRuntime) -> Result<(), Fail> {
-    let wanted = [(0, Refusal::NotPositive), (65537, Refusal::TooLarge)];
-    for (capacity, wanted) in wanted {
-        match split(rt.alloc(), range::<u64>(0, 1), capacity, Policy::Suspend) {
-            Ok((feed, _drain)) => {
-                feed.cancel(&rt);
-                assert!(rt; false);
-            }
-            Err(refusal) => assert!(rt; refusal == wanted),
-        }
-    }
+    assert_eq!(rt; refused_split(&rt, 0), Some(Refusal::NotPositive));
+    assert_eq!(rt; refused_split(&rt, 65537), Some(Refusal::TooLarge));
     let (feed, mut drain) = split(rt.alloc(), range::<u64>(0, 1), 65536, Policy::Suspend)?;
     feed.cancel(&rt);
     assert_eq!(rt; drain.next(&rt), Event::End(Cause::Cancelled));

@@ -6,13 +6,13 @@ ghost use Rattle.std.specs.Prelude.{if◌then◌else◌};
 
 use crate::{Countdown, chain, mapped_list, taken_down};
 use cold_flow::{
-    Apply, Caught, Cause, Event, Few, Finite, Flow, Refusal, Run, Step, catch_with, collect,
-    distinct, drop_first, failing, filter, first, fold, map, of, on_completion, range, scripted,
-    take, to_list, transform,
+    Apply, Caught, Cause, Collected, Collecting, Event, Few, Finite, First, Flow, Folding, Listed,
+    Refusal, Run, Step, catch_with, collect, distinct, drop_first, failing, filter, first, fold,
+    map, of, on_completion, range, scripted, take, to_list, transform,
 };
 use futures::task::Poll;
 use futures::test::MockTask;
-use std::alloc::Global;
+use std::alloc::{AllocError, Global};
 use std::process::Abort;
 use std::test::Fail;
 
@@ -123,11 +123,37 @@ fn assert_gives<F: Flow<Item = u64, Fault = u64>>(
 where
     F::Running: Finite,
 {
-    let run = flow.start()?;
-    let list = task.enter(move |cx| to_list(alloc, run, cx))?;
+    let list = list_of(alloc, task, flow.start()?)?;
     assert_eq!(rt; list.values.as_slice(), values);
     assert_eq!(rt; list.cause, cause);
     Ok(())
+}
+
+// The flow of a list.
+fn listed(alloc: Global, values: &[u64]) -> Result<Listed<u64, u64>, AllocError> {
+    Ok(of(values.to_vec(alloc)?))
+}
+
+// The flow of a list that fails then.
+fn broken(alloc: Global, values: &[u64], fault: u64) -> Result<Listed<u64, u64>, AllocError> {
+    Ok(failing(values.to_vec(alloc)?, fault))
+}
+
+// What a finite run gives, at once.
+fn list_of<R: Finite>(
+    alloc: Global,
+    task: &MockTask,
+    run: R,
+) -> Result<Collected<R::Item, R::Fault>, Refusal> {
+    task.enter(move |cx| to_list(alloc, run, cx))
+}
+
+// One poll of a collection.
+fn gather<R: Run>(
+    task: &MockTask,
+    gathering: &mut Collecting<R>,
+) -> Poll<Result<Collected<R::Item, R::Fault>, Refusal>> {
+    task.enter(|cx| gathering.poll(cx))
 }
 
 // One poll.
@@ -151,29 +177,39 @@ fn filter_yields(rt: HostRuntime) -> Result<(), Fail> {
     Ok(())
 }
 
+const ONE: &[u64] = &[1];
+
+const TWO: &[u64] = &[1, 2];
+
+// Are these the numbers from 0 up?
+fn counts_up(values: &[u64]) -> bool {
+    for (index, value) in values.iter().enumerate() {
+        if *value != index as u64 {
+            return false;
+        }
+    }
+    true
+}
+
 #[test]
 fn collect_takes_64_values_a_poll(rt: HostRuntime) -> Result<(), Fail> {
     let task = MockTask::new(&rt)?;
     let mut gathering = collect(rt.alloc(), range::<u64>(0, 130).start()?);
     for count in [64, 128] {
-        assert!(rt; task.enter(|cx| gathering.poll(cx)).is_pending());
+        assert!(rt; gather(&task, &mut gathering).is_pending());
         assert!(rt; task.is_woken());
         assert_eq!(rt; gathering.so_far().len(), count);
     }
-    let Poll::Ready(list) = task.enter(|cx| gathering.poll(cx)) else {
-        assert!(rt; false);
-        return Ok(());
+    let Poll::Ready(list) = gather(&task, &mut gathering) else {
+        return Err(Fail::from("a third poll waits"));
     };
     let list = list?;
     assert_eq!(rt; list.values.len(), 130);
-    for (index, value) in list.values.iter().enumerate() {
-        assert_eq!(rt; *value, index as u64);
-    }
+    assert!(rt; counts_up(list.values.as_slice()));
     assert_eq!(rt; list.cause, Cause::Finished);
     assert!(rt; gathering.so_far().is_empty());
-    let Poll::Ready(again) = task.enter(|cx| gathering.poll(cx)) else {
-        assert!(rt; false);
-        return Ok(());
+    let Poll::Ready(again) = gather(&task, &mut gathering) else {
+        return Err(Fail::from("a poll after the end waits"));
     };
     let again = again?;
     assert!(rt; again.values.is_empty());
@@ -183,22 +219,26 @@ fn collect_takes_64_values_a_poll(rt: HostRuntime) -> Result<(), Fail> {
 
 #[test]
 fn completion_action(rt: HostRuntime) -> Result<(), Fail> {
+    const GIVEN: &[u64] = &[1, 2, 9];
     let task = MockTask::new(&rt)?;
-    let flow = on_completion(
-        of::<u64, u64>(vec![in rt.alloc(); 1, 2]?),
-        LastValue(Some(9)),
-    );
+    let flow = on_completion(listed(rt.alloc(), TWO)?, LastValue(Some(9)));
     let mut run = flow.start()?;
     assert_eq!(rt; run.noted(), None);
-    for value in [1, 2, 9] {
-        assert_eq!(rt; next(&task, &mut run), Poll::Ready(Event::Value(value)));
+    for value in GIVEN {
+        assert_eq!(rt; next(&task, &mut run), Poll::Ready(Event::Value(*value)));
     }
     assert_eq!(rt;
         next(&task, &mut run),
         Poll::Ready(Event::End(Cause::Finished))
     );
     assert_eq!(rt; run.noted(), Some(Cause::Finished));
-    let mut run = flow.start()?;
+    Ok(())
+}
+
+#[test]
+fn completion_action_at_a_cancel(rt: HostRuntime) -> Result<(), Fail> {
+    let task = MockTask::new(&rt)?;
+    let mut run = on_completion(listed(rt.alloc(), TWO)?, LastValue(Some(9))).start()?;
     assert_eq!(rt; next(&task, &mut run), Poll::Ready(Event::Value(1)));
     assert_eq!(rt; run.noted(), None);
     run.cancel();
@@ -207,131 +247,95 @@ fn completion_action(rt: HostRuntime) -> Result<(), Fail> {
         Poll::Ready(Event::End(Cause::Cancelled))
     );
     assert_eq!(rt; run.noted(), Some(Cause::Cancelled));
-    let mut gathering = collect(
-        rt.alloc(),
-        of::<u64, u64>(vec![in rt.alloc(); 1, 2]?).start()?,
-    );
-    let Poll::Ready(list) = task.enter(|cx| gathering.poll(cx)) else {
-        assert!(rt; false);
-        return Ok(());
+    Ok(())
+}
+
+#[test]
+fn collect_takes_a_short_list_at_once(rt: HostRuntime) -> Result<(), Fail> {
+    let task = MockTask::new(&rt)?;
+    let mut gathering = collect(rt.alloc(), listed(rt.alloc(), TWO)?.start()?);
+    let Poll::Ready(list) = gather(&task, &mut gathering) else {
+        return Err(Fail::from("it waits"));
     };
     let list = list?;
-    assert_eq!(rt; list.values.as_slice(), [1, 2].as_slice());
+    assert_eq!(rt; list.values.as_slice(), TWO);
     assert_eq!(rt; list.cause, Cause::Finished);
+    Ok(())
+}
+
+// Pipes of flows that fail.
+fn assert_failures(rt: &impl Abort, alloc: Global, task: &MockTask) -> Result<(), Fail> {
+    const CAUGHT: &[u64] = &[1, 2, 9];
+    let failed = broken(alloc, TWO, 7)?;
+    assert_gives(rt, alloc, task, take(&failed, 2)?, TWO, Cause::Finished)?;
+    assert_gives(rt, alloc, task, &failed, TWO, Cause::Failed(7))?;
+    let caught = catch_with(&failed, Answer(Caught::Last(9)));
+    assert_gives(rt, alloc, task, caught, CAUGHT, Cause::Finished)?;
+    let completed = on_completion(&failed, LastValue(Some(9)));
+    assert_gives(rt, alloc, task, completed, TWO, Cause::Failed(7))?;
+    Ok(())
+}
+
+// What a handler makes of a failure.
+fn assert_handled(rt: &impl Abort, alloc: Global, task: &MockTask) -> Result<(), Fail> {
+    let other = catch_with(broken(alloc, ONE, 3)?, Answer(Caught::Fault(4)));
+    assert_gives(rt, alloc, task, other, ONE, Cause::Failed(4))?;
+    let ended = catch_with(broken(alloc, ONE, 3)?, Answer(Caught::End));
+    assert_gives(rt, alloc, task, ended, ONE, Cause::Finished)?;
+    Ok(())
+}
+
+// Pipes of lists.
+fn assert_lists(rt: &impl Abort, alloc: Global, task: &MockTask) -> Result<(), Fail> {
+    const NONE: &[u64] = &[];
+    const REPEATED: &[u64] = &[1, 1, 2, 2, 1];
+    const DIFFERENT: &[u64] = &[1, 2, 1];
+    const GREATEST: &[u64] = &[u64::MAX];
+    const WRAPPED: &[u64] = &[0];
+    const COMPLETED: &[u64] = &[1, 9];
+    let dropped = drop_first(listed(alloc, NONE)?, 0);
+    assert_gives(rt, alloc, task, dropped, NONE, Cause::Finished)?;
+    let differing = distinct(listed(alloc, REPEATED)?);
+    assert_gives(rt, alloc, task, differing, DIFFERENT, Cause::Finished)?;
+    let mapped = map(listed(alloc, GREATEST)?, Add(1));
+    assert_gives(rt, alloc, task, mapped, WRAPPED, Cause::Finished)?;
+    let completed = on_completion(listed(alloc, ONE)?, LastValue(Some(9)));
+    assert_gives(rt, alloc, task, completed, COMPLETED, Cause::Finished)?;
+    Ok(())
+}
+
+// Pipes of ranges.
+fn assert_ranges(rt: &impl Abort, alloc: Global, task: &MockTask) -> Result<(), Fail> {
+    const TWICE: &[u64] = &[0, 0, 2, 2, 4, 4];
+    const LAST: &[u64] = &[9999];
+    let twice = transform(filter(range::<u64>(0, 5), IsEven), Twice);
+    assert_gives(rt, alloc, task, twice, TWICE, Cause::Finished)?;
+    let last = drop_first(range::<u64>(0, 10000), 9999);
+    assert_gives(rt, alloc, task, last, LAST, Cause::Finished)?;
     Ok(())
 }
 
 #[test]
 fn cold_pipes(rt: HostRuntime) -> Result<(), Fail> {
     let task = MockTask::new(&rt)?;
-    let alloc = rt.alloc();
-    let failed = failing(vec![in alloc; 1, 2]?, 7u64);
-    assert!(rt;
-        take(of::<u64, u64>(vec![in alloc; 1, 2, 3]?), 0).is_err_and(|refusal| refusal.number()
-            == 8)
-    );
-    assert_gives(
-        &rt,
-        alloc,
-        &task,
-        drop_first(of::<u64, u64>(Vec::new(alloc)), 0),
-        &[],
-        Cause::Finished,
-    )?;
-    assert_gives(
-        &rt,
-        alloc,
-        &task,
-        take(&failed, 2)?,
-        &[1, 2],
-        Cause::Finished,
-    )?;
-    assert_gives(&rt, alloc, &task, &failed, &[1, 2], Cause::Failed(7))?;
-    assert_gives(
-        &rt,
-        alloc,
-        &task,
-        catch_with(&failed, Answer(Caught::Last(9))),
-        &[1, 2, 9],
-        Cause::Finished,
-    )?;
-    assert_gives(
-        &rt,
-        alloc,
-        &task,
-        distinct(of::<u64, u64>(vec![in alloc; 1, 1, 2, 2, 1]?)),
-        &[1, 2, 1],
-        Cause::Finished,
-    )?;
-    assert_gives(
-        &rt,
-        alloc,
-        &task,
-        transform(filter(range::<u64>(0, 5), IsEven), Twice),
-        &[0, 0, 2, 2, 4, 4],
-        Cause::Finished,
-    )?;
-    assert_gives(
-        &rt,
-        alloc,
-        &task,
-        map(of::<u64, u64>(vec![in alloc; u64::MAX]?), Add(1)),
-        &[0],
-        Cause::Finished,
-    )?;
-    assert_gives(
-        &rt,
-        alloc,
-        &task,
-        on_completion(of(vec![in alloc; 1]?), LastValue(Some(9))),
-        &[1, 9],
-        Cause::Finished,
-    )?;
-    assert_gives(
-        &rt,
-        alloc,
-        &task,
-        on_completion(&failed, LastValue(Some(9))),
-        &[1, 2],
-        Cause::Failed(7),
-    )?;
-    assert_gives(
-        &rt,
-        alloc,
-        &task,
-        catch_with(failing(vec![in alloc; 1]?, 3), Answer(Caught::Fault(4))),
-        &[1],
-        Cause::Failed(4),
-    )?;
-    assert_gives(
-        &rt,
-        alloc,
-        &task,
-        catch_with(failing(vec![in alloc; 1]?, 3), Answer(Caught::End)),
-        &[1],
-        Cause::Finished,
-    )?;
-    assert_gives(
-        &rt,
-        alloc,
-        &task,
-        drop_first(range::<u64>(0, 10000), 9999),
-        &[9999],
-        Cause::Finished,
-    )?;
-    Ok(())
+    let refused = take(range::<u64>(1, 4), 0).is_err_and(|refusal| refusal.number() == 8);
+    assert!(rt; refused);
+    assert_failures(&rt, rt.alloc(), &task)?;
+    assert_handled(&rt, rt.alloc(), &task)?;
+    assert_lists(&rt, rt.alloc(), &task)?;
+    assert_ranges(&rt, rt.alloc(), &task)
 }
 
 #[test]
 fn scripted_steps(rt: HostRuntime) -> Result<(), Fail> {
-    let task = MockTask::new(&rt)?;
-    let flow = scripted(vec![in rt.alloc();
-        Step::Value(1u64),
+    const STEPS: &[Step<u64, u64>] = &[
+        Step::Value(1),
         Step::Pending,
-        Step::Fail(5u64),
+        Step::Fail(5),
         Step::Value(2),
-    ]?);
-    let mut run = flow.start()?;
+    ];
+    let task = MockTask::new(&rt)?;
+    let mut run = scripted(STEPS.to_vec(rt.alloc())?).start()?;
     assert_eq!(rt; next(&task, &mut run), Poll::Ready(Event::Value(1)));
     assert_eq!(rt; next(&task, &mut run), Poll::Pending);
     assert!(rt; task.is_woken());
@@ -344,24 +348,47 @@ fn scripted_steps(rt: HostRuntime) -> Result<(), Fail> {
     Ok(())
 }
 
+// One poll of a sum.
+fn add_up<R: Run<Item = u64>>(
+    task: &MockTask,
+    folding: &mut Folding<R, u64, Sum>,
+) -> Poll<(u64, Cause<R::Fault>)> {
+    task.enter(|cx| folding.poll(cx))
+}
+
+// One poll of a first value.
+fn first_of<R: Run>(
+    task: &MockTask,
+    first: &mut First<R>,
+) -> Poll<Result<R::Item, Cause<R::Fault>>> {
+    task.enter(|cx| first.poll(cx))
+}
+
 #[test]
-fn fold_and_first(rt: HostRuntime) -> Result<(), Fail> {
+fn fold_of_a_range(rt: HostRuntime) -> Result<(), Fail> {
     let task = MockTask::new(&rt)?;
     let mut folding = fold(range::<u64>(1, 101).start()?, 0, Sum);
-    assert_eq!(rt; task.enter(|cx| folding.poll(cx)), Poll::Pending);
+    assert_eq!(rt; add_up(&task, &mut folding), Poll::Pending);
     assert!(rt; task.is_woken());
     for _poll in 0..2 {
         assert_eq!(rt;
-            task.enter(|cx| folding.poll(cx)),
+            add_up(&task, &mut folding),
             Poll::Ready((5050, Cause::Finished))
         );
     }
+    Ok(())
+}
+
+#[test]
+fn first_of_some_and_of_none(rt: HostRuntime) -> Result<(), Fail> {
+    const NONE: &[u64] = &[];
+    let task = MockTask::new(&rt)?;
     let mut some = first(range::<u64>(7, 9).start()?);
-    let mut none = first(failing::<u64, u64>(Vec::new(rt.alloc()), 3).start()?);
+    let mut none = first(broken(rt.alloc(), NONE, 3)?.start()?);
     for _poll in 0..2 {
-        assert_eq!(rt; task.enter(|cx| some.poll(cx)), Poll::Ready(Ok(7)));
+        assert_eq!(rt; first_of(&task, &mut some), Poll::Ready(Ok(7)));
         assert_eq!(rt;
-            task.enter(|cx| none.poll(cx)),
+            first_of(&task, &mut none),
             Poll::Ready(Err(Cause::Failed(3)))
         );
     }
@@ -389,35 +416,47 @@ fn assert_cancelled<R: Run<Item = u64, Fault = u64>>(
     }
 }
 
+// Starts a flow and cancels its run after so many polls.
+fn assert_cancels<F: Flow<Item = u64, Fault = u64>>(
+    rt: &impl Abort,
+    task: &MockTask,
+    flow: F,
+    polls: u32,
+) -> Result<(), Refusal> {
+    assert_cancelled(rt, task, flow.start()?, polls);
+    Ok(())
+}
+
+// The same with the operators over a range.
+fn assert_operators_cancel(rt: &impl Abort, task: &MockTask, polls: u32) -> Result<(), Refusal> {
+    let numbers = range::<u64>(0, 5);
+    assert_cancels(rt, task, numbers, polls)?;
+    assert_cancels(rt, task, map(numbers, Add(1)), polls)?;
+    assert_cancels(rt, task, filter(numbers, IsEven), polls)?;
+    assert_cancels(rt, task, transform(numbers, Twice), polls)?;
+    assert_cancels(rt, task, take(numbers, 2)?, polls)?;
+    assert_cancels(rt, task, drop_first(numbers, 1), polls)?;
+    assert_cancels(rt, task, distinct(numbers), polls)?;
+    assert_cancels(rt, task, on_completion(numbers, LastValue(None)), polls)
+}
+
 #[test]
 fn cancelled_runs_give_nothing_more(rt: HostRuntime) -> Result<(), Fail> {
     let task = MockTask::new(&rt)?;
-    let numbers = range::<u64>(0, 5);
-    let failed = failing(vec![in rt.alloc(); 1, 2]?, 7u64);
+    let failed = broken(rt.alloc(), TWO, 7)?;
     for polls in 0..3 {
-        assert_cancelled(&rt, &task, numbers.start()?, polls);
-        assert_cancelled(&rt, &task, failed.start()?, polls);
-        assert_cancelled(&rt, &task, map(numbers, Add(1)).start()?, polls);
-        assert_cancelled(&rt, &task, filter(numbers, IsEven).start()?, polls);
-        assert_cancelled(&rt, &task, transform(numbers, Twice).start()?, polls);
-        assert_cancelled(&rt, &task, take(numbers, 2)?.start()?, polls);
-        assert_cancelled(&rt, &task, drop_first(numbers, 1).start()?, polls);
-        assert_cancelled(&rt, &task, distinct(numbers).start()?, polls);
-        assert_cancelled(
-            &rt,
-            &task,
-            catch_with(&failed, Answer(Caught::Last(9))).start()?,
-            polls + 1,
-        );
-        assert_cancelled(
-            &rt,
-            &task,
-            on_completion(numbers, LastValue(None)).start()?,
-            polls,
-        );
+        assert_operators_cancel(&rt, &task, polls)?;
+        assert_cancels(&rt, &task, &failed, polls)?;
+        let caught = catch_with(&failed, Answer(Caught::Last(9)));
+        assert_cancels(&rt, &task, caught, polls + 1)?;
     }
-    let flow = on_completion(of::<u64, u64>(vec![in rt.alloc(); 1]?), LastValue(Some(9)));
-    let mut run = flow.start()?;
+    Ok(())
+}
+
+#[test]
+fn a_cancel_after_the_last_value_keeps_the_cause(rt: HostRuntime) -> Result<(), Fail> {
+    let task = MockTask::new(&rt)?;
+    let mut run = on_completion(listed(rt.alloc(), ONE)?, LastValue(Some(9))).start()?;
     assert_eq!(rt; next(&task, &mut run), Poll::Ready(Event::Value(1)));
     assert_eq!(rt; next(&task, &mut run), Poll::Ready(Event::Value(9)));
     run.cancel();
@@ -429,29 +468,51 @@ fn cancelled_runs_give_nothing_more(rt: HostRuntime) -> Result<(), Fail> {
     Ok(())
 }
 
+// What the caller of a countdown gives.
+fn counted_down(
+    alloc: Global,
+    task: &MockTask,
+    from: u32,
+    count: u32,
+) -> Result<Collected<u32, u8>, Refusal> {
+    task.enter(|cx| taken_down(alloc, from, count, cx))
+}
+
 #[test]
 fn a_flow_of_ones_own(rt: HostRuntime) -> Result<(), Fail> {
+    const FIRST: &[u32] = &[5, 4, 3];
+    const REST: &[u32] = &[3, 2, 1];
     let task = MockTask::new(&rt)?;
-    let alloc = rt.alloc();
-    let list = task.enter(|cx| taken_down(alloc, 5, 3, cx))?;
-    assert_eq!(rt; list.values.as_slice(), [5, 4, 3].as_slice());
+    let list = counted_down(rt.alloc(), &task, 5, 3)?;
+    assert_eq!(rt; list.values.as_slice(), FIRST);
     assert_eq!(rt; list.cause, Cause::Finished);
     let run = distinct(drop_first(Countdown { from: 4 }, 1)).start()?;
-    let list = task.enter(move |cx| to_list(alloc, run, cx))?;
-    assert_eq!(rt; list.values.as_slice(), [3, 2, 1].as_slice());
+    let list = list_of(rt.alloc(), &task, run)?;
+    assert_eq!(rt; list.values.as_slice(), REST);
     Ok(())
+}
+
+// What the caller of five operators gives.
+fn chained(alloc: Global, task: &MockTask) -> Result<Collected<u64, u64>, Refusal> {
+    task.enter(|cx| chain::<u64, Add, IsEven>(alloc, 9, Add(2), IsEven, cx))
+}
+
+// What the caller of a map gives.
+fn mapped(alloc: Global, task: &MockTask, values: &[u64]) -> Result<Collected<u64, u64>, Refusal> {
+    let values = values.to_vec(alloc)?;
+    task.enter(move |cx| mapped_list::<u64, u64, u64, Add>(alloc, values, Add(1), cx))
 }
 
 #[test]
 fn chains_of_operators(rt: HostRuntime) -> Result<(), Fail> {
+    const CHAINED: &[u64] = &[4, 6, 8];
+    const MAPPED: &[u64] = &[2, 3];
     let task = MockTask::new(&rt)?;
-    let alloc = rt.alloc();
-    let list = task.enter(|cx| chain::<u64, Add, IsEven>(alloc, 9, Add(2), IsEven, cx))?;
-    assert_eq!(rt; list.values.as_slice(), [4, 6, 8].as_slice());
+    let list = chained(rt.alloc(), &task)?;
+    assert_eq!(rt; list.values.as_slice(), CHAINED);
     assert_eq!(rt; list.cause, Cause::Finished);
-    let values = vec![in alloc; 1, 2]?;
-    let list = task.enter(move |cx| mapped_list::<u64, u64, u64, Add>(alloc, values, Add(1), cx))?;
-    assert_eq!(rt; list.values.as_slice(), [2, 3].as_slice());
+    let list = mapped(rt.alloc(), &task, TWO)?;
+    assert_eq!(rt; list.values.as_slice(), MAPPED);
     assert_eq!(rt; list.cause, Cause::Finished);
     Ok(())
 }

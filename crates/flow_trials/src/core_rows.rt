@@ -5,6 +5,7 @@ use cold_flow::{Policy, Refusal};
 use shared_core::{
     Begun, Call, Config, Emit, Next, Reply, SharedState, SubId, Ticket, Tried, Withdrawn,
 };
+use std::alloc::Global;
 use std::test::Fail;
 
 /// The numbers stay below this.
@@ -23,37 +24,46 @@ fn number(refusal: Refusal) -> u8 {
     refusal.number()
 }
 
+/// The replies of a new flow to these calls.
+fn replies_of(
+    alloc: Global,
+    config: Config,
+    calls: &[Call<u64>],
+) -> Result<Vec<Reply<u64>>, Refusal> {
+    let mut flow = SharedState::new(alloc, config)?;
+    let mut replies = Vec::new(alloc);
+    flow.run(calls, &mut replies)?;
+    Ok(replies)
+}
+
 #[test]
 fn run_of_calls(rt: HostRuntime) -> Result<(), Fail> {
-    let mut flow = SharedState::<u64>::new(rt.alloc(), PLAIN).map_err(number)?;
-    let calls = [
+    const CALLS: &[Call<u64>] = &[
         Call::Subscribe,
         Call::Try(1, 7),
         Call::Next(SubId(0)),
         Call::Next(SubId(0)),
     ];
-    let mut replies = Vec::new(rt.alloc());
-    flow.run(&calls, &mut replies).map_err(number)?;
-    let expected = [
+    const EXPECTED: &[Reply<u64>] = &[
         Reply::Sub(Ok(SubId(0))),
         Reply::Tried(Ok(Tried::Accepted(0))),
         Reply::Next(Next::Value(7)),
         Reply::Next(Next::Nothing),
     ];
-    assert!(rt; replies[..] == expected[..]);
+    let replies = replies_of(rt.alloc(), PLAIN, CALLS).map_err(number)?;
+    assert!(rt; replies[..] == EXPECTED[..]);
     Ok(())
 }
 
 #[test]
 fn run_of_every_call(rt: HostRuntime) -> Result<(), Fail> {
-    let config = Config {
+    const CONFIG: Config = Config {
         replay: 1,
         extra: 0,
         emits: 2,
         ..PLAIN
     };
-    let mut flow = SharedState::<u64>::new(rt.alloc(), config).map_err(number)?;
-    let calls = [
+    const CALLS: &[Call<u64>] = &[
         Call::Subscribe,
         Call::Count,
         Call::Start(1, 10),
@@ -70,9 +80,7 @@ fn run_of_every_call(rt: HostRuntime) -> Result<(), Fail> {
         Call::Next(SubId(1)),
         Call::Count,
     ];
-    let mut replies = Vec::new(rt.alloc());
-    flow.run(&calls, &mut replies).map_err(number)?;
-    let expected = [
+    const EXPECTED: &[Reply<u64>] = &[
         Reply::Sub(Ok(SubId(0))),
         Reply::Count(1),
         Reply::Begun(Ok(Begun::Accepted(0))),
@@ -89,144 +97,228 @@ fn run_of_every_call(rt: HostRuntime) -> Result<(), Fail> {
         Reply::Next(Next::Nothing),
         Reply::Count(1),
     ];
-    assert!(rt; replies[..] == expected[..]);
+    let replies = replies_of(rt.alloc(), CONFIG, CALLS).map_err(number)?;
+    assert!(rt; replies[..] == EXPECTED[..]);
     Ok(())
+}
+
+/// The reply of a flow to a call, made by its method.
+fn reply_to(flow: &mut SharedState<u64>, call: Call<u64>) -> Reply<u64> {
+    match call {
+        Call::Try(emitter, value) => Reply::Tried(flow.try_emit(emitter, value)),
+        Call::Start(emitter, value) => Reply::Begun(flow.start_emit(emitter, value)),
+        Call::Poll(ticket) => Reply::Emit(flow.poll_emit(ticket)),
+        Call::Withdraw(ticket) => Reply::Withdrawn(flow.cancel_emit(ticket)),
+        Call::Subscribe => Reply::Sub(flow.subscribe()),
+        Call::Next(id) => Reply::Next(flow.next(id)),
+        Call::Cancel(id) => Reply::Cancelled(flow.cancel(id)),
+        Call::Reset => {
+            flow.reset_replay();
+            Reply::Reset
+        }
+        Call::Count => Reply::Count(flow.subscription_count()),
+    }
+}
+
+/// A call, and its reply.
+type Exchange = (Call<u64>, Reply<u64>);
+
+/// How many of the calls, from the first on, were replied to as they should be.
+fn replied(flow: &mut SharedState<u64>, exchanges: &[Exchange]) -> usize {
+    for (index, (call, reply)) in exchanges.iter().enumerate() {
+        if reply_to(flow, *call) != *reply {
+            return index;
+        }
+    }
+    exchanges.len()
 }
 
 #[test]
 fn numbers_spent(rt: HostRuntime) -> Result<(), Fail> {
-    let config = Config {
+    const CONFIG: Config = Config {
         extra: 2,
         subscribers: 2,
         emits: 2,
         first: LIMIT - 1,
         ..PLAIN
     };
-    let mut flow = SharedState::<u64>::new(rt.alloc(), config).map_err(number)?;
-    assert_eq!(rt; flow.subscribe(), Ok(SubId(LIMIT - 1)));
-    assert_eq!(rt; flow.subscribe(), Err(Refusal::Spent));
-    assert_eq!(rt; flow.try_emit(0, 7), Ok(Tried::Accepted(LIMIT - 1)));
-    assert_eq!(rt; flow.try_emit(0, 8), Err(Refusal::Spent));
-    assert_eq!(rt; flow.next(SubId(LIMIT - 1)), Next::Value(7));
-    assert_eq!(rt; flow.next(SubId(LIMIT - 1)), Next::Nothing);
-
-    let last = Config {
+    const NEXT_TO_LAST: &[Exchange] = &[
+        (Call::Subscribe, Reply::Sub(Ok(SubId(LIMIT - 1)))),
+        (Call::Subscribe, Reply::Sub(Err(Refusal::Spent))),
+        (
+            Call::Try(0, 7),
+            Reply::Tried(Ok(Tried::Accepted(LIMIT - 1))),
+        ),
+        (Call::Try(0, 8), Reply::Tried(Err(Refusal::Spent))),
+        (Call::Next(SubId(LIMIT - 1)), Reply::Next(Next::Value(7))),
+        (Call::Next(SubId(LIMIT - 1)), Reply::Next(Next::Nothing)),
+    ];
+    const LAST: Config = Config {
         first: LIMIT,
-        ..config
+        ..CONFIG
     };
-    let mut flow = SharedState::<u64>::new(rt.alloc(), last).map_err(number)?;
-    assert_eq!(rt; flow.try_emit(0, 7), Err(Refusal::Spent));
-
-    let over = Config {
+    const AT_LAST: &[Exchange] = &[(Call::Try(0, 7), Reply::Tried(Err(Refusal::Spent)))];
+    const OVER: Config = Config {
         first: LIMIT + 1,
-        ..config
+        ..CONFIG
     };
-    assert_eq!(rt;
-        SharedState::<u64>::new(rt.alloc(), over).map(|_| ()),
-        Err(Refusal::BadLimit)
-    );
+    let mut flow = SharedState::new(rt.alloc(), CONFIG).map_err(number)?;
+    assert_eq!(rt; replied(&mut flow, NEXT_TO_LAST), NEXT_TO_LAST.len());
+    let mut flow = SharedState::new(rt.alloc(), LAST).map_err(number)?;
+    assert_eq!(rt; replied(&mut flow, AT_LAST), AT_LAST.len());
+    let refused = SharedState::<u64>::new(rt.alloc(), OVER).map(|_| ());
+    assert_eq!(rt; refused, Err(Refusal::BadLimit));
     Ok(())
 }
 
 #[test]
 fn spent_before_full(rt: HostRuntime) -> Result<(), Fail> {
-    let last = LIMIT - 1;
-    let config = Config {
+    const LAST: u64 = LIMIT - 1;
+    const CONFIG: Config = Config {
         extra: 0,
-        first: last,
+        first: LAST,
         ..PLAIN
     };
-    let mut flow = SharedState::<u64>::new(rt.alloc(), config).map_err(number)?;
-    assert_eq!(rt; flow.subscribe(), Ok(SubId(last)));
-    assert_eq!(rt; flow.start_emit(0, 7), Ok(Begun::Waiting(Ticket(last))));
-    assert_eq!(rt; flow.start_emit(0, 8), Err(Refusal::Spent));
-    assert_eq!(rt; flow.next(SubId(last)), Next::Value(7));
-    assert_eq!(rt; flow.poll_emit(Ticket(last)), Emit::Done(last));
-    assert_eq!(rt; flow.poll_emit(Ticket(last)), Emit::Gone);
-    assert_eq!(rt; flow.try_emit(0, 9), Err(Refusal::Spent));
-    assert!(rt; flow.cancel(SubId(last)));
-    assert_eq!(rt; flow.try_emit(0, 9), Err(Refusal::Spent));
+    const EXCHANGES: &[Exchange] = &[
+        (Call::Subscribe, Reply::Sub(Ok(SubId(LAST)))),
+        (
+            Call::Start(0, 7),
+            Reply::Begun(Ok(Begun::Waiting(Ticket(LAST)))),
+        ),
+        (Call::Start(0, 8), Reply::Begun(Err(Refusal::Spent))),
+        (Call::Next(SubId(LAST)), Reply::Next(Next::Value(7))),
+        (Call::Poll(Ticket(LAST)), Reply::Emit(Emit::Done(LAST))),
+        (Call::Poll(Ticket(LAST)), Reply::Emit(Emit::Gone)),
+        (Call::Try(0, 9), Reply::Tried(Err(Refusal::Spent))),
+        (Call::Cancel(SubId(LAST)), Reply::Cancelled(true)),
+        (Call::Try(0, 9), Reply::Tried(Err(Refusal::Spent))),
+    ];
+    let mut flow = SharedState::new(rt.alloc(), CONFIG).map_err(number)?;
+    assert_eq!(rt; replied(&mut flow, EXCHANGES), EXCHANGES.len());
     Ok(())
 }
 
 #[test]
 fn withdrawn_tickets_stay_spent(rt: HostRuntime) -> Result<(), Fail> {
-    let config = Config {
+    const FIRST: u64 = LIMIT - 2;
+    const SECOND: u64 = LIMIT - 1;
+    const CONFIG: Config = Config {
         emits: 2,
-        first: LIMIT - 2,
+        first: FIRST,
         ..PLAIN
     };
-    let mut flow = SharedState::<u64>::new(rt.alloc(), config).map_err(number)?;
-    assert_eq!(rt; flow.subscribe(), Ok(SubId(LIMIT - 2)));
-    assert_eq!(rt; flow.try_emit(0, 1), Ok(Tried::Accepted(LIMIT - 2)));
-    assert_eq!(rt;
-        flow.start_emit(0, 2),
-        Ok(Begun::Waiting(Ticket(LIMIT - 2)))
-    );
-    assert_eq!(rt; flow.cancel_emit(Ticket(LIMIT - 2)), Withdrawn::Removed);
-    assert_eq!(rt;
-        flow.start_emit(0, 3),
-        Ok(Begun::Waiting(Ticket(LIMIT - 1)))
-    );
-    assert_eq!(rt; flow.cancel_emit(Ticket(LIMIT - 1)), Withdrawn::Removed);
-    assert_eq!(rt; flow.start_emit(0, 4), Err(Refusal::Spent));
-    assert_eq!(rt; flow.try_emit(0, 5), Ok(Tried::Full));
+    const EXCHANGES: &[Exchange] = &[
+        (Call::Subscribe, Reply::Sub(Ok(SubId(FIRST)))),
+        (Call::Try(0, 1), Reply::Tried(Ok(Tried::Accepted(FIRST)))),
+        (
+            Call::Start(0, 2),
+            Reply::Begun(Ok(Begun::Waiting(Ticket(FIRST)))),
+        ),
+        (
+            Call::Withdraw(Ticket(FIRST)),
+            Reply::Withdrawn(Withdrawn::Removed),
+        ),
+        (
+            Call::Start(0, 3),
+            Reply::Begun(Ok(Begun::Waiting(Ticket(SECOND)))),
+        ),
+        (
+            Call::Withdraw(Ticket(SECOND)),
+            Reply::Withdrawn(Withdrawn::Removed),
+        ),
+        (Call::Start(0, 4), Reply::Begun(Err(Refusal::Spent))),
+        (Call::Try(0, 5), Reply::Tried(Ok(Tried::Full))),
+    ];
+    let mut flow = SharedState::new(rt.alloc(), CONFIG).map_err(number)?;
+    assert_eq!(rt; replied(&mut flow, EXCHANGES), EXCHANGES.len());
     Ok(())
 }
 
 #[test]
 fn withdrawn_at_hand_over(rt: HostRuntime) -> Result<(), Fail> {
-    let config = Config {
+    const CONFIG: Config = Config {
         extra: 0,
         subscribers: 2,
         ..PLAIN
     };
-    for received in [0, 1, 2] {
-        let mut flow = SharedState::<u64>::new(rt.alloc(), config).map_err(number)?;
-        let subscriptions = [
-            flow.subscribe().map_err(number)?,
-            flow.subscribe().map_err(number)?,
-        ];
-        let begun = flow.start_emit(0, 7);
-        assert_eq!(rt; begun, Ok(Begun::Waiting(Ticket(0))));
-        for id in &subscriptions[..received] {
-            assert_eq!(rt; flow.next(*id), Next::Value(7));
-        }
-        assert_eq!(rt; flow.cancel_emit(Ticket(0)), Withdrawn::Left(0));
-        for id in &subscriptions[received..] {
-            assert_eq!(rt; flow.next(*id), Next::Value(7));
-        }
-        assert_eq!(rt; flow.cancel_emit(Ticket(0)), Withdrawn::Gone);
+    const BEGUN: &[Exchange] = &[
+        (Call::Subscribe, Reply::Sub(Ok(SubId(0)))),
+        (Call::Subscribe, Reply::Sub(Ok(SubId(1)))),
+        (
+            Call::Start(0, 7),
+            Reply::Begun(Ok(Begun::Waiting(Ticket(0)))),
+        ),
+    ];
+    const ONE: Exchange = (Call::Next(SubId(0)), Reply::Next(Next::Value(7)));
+    const TWO: Exchange = (Call::Next(SubId(1)), Reply::Next(Next::Value(7)));
+    const LEFT: Exchange = (
+        Call::Withdraw(Ticket(0)),
+        Reply::Withdrawn(Withdrawn::Left(0)),
+    );
+    const GONE: Exchange = (Call::Withdraw(Ticket(0)), Reply::Withdrawn(Withdrawn::Gone));
+    // Withdrawn before, between and after the receipts.
+    const ORDERS: [&[Exchange]; 3] = [
+        &[LEFT, ONE, TWO, GONE],
+        &[ONE, LEFT, TWO, GONE],
+        &[ONE, TWO, LEFT, GONE],
+    ];
+    for order in &ORDERS {
+        let mut flow = SharedState::new(rt.alloc(), CONFIG).map_err(number)?;
+        assert_eq!(rt; replied(&mut flow, BEGUN), BEGUN.len());
+        assert_eq!(rt; replied(&mut flow, order), order.len());
     }
     Ok(())
 }
 
+/// Is the replay cache these values?
+fn caches(flow: &SharedState<u64>, values: &[u64]) -> bool {
+    if flow.replay_len() != values.len() as u64 {
+        return false;
+    }
+    for (index, value) in values.iter().enumerate() {
+        if index as u64 >= flow.replay_len() || flow.replay_at(index as u64) != *value {
+            return false;
+        }
+    }
+    true
+}
+
 #[test]
 fn each_call_succeeds(rt: HostRuntime) -> Result<(), Fail> {
-    let config = Config { replay: 2, ..PLAIN };
-    let mut flow = SharedState::<u64>::new(rt.alloc(), config).map_err(number)?;
-    for value in 1..4 {
-        assert!(rt; matches!(flow.try_emit(0, value), Ok(Tried::Accepted(_))));
-    }
-    assert_eq!(rt; flow.replay_len(), 2);
-    for index in 0..flow.replay_len() {
-        let kept = [2, 3].get(index as usize).copied();
-        assert_eq!(rt; Some(flow.replay_at(index)), kept);
-    }
-    assert_eq!(rt; flow.subscribe(), Ok(SubId(0)));
-    assert_eq!(rt; flow.subscribe(), Err(Refusal::SubscribersFull));
-    assert_eq!(rt; (flow.subscription_count(), flow.pending(SubId(0))), (1, 2));
+    const CONFIG: Config = Config { replay: 2, ..PLAIN };
+    const TRIES: &[Exchange] = &[
+        (Call::Try(0, 1), Reply::Tried(Ok(Tried::Accepted(0)))),
+        (Call::Try(0, 2), Reply::Tried(Ok(Tried::Accepted(1)))),
+        (Call::Try(0, 3), Reply::Tried(Ok(Tried::Accepted(2)))),
+    ];
+    const SUBSCRIBED: &[Exchange] = &[
+        (Call::Subscribe, Reply::Sub(Ok(SubId(0)))),
+        (Call::Subscribe, Reply::Sub(Err(Refusal::SubscribersFull))),
+        (Call::Count, Reply::Count(1)),
+    ];
+    const EMITTED: &[Exchange] = &[
+        (Call::Next(SubId(0)), Reply::Next(Next::Value(2))),
+        (Call::Start(0, 4), Reply::Begun(Ok(Begun::Accepted(3)))),
+        (Call::Start(0, 5), Reply::Begun(Ok(Begun::Accepted(4)))),
+        (
+            Call::Start(0, 6),
+            Reply::Begun(Ok(Begun::Waiting(Ticket(0)))),
+        ),
+        (Call::Start(0, 7), Reply::Begun(Err(Refusal::EmitsFull))),
+        (Call::Poll(Ticket(0)), Reply::Emit(Emit::Waiting)),
+        (Call::Cancel(SubId(0)), Reply::Cancelled(true)),
+        (Call::Poll(Ticket(0)), Reply::Emit(Emit::Done(5))),
+        (Call::Withdraw(Ticket(0)), Reply::Withdrawn(Withdrawn::Gone)),
+    ];
+    let mut flow = SharedState::new(rt.alloc(), CONFIG).map_err(number)?;
+    assert_eq!(rt; replied(&mut flow, TRIES), TRIES.len());
+    assert!(rt; caches(&flow, &[2, 3]));
+    assert_eq!(rt; replied(&mut flow, SUBSCRIBED), SUBSCRIBED.len());
+    assert_eq!(rt; flow.pending(SubId(0)), 2);
     flow.reset_replay();
-    assert_eq!(rt; (flow.replay_len(), flow.pending(SubId(0))), (0, 2));
-    assert_eq!(rt; flow.next(SubId(0)), Next::Value(2));
-    assert_eq!(rt; flow.start_emit(0, 4), Ok(Begun::Accepted(3)));
-    assert_eq!(rt; flow.start_emit(0, 5), Ok(Begun::Accepted(4)));
-    assert_eq!(rt; flow.start_emit(0, 6), Ok(Begun::Waiting(Ticket(0))));
-    assert_eq!(rt; flow.start_emit(0, 7), Err(Refusal::EmitsFull));
-    assert_eq!(rt; flow.poll_emit(Ticket(0)), Emit::Waiting);
-    assert!(rt; flow.cancel(SubId(0)));
-    assert_eq!(rt; flow.poll_emit(Ticket(0)), Emit::Done(5));
-    assert_eq!(rt; flow.cancel_emit(Ticket(0)), Withdrawn::Gone);
+    assert!(rt; caches(&flow, &[]));
+    assert_eq!(rt; flow.pending(SubId(0)), 2);
+    assert_eq!(rt; replied(&mut flow, EMITTED), EMITTED.len());
     Ok(())
 }
 

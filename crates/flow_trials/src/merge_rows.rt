@@ -5,14 +5,16 @@ ghost use Rattle.std.specs.Prelude.{◌≡◌, is_some, ◌==◌, ◌+◌, ◌%�
 ghost use Rattle.std.specs.Iterator.{at_most};
 ghost use Rattle.cold_flow.specs.declared.operators.catch_with.Caught.TheVariants.{Last};
 
+use crate::{joined_list, zipped_lists};
 use cold_flow::{
-    Apply, Caught, Cause, Event, Flow, Numbers, Refusal, Run, Step, catch_with, collect, failing,
-    of, range, scripted, to_list,
+    Apply, Caught, Cause, Collected, Event, Finite, Flow, Listed, Numbers, Refusal, Run, Step,
+    catch_with, collect, failing, of, range, scripted, to_list,
 };
 use flow_merge::{Bound, KnownBound, MAX_WORKERS, combine, flat_map_concat, flat_map_merge, zip};
 use futures::task::{Context, Poll};
 use futures::test::MockTask;
-use std::alloc::Global;
+use std::alloc::{AllocError, Global};
+use std::cell::Cell;
 use std::process::Abort;
 use std::test::Fail;
 
@@ -147,15 +149,13 @@ impl Apply<u64> for Pick {
     }
 }
 
-// Those numbers, at once, and no failure.
-fn numbers(next: u64, to: u64) -> Brief {
-    Brief {
-        waits: 0,
-        next,
-        to,
-        fault: None,
-    }
-}
+// It gives nothing.
+const EMPTY: Brief = Brief {
+    waits: 0,
+    next: 0,
+    to: 0,
+    fault: None,
+};
 
 // The same inner flow for each value.
 #[derive(Clone, Copy)]
@@ -228,192 +228,233 @@ fn assert_cancelled<F: Flow<Item = u64, Fault = u64>>(
     Ok(())
 }
 
+// The same after each number of polls up to `most`.
+fn assert_cancelled_at_any_time<F: Flow<Item = u64, Fault = u64>>(
+    rt: &impl Abort,
+    task: &MockTask,
+    flow: &F,
+    most: u32,
+) -> Result<(), Refusal> {
+    for polls in 0..most {
+        assert_cancelled(rt, task, flow, polls)?;
+    }
+    Ok(())
+}
+
+// The flow of a list.
+fn listed(alloc: Global, values: &[u64]) -> Result<Listed<u64, u64>, AllocError> {
+    Ok(of(values.to_vec(alloc)?))
+}
+
+// The flow of a list that fails then.
+fn broken(alloc: Global, values: &[u64], fault: u64) -> Result<Listed<u64, u64>, AllocError> {
+    Ok(failing(values.to_vec(alloc)?, fault))
+}
+
+// What comes in so many polls, in order of size, and whether the flow finished in them.
+fn sorted_rest<R: Run<Item = u64, Fault = u64>>(
+    rt: &impl Abort,
+    alloc: Global,
+    task: &MockTask,
+    run: &mut R,
+    polls: u32,
+) -> Result<(Vec<u64>, bool), AllocError> {
+    let mut rest = Vec::new(alloc);
+    let mut finished = false;
+    for _poll in 0..polls {
+        match next(task, run) {
+            Poll::Ready(Event::Value(value)) => rest.push(value)?,
+            Poll::Ready(Event::End(cause)) => {
+                assert_eq!(rt; cause, Cause::Finished);
+                finished = true;
+            }
+            Poll::Pending => assert!(rt; task.is_woken()),
+        }
+    }
+    rest.sort()?;
+    Ok((rest, finished))
+}
+
+// What a finite flow gives, at once.
+fn list_of<F: Flow<Item = u64, Fault = u64>>(
+    alloc: Global,
+    task: &MockTask,
+    flow: F,
+) -> Result<Collected<u64, u64>, Refusal>
+where
+    F::Running: Finite,
+{
+    let run = flow.start()?;
+    task.enter(move |cx| to_list(alloc, run, cx))
+}
+
 #[test]
 fn merge_two_at_a_time(rt: HostRuntime) -> Result<(), Fail> {
-    let alloc = rt.alloc();
-    let task = MockTask::new(&rt)?;
-    let inner = Pick {
+    const INNER: Pick = Pick {
         zero: Brief {
             waits: 2,
             next: 10,
             to: 11,
             fault: None,
         },
-        one: numbers(20, 22),
-        other: numbers(30, 31),
+        one: Brief {
+            waits: 0,
+            next: 20,
+            to: 22,
+            fault: None,
+        },
+        other: Brief {
+            waits: 0,
+            next: 30,
+            to: 31,
+            fault: None,
+        },
     };
-    let flow = flat_map_merge(alloc, range::<u64>(0, 3), inner, 2)?;
+    const REST: &[u64] = &[10, 30];
+    let alloc = rt.alloc();
+    let task = MockTask::new(&rt)?;
+    let flow = flat_map_merge(alloc, range::<u64>(0, 3), INNER, 2)?;
     let mut run = flow.start()?;
     // Both inner flows stand at once: the second gives while the first waits.
     assert_eq!(rt; next(&task, &mut run), Poll::Ready(Event::Value(20)));
     assert_eq!(rt; next(&task, &mut run), Poll::Ready(Event::Value(21)));
-    let mut rest = Vec::new(alloc);
-    let mut ended = false;
-    for _poll in 0..8 {
-        match next(&task, &mut run) {
-            Poll::Ready(Event::Value(value)) => rest.push(value)?,
-            Poll::Ready(Event::End(cause)) => {
-                assert_eq!(rt; cause, Cause::Finished);
-                ended = true;
-            }
-            Poll::Pending => assert!(rt; task.is_woken()),
-        }
-    }
-    assert!(rt; ended);
-    rest.sort()?;
-    assert_eq!(rt; rest.as_slice(), [10, 30].as_slice());
-    for polls in 0..8 {
-        assert_cancelled(&rt, &task, &flow, polls)?;
-    }
+    let (rest, finished) = sorted_rest(&rt, alloc, &task, &mut run, 8)?;
+    assert!(rt; finished);
+    assert_eq!(rt; rest.as_slice(), REST);
+    assert_cancelled_at_any_time(&rt, &task, &flow, 8)?;
     Ok(())
+}
+
+// The number of the refusal of a merge, or 0 where there is none.
+fn refused_merge(alloc: Global, inner: Pick, limit: u32) -> u8 {
+    match flat_map_merge(alloc, range::<u64>(0, 3), inner, limit) {
+        Ok(_) => 0,
+        Err(refusal) => refusal.number(),
+    }
 }
 
 #[test]
 fn merge_limits(rt: HostRuntime) -> Result<(), Fail> {
-    let alloc = rt.alloc();
-    let task = MockTask::new(&rt)?;
-    let inner = Pick {
-        zero: numbers(0, 0),
+    const INNER: Pick = Pick {
+        zero: EMPTY,
         one: Brief {
             waits: 1,
             next: 0,
             to: 0,
             fault: Some(7),
         },
-        other: numbers(0, 0),
+        other: EMPTY,
     };
-    assert!(rt;
-        flat_map_merge(alloc, range::<u64>(0, 3), inner, 0).is_err_and(|refusal| refusal.number()
-            == 8)
-    );
-    assert!(rt;
-        flat_map_merge(alloc, range::<u64>(0, 3), inner, MAX_WORKERS + 1).is_err_and(
-            |refusal| refusal.number() == 9
-        )
-    );
-    let flow = flat_map_merge(alloc, range::<u64>(0, 3), inner, MAX_WORKERS)?;
-    let mut run = flow.start()?;
+    let task = MockTask::new(&rt)?;
+    assert_eq!(rt; refused_merge(rt.alloc(), INNER, 0), 8);
+    assert_eq!(rt; refused_merge(rt.alloc(), INNER, MAX_WORKERS + 1), 9);
+    let mut run = flat_map_merge(rt.alloc(), range::<u64>(0, 3), INNER, MAX_WORKERS)?.start()?;
     assert_eq!(rt; next(&task, &mut run), Poll::Pending);
-    assert_eq!(rt;
-        next(&task, &mut run),
-        Poll::Ready(Event::End(Cause::Failed(7)))
-    );
-    assert_eq!(rt;
-        next(&task, &mut run),
-        Poll::Ready(Event::End(Cause::Failed(7)))
-    );
+    let failed = Poll::Ready(Event::End(Cause::Failed(7)));
+    assert!(rt; next(&task, &mut run) == failed && next(&task, &mut run) == failed);
     Ok(())
 }
 
 #[test]
 fn combine_turns(rt: HostRuntime) -> Result<(), Fail> {
+    const STEPS: &[Step<u64, u64>] = &[Step::Value(1), Step::Pending, Step::Value(2)];
+    const RIGHT: &[u64] = &[10, 20];
+    const GIVEN: &[u64] = &[11, 21, 22];
     let alloc = rt.alloc();
     let task = MockTask::new(&rt)?;
-    let left = scripted(vec![in alloc; Step::Value(1), Step::Pending, Step::Value(2)]?);
-    let flow = combine(left, of::<u64, u64>(vec![in alloc; 10, 20]?), Sum);
+    let flow = combine(scripted(STEPS.to_vec(alloc)?), listed(alloc, RIGHT)?, Sum);
     let mut run = flow.start()?;
-    for value in [11, 21, 22] {
-        assert_eq!(rt; next(&task, &mut run), Poll::Ready(Event::Value(value)));
+    for value in GIVEN {
+        assert_eq!(rt; next(&task, &mut run), Poll::Ready(Event::Value(*value)));
     }
     assert_eq!(rt;
         next(&task, &mut run),
         Poll::Ready(Event::End(Cause::Finished))
     );
-    for polls in 0..6 {
-        assert_cancelled(&rt, &task, &flow, polls)?;
-    }
+    assert_cancelled_at_any_time(&rt, &task, &flow, 6)?;
+    Ok(())
+}
+
+const ONE: &[u64] = &[1];
+
+const TWO: &[u64] = &[1, 2];
+
+const THREE: &[u64] = &[1, 2, 3];
+
+const TEN: &[u64] = &[10];
+
+const TENS: &[u64] = &[10, 20];
+
+// Pairs of lists, and of a list and one that fails.
+fn assert_pairs(rt: &impl Abort, alloc: Global, task: &MockTask) -> Result<(), Fail> {
+    const SUMS: &[u64] = &[11, 22];
+    const FIRST: &[u64] = &[11];
+    let pairs = zip(listed(alloc, THREE)?, listed(alloc, TENS)?, Sum);
+    assert_gives(rt, alloc, task, &pairs, SUMS, Cause::Finished)?;
+    assert_cancelled_at_any_time(rt, task, &pairs, 4)?;
+    let short = zip(listed(alloc, ONE)?, broken(alloc, TEN, 3)?, Sum);
+    assert_gives(rt, alloc, task, short, FIRST, Cause::Finished)?;
+    let failed = zip(listed(alloc, TWO)?, broken(alloc, TEN, 3)?, Sum);
+    assert_gives(rt, alloc, task, failed, FIRST, Cause::Failed(3))?;
     Ok(())
 }
 
 #[test]
 fn pipes_of_several_sources(rt: HostRuntime) -> Result<(), Fail> {
+    const LATEST: &[u64] = &[11, 12, 22];
     let alloc = rt.alloc();
     let task = MockTask::new(&rt)?;
-    let three = of::<u64, u64>(vec![in alloc; 1, 2, 3]?);
-    let tens = of::<u64, u64>(vec![in alloc; 10, 20]?);
-    let two = of::<u64, u64>(vec![in alloc; 1, 2]?);
-    let one = of::<u64, u64>(vec![in alloc; 1]?);
-    let broken = failing::<u64, u64>(vec![in alloc; 10]?, 3);
-    assert_gives(
-        &rt,
-        alloc,
-        &task,
-        zip(&three, &tens, Sum),
-        &[11, 22],
-        Cause::Finished,
-    )?;
-    assert_gives(
-        &rt,
-        alloc,
-        &task,
-        zip(&one, &broken, Sum),
-        &[11],
-        Cause::Finished,
-    )?;
-    assert_gives(
-        &rt,
-        alloc,
-        &task,
-        zip(&two, &broken, Sum),
-        &[11],
-        Cause::Failed(3),
-    )?;
-    assert_gives(
-        &rt,
-        alloc,
-        &task,
-        combine(&two, &tens, Sum),
-        &[11, 12, 22],
-        Cause::Finished,
-    )?;
-    let pairs = zip(&three, &tens, Sum);
-    for polls in 0..4 {
-        assert_cancelled(&rt, &task, &pairs, polls)?;
-    }
+    assert_pairs(&rt, alloc, &task)?;
+    let latest = combine(listed(alloc, TWO)?, listed(alloc, TENS)?, Sum);
+    assert_gives(&rt, alloc, &task, latest, LATEST, Cause::Finished)?;
     Ok(())
 }
 
 #[test]
 fn cold_pipes(rt: HostRuntime) -> Result<(), Fail> {
-    let alloc = rt.alloc();
-    let task = MockTask::new(&rt)?;
-    let inner = Pick {
-        zero: numbers(5, 7),
+    const INNER: Pick = Pick {
+        zero: Brief {
+            waits: 0,
+            next: 5,
+            to: 7,
+            fault: None,
+        },
         one: Brief {
             waits: 0,
             next: 1,
             to: 2,
             fault: Some(7),
         },
-        other: numbers(8, 10),
+        other: Brief {
+            waits: 0,
+            next: 8,
+            to: 10,
+            fault: None,
+        },
     };
-    let joined = flat_map_concat(of::<u64, u64>(vec![in alloc; 0, 8]?), inner);
-    assert_gives(&rt, alloc, &task, &joined, &[5, 6, 8, 9], Cause::Finished)?;
-    for polls in 0..6 {
-        assert_cancelled(&rt, &task, &joined, polls)?;
-    }
-    let caught = catch_with(of::<u64, u64>(vec![in alloc; 1, 2]?), Nine);
-    assert_gives(
-        &rt,
-        alloc,
-        &task,
-        flat_map_concat(caught, inner),
-        &[1],
-        Cause::Failed(7),
-    )?;
+    const OUTER: &[u64] = &[0, 8];
+    const JOINED: &[u64] = &[5, 6, 8, 9];
+    let alloc = rt.alloc();
+    let task = MockTask::new(&rt)?;
+    let joined = flat_map_concat(listed(alloc, OUTER)?, INNER);
+    assert_gives(&rt, alloc, &task, &joined, JOINED, Cause::Finished)?;
+    assert_cancelled_at_any_time(&rt, &task, &joined, 6)?;
+    let caught = catch_with(listed(alloc, TWO)?, Nine);
+    let failed = flat_map_concat(caught, INNER);
+    assert_gives(&rt, alloc, &task, failed, ONE, Cause::Failed(7))?;
     Ok(())
 }
 
 // 64 answers that give the caller nothing: the values and the ends of 32 empty inner flows.
 #[test]
 fn concat_yields(rt: HostRuntime) -> Result<(), Fail> {
-    let task = MockTask::new(&rt)?;
-    let inner = Pick {
-        zero: numbers(0, 0),
-        one: numbers(0, 0),
-        other: numbers(0, 0),
+    const INNER: Pick = Pick {
+        zero: EMPTY,
+        one: EMPTY,
+        other: EMPTY,
     };
-    let mut run = flat_map_concat(range::<u64>(0, 40), inner).start()?;
+    let task = MockTask::new(&rt)?;
+    let mut run = flat_map_concat(range::<u64>(0, 40), INNER).start()?;
     assert_eq!(rt; next(&task, &mut run), Poll::Pending);
     assert!(rt; task.is_woken());
     assert_eq!(rt;
@@ -426,12 +467,141 @@ fn concat_yields(rt: HostRuntime) -> Result<(), Fail> {
 // Where a number bounds the inner runs, a concatenation is known to end.
 #[test]
 fn concat_to_list(rt: HostRuntime) -> Result<(), Fail> {
-    let alloc = rt.alloc();
+    const JOINED: &[u64] = &[0, 1, 0, 1, 0, 1];
     let task = MockTask::new(&rt)?;
     let flow = flat_map_concat(range::<u64>(0, 3), Same(range(0, 2))).within::<Two>();
-    let run = flow.start()?;
-    let list = task.enter(move |cx| to_list(alloc, run, cx))?;
-    assert_eq!(rt; list.values.as_slice(), [0, 1, 0, 1, 0, 1].as_slice());
+    let list = list_of(rt.alloc(), &task, flow)?;
+    assert_eq!(rt; list.values.as_slice(), JOINED);
     assert_eq!(rt; list.cause, Cause::Finished);
+    Ok(())
+}
+
+// A flow whose runs wait for good and count the cancels that they get.
+#[derive(Clone, Copy)]
+struct Watched<'a> {
+    cancels: &'a Cell<u32>,
+}
+
+#[derive(Drop)]
+struct WatchedRun<'a> {
+    cancels: &'a Cell<u32>,
+    ended: Option<Cause<u64>>,
+}
+
+impl<'a> Flow for Watched<'a> {
+    type Item = u64;
+
+    type Fault = u64;
+
+    type Running = WatchedRun<'a>;
+
+    ghost may = { λ _. AnyTrace };
+
+    fn start(&self) -> Result<WatchedRun<'a>, Refusal> {
+        Ok(WatchedRun {
+            cancels: self.cancels,
+            ended: None,
+        })
+    }
+
+    ghost uncancelled = { λ _ _ h. h };
+}
+
+impl Run for WatchedRun<'_> {
+    ghost use Rattle.cold_flow.specs.Laws.{Unless-begins, Unless-over};
+
+    type Item = u64;
+
+    type Fault = u64;
+
+    ghost may = { λ r. Unless r.ended AnyTrace };
+
+    ghost ended = { λ r. r.ended };
+
+    ghost stopped = { λ r. is_some r.ended };
+
+    fn poll_next(&mut self, cx: &mut Context<'_>) -> Poll<Event<u64, u64>> {
+        if let Some(cause) = self.ended {
+            return Poll::Ready(Event::End(cause));
+        }
+        cx.yield_now()
+    }
+
+    fn cancel(&mut self) {
+        self.cancels.set(self.cancels.get().saturating_add(1));
+        if self.ended.is_none() {
+            self.ended = Some(Cause::Cancelled);
+        }
+    }
+
+    ghost begins = { λ r. Unless-begins r.ended _ tt };
+
+    ghost over = { λ r. Unless-over r.ended _ };
+}
+
+// A flow whose start finds no memory.
+#[derive(Clone, Copy)]
+struct Refused;
+
+impl Flow for Refused {
+    type Item = u64;
+
+    type Fault = u64;
+
+    type Running = BriefRun;
+
+    ghost may = { λ _. AnyTrace };
+
+    fn start(&self) -> Result<BriefRun, Refusal> {
+        Err(Refusal::NoMemory)
+    }
+
+    ghost uncancelled = { λ _ _ h. h };
+}
+
+// A start of both sides leaves none started where the right one is refused.
+#[test]
+fn refused_start_cancels_the_other_side(rt: HostRuntime) {
+    let cancels = Cell::new(0);
+    let left = Watched { cancels: &cancels };
+    let refused = zip(left, Refused, Sum).start().is_err();
+    assert!(rt; refused);
+    assert_eq!(rt; cancels.get(), 1);
+    let refused = combine(left, Refused, Sum).start().is_err();
+    assert!(rt; refused);
+    assert_eq!(rt; cancels.get(), 2);
+}
+
+// What the caller of a zip gives.
+fn zipped(
+    alloc: Global,
+    task: &MockTask,
+    left: &[u64],
+    right: &[u64],
+) -> Result<Collected<u64, u64>, Refusal> {
+    let left = left.to_vec(alloc)?;
+    let right = right.to_vec(alloc)?;
+    task.enter(move |cx| zipped_lists::<u64, u64, u64, u64, Sum>(alloc, left, right, Sum, cx))
+}
+
+// What the caller of a concatenation gives, of two numbers for each value.
+fn joined(alloc: Global, task: &MockTask, outer: &[u64]) -> Result<Collected<u64, u64>, Refusal> {
+    let outer = outer.to_vec(alloc)?;
+    task.enter(move |cx| {
+        joined_list::<u64, u64, u64, Numbers<u64>, Same, Two>(alloc, outer, Same(range(0, 2)), cx)
+    })
+}
+
+#[test]
+fn callers_of_several_sources(rt: HostRuntime) -> Result<(), Fail> {
+    const SUMS: &[u64] = &[11, 22];
+    const JOINED: &[u64] = &[0, 1, 0, 1];
+    let task = MockTask::new(&rt)?;
+    let sums = zipped(rt.alloc(), &task, THREE, TENS)?;
+    assert_eq!(rt; sums.values.as_slice(), SUMS);
+    assert_eq!(rt; sums.cause, Cause::Finished);
+    let numbers = joined(rt.alloc(), &task, TENS)?;
+    assert_eq!(rt; numbers.values.as_slice(), JOINED);
+    assert_eq!(rt; numbers.cause, Cause::Finished);
     Ok(())
 }

@@ -1,5 +1,5 @@
 //! A state flow's worked examples, two writers and many collectors on threads, seats that run out, and want of memory.
-ghost use Rattle.std.specs.Prelude.{◌≡◌};
+ghost use Rattle.std.specs.Prelude.{◌≡◌, IfOk};
 
 use crate::{Dimmer, Light, asked_twice};
 use cold_flow::Refusal;
@@ -7,6 +7,7 @@ use futures::task::Poll;
 use futures::test::MockTask;
 use linked_list_allocator::LocalHeap;
 use state_flow::{Collector, StateFlow, StateSeat};
+use std::alloc::Global;
 use std::test::Fail;
 use std::thread;
 
@@ -14,27 +15,109 @@ fn number(refusal: Refusal) -> u8 {
     refusal.number()
 }
 
+/// A state flow that holds 0.
+fn opened(alloc: Global, seats: u32) -> Result<StateSeat<u64>, u8> {
+    StateFlow::new(alloc, 0u64, seats).map_err(number)
+}
+
+/// A seat of the same flow.
+fn taken(seat: &mut StateSeat<u64>, share: u32) -> Result<StateSeat<u64>, u8>
+    ensures same_flow { seat.new.flow ≡ seat.old.flow }
+    ensures taken { IfOk result (λ other. other.flow ≡ seat.old.flow) }
+{
+    seat.take_seat(share).map_err(number)
+}
+
+/// The number of the refusal of a further seat, or 0 where there is one.
+fn refused_seat(seat: &mut StateSeat<u64>, share: u32) -> u8
+    ensures { seat.new.flow ≡ seat.old.flow }
+{
+    match seat.take_seat(share) {
+        Ok(_) => 0,
+        Err(refusal) => refusal.number(),
+    }
+}
+
+/// A call on a flow and on its collector, and its answer.
+#[derive(Clone, Copy)]
+enum Line {
+    Set(u64),
+    Value(u64),
+    Compare(u64, u64, bool),
+    Ask(Option<u64>),
+    /// A poll, which gives this value or waits and has yielded.
+    Poll(Option<u64>),
+}
+
+/// A poll's value, or nothing where it waits.
+fn polled(task: &MockTask, collector: &mut Collector<u64>) -> Option<u64> {
+    match task.enter(|cx| collector.poll_next(cx)) {
+        Poll::Ready(value) => Some(value),
+        Poll::Pending => None,
+    }
+}
+
+/// Is the line answered so?
+fn is_answered(
+    task: &MockTask,
+    seat: &mut StateSeat<u64>,
+    collector: &mut Collector<u64>,
+    line: Line,
+) -> bool {
+    match line {
+        Line::Set(value) => {
+            seat.set(value);
+            true
+        }
+        Line::Value(wanted) => seat.value() == wanted,
+        Line::Compare(expect, update, wanted) => seat.compare_and_set(expect, update) == wanted,
+        Line::Ask(wanted) => collector.try_next() == wanted,
+        Line::Poll(wanted) => {
+            let value = polled(task, collector);
+            value == wanted && (value.is_some() || task.is_woken())
+        }
+    }
+}
+
+/// The number of the first line that was answered otherwise, or of all lines where none was.
+fn answered(
+    task: &MockTask,
+    seat: &mut StateSeat<u64>,
+    collector: &mut Collector<u64>,
+    lines: &[Line],
+) -> usize {
+    for (number, line) in lines.iter().enumerate() {
+        if !is_answered(task, seat, collector, *line) {
+            return number;
+        }
+    }
+    lines.len()
+}
+
 #[test]
 fn state_conflates(rt: HostRuntime) -> Result<(), Fail> {
+    const LINES: &[Line] = &[
+        Line::Ask(Some(0)),
+        Line::Set(1),
+        Line::Set(1),
+        Line::Set(2),
+        Line::Ask(Some(2)),
+        Line::Set(3),
+        Line::Set(2),
+        Line::Ask(None),
+        Line::Poll(None),
+        Line::Compare(2, 2, true),
+        Line::Compare(9, 4, false),
+        Line::Compare(2, 5, true),
+        Line::Value(5),
+        Line::Poll(Some(5)),
+    ];
     let task = MockTask::new(&rt)?;
-    let mut seat = StateFlow::new(rt.alloc(), 0u64, 2).map_err(number)?;
-    let mut collector = seat.take_seat(0).map_err(number)?.collect();
-    assert_eq!(rt; collector.try_next(), Some(0));
-    seat.set(1);
-    seat.set(1);
-    seat.set(2);
-    assert_eq!(rt; collector.try_next(), Some(2));
-    seat.set(3);
-    seat.set(2);
-    assert_eq!(rt; collector.try_next(), None);
-    assert_eq!(rt; task.enter(|cx| collector.poll_next(cx)), Poll::Pending);
-    assert!(rt; task.is_woken());
-    assert!(rt; seat.compare_and_set(2, 2));
-    assert!(rt; !seat.compare_and_set(9, 4));
-    assert!(rt; seat.compare_and_set(2, 5));
-    assert_eq!(rt; seat.value(), 5);
-    assert_eq!(rt; task.enter(|cx| collector.poll_next(cx)), Poll::Ready(5));
+    let mut seat = opened(rt.alloc(), 2)?;
+    let mut collector = taken(&mut seat, 0)?.collect();
+    let count = answered(&task, &mut seat, &mut collector, LINES);
     drop(collector.cancel());
+    assert_eq!(rt; count, LINES.len());
     Ok(())
 }
 
@@ -110,21 +193,23 @@ fn take_seats(
 }
 
 #[test]
+fn seats_have_limits(rt: HostRuntime) {
+    assert_eq!(rt; spare_of(&rt, 0), Err(3));
+    assert_eq!(rt; spare_of(&rt, 1), Ok(0));
+    assert_eq!(rt; spare_of(&rt, 1024), Ok(1023));
+    assert_eq!(rt; spare_of(&rt, 1025), Err(3));
+}
+
+#[test]
 fn seats_full(rt: HostRuntime) -> Result<(), Fail> {
-    for (seats, want) in [(0, Err(3)), (1, Ok(0)), (1024, Ok(1023)), (1025, Err(3))] {
-        assert_eq!(rt; spare_of(&rt, seats), want, "at {seats}");
-    }
-    let mut seat = StateFlow::new(rt.alloc(), 0u64, 9).map_err(number)?;
-    let first = seat.take_seat(0).map_err(number)?;
+    let mut seat = opened(rt.alloc(), 9)?;
+    let first = taken(&mut seat, 0)?;
     let others = take_seats(&mut seat, Vec::new(rt.alloc()), 7)?;
     let collectors = Vec::with_capacity(rt.alloc(), 7)?;
     let first = first.collect();
     let collectors = all_collect(others, collectors);
     assert_eq!(rt; collectors.len(), 7);
-    assert_eq!(rt;
-        seat.take_seat(0).map(|seat| seat.spare()).map_err(number),
-        Err(5)
-    );
+    assert_eq!(rt; refused_seat(&mut seat, 0), 5);
     assert_eq!(rt; seat.collectors(), 8);
     seat.give_back(first.cancel());
     assert_eq!(rt; seat.collectors(), 7);
@@ -140,15 +225,12 @@ fn seats_full(rt: HostRuntime) -> Result<(), Fail> {
 
 #[test]
 fn shares_are_counted(rt: HostRuntime) -> Result<(), Fail> {
-    let mut seat = StateFlow::new(rt.alloc(), 0u64, 10).map_err(number)?;
+    let mut seat = opened(rt.alloc(), 10)?;
     assert_eq!(rt; seat.spare(), 9);
-    let mut half = seat.take_seat(4).map_err(number)?;
+    let mut half = taken(&mut seat, 4)?;
     assert_eq!(rt; (seat.spare(), half.spare()), (4, 4));
-    assert_eq!(rt;
-        seat.take_seat(4).map(|seat| seat.spare()).map_err(number),
-        Err(5)
-    );
-    let quarter = half.take_seat(1).map_err(number)?;
+    assert_eq!(rt; refused_seat(&mut seat, 4), 5);
+    let quarter = taken(&mut half, 1)?;
     assert_eq!(rt; (half.spare(), quarter.spare()), (2, 1));
     seat.give_back(quarter);
     seat.give_back(half);

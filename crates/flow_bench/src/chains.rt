@@ -1,0 +1,120 @@
+//! Chains of cold flows, folded to one sum.
+
+ghost use Rattle.std.specs.Prelude.{◌+◌, ◌%◌, ◌^◌, nat_lt};
+
+use crate::fault::Fault;
+use crate::figure::{Figure, Part, nanoseconds_since, sum_to};
+use crate::size::Size;
+use cold_flow::{Apply, Cause, Flow, Folding, Run, filter, fold, map, range};
+use flow_merge::zip;
+use futures::task::{Doorbell, Poll, Solo};
+use std::alloc::AllocGlobal;
+use std::random::RandomSource;
+use std::rt::Clock;
+use std::time::Instant;
+
+/// How many elements the source has.
+const ELEMENTS: u64 = 10_000_000;
+
+/// One more, modulo 2^64.
+#[derive(Clone, Copy)]
+struct OneMore;
+
+impl Apply<u64> for OneMore {
+    type Out = u64;
+
+    ghost gives = { λ _ value. (value + 1) % 2 ^ 64 };
+
+    fn apply(&self, argument: u64) -> u64 {
+        argument.wrapping_add(1)
+    }
+}
+
+/// Whether a value is even.
+#[derive(Clone, Copy)]
+struct IsEven;
+
+impl Apply<u64> for IsEven {
+    type Out = bool;
+
+    ghost gives = { λ _ value. nat_lt (value % 2) 1 };
+
+    fn apply(&self, argument: u64) -> bool {
+        argument % 2 < 1
+    }
+}
+
+/// The sum of two values, modulo 2^64.
+#[derive(Clone, Copy)]
+struct Sum;
+
+impl Apply<(u64, u64)> for Sum {
+    type Out = u64;
+
+    ghost gives = { λ _ pair. (pair.0 + pair.1) % 2 ^ 64 };
+
+    fn apply(&self, argument: (u64, u64)) -> u64 {
+        argument.0.wrapping_add(argument.1)
+    }
+}
+
+/// Makes both measurements.
+pub(crate) fn measure<R>(rt: &R, size: Size) -> Result<(), Fault>
+where
+    R: Clock + Print + AllocGlobal + RandomSource,
+{
+    let elements = size.of(ELEMENTS);
+    let numbers = range::<u64>(0, elements);
+    // The even ones of 1 to `elements`: twice the numbers up to half of them.
+    let even = sum_to(elements / 2).wrapping_mul(2);
+    let chain = filter(map(numbers, OneMore), IsEven);
+    folded(rt, "S6-chain", chain, elements)?
+        .checked(even)?
+        .report(rt, size)?;
+    // Both sides have the numbers from 0 to below `elements`.
+    let pairs = sum_to(elements.saturating_sub(1)).wrapping_mul(2);
+    let zipped = zip(numbers, numbers, Sum);
+    folded(rt, "S6-zip", zipped, elements)?
+        .checked(pairs)?
+        .report(rt, size)
+}
+
+/// Starts the flow and adds up all that it gives.
+fn folded<R, F>(rt: &R, scenario: &'static str, flow: F, elements: u64) -> Result<Figure, Fault>
+where
+    R: Clock + AllocGlobal + RandomSource,
+    F: Flow<Item = u64, Fault = u64>,
+{
+    let task = Solo::new(rt, Doorbell::spinning())?;
+    let start = Instant::now(rt)?;
+    let folding = fold(flow.start()?, 0, Sum);
+    let total = sum_of(&task, folding).ok_or(Fault::WrongTotal(scenario))?;
+    let nanoseconds = nanoseconds_since(rt, start)?;
+    Ok(Figure {
+        part: Part::Cold,
+        scenario,
+        name: "element",
+        operations: elements,
+        nanoseconds,
+        total,
+    })
+}
+
+/// Polls until the fold is ready, and gives the sum where the flow finished.
+// Kept apart, as each measured loop: so the code of one doesn't move that of another.
+#[inline(never)]
+fn sum_of<U: Run<Item = u64, Fault = u64>>(
+    task: &Solo,
+    mut folding: Folding<U, u64, Sum>,
+) -> Option<u64> {
+    let mut cx = task.begin();
+    let mut sum = None;
+    for _ in 0..u64::MAX {
+        if let Poll::Ready((state, cause)) = folding.poll(&mut cx) {
+            sum = (cause == Cause::Finished).then_some(state);
+            break;
+        }
+    }
+    cx.cancel();
+    sum
+}

@@ -1,0 +1,95 @@
+//! A buffer between two threads: one pumps a range in, the other takes it out, and nothing is dropped.
+
+use crate::fault::Fault;
+use crate::figure::{Figure, Part, nanoseconds_since};
+use crate::size::Size;
+use cold_flow::{Event, Policy, Run, range};
+use flow_buffer::{Drain, Feed, Fill, split};
+use futures::task::{Doorbell, Solo};
+use std::alloc::AllocGlobal;
+use std::random::RandomSource;
+use std::rt::Clock;
+use std::sync::Wait;
+use std::thread;
+use std::thread::Threads;
+use std::time::Instant;
+
+/// Makes the measurement at capacities 4, 64 and 1,024. The smallest hands over fewer values, since its threads wait most.
+pub(crate) fn measure<R>(rt: &R, size: Size) -> Result<(), Fault>
+where
+    R: Clock + Print + AllocGlobal + RandomSource + Threads + Wait + Sync,
+{
+    for (scenario, capacity, values) in [
+        ("S5-k4", 4, 500_000),
+        ("S5-k64", 64, 5_000_000),
+        ("S5-k1024", 1024, 5_000_000),
+    ] {
+        let figure = values_through(rt, scenario, capacity, size.of(values))?;
+        figure.report(rt, size)?;
+    }
+    Ok(())
+}
+
+/// Measures how long so many values take from one thread to the other. The total is the number of those that came in order.
+fn values_through<R>(
+    rt: &R,
+    scenario: &'static str,
+    capacity: u64,
+    values: u64,
+) -> Result<Figure, Fault>
+where
+    R: Clock + AllocGlobal + RandomSource + Threads + Wait + Sync,
+{
+    let task = Solo::new(rt, Doorbell::spinning())?;
+    let start = Instant::now(rt)?;
+    let (mut feed, drain) = split(
+        rt.alloc(),
+        range::<u64>(0, values),
+        capacity,
+        Policy::Suspend,
+    )?;
+    let (lent, task) = (&mut feed, &task);
+    let ((), total) = thread::join(
+        rt,
+        move || feed_all(rt, task, lent),
+        move || drain_all(rt, drain),
+    );
+    feed.cancel(rt);
+    let nanoseconds = nanoseconds_since(rt, start)?;
+    let figure = Figure {
+        part: Part::Buffer,
+        scenario,
+        name: "value",
+        operations: values,
+        nanoseconds,
+        total,
+    };
+    figure.checked(values)
+}
+
+/// Pumps until the end.
+fn feed_all<U: Run>(rt: &impl Wait, task: &Solo, feed: &mut Feed<U>) {
+    let mut cx = task.begin();
+    for _ in rt.forever() {
+        if feed.pump(rt, &mut cx) == Fill::Ended {
+            break;
+        }
+    }
+    cx.cancel();
+}
+
+/// Takes until the end, and gives the number of values, if each was one above the one before.
+fn drain_all(rt: &impl Wait, mut drain: Drain<u64, u64>) -> u64 {
+    let mut next: u64 = 0;
+    let mut in_order = true;
+    for _ in rt.forever() {
+        match drain.next(rt) {
+            Event::Value(value) => {
+                in_order = in_order && value == next;
+                next = value.wrapping_add(1);
+            }
+            Event::End(_) => break,
+        }
+    }
+    if in_order { next } else { 0 }
+}

@@ -1,0 +1,103 @@
+//! A state flow on one thread: sets, reads, and sets that a collector asks about.
+
+use crate::fault::Fault;
+use crate::figure::{Figure, Part, nanoseconds_since, sum_to};
+use crate::size::Size;
+use cold_flow::Refusal;
+use state_flow::{Collector, StateFlow, StateSeat};
+use std::alloc::{AllocGlobal, Global};
+use std::rt::Clock;
+use std::time::Instant;
+
+/// How often each call is made.
+const CALLS: u64 = 5_000_000;
+
+const SCENARIO: &str = "S4-alone";
+
+/// Makes the three measurements.
+pub(crate) fn measure<R: Clock + Print + AllocGlobal>(rt: &R, size: Size) -> Result<(), Fault> {
+    let calls = size.of(CALLS);
+    sets(rt, calls)?.report(rt, size)?;
+    reads(rt, calls)?.report(rt, size)?;
+    sets_and_asks(rt, calls)?.report(rt, size)
+}
+
+/// A state flow with the value 0, and a seat to set it from.
+fn state_of(alloc: Global, seats: u32) -> Result<StateSeat<u64>, Refusal> {
+    StateFlow::new(alloc, 0, seats)
+}
+
+fn figure_of(name: &'static str, operations: u64, nanoseconds: u64, total: u64) -> Figure {
+    Figure {
+        part: Part::State,
+        scenario: SCENARIO,
+        name,
+        operations,
+        nanoseconds,
+        total,
+    }
+}
+
+/// Sets without a collector. The total is the value after them.
+fn sets<R: Clock + AllocGlobal>(rt: &R, calls: u64) -> Result<Figure, Fault> {
+    let mut seat = state_of(rt.alloc(), 1)?;
+    let start = Instant::now(rt)?;
+    set_up_to(&mut seat, calls);
+    let nanoseconds = nanoseconds_since(rt, start)?;
+    figure_of("set", calls, nanoseconds, seat.value()).checked(calls)
+}
+
+/// Reads of the value 1. The total is their sum.
+fn reads<R: Clock + AllocGlobal>(rt: &R, calls: u64) -> Result<Figure, Fault> {
+    let mut seat = state_of(rt.alloc(), 1)?;
+    seat.set(1);
+    let start = Instant::now(rt)?;
+    let total = sum_of_reads(&mut seat, calls);
+    let nanoseconds = nanoseconds_since(rt, start)?;
+    figure_of("read", calls, nanoseconds, total).checked(calls)
+}
+
+/// Sets, each with an ask of a collector after it. The total is the sum of what it gave.
+fn sets_and_asks<R: Clock + AllocGlobal>(rt: &R, calls: u64) -> Result<Figure, Fault> {
+    let mut seat = state_of(rt.alloc(), 2)?;
+    let other = seat.take_seat(0)?;
+    let start = Instant::now(rt)?;
+    let mut collector = other.collect();
+    let total = set_and_ask(&mut seat, &mut collector, calls);
+    drop(collector.cancel());
+    let nanoseconds = nanoseconds_since(rt, start)?;
+    figure_of("set+ask", calls, nanoseconds, total).checked(sum_to(calls))
+}
+
+/// Sets the numbers from 1 to `last`.
+#[inline(never)]
+pub(crate) fn set_up_to(seat: &mut StateSeat<u64>, last: u64) {
+    let mut value: u64 = 0;
+    for _ in 0..last {
+        value = value.wrapping_add(1);
+        seat.set(value);
+    }
+}
+
+/// Reads so often, and adds up what was read.
+#[inline(never)]
+fn sum_of_reads(seat: &mut StateSeat<u64>, calls: u64) -> u64 {
+    let mut total: u64 = 0;
+    for _ in 0..calls {
+        total = total.wrapping_add(seat.value());
+    }
+    total
+}
+
+/// Sets one more than what the collector gave last, and asks it.
+#[inline(never)]
+fn set_and_ask(seat: &mut StateSeat<u64>, collector: &mut Collector<u64>, calls: u64) -> u64 {
+    let mut last: u64 = 0;
+    let mut total: u64 = 0;
+    for _ in 0..calls {
+        seat.set(last.wrapping_add(1));
+        last = collector.try_next().unwrap_or(0);
+        total = total.wrapping_add(last);
+    }
+    total
+}

@@ -1,0 +1,157 @@
+//! A state flow between threads: one sets without pause, and one or two others ask without pause.
+
+use crate::fault::Fault;
+use crate::figure::{Figure, Part, nanoseconds_since};
+use crate::size::Size;
+use crate::state_alone::set_up_to;
+use state_flow::{StateFlow, StateSeat};
+use std::alloc::AllocGlobal;
+use std::rt::Clock;
+use std::sync::Wait;
+use std::thread;
+use std::thread::Threads;
+use std::time::Instant;
+
+/// How many values are set.
+const SETS: u64 = 2_000_000;
+
+/// What one thread did.
+#[derive(Clone, Copy)]
+struct Work {
+    operations: u64,
+    nanoseconds: u64,
+    /// The last value that it set, or that it was given where each value was above the one before.
+    last: u64,
+}
+
+/// What a collector was given so far.
+#[derive(Clone, Copy)]
+struct Given {
+    asks: u64,
+    /// The last value, or nothing where one wasn't above the one before.
+    last: Option<u64>,
+}
+
+/// Makes the measurement with one collector and with two.
+pub(crate) fn measure<R>(rt: &R, size: Size) -> Result<(), Fault>
+where
+    R: Clock + Print + AllocGlobal + Threads + Wait + Sync,
+{
+    let sets = size.of(SETS);
+    one_collector(rt, size, sets)?;
+    two_collectors(rt, size, sets)
+}
+
+/// One thread sets, and one asks.
+fn one_collector<R>(rt: &R, size: Size, sets: u64) -> Result<(), Fault>
+where
+    R: Clock + Print + AllocGlobal + Threads + Wait + Sync,
+{
+    let mut writer = StateFlow::new(rt.alloc(), 0u64, 2)?;
+    let reader = writer.take_seat(0)?;
+    let (set, asked) = thread::join(
+        rt,
+        move || write(rt, writer, sets),
+        move || collect(rt, reader, sets),
+    );
+    figure_of("S4-c1", "set", set?)
+        .checked(sets)?
+        .report(rt, size)?;
+    figure_of("S4-c1", "ask", asked?)
+        .checked(sets)?
+        .report(rt, size)
+}
+
+/// One thread sets, and two ask. The asks of both are one figure.
+fn two_collectors<R>(rt: &R, size: Size, sets: u64) -> Result<(), Fault>
+where
+    R: Clock + Print + AllocGlobal + Threads + Wait + Sync,
+{
+    let mut writer = StateFlow::new(rt.alloc(), 0u64, 3)?;
+    let one = writer.take_seat(0)?;
+    let two = writer.take_seat(0)?;
+    let (set, (one, two)) = thread::join(
+        rt,
+        move || write(rt, writer, sets),
+        move || {
+            thread::join(
+                rt,
+                move || collect(rt, one, sets),
+                move || collect(rt, two, sets),
+            )
+        },
+    );
+    figure_of("S4-c2", "set", set?)
+        .checked(sets)?
+        .report(rt, size)?;
+    figure_of("S4-c2", "ask", both(one?, two?))
+        .checked(sets)?
+        .report(rt, size)
+}
+
+fn figure_of(scenario: &'static str, name: &'static str, work: Work) -> Figure {
+    Figure {
+        part: Part::State,
+        scenario,
+        name,
+        operations: work.operations,
+        nanoseconds: work.nanoseconds,
+        total: work.last,
+    }
+}
+
+/// The work of two threads, as one.
+fn both(one: Work, two: Work) -> Work {
+    Work {
+        operations: one.operations.wrapping_add(two.operations),
+        nanoseconds: one.nanoseconds.wrapping_add(two.nanoseconds),
+        last: one.last.min(two.last),
+    }
+}
+
+/// Sets the numbers from 1 to `sets`.
+fn write(rt: &impl Clock, mut seat: StateSeat<u64>, sets: u64) -> Result<Work, Fault> {
+    let start = Instant::now(rt)?;
+    set_up_to(&mut seat, sets);
+    Ok(Work {
+        operations: sets,
+        nanoseconds: nanoseconds_since(rt, start)?,
+        last: seat.value(),
+    })
+}
+
+/// Asks until the last value came.
+fn collect<R: Clock + Wait>(rt: &R, seat: StateSeat<u64>, last: u64) -> Result<Work, Fault> {
+    let start = Instant::now(rt)?;
+    let given = ask_up_to(rt, seat, last);
+    Ok(Work {
+        operations: given.asks,
+        nanoseconds: nanoseconds_since(rt, start)?,
+        last: given.last.unwrap_or(0),
+    })
+}
+
+/// Asks until that value came, and looks whether each value is above the one before.
+fn ask_up_to(rt: &impl Wait, seat: StateSeat<u64>, last: u64) -> Given {
+    let mut collector = seat.collect();
+    let mut given = Given {
+        asks: 0,
+        last: Some(0),
+    };
+    let mut newest: u64 = 0;
+    for _ in rt.forever() {
+        given.asks = given.asks.wrapping_add(1);
+        if let Some(value) = collector.try_next() {
+            given.last = given
+                .last
+                .filter(|before| *before <= value)
+                .and(Some(value));
+            newest = value;
+        }
+        if newest == last {
+            break;
+        }
+    }
+    drop(collector.cancel());
+    given
+}

@@ -1,0 +1,156 @@
+//! The ring beside the lists that it replaced, and what it does over its capacity.
+
+use crate::list_body::ListBody;
+use cold_flow::{Policy, Refusal};
+use shared_core::{Call, Config, Next, SharedState, SubId, Ticket, Tried};
+use std::alloc::Global;
+use std::test::Fail;
+
+/// How many lists of calls are made, and how many calls each has.
+const LISTS: u64 = 10_000;
+
+const CALLS: u64 = 200;
+
+/// The numbers stay below this.
+const LIMIT: u64 = 1 << 62;
+
+fn number(refusal: Refusal) -> u8 {
+    refusal.number()
+}
+
+/// Numbers that look random, the same in each run.
+#[derive(Drop)]
+struct Random {
+    state: u64,
+}
+
+impl Random {
+    /// A number below the bound.
+    fn below(&mut self, bound: u64) -> u64 {
+        let mut state = self.state;
+        state ^= state.wrapping_shl(13);
+        state ^= state >> 7;
+        state ^= state.wrapping_shl(17);
+        self.state = state;
+        (state >> 11) % bound.max(1)
+    }
+
+    /// A flow with at most 5 places, and a policy that it may have.
+    fn config(&mut self) -> Config {
+        let capacity = self.below(6);
+        let replay = self.below(capacity.saturating_add(1)).min(capacity);
+        let policy = match self.below(3) {
+            0 if capacity > 0 => Policy::DropOldest,
+            1 if capacity > 0 => Policy::DropLatest,
+            _ => Policy::Suspend,
+        };
+        let first = match self.below(8) {
+            0 => LIMIT - self.below(60).min(60),
+            _ => self.below(1000),
+        };
+        Config {
+            replay,
+            extra: capacity.saturating_sub(replay),
+            policy,
+            subscribers: (1 + self.below(4).min(3)) as u32,
+            emits: (1 + self.below(4).min(3)) as u32,
+            first,
+        }
+    }
+
+    /// A number of which `given` were given from `first` on: mostly one of the latest.
+    fn number(&mut self, first: u64, given: u64) -> u64 {
+        first.saturating_add(given.saturating_sub(self.below(6)))
+    }
+
+    fn call(&mut self, body: &ListBody) -> Call<u64> {
+        let first = body.config.first;
+        match self.below(20) {
+            0..=2 => Call::Try(self.below(3).min(2) as u32, self.below(1000)),
+            3..=6 => Call::Start(self.below(3).min(2) as u32, self.below(1000)),
+            7..=8 => Call::Poll(Ticket(self.number(first, body.given))),
+            9 => Call::Withdraw(Ticket(self.number(first, body.given))),
+            10..=11 => Call::Subscribe,
+            12..=17 => Call::Next(SubId(self.number(first, body.subscribed))),
+            18 => Call::Cancel(SubId(self.number(first, body.subscribed))),
+            _ => match self.below(2) {
+                0 => Call::Reset,
+                _ => Call::Count,
+            },
+        }
+    }
+}
+
+/// Makes a list of calls on both bodies. Answers whether all replies, and what is left at the end, are the same.
+fn agree(alloc: Global, random: &mut Random) -> Result<bool, Fail> {
+    let config = random.config();
+    let mut ring = SharedState::<u64>::new(alloc, config).map_err(number)?;
+    let mut lists = ListBody::new(alloc, config);
+    let mut replies = Vec::new(alloc);
+    for _ in 0..CALLS {
+        let call = random.call(&lists);
+        let expected = lists.make(alloc, call)?;
+        replies.clear();
+        ring.run(&[call], &mut replies).map_err(number)?;
+        if replies[..] != [expected][..] {
+            return Ok(false);
+        }
+    }
+    Ok(same_state(&ring, &lists))
+}
+
+/// Whether both have the same replay cache, and as many values pending for each subscription.
+fn same_state(ring: &SharedState<u64>, lists: &ListBody) -> bool {
+    if ring.replay_len() != lists.cache.len() as u64 {
+        return false;
+    }
+    for (index, value) in lists.cache.iter().enumerate() {
+        if index as u64 >= ring.replay_len() || ring.replay_at(index as u64) != *value {
+            return false;
+        }
+    }
+    for made in 0..lists.subscribed {
+        let id = lists.config.first.saturating_add(made);
+        if ring.pending(SubId(id)) != lists.pending(id) {
+            return false;
+        }
+    }
+    true
+}
+
+#[test]
+fn ring_replies_as_the_lists_did(rt: HostRuntime) -> Result<(), Fail> {
+    let mut random = Random {
+        state: 0x9E37_79B9_7F4A_7C15,
+    };
+    for list in 0..LISTS {
+        assert!(rt; agree(rt.alloc(), &mut random)?, "list {list}");
+    }
+    Ok(())
+}
+
+#[test]
+fn ring_over_capacity(rt: HostRuntime) -> Result<(), Fail> {
+    let config = Config {
+        replay: 1,
+        extra: 2,
+        policy: Policy::DropOldest,
+        subscribers: 2,
+        emits: 1,
+        first: 0,
+    };
+    let mut flow = SharedState::<u64>::new(rt.alloc(), config).map_err(number)?;
+    let a = flow.subscribe().map_err(number)?;
+    for value in 1..=5 {
+        let tried = flow.try_emit(1, value).map_err(number)?;
+        assert!(rt; tried == Tried::Accepted(value - 1));
+    }
+    assert!(rt; flow.replay_len() == 1);
+    let b = flow.subscribe().map_err(number)?;
+    for value in 3..=5 {
+        assert!(rt; flow.next(a) == Next::Value(value));
+    }
+    assert!(rt; flow.next(a) == Next::Nothing);
+    assert!(rt; flow.next(b) == Next::Value(5));
+    Ok(())
+}

@@ -1,0 +1,231 @@
+//! Emissions, and their tickets.
+
+use super::{Accepted, ListBody, NUMBER_LIMIT, Waiting};
+use cold_flow::{Policy, Refusal};
+use shared_core::{Begun, Emit, Ticket, Tried, Withdrawn};
+use std::alloc::AllocError;
+
+/// What an emission comes to, before it is asked whether it may wait.
+#[derive(Clone, Copy)]
+enum Fate {
+    Enters,
+    PushesIn,
+    HandedOver,
+    Dropped,
+    HeldUp,
+}
+
+impl ListBody {
+    /// Whether each live subscription has a place left.
+    fn has_room(&self) -> bool {
+        let limit = self.limit();
+        for place in &self.live {
+            if place.pending.len() >= limit {
+                return false;
+            }
+        }
+        true
+    }
+
+    /// Whether the numbers are used up, with one for each emission that waits.
+    fn is_spent(&self) -> bool {
+        self.next_number.saturating_add(self.waiting.len() as u64) == NUMBER_LIMIT
+    }
+
+    fn fate(&self) -> Fate {
+        if self.live.is_empty() {
+            return Fate::Enters;
+        }
+        if self.capacity() == 0 {
+            if self.waiting.len() > 0 || !self.has_room() {
+                return Fate::HeldUp;
+            }
+            return Fate::HandedOver;
+        }
+        if self.has_room() {
+            return Fate::Enters;
+        }
+        match self.config.policy {
+            Policy::Suspend => Fate::HeldUp,
+            Policy::DropLatest => Fate::Dropped,
+            Policy::DropOldest => Fate::PushesIn,
+        }
+    }
+
+    /// The value joins the list of each live subscription, and the cache. Answers its number.
+    fn accept(&mut self, value: u64) -> Result<u64, AllocError> {
+        let number = self.next_number;
+        for place in self.live.iter_mut() {
+            place.pending.push_back(value)?;
+        }
+        self.cache.push_back(value)?;
+        if self.cache.len() as u64 > self.config.replay {
+            let _oldest = self.cache.pop_front();
+        }
+        self.next_number = number.saturating_add(1);
+        Ok(number)
+    }
+
+    /// Accepts the value, after each subscription with all its places taken lost its oldest one.
+    fn push_in(&mut self, value: u64) -> Result<u64, AllocError> {
+        let limit = self.limit();
+        for place in self.live.iter_mut() {
+            if place.pending.len() == limit {
+                let _lost = place.pending.pop_front();
+            }
+        }
+        self.accept(value)
+    }
+
+    /// Whether each ticket is out.
+    fn is_full(&self) -> bool {
+        self.accepted.len().saturating_add(self.waiting.len()) >= self.config.emits as usize
+    }
+
+    fn next_ticket(&mut self) -> u64 {
+        let ticket = self.config.first.saturating_add(self.given);
+        self.given = self.given.saturating_add(1);
+        ticket
+    }
+
+    /// Accepts the emission that waits longest, where there is room. Answers whether it did.
+    fn accept_waiting(&mut self) -> Result<bool, AllocError> {
+        let Some(oldest) = self.waiting.front().copied() else {
+            return Ok(false);
+        };
+        if !self.has_room() {
+            return Ok(false);
+        }
+        let _oldest = self.waiting.pop_front();
+        let index = self.next_number.saturating_sub(self.config.first);
+        let _number = self.accept(oldest.value)?;
+        self.accepted.push_back(Accepted {
+            ticket: oldest.ticket,
+            index,
+        })?;
+        Ok(true)
+    }
+
+    /// Accepts waiting emissions, the oldest first, while there is room.
+    pub(crate) fn settle(&mut self) -> Result<(), AllocError> {
+        for _ in 0..self.waiting.len() {
+            if !self.accept_waiting()? {
+                return Ok(());
+            }
+        }
+        Ok(())
+    }
+
+    pub(crate) fn try_emit(
+        &mut self,
+        value: u64,
+    ) -> Result<Result<Tried<u64>, Refusal>, AllocError> {
+        if self.is_spent() {
+            return Ok(Err(Refusal::Spent));
+        }
+        Ok(Ok(match self.fate() {
+            Fate::Enters => Tried::Accepted(self.accept(value)?),
+            Fate::PushesIn => Tried::Accepted(self.push_in(value)?),
+            Fate::Dropped => Tried::Dropped,
+            Fate::HandedOver | Fate::HeldUp => Tried::Full,
+        }))
+    }
+
+    pub(crate) fn start_emit(
+        &mut self,
+        value: u64,
+    ) -> Result<Result<Begun<u64, Ticket>, Refusal>, AllocError> {
+        if self.is_spent() || self.config.first.saturating_add(self.given) == NUMBER_LIMIT {
+            return Ok(Err(Refusal::Spent));
+        }
+        let fate = self.fate();
+        if matches!(fate, Fate::HandedOver | Fate::HeldUp) && self.is_full() {
+            return Ok(Err(Refusal::EmitsFull));
+        }
+        Ok(Ok(match fate {
+            Fate::Enters => Begun::Accepted(self.accept(value)?),
+            Fate::PushesIn => Begun::Accepted(self.push_in(value)?),
+            Fate::Dropped => Begun::Dropped,
+            Fate::HandedOver => Begun::Waiting(self.hand_over(value)?),
+            Fate::HeldUp => Begun::Waiting(self.keep_waiting(value)?),
+        }))
+    }
+
+    fn hand_over(&mut self, value: u64) -> Result<Ticket, AllocError> {
+        let index = self.accept(value)?.saturating_sub(self.config.first);
+        let ticket = self.next_ticket();
+        self.accepted.push_back(Accepted { ticket, index })?;
+        Ok(Ticket(ticket))
+    }
+
+    fn keep_waiting(&mut self, value: u64) -> Result<Ticket, AllocError> {
+        let ticket = self.next_ticket();
+        self.waiting.push_back(Waiting { ticket, value })?;
+        Ok(Ticket(ticket))
+    }
+
+    /// Whether the accepted emission is pending for nobody, in a flow without places.
+    fn is_finished(&self, index: u64) -> bool {
+        if self.capacity() > 0 {
+            return true;
+        }
+        let later = self
+            .next_number
+            .saturating_sub(self.config.first)
+            .saturating_sub(index);
+        for place in &self.live {
+            if place.pending.len() as u64 >= later {
+                return false;
+            }
+        }
+        true
+    }
+
+    pub(crate) fn poll_emit(&mut self, ticket: u64) -> Emit {
+        for at in 0..self.accepted.len() {
+            let Some(held) = self.accepted.get(at).copied() else {
+                return Emit::Gone;
+            };
+            if held.ticket == ticket {
+                if !self.is_finished(held.index) {
+                    return Emit::Waiting;
+                }
+                let _done = self.accepted.remove(at);
+                return Emit::Done(self.config.first.saturating_add(held.index));
+            }
+        }
+        match self.waiting_at(ticket) {
+            None => Emit::Gone,
+            Some(_) => Emit::Waiting,
+        }
+    }
+
+    pub(crate) fn cancel_emit(&mut self, ticket: u64) -> Withdrawn<u64> {
+        for at in 0..self.accepted.len() {
+            let Some(held) = self.accepted.get(at).copied() else {
+                return Withdrawn::Gone;
+            };
+            if held.ticket == ticket {
+                let _left = self.accepted.remove(at);
+                return Withdrawn::Left(self.config.first.saturating_add(held.index));
+            }
+        }
+        match self.waiting_at(ticket) {
+            None => Withdrawn::Gone,
+            Some(at) => {
+                let _removed = self.waiting.remove(at);
+                Withdrawn::Removed
+            }
+        }
+    }
+
+    /// Where the ticket is held among those that wait.
+    fn waiting_at(&self, ticket: u64) -> Option<usize> {
+        for (at, held) in self.waiting.iter().enumerate() {
+            if held.ticket == ticket {
+                return Some(at);
+            }
+        }
+        None
+    }
+}

@@ -1,0 +1,99 @@
+//! The calls of a shared flow that take memory: each succeeds where it is there. Where one allocation fails, as under
+//! `rt try --test --fail-alloc N`, the call that wanted it is refused and leaves all as it was, so that it succeeds when it is
+//! made once more.
+
+use crate::shared_stage::config;
+use cold_flow::{Policy, Refusal};
+use shared_core::{Tried, Withdrawn};
+use shared_flow::{Emitter, SharedFlow, Subscription};
+use std::alloc::AllocGlobal;
+use std::process::Abort;
+use std::sync::Wait;
+use std::test::Fail;
+
+fn flow_made<R: AllocGlobal>(rt: &R) -> Result<SharedFlow<u64>, Refusal> {
+    let config = config(2, 0, Policy::Suspend);
+    match SharedFlow::new(rt.alloc(), config) {
+        Ok(flow) => Ok(flow),
+        Err(Refusal::NoMemory) => SharedFlow::new(rt.alloc(), config),
+        Err(refusal) => Err(refusal),
+    }
+}
+
+fn other_made<R: Wait>(rt: &R, flow: &mut SharedFlow<u64>) -> Result<SharedFlow<u64>, Refusal> {
+    match flow.dup(rt) {
+        Ok(other) => Ok(other),
+        Err(Refusal::NoMemory) => flow.dup(rt),
+        Err(refusal) => Err(refusal),
+    }
+}
+
+fn emitter_made<R: Wait>(rt: &R, flow: &mut SharedFlow<u64>) -> Result<Emitter<u64>, Refusal> {
+    match flow.emitter(rt, 3) {
+        Ok(emitter) => Ok(emitter),
+        Err(Refusal::NoMemory) => flow.emitter(rt, 3),
+        Err(refusal) => Err(refusal),
+    }
+}
+
+// A refused one takes no place.
+fn subscription_made<R: Wait + Abort>(
+    rt: &R,
+    flow: &mut SharedFlow<u64>,
+) -> Result<Subscription<u64>, Refusal> {
+    match flow.subscribe(rt) {
+        Ok(subscription) => Ok(subscription),
+        Err(Refusal::NoMemory) => {
+            let count = flow.subscription_count(rt);
+            assert_eq!(rt; count, 0);
+            flow.subscribe(rt)
+        }
+        Err(refusal) => Err(refusal),
+    }
+}
+
+// What was refused adds nothing.
+fn cache_added<R: Wait + Abort>(
+    rt: &R,
+    flow: &mut SharedFlow<u64>,
+    out: &mut Vec<u64>,
+) -> Result<(), Refusal> {
+    match flow.replay_cache_into(rt, out) {
+        Ok(()) => Ok(()),
+        Err(Refusal::NoMemory) => {
+            assert!(rt; out.is_empty());
+            flow.replay_cache_into(rt, out)
+        }
+        Err(refusal) => Err(refusal),
+    }
+}
+
+// The number of an accepted value's receipt.
+fn number_of<R: Wait>(rt: &R, emitter: &mut Emitter<u64>, value: u64) -> Option<u64> {
+    if emitter.in_flight() {
+        return None;
+    }
+    match emitter.try_emit(rt, value) {
+        Ok(Tried::Accepted(receipt)) => Some(receipt.number()),
+        _ => None,
+    }
+}
+
+#[test]
+fn what_was_refused_for_want_of_memory_is_as_before(rt: HostRuntime) -> Result<(), Fail> {
+    let mut flow = flow_made(&rt).map_err(|refusal| refusal.number())?;
+    let mut other = other_made(&rt, &mut flow).map_err(|refusal| refusal.number())?;
+    let mut emitter = emitter_made(&rt, &mut other).expect(&rt, "an emitter");
+    let first = number_of(&rt, &mut emitter, 5);
+    let second = number_of(&rt, &mut emitter, 6);
+    let subscription = subscription_made(&rt, &mut flow).expect(&rt, "a subscription");
+    let count = other.subscription_count(&rt);
+    subscription.cancel(&rt);
+    let idle = emitter.close(&rt);
+    let mut cache = Vec::new(rt.alloc());
+    assert_eq!(rt; cache_added(&rt, &mut flow, &mut cache), Ok(()));
+    assert_eq!(rt; (first, second, count), (Some(0), Some(1), 1));
+    assert_eq!(rt; idle, Withdrawn::Gone);
+    assert_eq!(rt; cache.as_slice(), [5, 6].as_slice());
+    Ok(())
+}
