@@ -1,6 +1,6 @@
 //! Callers of a shared flow between threads: an emission and a receipt for which a thread sleeps, and both lent to threads.
 
-ghost use Rattle.std.specs.Prelude.{◌≡◌, true, false, IfSome};
+ghost use Rattle.std.specs.Prelude.{◌≡◌, true, false, None, IfSome, IfNone};
 
 use cold_flow::Refusal;
 use futures::task::{Doorbell, Poll, Queue};
@@ -66,8 +66,27 @@ where
     unreachable!()
 }
 
+/// The next value of a subscription, which ends where none comes: nobody waits for it then.
+fn received_or_ended<R>(rt: &R, listening: &mut Option<Subscription<u64>>) -> Option<u64>
+where
+    R: Wait + RandomSource + AllocGlobal,
+    ensures ended { IfNone result (listening.new ≡ None) }
+{
+    let value = match listening {
+        Some(subscription) => received(rt, subscription),
+        None => None,
+    };
+    if value.is_none() {
+        if let Some(subscription) = listening.take() {
+            subscription.cancel(rt);
+        }
+    }
+    value
+}
+
 /// One thread emits a value that another receives. The emitter and the subscription are lent to the threads, since no closure may
-/// own them, and are spent after the join.
+/// own them, and are spent after the join. Without memory for its task the receiving thread ends the subscription at once, so
+/// that the emission doesn't wait for it.
 pub fn passed_on<R>(
     rt: &R,
     flow: &mut SharedFlow<u64>,
@@ -77,7 +96,7 @@ where
     R: Wait + Threads + RandomSource + AllocGlobal + Sync,
     ensures same { flow.new ≡ flow.old }
 {
-    let mut subscription = flow.subscribe(rt)?;
+    let subscription = flow.subscribe(rt)?;
     let mut emitter = match flow.emitter(rt, 1) {
         Ok(emitter) => emitter,
         Err(refusal) => {
@@ -85,12 +104,15 @@ where
             return Err(refusal);
         }
     };
+    let mut listening = Some(subscription);
     let passed = thread::join(
         rt,
         || emitted(rt, &mut emitter, value),
-        || received(rt, &mut subscription),
+        || received_or_ended(rt, &mut listening),
     );
-    subscription.cancel(rt);
+    if let Some(subscription) = listening {
+        subscription.cancel(rt);
+    }
     let _idle = emitter.close(rt);
     Ok(passed)
 }

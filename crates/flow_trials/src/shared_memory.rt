@@ -11,6 +11,13 @@ use std::process::Abort;
 use std::sync::Wait;
 use std::test::Fail;
 
+// Whether nobody subscribes, and these values are in the replay cache.
+fn is_unchanged<R: Wait + AllocGlobal>(rt: &R, flow: &mut SharedFlow<u64>, values: &[u64]) -> bool {
+    let mut cache = Vec::new(rt.alloc());
+    let added = flow.replay_cache_into(rt, &mut cache);
+    added.is_ok() && cache.as_slice() == values && flow.subscription_count(rt) == 0
+}
+
 fn flow_made<R: AllocGlobal>(rt: &R) -> Result<SharedFlow<u64>, Refusal> {
     let config = config(2, 0, Policy::Suspend);
     match SharedFlow::new(rt.alloc(), config) {
@@ -20,39 +27,53 @@ fn flow_made<R: AllocGlobal>(rt: &R) -> Result<SharedFlow<u64>, Refusal> {
     }
 }
 
-fn other_made<R: Wait>(rt: &R, flow: &mut SharedFlow<u64>) -> Result<SharedFlow<u64>, Refusal> {
-    match flow.dup(rt) {
-        Ok(other) => Ok(other),
-        Err(Refusal::NoMemory) => flow.dup(rt),
+fn emitter_made<R: Wait + Abort + AllocGlobal>(
+    rt: &R,
+    flow: &mut SharedFlow<u64>,
+    values: &[u64],
+) -> Result<Emitter<u64>, Refusal> {
+    match flow.emitter(rt, 3) {
+        Ok(emitter) => Ok(emitter),
+        Err(Refusal::NoMemory) => {
+            assert!(rt; is_unchanged(rt, flow, values));
+            flow.emitter(rt, 3)
+        }
         Err(refusal) => Err(refusal),
     }
 }
 
-fn emitter_made<R: Wait>(rt: &R, flow: &mut SharedFlow<u64>) -> Result<Emitter<u64>, Refusal> {
-    match flow.emitter(rt, 3) {
-        Ok(emitter) => Ok(emitter),
-        Err(Refusal::NoMemory) => flow.emitter(rt, 3),
+fn other_made<R: Wait + Abort + AllocGlobal>(
+    rt: &R,
+    flow: &mut SharedFlow<u64>,
+    values: &[u64],
+) -> Result<SharedFlow<u64>, Refusal> {
+    match flow.dup(rt) {
+        Ok(other) => Ok(other),
+        Err(Refusal::NoMemory) => {
+            assert!(rt; is_unchanged(rt, flow, values));
+            flow.dup(rt)
+        }
         Err(refusal) => Err(refusal),
     }
 }
 
 // A refused one takes no place.
-fn subscription_made<R: Wait + Abort>(
+fn subscription_made<R: Wait + Abort + AllocGlobal>(
     rt: &R,
     flow: &mut SharedFlow<u64>,
+    values: &[u64],
 ) -> Result<Subscription<u64>, Refusal> {
     match flow.subscribe(rt) {
         Ok(subscription) => Ok(subscription),
         Err(Refusal::NoMemory) => {
-            let count = flow.subscription_count(rt);
-            assert_eq!(rt; count, 0);
+            assert!(rt; is_unchanged(rt, flow, values));
             flow.subscribe(rt)
         }
         Err(refusal) => Err(refusal),
     }
 }
 
-// What was refused adds nothing.
+// What was refused adds nothing to the 4 that was there.
 fn cache_added<R: Wait + Abort>(
     rt: &R,
     flow: &mut SharedFlow<u64>,
@@ -61,7 +82,7 @@ fn cache_added<R: Wait + Abort>(
     match flow.replay_cache_into(rt, out) {
         Ok(()) => Ok(()),
         Err(Refusal::NoMemory) => {
-            assert!(rt; out.is_empty());
+            assert_eq!(rt; out.as_slice(), [4].as_slice());
             flow.replay_cache_into(rt, out)
         }
         Err(refusal) => Err(refusal),
@@ -81,19 +102,20 @@ fn number_of<R: Wait>(rt: &R, emitter: &mut Emitter<u64>, value: u64) -> Option<
 
 #[test]
 fn what_was_refused_for_want_of_memory_is_as_before(rt: HostRuntime) -> Result<(), Fail> {
+    let mut cache = Vec::with_capacity(rt.alloc(), 1)?;
+    cache.push(4)?;
     let mut flow = flow_made(&rt).map_err(|refusal| refusal.number())?;
-    let mut other = other_made(&rt, &mut flow).map_err(|refusal| refusal.number())?;
-    let mut emitter = emitter_made(&rt, &mut other).expect(&rt, "an emitter");
+    let mut emitter = emitter_made(&rt, &mut flow, &[]).expect(&rt, "an emitter");
     let first = number_of(&rt, &mut emitter, 5);
     let second = number_of(&rt, &mut emitter, 6);
-    let subscription = subscription_made(&rt, &mut flow).expect(&rt, "a subscription");
+    let mut other = other_made(&rt, &mut flow, &[5, 6]).expect(&rt, "another owner");
+    let subscription = subscription_made(&rt, &mut flow, &[5, 6]).expect(&rt, "a subscription");
     let count = other.subscription_count(&rt);
     subscription.cancel(&rt);
     let idle = emitter.close(&rt);
-    let mut cache = Vec::new(rt.alloc());
-    assert_eq!(rt; cache_added(&rt, &mut flow, &mut cache), Ok(()));
+    assert_eq!(rt; cache_added(&rt, &mut other, &mut cache), Ok(()));
     assert_eq!(rt; (first, second, count), (Some(0), Some(1), 1));
     assert_eq!(rt; idle, Withdrawn::Gone);
-    assert_eq!(rt; cache.as_slice(), [5, 6].as_slice());
+    assert_eq!(rt; cache.as_slice(), [4, 5, 6].as_slice());
     Ok(())
 }

@@ -10,7 +10,7 @@ use crate::shared_stage::{Call, config, played};
 use cold_flow::Policy;
 use futures::task::Poll;
 use futures::test::MockTask;
-use shared_core::{Config, Tried, Withdrawn};
+use shared_core::{Begun, Config, Tried, Withdrawn};
 use shared_flow::{Emitter, SharedFlow, Subscription};
 use std::process::Abort;
 use std::sync::Wait;
@@ -222,5 +222,48 @@ fn another_owner_emits(rt: HostRuntime) -> Result<(), Fail> {
     let (values, counts) = three_polls(&rt, &task, &mut flow);
     assert_eq!(rt; values, [Some(2), Some(3), None]);
     assert_eq!(rt; counts, (1, 0));
+    Ok(())
+}
+
+// An emitter with this id, whose emission of this value waits.
+fn waiting<R: Wait + Abort>(
+    rt: &R,
+    flow: &mut SharedFlow<u64>,
+    id: u32,
+    value: u64,
+) -> Emitter<u64> {
+    let mut emitter = flow.emitter(rt, id).expect(rt, "an emitter");
+    if !emitter.in_flight() {
+        let begun = emitter.start_emit(rt, value);
+        assert!(rt; matches!(begun, Ok(Begun::Waiting(()))));
+    }
+    assert!(rt; emitter.in_flight());
+    emitter
+}
+
+// The emission of the second emitter waits when its emitter is closed. That of the third was accepted by then.
+#[test]
+fn close_gives_up_the_emission_in_flight(rt: HostRuntime) -> Result<(), Fail> {
+    let task = MockTask::new(&rt)?;
+    let made = SharedFlow::new(rt.alloc(), config(0, 1, Policy::Suspend));
+    let mut flow = made.map_err(|refusal| refusal.number())?;
+    let mut subscription = flow.subscribe(&rt).expect(&rt, "a subscription");
+    let mut first = flow.emitter(&rt, 1).expect(&rt, "an emitter");
+    assert_eq!(rt; receipt_of(&rt, &mut first, 1), Some((1, 0)));
+    let second = waiting(&rt, &mut flow, 2, 2);
+    let third = waiting(&rt, &mut flow, 3, 3);
+    assert_eq!(rt; second.close(&rt), Withdrawn::Removed);
+    let received = polled(&rt, &task, &mut subscription);
+    let left = match third.close(&rt) {
+        Withdrawn::Left(receipt) => Some((receipt.emitter(), receipt.number())),
+        _ => None,
+    };
+    let last = polled(&rt, &task, &mut subscription);
+    let none = polled(&rt, &task, &mut subscription);
+    let idle = first.close(&rt);
+    subscription.cancel(&rt);
+    assert_eq!(rt; (received, left), (Some(1), Some((3, 1))));
+    assert_eq!(rt; (last, none), (Some(3), None));
+    assert_eq!(rt; idle, Withdrawn::Gone);
     Ok(())
 }

@@ -13,7 +13,11 @@ use std::test::Fail;
 use std::thread;
 use std::thread::Threads;
 
+/// How often each thread asks at most, where one emits and one receives.
 const TURNS: u32 = 1_000_000;
+
+/// The same where seven threads ask for one lock without pause: who gives it back often takes it again first.
+const CROWDED_TURNS: u32 = 200_000_000;
 
 fn subscribed<R: Wait + Abort + RandomSource + AllocGlobal>(
     rt: &R,
@@ -26,12 +30,12 @@ fn subscribed<R: Wait + Abort + RandomSource + AllocGlobal>(
 }
 
 // Emits the values from `start` up to `end`, and says how many got their receipts, each with a number above the one before.
-fn emit_values(rt: &impl Wait, emitting: &mut Emitting, start: u64, end: u64) -> u64
+fn emit_values(rt: &impl Wait, emitting: &mut Emitting, start: u64, end: u64, turns: u32) -> u64
     requires { start ≤ end }
 {
     let mut value = start;
     let mut last = None;
-    for _ in 0..TURNS {
+    for _ in 0..turns {
         if value >= end {
             break;
         }
@@ -76,7 +80,7 @@ fn a_thousand_hand_overs_between_threads(rt: HostRuntime) -> Result<(), Fail> {
     let mut emitting = Emitting::new(&rt, &mut flow, 0);
     let (emitted, received) = thread::join(
         &rt,
-        || emit_values(&rt, &mut emitting, 0, 1000),
+        || emit_values(&rt, &mut emitting, 0, 1000, TURNS),
         || receive_in_order(&rt, &mut listening, 1000),
     );
     listening.leave(&rt);
@@ -129,7 +133,7 @@ fn receive_from_three(rt: &impl Wait, listening: &mut Listening) -> Tally {
         second: 0,
         third: 0,
     };
-    for _ in 0..TURNS {
+    for _ in 0..CROWDED_TURNS {
         if tally == ALL {
             break;
         }
@@ -163,11 +167,11 @@ fn all_emit<R: Wait + Threads + Sync>(
 ) -> (u64, (u64, u64)) {
     thread::join(
         rt,
-        || emit_values(rt, first, 0, 1000),
+        || emit_values(rt, first, 0, 1000, CROWDED_TURNS),
         || thread::join(
             rt,
-            || emit_values(rt, second, 1000, 2000),
-            || emit_values(rt, third, 2000, 3000),
+            || emit_values(rt, second, 1000, 2000, CROWDED_TURNS),
+            || emit_values(rt, third, 2000, 3000, CROWDED_TURNS),
         ),
     )
 }

@@ -9,6 +9,20 @@ const STOP: Option<Command> = Some(Command::Stop);
 
 const RESET: Option<Command> = Some(Command::StopAndReset);
 
+/// Polls of a strategy that stops after 100 and expires 50 later: moment, count, command, and whether it is on then.
+const WHILE_SUBSCRIBED: &[(u64, u32, Option<Command>, bool)] = &[
+    (0, 0, None, false),
+    (10, 1, START, true),
+    (20, 1, None, true),
+    (1000, 0, None, true),
+    (1099, 0, None, true),
+    (1100, 0, STOP, false),
+    (1149, 0, None, false),
+    (1150, 0, RESET, false),
+    (1151, 0, None, false),
+    (1151, 1, START, true),
+];
+
 #[test]
 fn while_subscribed(rt: HostRuntime) -> Result<(), Fail> {
     let started = Started::WhileSubscribed {
@@ -17,25 +31,24 @@ fn while_subscribed(rt: HostRuntime) -> Result<(), Fail> {
     };
     let mut strategy = Strategy::new(started);
     assert!(rt; !strategy.on());
-    let polls = [
-        (0, 0, None, false),
-        (10, 1, START, true),
-        (20, 1, None, true),
-        (1000, 0, None, true),
-        (1099, 0, None, true),
-        (1100, 0, STOP, false),
-        (1149, 0, None, false),
-        (1150, 0, RESET, false),
-        (1151, 0, None, false),
-        (1151, 1, START, true),
-    ];
-    for (now, count, command, on) in polls {
-        assert_eq!(rt; strategy.step(now, count), command, "at {now}");
-        assert_eq!(rt; strategy.on(), on, "at {now}");
-        assert_eq!(rt; strategy.latest(), now);
+    for (now, count, command, on) in WHILE_SUBSCRIBED {
+        assert_eq!(rt; strategy.step(*now, *count), *command, "at {now}");
+        assert_eq!(rt; strategy.on(), *on, "at {now}");
+        assert_eq!(rt; strategy.latest(), *now);
     }
     Ok(())
 }
+
+/// Polls of a strategy, the second with a moment that lies before the first's.
+const GOES_BACK: &[(u64, u32)] = &[
+    (50, 1),
+    (40, 0),
+    (59, 0),
+    (60, 0),
+    (64, 0),
+    (65, 0),
+    (99, 0),
+];
 
 #[test]
 fn a_moment_that_goes_back(rt: HostRuntime) -> Result<(), Fail> {
@@ -43,17 +56,8 @@ fn a_moment_that_goes_back(rt: HostRuntime) -> Result<(), Fail> {
         stop: 10,
         expire: Some(5),
     };
-    let polls = [
-        (50, 1),
-        (40, 0),
-        (59, 0),
-        (60, 0),
-        (64, 0),
-        (65, 0),
-        (99, 0),
-    ];
     let mut answers = [None; 7];
-    let strategy = commands_of(started, &polls, &mut answers);
+    let strategy = commands_of(started, GOES_BACK, &mut answers);
     assert_eq!(rt; answers, [START, None, None, STOP, None, RESET, None]);
     assert_eq!(rt; strategy.latest(), 99);
     Ok(())

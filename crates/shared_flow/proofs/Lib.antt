@@ -2,3 +2,4 @@ pub mod OneKeys
 pub mod Configs
 pub mod Refusals
 pub mod Policies
+pub mod Rises

@@ -1,5 +1,5 @@
 -- Who sleeps where.
-use Rattle.std.specs.Prelude.{◌≡◌, ℕ, Option, Some}
+use Rattle.std.specs.Prelude.{◌≡◌, ◌↔◌, ℕ, Bool, false, Option, Some}
 use Rattle.slab.specs.Slab.{Slab, get}
 use Rattle.shared_flow.specs.declared.sleepers.Sleeper.{Sleeper}
 
@@ -7,3 +7,7 @@ use Rattle.shared_flow.specs.declared.sleepers.Sleeper.{Sleeper}
 abbrev pub SleepsAt : Slab Sleeper → Option ℕ → ℕ → Type 0
 SleepsAt sleeping key number =
     (k : ℕ) × (sleeper : Sleeper) × (key ≡ Some k) × (get sleeping k ≡ Some sleeper) × (sleeper.number ≡ number)
+
+-- who isn't done sleeps on where it slept, and nobody else sleeps
+abbrev pub OnlyDoneRise : (ℕ → Bool) → Slab Sleeper → Slab Sleeper → Type 0
+OnlyDoneRise done old new = (key number : ℕ) → SleepsAt new (Some key) number ↔ (SleepsAt old (Some key) number × (done number ≡ false))

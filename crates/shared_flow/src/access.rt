@@ -24,10 +24,13 @@ pub struct Access<T: Word> {
 impl<T: Word> Model for Access<T> {
     ghost use Rattle.std.specs.Prelude.{Option};
     ghost use Rattle.shared_core.specs.declared.config.Config.{Config};
+    ghost use Rattle.shared_flow.specs.Guarded.{HasRoomOf};
 
     ghost Value = { Option Config };
 
     ghost view = { λ a. a.lock };
+
+    ghost invariant = { λ a. HasRoomOf a.wakes_count a.lock };
 }
 
 impl<T: Word> Access<T> {

@@ -1,9 +1,11 @@
 //! Tasks that wait for something under the lock.
 
-ghost use Rattle.std.specs.Prelude.{◌≡◌, ◌≤◌, ◌↔◌, true, false, None, [], IfOk, IfNone};
+ghost use Rattle.std.specs.Prelude.{◌≡◌, ◌≤◌, ◌<◌, ◌↔◌, ℕ, true, false, Some, None, [], IfOk, IfSome, IfNone};
 ghost use Rattle.slab.specs.Slab.{slab_len, entries};
 ghost use Rattle.futures.specs.Task.{IsArmed, Keeps};
-ghost use Rattle.shared_flow.specs.Sleeping.{SleepsAt};
+ghost use Rattle.shared_core.specs.Calls as calls;
+ghost use Rattle.shared_core.specs.Shown.{Shows};
+ghost use Rattle.shared_flow.specs.Sleeping.{SleepsAt, OnlyDoneRise};
 
 use crate::wakes::Wakes;
 use futures::task::{Context, Poll, Source, Waker};
@@ -56,6 +58,7 @@ impl Sleepers {
     /// The task of this poll sleeps until the one with this number is woken. Without a place for it, which no flow comes to,
     /// the task yields.
     pub fn sleep(&mut self, number: u64, bed: &mut Bed, cx: &mut Context<'_>)
+        ensures sleeps { slab_len self.old.sleeping < self.old.sleeping.capacity → SleepsAt self.new.sleeping bed.new.key number }
         ensures armed { IsArmed cx.new }
         ensures kept { Keeps cx.old cx.new }
     {
@@ -63,9 +66,9 @@ impl Sleepers {
             let _again: Poll<()> = cx.yield_now();
             return;
         }
-        let Some(sleeper) = bed.key.and_then(|key| self.sleeping.get_mut(key)) else {
-            let _again: Poll<()> = cx.yield_now();
-            return;
+        let Some(key) = bed.key else { unreachable!() };
+        let Some(sleeper) = self.sleeping.get_mut(key) else {
+            unreachable!()
         };
         let _asleep: Poll<()> = cx.register(&self.source, &mut sleeper.waker);
     }
@@ -116,6 +119,7 @@ impl Sleepers {
     /// The number of one that sleeps.
     pub fn any(&self) -> Option<u64>
         ensures nobody { IfNone result (entries self.now.sleeping ≡ []) }
+        ensures somebody { IfSome result (λ number. (key : ℕ) × SleepsAt self.now.sleeping (Some key) number) }
     {
         let (_, sleeper) = self.sleeping.iter().next()?;
         Some(sleeper.number)
@@ -123,6 +127,7 @@ impl Sleepers {
 
     /// Wakes all.
     pub fn wake_all(&mut self, wakes: &mut Wakes)
+        ensures nobody { slab_len self.new.sleeping ≡ 0 }
         ensures room { self.new.sleeping.capacity ≡ self.old.sleeping.capacity }
     {
         self.sleeping.retain(|_, sleeper| {
@@ -133,6 +138,7 @@ impl Sleepers {
 
     /// Wakes those whose emission is done.
     pub fn wake_done<T: Copy>(&mut self, flow: &SharedState<T>, wakes: &mut Wakes)
+        ensures done { (M : _) → Shows flow.now M → OnlyDoneRise (λ number. calls.would_be_done number M) self.old.sleeping self.new.sleeping }
         ensures room { self.new.sleeping.capacity ≡ self.old.sleeping.capacity }
     {
         self.sleeping.retain(|_, sleeper| {
