@@ -1,11 +1,14 @@
 -- The places of a state's collectors, where one is added, asked or taken away.
-use Rattle.std.proofs.Common.{◌≡◌, ℕ, false, zero, suc, ◌+◌, ◌-◌, ◌<◌, true, List, [], ◌∷◌, ◌++◌, length, set, get_or, map, slice_get, Option, Some, None, is_some, refl, sym, ap, ◌∙◌, subst, arith}
+use Rattle.std.proofs.Common.{◌≡◌, ℕ, false, zero, suc, ◌+◌, ◌-◌, ◌<◌, ◌≤◌, true, List, [], ◌∷◌, ◌++◌, length, set, get_or, map, slice_get, Option, Some, None, is_some, refl, sym, ap, ◌∙◌, subst, arith}
 use Rattle.std.specs.Option.{option_map}
 use Rattle.std.proofs.lemmas.List.{map-set}
-use Rattle.std.proofs.lemmas.Option.{slice_get-map, slice_get-get_or}
+use Rattle.std.proofs.lemmas.Option.{slice_get_past, slice_get-map, slice_get-get_or}
 use Rattle.std.proofs.Math.Seq.{map-set_same}
 use Rattle.state_flow.specs.Views.{Place}
-use Rattle.flow_script.specs.Watching.{SeatedBeside, IsWatch, collecting}
+use Rattle.state_flow.specs.Calls.{Collects, Ends, TakesBack}
+use Rattle.state_flow.specs.declared.view.View.{View}
+use Rattle.flow_script.specs.Watching.{SeatedBeside, IsWatch, LoadsWhere, TakesOne, collecting}
+use Rattle.flow_script.proofs.Picturing.{past_end}
 
 -- the seat made a step
 pub moved : (seat seat' : Place ℕ) (places : List (Option (Place ℕ))) → seat'.flow ≡ seat.flow → SeatedBeside seat places → SeatedBeside seat' places
@@ -87,6 +90,21 @@ asked seat places index place place' now watch small is held same share =
       shares = ap (λ stands. seat.view.share + collecting stands) (still places index place place' now is held) ∙ watch.shares;
     }
 
+-- a collector made a load, which gave what was found
+pub loads : (places : List (Option (Place ℕ))) (index : ℕ) (place place' : Place ℕ) (given found' : Option ℕ) (now : Option (Place ℕ)) → index < length places → now ≡ get_or places index now → Some place ≡ now → place'.flow ≡ place.flow → given ≡ found' → Collects place.view given place'.view
+    → LoadsWhere (slice_get places index) places index found' (set places index (Some place'))
+loads places index place place' given found' now small is held same gave received =
+    rw (slice_get-get_or places index now small ∙ ap (λ o. Some o) (sym is ∙ sym held)) (record { loaded = place'; same_flow = same; received = subst (λ g. Collects place.view g place'.view) gave received; only = refl })
+
+set_same : {A : Type 0} (xs : List A) (index : ℕ) (x : A) → x ≡ get_or xs index x → set xs index x ≡ xs
+set_same [] index x is = refl
+set_same (y ∷ ys) zero x is = ap (λ first. first ∷ ys) is
+set_same (y ∷ ys) (suc index) x is = ap (λ rest. y ∷ rest) (set_same ys index x is)
+
+-- a cancelled collector makes no load
+pub loads_none : (places : List (Option (Place ℕ))) (index : ℕ) (given : Option ℕ) (now : Option (Place ℕ)) → index < length places → now ≡ get_or places index now → now ≡ None → LoadsWhere (slice_get places index) places index given (set places index now)
+loads_none places index given now small is none = rw (slice_get-get_or places index now small ∙ ap (λ o. Some o) (sym is ∙ none)) (set_same places index now is)
+
 -- a collector's place is empty now
 pub marks : {A : Type 0} (places : List (Option A)) (index : ℕ) (left : Option A) → left ≡ None → map is_some (set places index left) ≡ set (map is_some places) index false
 marks places index left none = rw none (map-set is_some places index None)
@@ -98,6 +116,33 @@ taken_away seat seat' places index place now left share watch small is held none
     let fewer : suc (collecting (map is_some (set places index None))) ≡ collecting (map is_some places) = one_fewer places index place small (rw held is) in
     let all : seat.view.share + collecting (map is_some places) ≡ 9 = watch.shares in
     rw none (record { seated = moved seat seat' (set places index None) same (removed seat places index watch.seated); shares = omega arith })
+
+-- a collector ended
+pub takes_one : (seat seat' : Place ℕ) (places : List (Option (Place ℕ))) (index : ℕ) (place : Place ℕ) (now left : Option (Place ℕ)) (spent : View ℕ) → index < length places → now ≡ get_or places index now → Some place ≡ now → left ≡ None → Ends place.view spent → TakesBack seat.view spent seat'.view
+    → TakesOne (record { seat = seat; collectors = places }) index (record { seat = seat'; collectors = set places index left })
+takes_one seat seat' places index place now left spent small is held none ends joined = record {
+  left = ap (set places index) none;
+  gives_back = rw (slice_get-get_or places index now small ∙ ap (λ o. Some o) (sym is ∙ sym held)) (record { spent = spent; ends = ends; joined = joined });
+}
+
+-- it had been cancelled
+pub takes_empty : (seat : Place ℕ) (places : List (Option (Place ℕ))) (index : ℕ) (now left : Option (Place ℕ)) → index < length places → now ≡ get_or places index now → None ≡ now → left ≡ None → TakesOne (record { seat = seat; collectors = places }) index (record { seat = seat; collectors = set places index left })
+takes_empty seat places index now left small is held none = record {
+  left = ap (set places index) none;
+  gives_back = rw (slice_get-get_or places index now small ∙ ap (λ o. Some o) (sym is ∙ sym held)) refl;
+}
+
+set_past : {A : Type 0} (xs : List A) (index : ℕ) (x : A) → length xs ≤ index → set xs index x ≡ xs
+set_past [] index x past = refl
+set_past (y ∷ ys) zero x past = absurd (omega arith)
+set_past (y ∷ ys) (suc index) x past = ap (λ rest. y ∷ rest) (set_past ys index x (omega arith))
+
+-- no collector has this index
+pub takes_none : (seat : Place ℕ) (places : List (Option (Place ℕ))) (index size : ℕ) → size ≡ length places → (index < size → false ≡ true) → TakesOne (record { seat = seat; collectors = places }) index (record { seat = seat; collectors = places })
+takes_none seat places index size same past =
+    let end : size ≤ index = past_end index size past in
+    let beyond : length places ≤ index = omega arith in
+    record { left = sym (set_past places index None beyond); gives_back = rw (slice_get_past places index beyond) refl }
 
 -- a collector was made of a seat that was taken
 pub added : (seat seat' : Place ℕ) (places : List (Option (Place ℕ))) (place : Place ℕ) → IsWatch seat places → seat'.flow ≡ seat.flow → seat'.view.share ≡ seat.view.share - 1 → 1 < seat.view.share → place.flow ≡ seat.flow → place.view.share ≡ 1 → IsWatch seat' (places ++ (Some place ∷ []))

@@ -29,8 +29,6 @@ mod source;
 mod source_flow;
 mod stage;
 mod stating;
-#[cfg(test)]
-mod tests;
 mod ticked;
 mod watched;
 mod words;

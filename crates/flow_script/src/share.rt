@@ -4,6 +4,7 @@ ghost use Rattle.std.specs.Prelude.{◌≡◌, ◌⊎◌, ◌++◌, ◌∷◌, [
 ghost use Rattle.cold_flow.specs.declared.refusal.Refusal.TheVariants.{NoMemory, Spent, SubscribersFull};
 ghost use Rattle.shared_core.specs.Kept.{making_refusal};
 ghost use Rattle.flow_sharing.specs.Courses.{kept_cause};
+ghost use Rattle.flow_sharing.specs.Shown.{Shows};
 ghost use Rattle.flow_script.specs.Shares.{live};
 ghost use Rattle.flow_script.specs.Ticks.{TicksAs};
 ghost use Rattle.flow_script.specs.Watching.{Asked, ended};
@@ -42,6 +43,7 @@ impl<'a> Share<'a> {
         ensures made { IfOk result (λ share. live share ≡ []) }
         ensures flow { IfOk result (λ share. (share.flow ≡ Some config) × (share.sharing.flow ≡ Some config)) }
         ensures sharing { IfOk result (λ share. (share.sharing.strategy.started ≡ started) × (share.sharing.upstream.flow ≡ source.entry)) }
+        ensures shows { IfOk result (λ share. Shows share.sharing.strategy []) }
     {
         let mut flow = SharedFlow::new(alloc, config)?;
         let sharing = share_in(rt, &mut flow, source, started)?;
@@ -119,6 +121,7 @@ impl<'a> Share<'a> {
     pub fn tick(&mut self, rt: &impl Wait, now: u64, cx: &mut Context<'_>) -> Ticked
         ensures live { live self.new ≡ live self.old }
         ensures ticks { TicksAs now self.old.sharing.strategy (kept_cause self.old.sharing.upstream.course) self.new.sharing.strategy (kept_cause self.new.sharing.upstream.course) result }
+        ensures started { self.new.sharing.strategy.started ≡ self.old.sharing.strategy.started }
     {
         let polled = self.sharing.poll(rt, now, cx);
         Ticked::of(polled, self.sharing.fault())

@@ -1,8 +1,9 @@
 //! The sharing of a source by a state of a script.
 
-ghost use Rattle.std.specs.Prelude.{◌≡◌};
+ghost use Rattle.std.specs.Prelude.{◌≡◌, []};
 ghost use Rattle.state_flow.specs.Calls.{Sets};
 ghost use Rattle.flow_sharing.specs.Courses.{kept_cause};
+ghost use Rattle.flow_sharing.specs.Shown.{Shows};
 ghost use Rattle.flow_script.specs.Ticks.{TicksAs};
 
 use crate::source_flow::SourceFlow;
@@ -27,6 +28,7 @@ impl<'a> Stating<'a> {
         ensures same_flow { result.sharing.seat.flow ≡ seat.flow }
         ensures sets { Sets seat.view initial result.sharing.seat.view }
         ensures sharing { (result.sharing.strategy.started ≡ started) × (result.sharing.initial ≡ initial) × (result.sharing.upstream.flow ≡ source.entry) }
+        ensures shows { Shows result.sharing.strategy [] }
     {
         Stating {
             sharing: state_in(seat, initial, source, started),
@@ -36,6 +38,7 @@ impl<'a> Stating<'a> {
     /// One poll of the sharing, at this moment in milliseconds.
     pub fn tick(&mut self, now: u64, cx: &mut Context<'_>) -> Ticked
         ensures ticks { TicksAs now self.old.sharing.strategy (kept_cause self.old.sharing.upstream.course) self.new.sharing.strategy (kept_cause self.new.sharing.upstream.course) result }
+        ensures started { self.new.sharing.strategy.started ≡ self.old.sharing.strategy.started }
         ensures same_flow { self.new.sharing.seat.flow ≡ self.old.sharing.seat.flow }
     {
         let polled = self.sharing.poll(now, cx);

@@ -3,7 +3,8 @@
 ghost use Rattle.std.specs.Prelude.{◌≡◌, ◌⊎◌, ◌++◌, ◌∷◌, [], ◌<◌, ◌≤◌, true, false, length, IfOk, IfErr, slice_set};
 ghost use Rattle.cold_flow.specs.declared.refusal.Refusal.TheVariants.{NoMemory, SubscribersFull};
 ghost use Rattle.state_flow.specs.Calls.{Reads, Sets, Compares, Counts};
-ghost use Rattle.flow_script.specs.Watching.{standing, collecting, Asked, ended};
+ghost use Rattle.state_flow.specs.Views.{opening, giver, taker};
+ghost use Rattle.flow_script.specs.Watching.{standing, collecting, Asked, ended, AsksOne, AddsOne, TakesOne};
 
 use cold_flow::Refusal;
 use shared_core::Next;
@@ -40,6 +41,7 @@ impl Watched {
     /// A state with this value and no collectors. Refused with 4 at most.
     pub fn new(alloc: Global, value: u64) -> Result<Watched, Refusal>
         ensures made { IfOk result (λ made. standing made ≡ []) }
+        ensures opens { IfOk result (λ made. made.seat.view ≡ opening value 9) }
         ensures refusals { IfErr result (λ refusal. refusal ≡ NoMemory) }
     {
         let seat = StateFlow::new(alloc, value, SEATS)?;
@@ -53,6 +55,7 @@ impl Watched {
     pub fn stated(alloc: Global, value: u64) -> Result<(Watched, StateSeat<u64>), Refusal>
         ensures made { IfOk result (λ made. standing made.0 ≡ []) }
         ensures same_flow { IfOk result (λ made. made.1.flow ≡ made.0.seat.flow) }
+        ensures opens { IfOk result (λ made. (made.0.seat.view ≡ giver 1 (opening value 10)) × (made.1.view ≡ taker 1 (opening value 10))) }
         ensures refusals { IfErr result (λ refusal. refusal ≡ NoMemory) }
     {
         let mut seat = StateFlow::new(alloc, value, STATED_SEATS)?;
@@ -100,7 +103,9 @@ impl Watched {
     pub fn collect(&mut self) -> Result<usize, Refusal>
         ensures made { IfOk result (λ index. (index ≡ length (standing self.old)) × (standing self.new ≡ standing self.old ++ (true ∷ []))) }
         ensures room { IfOk result (λ _. collecting (standing self.old) < 8) }
+        ensures begins { IfOk result (λ _. AddsOne self.old self.new) }
         ensures unchanged { IfErr result (λ _. standing self.new ≡ standing self.old) }
+        ensures untouched { IfErr result (λ _. (self.new.collectors ≡ self.old.collectors) × (self.new.seat.view ≡ self.old.seat.view)) }
         ensures refusals { IfErr result (λ refusal. (refusal ≡ NoMemory) ⊎ ((refusal ≡ SubscribersFull) × (8 ≤ collecting (standing self.old)))) }
     {
         self.collectors.reserve(1)?;
@@ -114,6 +119,8 @@ impl Watched {
     pub fn next(&mut self, index: usize) -> Option<Next<u64>>
         ensures stands { standing self.new ≡ standing self.old }
         ensures asked { Asked (standing self.old) index result }
+        ensures collects { AsksOne self.old.collectors index result self.new.collectors }
+        ensures seat { self.new.seat ≡ self.old.seat }
     {
         let Some(collector) = self.collectors.get_mut(index)? else {
             return Some(Next::Closed);
@@ -128,6 +135,7 @@ impl Watched {
     pub fn cancel(&mut self, index: usize) -> Option<bool>
         ensures stands { standing self.new ≡ slice_set (standing self.old) index false }
         ensures ended { result ≡ ended (standing self.old) index }
+        ensures takes { TakesOne self.old index self.new }
     {
         match self.collectors.get_mut(index)?.take() {
             Some(collector) => {

@@ -1,6 +1,6 @@
 use Rattle.std.proofs.Common.{ℕ, Some, is_some, refl, ap, ◌∙◌}
 use Rattle.state_flow.specs.declared.view.View.{View}
-use Rattle.flow_script.proofs.Watching.{within, collector_at, collects_at, marks, taken_away}
+use Rattle.flow_script.proofs.Watching.{within, collector_at, collects_at, marks, taken_away, takes_one, takes_empty, takes_none}
 use Rattle.flow_script.proofs.watched.Watched.cancel.Goals as goal
 
 pub give_back-requires : goal.give_back-requires
@@ -25,3 +25,12 @@ returns-in-None-clause-stands c = rw (← c.self.view_is) (marks c.self.inside.c
 
 pub returns-in-None-clause-ended : goal.returns-in-None-clause-ended
 returns-in-None-clause-ended c = rw (← c.self.view_is) (ap (λ o. Some (is_some o)) c.in-None.ensures.value ∙ collects_at c.self.inside.collectors.items c.args.index c.in_ok-get_mut.field-0.now (within c.args.index _ _ c.self.inside.collectors.ok.0 (c.in_ok-get_mut.ensures.variant.0 refl)) c.in_ok-get_mut.ensures.value)
+
+pub returns-in_err-get_mut-clause-takes : goal.returns-in_err-get_mut-clause-takes
+returns-in_err-get_mut-clause-takes c = rw (← c.self.view_is) (takes_none c.self.inside.seat c.self.inside.collectors.items c.args.index _ c.self.inside.collectors.ok.0 c.in_err-get_mut.ensures.variant.1)
+
+pub returns-in-Some-clause-takes : goal.returns-in-Some-clause-takes
+returns-in-Some-clause-takes c = rw (← c.self.view_is) (takes_one c.self.inside.seat c.give_back.new.self c.self.inside.collectors.items c.args.index c.in-Some.collector c.in_ok-get_mut.field-0.now c.take.new.self c.cancel.result.view (within c.args.index _ _ c.self.inside.collectors.ok.0 (c.in_ok-get_mut.ensures.variant.0 refl)) c.in_ok-get_mut.ensures.value c.in-Some.ensures.value c.take.ensures.after c.cancel.ensures.ends c.give_back.ensures.joined)
+
+pub returns-in-None-clause-takes : goal.returns-in-None-clause-takes
+returns-in-None-clause-takes c = rw (← c.self.view_is) (takes_empty c.self.inside.seat c.self.inside.collectors.items c.args.index c.in_ok-get_mut.field-0.now c.take.new.self (within c.args.index _ _ c.self.inside.collectors.ok.0 (c.in_ok-get_mut.ensures.variant.0 refl)) c.in_ok-get_mut.ensures.value c.in-None.ensures.value c.take.ensures.after)

@@ -1,6 +1,6 @@
-use Rattle.std.proofs.Common.{ℕ, Some, is_some, refl, sym, ap, ◌∙◌}
+use Rattle.std.proofs.Common.{ℕ, Some, None, is_some, refl, sym, ap, ◌∙◌}
 use Rattle.state_flow.specs.declared.view.View.{View}
-use Rattle.flow_script.proofs.Watching.{within, collects_at, still, asked}
+use Rattle.flow_script.proofs.Watching.{within, collects_at, still, asked, loads, loads_none}
 use Rattle.flow_script.proofs.watched.Watched.next.Goals as goal
 
 pub invariant_of-self-in_default-try_next : goal.invariant_of-self-in_default-try_next
@@ -20,3 +20,12 @@ returns-clause-stands c = rw (← c.self.view_is) (still c.self.inside.collector
 
 pub returns-clause-asked : goal.returns-clause-asked
 returns-clause-asked c = rw (← c.self.view_is, sym (ap (λ o. Some (is_some o)) (sym c.in-Some.is) ∙ collects_at c.self.inside.collectors.items c.args.index c.in_ok-collector.field-0.now (within c.args.index _ _ c.self.inside.collectors.ok.0 (c.in_ok-collector.ensures.variant.0 refl)) c.in_ok-collector.ensures.value)) tt
+
+pub returns-in_default-clause-collects : goal.returns-in_default-clause-collects
+returns-in_default-clause-collects c = rw (← c.self.view_is) (loads_none c.self.inside.collectors.items c.args.index None c.in_ok-collector.field-0.now (within c.args.index _ _ c.self.inside.collectors.ok.0 (c.in_ok-collector.ensures.variant.0 refl)) c.in_ok-collector.ensures.value c.in_default.is)
+
+pub returns-in_default-try_next-clause-collects : goal.returns-in_default-try_next-clause-collects
+returns-in_default-try_next-clause-collects c = rw (← c.self.view_is) (loads c.self.inside.collectors.items c.args.index c.in-Some.collector c.try_next.new.self c.try_next.result None c.in_ok-collector.field-0.now (within c.args.index _ _ c.self.inside.collectors.ok.0 (c.in_ok-collector.ensures.variant.0 refl)) c.in_ok-collector.ensures.value (sym c.in-Some.is) c.try_next.ensures.same_flow c.in_default-try_next.is c.try_next.ensures.received)
+
+pub returns-clause-collects : goal.returns-clause-collects
+returns-clause-collects c = rw (← c.self.view_is) (loads c.self.inside.collectors.items c.args.index c.in-Some.collector c.try_next.new.self c.try_next.result (Some c.in-Some-try_next.value) c.in_ok-collector.field-0.now (within c.args.index _ _ c.self.inside.collectors.ok.0 (c.in_ok-collector.ensures.variant.0 refl)) c.in_ok-collector.ensures.value (sym c.in-Some.is) c.try_next.ensures.same_flow c.in-Some-try_next.is c.try_next.ensures.received)

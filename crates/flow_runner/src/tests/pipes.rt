@@ -1,6 +1,6 @@
 //! The pipes that the documentation works out, and the places where a pipe's words may go wrong.
 
-use crate::script::{Engine, run_script};
+use flow_script::{Engine, run_script};
 use std::alloc::AllocGlobal;
 use std::process::Abort;
 use std::random::RandomSource;

@@ -9,8 +9,7 @@ mod rows;
 mod sharings;
 mod streams;
 
-use crate::fault::ScriptFault;
-use crate::script::{Engine, run_script};
+use flow_script::{Engine, ScriptFault, run_script};
 use rows::ROWS;
 use std::alloc::AllocGlobal;
 use std::random::RandomSource;
