@@ -16,7 +16,7 @@ use std::thread::Threads;
 /// How often each thread asks at most, where one emits and one receives.
 const TURNS: u32 = 1_000_000;
 
-/// The same where seven threads ask for one lock without pause: who gives it back often takes it again first.
+/// The same where seven threads ask for one lock without pause, which isn't fair: most of their turns find nothing.
 const CROWDED_TURNS: u32 = 200_000_000;
 
 fn subscribed<R: Wait + Abort + RandomSource + AllocGlobal>(
