@@ -2,9 +2,11 @@
 
 ghost use Rattle.std.specs.Prelude.{◌+◌, ◌%◌, ◌^◌, nat_lt};
 
+use crate::elapsed::nanoseconds_since;
 use crate::fault::Fault;
-use crate::figure::{Figure, Part, nanoseconds_since, sum_to};
-use crate::size::Size;
+use crate::report::report;
+use crate::sums::sum_to;
+use bench_figures::{Figure, Part, Size};
 use cold_flow::{Apply, Cause, Flow, Folding, Run, filter, fold, map, range};
 use flow_merge::zip;
 use futures::task::{Doorbell, Poll, Solo};
@@ -68,15 +70,13 @@ where
     // The even ones of 1 to `elements`: twice the numbers up to half of them.
     let even = sum_to(elements / 2).wrapping_mul(2);
     let chain = filter(map(numbers, OneMore), IsEven);
-    folded(rt, "S6-chain", chain, elements)?
-        .checked(even)?
-        .report(rt, size)?;
+    let chained = folded(rt, "S6-chain", chain, elements)?;
+    report(rt, chained.checked(even)?, size)?;
     // Both sides have the numbers from 0 to below `elements`.
     let pairs = sum_to(elements.saturating_sub(1)).wrapping_mul(2);
     let zipped = zip(numbers, numbers, Sum);
-    folded(rt, "S6-zip", zipped, elements)?
-        .checked(pairs)?
-        .report(rt, size)
+    let paired = folded(rt, "S6-zip", zipped, elements)?;
+    report(rt, paired.checked(pairs)?, size)
 }
 
 /// Starts the flow and adds up all that it gives.

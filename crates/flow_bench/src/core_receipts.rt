@@ -1,8 +1,10 @@
 //! Receipts of a shared flow on one thread: a value is emitted, and each subscription takes it before the next one.
 
+use crate::elapsed::nanoseconds_since;
 use crate::fault::Fault;
-use crate::figure::{Figure, Part, nanoseconds_since, sum_to};
-use crate::size::Size;
+use crate::report::report;
+use crate::sums::sum_to;
+use bench_figures::{Figure, Part, Size};
 use cold_flow::Policy;
 use shared_core::{Config, Next, SharedState, SubId, Tried};
 use std::alloc::{AllocGlobal, Global};
@@ -25,7 +27,7 @@ struct Taken {
 pub(crate) fn measure<R: Clock + Print + AllocGlobal>(rt: &R, size: Size) -> Result<(), Fault> {
     for (scenario, subscriptions) in [("S1-n1", 1), ("S1-n4", 4), ("S1-n8", 8)] {
         let figure = receipts(rt, scenario, subscriptions, size.of(VALUES))?;
-        figure.report(rt, size)?;
+        report(rt, figure, size)?;
     }
     Ok(())
 }
@@ -58,7 +60,7 @@ fn receipts<R: Clock + AllocGlobal>(
         nanoseconds,
         total,
     };
-    figure.checked(sum_to(values).wrapping_mul(u64::from(subscriptions)))
+    Ok(figure.checked(sum_to(values).wrapping_mul(u64::from(subscriptions)))?)
 }
 
 /// So many subscriptions.

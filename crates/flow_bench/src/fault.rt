@@ -1,5 +1,6 @@
 //! Why a measurement fails.
 
+use bench_figures::WrongTotal;
 use cold_flow::Refusal;
 use flow_script::ScriptFault;
 use std::alloc::{AllocError, AllocFailed};
@@ -23,6 +24,12 @@ pub enum Fault {
     /// The clock can't be read, or a line can't be written.
     #[error("no clock or no output")]
     Host,
+}
+
+impl From<WrongTotal> for Fault {
+    fn from(wrong: WrongTotal) -> Fault {
+        Fault::WrongTotal(wrong.scenario)
+    }
 }
 
 impl From<AllocError> for Fault {

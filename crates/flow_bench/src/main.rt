@@ -9,21 +9,22 @@
 
 mod chains;
 mod core_receipts;
+mod elapsed;
 mod fault;
-mod figure;
+mod report;
 mod scenario;
 mod script_lines;
 mod shared_receipts;
-mod size;
 mod split_values;
 mod state_alone;
 mod state_threads;
+mod sums;
 
+use bench_figures::Size;
 use clap::error::ErrorKind;
 use clap::{Arg, ArgAction, Command};
 use fault::Fault;
 use scenario::Scenario;
-use size::Size;
 use std::alloc::{AllocGlobal, Global};
 use std::process::ExitCode;
 use std::random::RandomSource;

@@ -1,10 +1,10 @@
 //! The scenarios that can be measured.
 
 use crate::fault::Fault;
-use crate::size::Size;
 use crate::{
     chains, core_receipts, script_lines, shared_receipts, split_values, state_alone, state_threads,
 };
+use bench_figures::Size;
 use std::alloc::AllocGlobal;
 use std::random::RandomSource;
 use std::rt::Clock;

@@ -1,8 +1,9 @@
 //! Lines of a script, from its bytes in memory to its answers in memory.
 
+use crate::elapsed::nanoseconds_since;
 use crate::fault::Fault;
-use crate::figure::{Figure, Part, nanoseconds_since};
-use crate::size::Size;
+use crate::report::report;
+use bench_figures::{Figure, Part, Size};
 use flow_script::{Engine, run_script};
 use std::alloc::{AllocGlobal, Global};
 use std::fmt::Write as _;
@@ -31,7 +32,7 @@ where
     R: Clock + Print + AllocGlobal + RandomSource + Wait,
 {
     let script = script_of(rt.alloc(), size.of(BYTES))?;
-    lines(rt, &script)?.checked(script.lines)?.report(rt, size)
+    report(rt, lines(rt, &script)?.checked(script.lines)?, size)
 }
 
 /// Measures the run of a script. The total is the number of its lines, where each was answered as it should be.

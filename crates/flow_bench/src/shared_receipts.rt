@@ -2,9 +2,11 @@
 
 ghost use Rattle.std.specs.Prelude.{◌≡◌, false};
 
+use crate::elapsed::nanoseconds_since;
 use crate::fault::Fault;
-use crate::figure::{Figure, Part, nanoseconds_since, sum_to};
-use crate::size::Size;
+use crate::report::report;
+use crate::sums::sum_to;
+use bench_figures::{Figure, Part, Size};
 use cold_flow::Policy;
 use futures::task::{Context, Doorbell, Poll, Solo};
 use shared_core::{Config, Tried};
@@ -34,7 +36,7 @@ where
 {
     for (scenario, subscriptions) in [("S1-n1", 1), ("S1-n4", 4), ("S1-n8", 8)] {
         let figure = receipts(rt, scenario, subscriptions, size.of(VALUES))?;
-        figure.report(rt, size)?;
+        report(rt, figure, size)?;
     }
     Ok(())
 }
@@ -72,7 +74,7 @@ where
         nanoseconds,
         total,
     };
-    figure.checked(sum_to(values).wrapping_mul(u64::from(subscriptions)))
+    Ok(figure.checked(sum_to(values).wrapping_mul(u64::from(subscriptions)))?)
 }
 
 /// The sum of what the subscriptions took, and the nanoseconds of it.

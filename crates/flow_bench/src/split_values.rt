@@ -1,8 +1,9 @@
 //! A buffer between two threads: one pumps a range in, the other takes it out, and nothing is dropped.
 
+use crate::elapsed::nanoseconds_since;
 use crate::fault::Fault;
-use crate::figure::{Figure, Part, nanoseconds_since};
-use crate::size::Size;
+use crate::report::report;
+use bench_figures::{Figure, Part, Size};
 use cold_flow::{Event, Policy, Run, range};
 use flow_buffer::{Drain, Feed, Fill, split};
 use futures::task::{Doorbell, Solo};
@@ -25,7 +26,7 @@ where
         ("S5-k1024", 1024, 5_000_000),
     ] {
         let figure = values_through(rt, scenario, capacity, size.of(values))?;
-        figure.report(rt, size)?;
+        report(rt, figure, size)?;
     }
     Ok(())
 }
@@ -64,7 +65,7 @@ where
         nanoseconds,
         total,
     };
-    figure.checked(values)
+    Ok(figure.checked(values)?)
 }
 
 /// Pumps until the end.

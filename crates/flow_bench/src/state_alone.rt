@@ -1,8 +1,10 @@
 //! A state flow on one thread: sets, reads, and sets that a collector asks about.
 
+use crate::elapsed::nanoseconds_since;
 use crate::fault::Fault;
-use crate::figure::{Figure, Part, nanoseconds_since, sum_to};
-use crate::size::Size;
+use crate::report::report;
+use crate::sums::sum_to;
+use bench_figures::{Figure, Part, Size};
 use cold_flow::Refusal;
 use state_flow::{Collector, StateFlow, StateSeat};
 use std::alloc::{AllocGlobal, Global};
@@ -17,9 +19,9 @@ const SCENARIO: &str = "S4-alone";
 /// Makes the three measurements.
 pub(crate) fn measure<R: Clock + Print + AllocGlobal>(rt: &R, size: Size) -> Result<(), Fault> {
     let calls = size.of(CALLS);
-    sets(rt, calls)?.report(rt, size)?;
-    reads(rt, calls)?.report(rt, size)?;
-    sets_and_asks(rt, calls)?.report(rt, size)
+    report(rt, sets(rt, calls)?, size)?;
+    report(rt, reads(rt, calls)?, size)?;
+    report(rt, sets_and_asks(rt, calls)?, size)
 }
 
 /// A state flow with the value 0, and a seat to set it from.
@@ -44,7 +46,7 @@ fn sets<R: Clock + AllocGlobal>(rt: &R, calls: u64) -> Result<Figure, Fault> {
     let start = Instant::now(rt)?;
     set_up_to(&mut seat, calls);
     let nanoseconds = nanoseconds_since(rt, start)?;
-    figure_of("set", calls, nanoseconds, seat.value()).checked(calls)
+    Ok(figure_of("set", calls, nanoseconds, seat.value()).checked(calls)?)
 }
 
 /// Reads of the value 1. The total is their sum.
@@ -54,7 +56,7 @@ fn reads<R: Clock + AllocGlobal>(rt: &R, calls: u64) -> Result<Figure, Fault> {
     let start = Instant::now(rt)?;
     let total = sum_of_reads(&mut seat, calls);
     let nanoseconds = nanoseconds_since(rt, start)?;
-    figure_of("read", calls, nanoseconds, total).checked(calls)
+    Ok(figure_of("read", calls, nanoseconds, total).checked(calls)?)
 }
 
 /// Sets, each with an ask of a collector after it. The total is the sum of what it gave.
@@ -66,7 +68,7 @@ fn sets_and_asks<R: Clock + AllocGlobal>(rt: &R, calls: u64) -> Result<Figure, F
     let total = set_and_ask(&mut seat, &mut collector, calls);
     drop(collector.cancel());
     let nanoseconds = nanoseconds_since(rt, start)?;
-    figure_of("set+ask", calls, nanoseconds, total).checked(sum_to(calls))
+    Ok(figure_of("set+ask", calls, nanoseconds, total).checked(sum_to(calls))?)
 }
 
 /// Sets the numbers from 1 to `last`.

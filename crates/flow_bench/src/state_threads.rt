@@ -1,9 +1,10 @@
 //! A state flow between threads: one sets without pause, and one or two others ask without pause.
 
+use crate::elapsed::nanoseconds_since;
 use crate::fault::Fault;
-use crate::figure::{Figure, Part, nanoseconds_since};
-use crate::size::Size;
+use crate::report::report;
 use crate::state_alone::set_up_to;
+use bench_figures::{Figure, Part, Size};
 use state_flow::{StateFlow, StateSeat};
 use std::alloc::AllocGlobal;
 use std::rt::Clock;
@@ -54,12 +55,10 @@ where
         move || write(rt, writer, sets),
         move || collect(rt, reader, sets),
     );
-    figure_of("S4-c1", "set", set?)
-        .checked(sets)?
-        .report(rt, size)?;
-    figure_of("S4-c1", "ask", asked?)
-        .checked(sets)?
-        .report(rt, size)
+    let set = figure_of("S4-c1", "set", set?).checked(sets)?;
+    report(rt, set, size)?;
+    let asked = figure_of("S4-c1", "ask", asked?).checked(sets)?;
+    report(rt, asked, size)
 }
 
 /// One thread sets, and two ask. The asks of both are one figure.
@@ -81,12 +80,10 @@ where
             )
         },
     );
-    figure_of("S4-c2", "set", set?)
-        .checked(sets)?
-        .report(rt, size)?;
-    figure_of("S4-c2", "ask", both(one?, two?))
-        .checked(sets)?
-        .report(rt, size)
+    let set = figure_of("S4-c2", "set", set?).checked(sets)?;
+    report(rt, set, size)?;
+    let asked = figure_of("S4-c2", "ask", both(one?, two?)).checked(sets)?;
+    report(rt, asked, size)
 }
 
 fn figure_of(scenario: &'static str, name: &'static str, work: Work) -> Figure {

@@ -7,21 +7,22 @@ use Rattle.cold_flow.specs.declared.refusal.Refusal.{Refusal}
 use Rattle.cold_flow.specs.declared.refusal.Refusal.TheVariants.{NoMemory}
 use Rattle.flow_buffer.specs.declared.fill.Fill.{Fill}
 use Rattle.flow_buffer.specs.Capacity.{refused_capacity, WasRefused}
-use Rattle.flow_script.specs.declared.answer.Answer.{Answer}
-use Rattle.flow_script.specs.declared.answer.Answer.TheVariants.{Done, Refused}
+use Rattle.script_pipes.specs.declared.answer.Answer.{Answer}
+use Rattle.script_pipes.specs.declared.answer.Answer.TheVariants.{Done, Refused}
 use Rattle.flow_script.specs.declared.binding.Binding.TheVariants as bindings
-use Rattle.flow_script.specs.declared.buffer.ScriptBuffer.{ScriptBuffer}
+use Rattle.script_flows.specs.declared.buffer.ScriptBuffer.{ScriptBuffer}
 use Rattle.flow_script.specs.declared.names.Names.{Names}
 use Rattle.flow_script.specs.declared.runner.Runner.{Runner}
-use Rattle.flow_script.specs.Buffers.{Buffering, begun, filled}
-use Rattle.flow_script.specs.Buffered.{ShowsBuffer, ShowBuffers, FollowsBuffer}
+use Rattle.script_flows.specs.Buffers.{Buffering, begun, filled}
+use Rattle.script_flows.specs.Buffered.{ShowsBuffer, ShowBuffers, FollowsBuffer}
 use Rattle.flow_script.specs.Names.{bound_to}
-use Rattle.flow_script.specs.Replies.{fill_answer}
-use Rattle.flow_script.specs.Sources.{Origin}
+use Rattle.script_pipes.specs.Replies.{fill_answer}
+use Rattle.script_pipes.specs.Sources.{Origin}
 use Rattle.flow_script.specs.Worlds.{World, Note, plain, buffer_index_in, call_on_buffer, make_buffer_step, fill_step}
 use Rattle.flow_script.specs.Pictures.{Pictures, Meets, bound_buffer}
 use Rattle.flow_script.proofs.Making.{Keeps, BindsTo, binds, free}
-use Rattle.flow_script.proofs.Picturing.{besides_buffers, past_end, at_name}
+use Rattle.flow_script.proofs.Picturing.{besides_buffers, at_name}
+use Rattle.script_flows.proofs.Watching.{past_end}
 
 as_many : (buffers : List ScriptBuffer) (bs : List Buffering) → ShowBuffers buffers bs → length bs ≡ length buffers
 as_many [] [] shown = refl

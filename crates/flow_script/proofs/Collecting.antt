@@ -5,14 +5,15 @@ use Rattle.std.proofs.lemmas.List.{map-set}
 use Rattle.std.proofs.Math.Seq.{map-set_same}
 use Rattle.cold_flow.specs.declared.refusal.Refusal.{Refusal}
 use Rattle.cold_flow.specs.declared.refusal.Refusal.TheVariants.{NoMemory, SubscribersFull}
-use Rattle.flow_script.specs.declared.answer.Answer.TheVariants.{Done, Refused}
+use Rattle.script_pipes.specs.declared.answer.Answer.TheVariants.{Done, Refused}
 use Rattle.flow_script.specs.declared.binding.Binding.{Binding}
 use Rattle.flow_script.specs.declared.binding.Binding.TheVariants as bindings
 use Rattle.flow_script.specs.declared.names.Names.{Names}
 use Rattle.flow_script.specs.declared.runner.Runner.{Runner}
 use Rattle.flow_script.specs.Names.{bound_to}
-use Rattle.flow_script.specs.Replies.{collect_answer, collect_binding}
-use Rattle.flow_script.specs.Watching.{Watch, standing, collecting}
+use Rattle.script_pipes.specs.Replies.{collect_answer}
+use Rattle.flow_script.specs.Bindings.{collect_binding}
+use Rattle.script_flows.specs.Watching.{Watch, standing, collecting}
 use Rattle.flow_script.specs.Worlds.{World, state_index_in, unless_bound, collect_on, collect_step}
 use Rattle.flow_script.specs.Pictures.{Pictures, Meets, bound_state}
 use Rattle.flow_script.proofs.Picturing.{besides_states, at_name}

@@ -1,9 +1,6 @@
-pub mod Splitting
-pub mod Digits
 pub mod Transfers
 pub mod Picturing
 pub mod Making
-pub mod Watching
 pub mod States
 pub mod Misnamed
 pub mod Collecting
@@ -12,9 +9,5 @@ pub mod Ticks
 pub mod Caching
 pub mod Running
 pub mod Single
-pub mod Cutting
-pub mod Gathering
-pub mod Playing
-pub mod Buffering
 pub mod Buffers
 pub mod Whole

@@ -7,13 +7,13 @@ use Rattle.shared_core.specs.declared.config.Config.{Config}
 use Rattle.shared_core.specs.Flow.{State, empty}
 use Rattle.shared_core.specs.Kept.{making_refusal, parameters_of}
 use Rattle.shared_core.specs.Shown.{Seen, Shows, Follows}
-use Rattle.flow_script.specs.declared.answer.Answer.{Answer}
-use Rattle.flow_script.specs.declared.answer.Answer.TheVariants.{Done, Refused}
+use Rattle.script_pipes.specs.declared.answer.Answer.{Answer}
+use Rattle.script_pipes.specs.declared.answer.Answer.TheVariants.{Done, Refused}
 use Rattle.flow_script.specs.declared.binding.Binding.{Binding}
 use Rattle.flow_script.specs.declared.binding.Binding.TheVariants as bindings
 use Rattle.flow_script.specs.declared.names.Names.{Names}
 use Rattle.flow_script.specs.declared.runner.Runner.{Runner}
-use Rattle.flow_script.specs.Words.{◌>>=◌}
+use Rattle.script_words.specs.Words.{◌>>=◌}
 use Rattle.flow_script.specs.Names.{bound_to, bound_over}
 use Rattle.flow_script.specs.Worlds.{World, Outcome, Bound, binding_of, bound, flow_index_in, flow_index_at, make_on, unless_bound, make_shared_step}
 use Rattle.flow_script.specs.Pictures.{Pictures, Meets, bound_flow}

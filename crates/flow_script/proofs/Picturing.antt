@@ -3,17 +3,18 @@ use Rattle.std.proofs.Common.{◌≡◌, ℕ, zero, suc, ◌<◌, ◌≤◌, tru
 use Rattle.std.proofs.lemmas.Option.{slice_get_past}
 use Rattle.shared_core.specs.Flow.{State}
 use Rattle.shared_core.specs.Shown.{Seen, Shows, Follows}
-use Rattle.flow_script.specs.declared.answer.Answer.{Answer}
+use Rattle.script_pipes.specs.declared.answer.Answer.{Answer}
 use Rattle.flow_script.specs.declared.binding.Binding.{Binding}
-use Rattle.flow_script.specs.declared.buffer.ScriptBuffer.{ScriptBuffer}
+use Rattle.script_flows.specs.declared.buffer.ScriptBuffer.{ScriptBuffer}
 use Rattle.flow_script.specs.declared.runner.Runner.{Runner}
-use Rattle.flow_script.specs.declared.share.Share.{Share}
-use Rattle.flow_script.specs.declared.stating.Stating.{Stating}
+use Rattle.script_flows.specs.declared.share.Share.{Share}
+use Rattle.script_flows.specs.declared.stating.Stating.{Stating}
 use Rattle.flow_script.specs.Names.{bound_to}
-use Rattle.flow_script.specs.Watching.{Watch}
-use Rattle.flow_script.specs.Words.{◌>>=◌}
+use Rattle.script_flows.specs.Watching.{Watch}
+use Rattle.script_words.specs.Words.{◌>>=◌}
 use Rattle.flow_script.specs.Worlds.{World, Outcome, binding_of, call_on, read_on}
 use Rattle.flow_script.specs.Pictures.{ShowEach, Pictures, Meets}
+use Rattle.script_flows.proofs.Watching.{past_end}
 
 -- what a call on a flow leaves as it is
 abbrev pub besides_flows : Runner → List Watch × List ScriptBuffer × List Share × List Stating
@@ -66,10 +67,6 @@ show_push [] [] flow M shown one = (one, tt)
 show_push [] (N ∷ Ns) flow M shown one = absurd shown
 show_push (first ∷ flows) [] flow M shown one = absurd shown
 show_push (first ∷ flows) (N ∷ Ns) flow M shown one = (shown.0, show_push flows Ns flow M shown.1 one)
-
--- an index that no flow is found at
-pub past_end : (index size : ℕ) → (index < size → false ≡ true) → size ≤ index
-past_end index size none = grind arith
 
 -- no flow has this index
 pub none_at : (runner : Runner) (world : World) (index : ℕ) → Pictures runner world → (index < vec_len runner.flows → false ≡ true) → slice_get world.flows index ≡ None

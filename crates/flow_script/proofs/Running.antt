@@ -3,11 +3,11 @@ use Rattle.std.proofs.Common.{◌≡◌, ℕ, ◌+◌, ◌<◌, ◌≤◌, if◌
 use Rattle.std.proofs.lemmas.Bool.{eq-eqb, ne_eqb}
 use Rattle.std.specs.Io.KnownBytes.{Appends, Keeps}
 use Rattle.std.proofs.KnownBytes.{Appends-trans, Appends-nil}
-use Rattle.flow_script.specs.declared.answer.Answer.{Answer}
+use Rattle.script_pipes.specs.declared.answer.Answer.{Answer}
 use Rattle.flow_script.specs.declared.fault.ScriptFault.{ScriptFault}
 use Rattle.flow_script.specs.declared.runner.Runner.{Runner}
 use Rattle.flow_script.specs.declared.fault.ScriptFault.TheVariants.{Read, TooLong, Write, NoMemory}
-use Rattle.flow_script.specs.Lines.{lines_of}
+use Rattle.script_words.specs.Lines.{lines_of}
 use Rattle.flow_script.specs.Pictures.{Pictures}
 use Rattle.flow_script.specs.Worlds.{World, Note, plain, empty_world}
 use Rattle.flow_script.specs.Scripts.{reply_of, note_at, Notes, replies_to, text_of_lines, text_of_answer, Replies, Writes, WritesAnswer}

@@ -9,22 +9,24 @@ use Rattle.cold_flow.specs.declared.refusal.Refusal.TheVariants.{NoMemory, Spent
 use Rattle.shared_core.specs.declared.answers.Next.{Next}
 use Rattle.shared_core.specs.declared.config.Config.{Config}
 use Rattle.shared_core.specs.Kept.{making_refusal}
-use Rattle.flow_script.specs.declared.answer.Answer.{Answer}
-use Rattle.flow_script.specs.declared.answer.Answer.TheVariants as answers
+use Rattle.script_pipes.specs.declared.answer.Answer.{Answer}
+use Rattle.script_pipes.specs.declared.answer.Answer.TheVariants as answers
 use Rattle.flow_script.specs.declared.binding.Binding.{Binding}
 use Rattle.flow_script.specs.declared.binding.Binding.TheVariants as bindings
 use Rattle.flow_script.specs.declared.binding.Subscriber.{Subscriber}
 use Rattle.flow_script.specs.declared.names.Names.{Names}
 use Rattle.flow_script.specs.declared.runner.Runner.{Runner}
-use Rattle.flow_script.specs.declared.share.Share.{Share}
+use Rattle.script_flows.specs.declared.share.Share.{Share}
 use Rattle.flow_script.specs.Names.{bound_to}
-use Rattle.flow_script.specs.Replies.{collect_answer, next_answer, cancel_answer, subscriber_binding}
-use Rattle.flow_script.specs.Shares.{live}
-use Rattle.flow_script.specs.Words.{◌>>=◌}
-use Rattle.flow_script.specs.Watching.{MayAnswer}
+use Rattle.script_pipes.specs.Replies.{collect_answer, next_answer, cancel_answer}
+use Rattle.flow_script.specs.Bindings.{subscriber_binding}
+use Rattle.script_flows.specs.Shares.{live}
+use Rattle.script_words.specs.Words.{◌>>=◌}
+use Rattle.script_flows.specs.Watching.{MayAnswer}
 use Rattle.flow_script.specs.Worlds.{World, Note, only, plain, received, unless_bound, on_share, admit_on, make_share_step, subscriber_next, subscriber_cancel, with_share}
 use Rattle.flow_script.specs.Pictures.{Pictures, Meets}
-use Rattle.flow_script.proofs.Picturing.{besides_shares, past_end}
+use Rattle.flow_script.proofs.Picturing.{besides_shares}
+use Rattle.script_flows.proofs.Watching.{past_end}
 use Rattle.flow_script.proofs.Making.{Keeps, Binds, BindsTo, binds, free}
 use Rattle.flow_script.proofs.States.{noted, meets_noted, none_asked, set_past}
 

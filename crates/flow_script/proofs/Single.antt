@@ -1,11 +1,11 @@
 -- The reply to a line, by what its words are.
 use Rattle.std.proofs.Common.{◌≡◌, ℕ, ◌<◌, ◌≤◌, true, false, List, [], ◌∷◌, length, Option, Some, None, unwrap_or, refl, sym, ap}
 use Rattle.std.proofs.lemmas.Bool.{le-ltb, lt-ltb}
-use Rattle.flow_script.specs.declared.answer.Answer.{Answer}
-use Rattle.flow_script.specs.declared.answer.Answer.TheVariants.{BadCommand}
-use Rattle.flow_script.specs.Answers.{line_of}
-use Rattle.flow_script.specs.Lines.{words_of, starts_with_hash}
-use Rattle.flow_script.specs.Commands.{Order, command_of}
+use Rattle.script_pipes.specs.declared.answer.Answer.{Answer}
+use Rattle.script_pipes.specs.declared.answer.Answer.TheVariants.{BadCommand}
+use Rattle.script_pipes.specs.Answers.{line_of}
+use Rattle.script_words.specs.Lines.{words_of, starts_with_hash}
+use Rattle.script_pipes.specs.Commands.{Order, command_of}
 use Rattle.flow_script.specs.declared.runner.Runner.{Runner}
 use Rattle.flow_script.specs.Worlds.{World, Outcome, plain, step}
 use Rattle.flow_script.specs.Pictures.{Meets, Steps, StepsOrRefused, Executes}

@@ -6,16 +6,17 @@ use Rattle.std.proofs.lemmas.Option.{slice_get_past, slice_get-map, slice_get-ge
 use Rattle.std.proofs.Math.Seq.{map-set_same}
 use Rattle.shared_core.specs.declared.answers.Next.{Next}
 use Rattle.shared_core.specs.declared.answers.Next.TheVariants.{Value, Nothing, Closed}
-use Rattle.flow_script.specs.declared.answer.Answer.{Answer}
-use Rattle.flow_script.specs.declared.answer.Answer.TheVariants as answers
+use Rattle.script_pipes.specs.declared.answer.Answer.{Answer}
+use Rattle.script_pipes.specs.declared.answer.Answer.TheVariants as answers
 use Rattle.flow_script.specs.declared.binding.Collecting.{Collecting}
 use Rattle.flow_script.specs.declared.runner.Runner.{Runner}
-use Rattle.flow_script.specs.Replies.{next_answer, cancel_answer}
-use Rattle.flow_script.specs.Words.{◌>>=◌}
-use Rattle.flow_script.specs.Watching.{Watch, standing, MayAnswer}
+use Rattle.script_pipes.specs.Replies.{next_answer, cancel_answer}
+use Rattle.script_words.specs.Words.{◌>>=◌}
+use Rattle.script_flows.specs.Watching.{Watch, standing, MayAnswer}
 use Rattle.flow_script.specs.Worlds.{World, Note, only, plain, received, on_state, collector_next, collector_cancel, with_state}
 use Rattle.flow_script.specs.Pictures.{Pictures, Meets}
-use Rattle.flow_script.proofs.Picturing.{besides_states, past_end}
+use Rattle.flow_script.proofs.Picturing.{besides_states}
+use Rattle.script_flows.proofs.Watching.{past_end}
 
 -- the collectors of the state with this index
 pub state_at : (runner : Runner) (world : World) (index : ℕ) (state : Watch) → Pictures runner world → index < vec_len runner.states → state ≡ get_or runner.states.items index state → slice_get world.states index ≡ Some (standing state)

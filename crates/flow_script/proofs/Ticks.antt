@@ -2,12 +2,12 @@
 use Rattle.std.proofs.Common.{◌≡◌, ℕ, ◌<◌, ◌≤◌, true, false, length, set, Some, None, vec_len, refl, ap, ◌∙◌, arith}
 use Rattle.std.proofs.lemmas.Bool.{le-ltb, lt-ltb}
 use Rattle.std.proofs.lemmas.List.{length-set}
-use Rattle.flow_script.specs.declared.answer.Answer.{Answer}
+use Rattle.script_pipes.specs.declared.answer.Answer.{Answer}
 use Rattle.flow_script.specs.declared.runner.Runner.{Runner}
-use Rattle.flow_script.specs.declared.stating.Stating.{Stating}
+use Rattle.script_flows.specs.declared.stating.Stating.{Stating}
 use Rattle.flow_script.specs.Worlds.{World, on_stating}
 use Rattle.flow_script.specs.Pictures.{Pictures, Meets}
-use Rattle.flow_script.proofs.Picturing.{past_end}
+use Rattle.script_flows.proofs.Watching.{past_end}
 
 -- no sharing of a state has this index
 pub no_stating : (answer : Answer) (runner : Runner) (world : World) (index : ℕ) → Pictures runner world → (index < vec_len runner.statings → false ≡ true) → Meets (on_stating answer world index) world runner None

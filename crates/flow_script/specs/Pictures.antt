@@ -4,14 +4,14 @@ use Rattle.std.specs.Prelude.{◌≡◌, ℕ, Bool, List, [], ◌∷◌, Option,
 use Rattle.std.specs.Option.{option_map}
 use Rattle.shared_core.specs.Flow.{State}
 use Rattle.shared_core.specs.Shown.{Seen, Shows}
-use Rattle.flow_script.specs.declared.answer.Answer.{Answer}
+use Rattle.script_pipes.specs.declared.answer.Answer.{Answer}
 use Rattle.flow_script.specs.declared.binding.Emission.{Emission}
 use Rattle.flow_script.specs.declared.runner.Runner.{Runner}
-use Rattle.flow_script.specs.Buffered.{ShowBuffers}
-use Rattle.flow_script.specs.Commands.{Order}
-use Rattle.flow_script.specs.Watching.{standing}
-use Rattle.flow_script.specs.Shares.{live}
-use Rattle.flow_script.specs.Words.{◌>>=◌}
+use Rattle.script_flows.specs.Buffered.{ShowBuffers}
+use Rattle.script_pipes.specs.Commands.{Order}
+use Rattle.script_flows.specs.Watching.{standing}
+use Rattle.script_flows.specs.Shares.{live}
+use Rattle.script_words.specs.Words.{◌>>=◌}
 use Rattle.flow_script.specs.Names.{bound_to}
 use Rattle.flow_script.specs.Worlds.{World, Outcome, Note, binding_of, flow_index_in, emission_in, state_index_in, settable_index_in, buffer_index_in, step}
 

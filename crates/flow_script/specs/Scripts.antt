@@ -1,15 +1,15 @@
 -- What a script answers: a function of its bytes and of what is noted of its lines.
 use Rattle.std.specs.Prelude.{◌≡◌, ℕ, ◌+◌, List, [], ◌∷◌, ◌++◌, length, Option, Some, None, Result, Ok, Err, nat_lt, ◌==◌, ◌<◌, ◌≤◌, ◌⊎◌, if◌then◌else◌}
 use Rattle.std.specs.Io.KnownBytes.{Appends, Keeps, Consumes, IsAtEnd}
-use Rattle.flow_script.specs.declared.answer.Answer.{Answer}
-use Rattle.flow_script.specs.declared.answer.Answer.TheVariants.{BadCommand}
+use Rattle.script_pipes.specs.declared.answer.Answer.{Answer}
+use Rattle.script_pipes.specs.declared.answer.Answer.TheVariants.{BadCommand}
 use Rattle.flow_script.specs.declared.fault.ScriptFault.{ScriptFault}
 use Rattle.flow_script.specs.declared.fault.ScriptFault.TheVariants.{Read, TooLong, Write, NoMemory}
-use Rattle.flow_script.specs.Answers.{line_of}
-use Rattle.flow_script.specs.Commands.{command_of}
-use Rattle.flow_script.specs.Words.{◌>>=◌}
+use Rattle.script_pipes.specs.Answers.{line_of}
+use Rattle.script_pipes.specs.Commands.{command_of}
+use Rattle.script_words.specs.Words.{◌>>=◌}
 use Rattle.flow_script.specs.declared.runner.Runner.{Runner}
-use Rattle.flow_script.specs.Lines.{lines_of, words_of, starts_with_hash}
+use Rattle.script_words.specs.Lines.{lines_of, words_of, starts_with_hash}
 use Rattle.flow_script.specs.Output.{AppendsFront}
 use Rattle.flow_script.specs.Pictures.{Pictures}
 use Rattle.flow_script.specs.Worlds.{World, Outcome, Note, plain, empty_world, step}

@@ -9,23 +9,24 @@ use Rattle.shared_core.specs.Flow as flows
 use Rattle.shared_core.specs.Calls as calls
 use Rattle.shared_core.specs.Kept.{making_refusal, parameters_of}
 use Rattle.flow_buffer.specs.Capacity.{refused_capacity}
-use Rattle.flow_script.specs.declared.answer.Answer.{Answer}
-use Rattle.flow_script.specs.declared.answer.Answer.TheVariants as answers
+use Rattle.script_pipes.specs.declared.answer.Answer.{Answer}
+use Rattle.script_pipes.specs.declared.answer.Answer.TheVariants as answers
 use Rattle.flow_script.specs.declared.binding.Binding.{Binding}
 use Rattle.flow_script.specs.declared.binding.Binding.TheVariants as bindings
 use Rattle.flow_script.specs.declared.binding.Collecting.{Collecting}
 use Rattle.flow_script.specs.declared.binding.Emission.{Emission}
 use Rattle.flow_script.specs.declared.binding.Subscriber.{Subscriber}
 use Rattle.flow_script.specs.declared.binding.Emission.TheVariants as emissions
-use Rattle.flow_script.specs.declared.ticked.Ticked.{Ticked}
-use Rattle.flow_script.specs.declared.ticked.Ticked.TheVariants.{Off}
-use Rattle.flow_script.specs.Buffers.{Buffering, begun, filled, taken}
-use Rattle.flow_script.specs.Commands.{Order, make_shared, subscribe, receive, cancel, try, emit, poll, withdraw, reset, cache, count, make_state, set_state, compare_state, read_state, collect_state, make_buffer, fill, cold, make_share, make_stated, tick}
-use Rattle.flow_script.specs.Piping.{pipe_answer}
-use Rattle.flow_script.specs.Sources.{Origin}
-use Rattle.flow_script.specs.Watching.{collecting}
-use Rattle.flow_script.specs.Words.{◌>>=◌}
-use Rattle.flow_script.specs.Replies.{try_answer, emit_answer, emit_binding, poll_answer, withdraw_answer, subscribe_answer, subscribe_binding, next_answer, cancel_answer, fill_answer, take_answer, tick_answer}
+use Rattle.script_pipes.specs.declared.ticked.Ticked.{Ticked}
+use Rattle.script_pipes.specs.declared.ticked.Ticked.TheVariants.{Off}
+use Rattle.script_flows.specs.Buffers.{Buffering, begun, filled, taken}
+use Rattle.script_pipes.specs.Commands.{Order, make_shared, subscribe, receive, cancel, try, emit, poll, withdraw, reset, cache, count, make_state, set_state, compare_state, read_state, collect_state, make_buffer, fill, cold, make_share, make_stated, tick}
+use Rattle.script_pipes.specs.Piping.{pipe_answer}
+use Rattle.script_pipes.specs.Sources.{Origin}
+use Rattle.script_flows.specs.Watching.{collecting}
+use Rattle.script_words.specs.Words.{◌>>=◌}
+use Rattle.script_pipes.specs.Replies.{try_answer, emit_answer, poll_answer, withdraw_answer, subscribe_answer, next_answer, cancel_answer, fill_answer, take_answer, tick_answer}
+use Rattle.flow_script.specs.Bindings.{emit_binding, subscribe_binding}
 
 -- ---- what a script has made so far
 

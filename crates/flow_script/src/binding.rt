@@ -1,7 +1,7 @@
 //! What a name stands for.
 
 ghost use Rattle.std.specs.Prelude.{◌≡◌};
-ghost use Rattle.flow_script.specs.Replies.{emit_binding, subscribe_binding, collect_binding, subscriber_binding};
+ghost use Rattle.flow_script.specs.Bindings.{emit_binding, subscribe_binding, collect_binding, subscriber_binding};
 
 use cold_flow::Refusal;
 use shared_core::{Begun, SubId, Ticket};

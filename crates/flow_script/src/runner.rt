@@ -1,8 +1,8 @@
 //! What the names of a script stand for, and what its lines do.
 
 ghost use Rattle.std.specs.Prelude.{◌≡◌, length, IfOk};
-ghost use Rattle.flow_script.specs.Commands.{order_of, sourced_order_of};
-ghost use Rattle.flow_script.specs.Lines.{starts_with_hash};
+ghost use Rattle.script_pipes.specs.Commands.{order_of, sourced_order_of};
+ghost use Rattle.script_words.specs.Lines.{starts_with_hash};
 ghost use Rattle.flow_script.specs.Worlds.{empty_world};
 ghost use Rattle.flow_script.specs.Pictures.{Pictures, Executes};
 ghost use Rattle.flow_script.specs.Scripts.{Replies};
@@ -17,15 +17,14 @@ mod states;
 mod subscriptions;
 mod ticks;
 
-use crate::answer::Answer;
-use crate::buffer::ScriptBuffer;
-use crate::command::{Command, Sourced};
+use script_flows::ScriptBuffer;
 use crate::names::Names;
-use crate::share::Share;
-use crate::stating::Stating;
-use crate::watched::Watched;
-use crate::words::Words;
+use script_flows::Share;
+use script_flows::Stating;
+use script_flows::Watched;
 use futures::task::Solo;
+use script_pipes::{Answer, Command, Sourced};
+use script_words::Words;
 use shared::config_of;
 use shared_core::SharedState;
 use std::alloc::{AllocError, Global};

@@ -1,20 +1,20 @@
 //! Runs a script whole.
 
 ghost use Rattle.std.specs.Prelude.{◌≡◌, ◌≤◌, length, IfErr, OnOk, string_bytes};
-ghost use Rattle.flow_script.specs.Answers.{line_of};
+ghost use Rattle.script_pipes.specs.Answers.{line_of};
 ghost use Rattle.flow_script.specs.Input.{TakesAtMost};
 ghost use Rattle.flow_script.specs.declared.fault.ScriptFault.TheVariants.{NoMemory};
 ghost use Rattle.flow_script.specs.Pictures.{Pictures};
 ghost use Rattle.flow_script.specs.Worlds.{empty_world};
 ghost use Rattle.flow_script.specs.Scripts.{Writes, WritesAnswer, Runs};
 
-use crate::answer::Answer;
 use crate::fault::ScriptFault;
 use crate::input::read_script;
-use crate::lines::Lines;
 use crate::output::write_whole;
 use crate::runner::Runner;
 use futures::task::{Doorbell, Solo};
+use script_pipes::Answer;
+use script_words::Lines;
 use std::alloc::{AllocError, AllocGlobal, Global};
 use std::fmt::Write as _;
 use std::io::{Read, Write};

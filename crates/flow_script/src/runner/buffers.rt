@@ -1,19 +1,18 @@
 //! The commands on buffers.
 
 ghost use Rattle.std.specs.Prelude.{◌≡◌, IfOk};
-ghost use Rattle.flow_script.specs.Sources.{origin_in};
-ghost use Rattle.flow_script.specs.Buffers.{taken};
-ghost use Rattle.flow_script.specs.Replies.{take_answer};
+ghost use Rattle.script_pipes.specs.Sources.{origin_in};
+ghost use Rattle.script_flows.specs.Buffers.{taken};
+ghost use Rattle.script_pipes.specs.Replies.{take_answer};
 ghost use Rattle.flow_script.specs.Worlds.{make_buffer_step, fill_step, call_on_buffer};
 ghost use Rattle.flow_script.specs.Pictures.{StepsNoted, StepsOrRefused, bound_buffer};
 
 use super::Runner;
-use crate::answer::Answer;
 use crate::binding::Binding;
-use crate::buffer::ScriptBuffer;
-use crate::source::Source;
+use script_flows::ScriptBuffer;
 use cold_flow::Policy;
 use futures::task::Poll;
+use script_pipes::{Answer, Source};
 use std::alloc::{AllocError, Global};
 
 impl<'a> Runner<'a> {

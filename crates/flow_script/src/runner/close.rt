@@ -3,9 +3,9 @@
 ghost use Rattle.std.specs.Prelude.{◌≡◌, length};
 
 use super::Runner;
-use crate::share::Share;
-use crate::stating::Stating;
-use crate::watched::Watched;
+use script_flows::Share;
+use script_flows::Stating;
+use script_flows::Watched;
 use std::sync::Wait;
 
 /// How many things were closed at the end of a script.

@@ -1,13 +1,12 @@
 //! Cold flows: pipes, each collected whole.
 
 ghost use Rattle.std.specs.Prelude.{◌≡◌, Bool};
-ghost use Rattle.flow_script.specs.Pipes.{pipe_in};
-ghost use Rattle.flow_script.specs.Piping.{pipe_answer};
+ghost use Rattle.script_pipes.specs.Pipes.{pipe_in};
+ghost use Rattle.script_pipes.specs.Piping.{pipe_answer};
 
 use super::Runner;
-use crate::answer::Answer;
-use crate::pipe::Pipe;
 use futures::task::Poll;
+use script_pipes::{Answer, Pipe};
 use std::alloc::Global;
 
 impl Runner<'_> {

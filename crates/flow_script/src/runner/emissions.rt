@@ -5,8 +5,8 @@ ghost use Rattle.flow_script.specs.Worlds.{try_step, emit_step, poll_step, withd
 ghost use Rattle.flow_script.specs.Pictures.{Steps, bound_emission};
 
 use super::Runner;
-use crate::answer::Answer;
 use crate::binding::{Binding, Emission};
+use script_pipes::Answer;
 use std::alloc::AllocError;
 
 /// The emitter that stands behind each emission of a script.

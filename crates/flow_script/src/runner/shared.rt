@@ -2,16 +2,15 @@
 
 ghost use Rattle.std.specs.Prelude.{◌≡◌, IfOk};
 ghost use Rattle.shared_core.specs.Flow.{cache, live_count};
-ghost use Rattle.flow_script.specs.declared.answer.Answer.TheVariants.{Number, Values};
+ghost use Rattle.script_pipes.specs.declared.answer.Answer.TheVariants.{Number, Values};
 ghost use Rattle.shared_core.specs.Shown.{Reads};
 ghost use Rattle.flow_script.specs.Worlds.{config_of, make_shared_step, reset_step, cache_step, cache_on, count_step, read_on};
 ghost use Rattle.flow_script.specs.Pictures.{Steps, StepsNoted, StepsOrRefused, bound_flow};
 
 use super::Runner;
-use crate::answer::Answer;
 use crate::binding::Binding;
-use crate::listing::Listing;
 use cold_flow::Policy;
+use script_pipes::{Answer, Listing};
 use shared_core::{Config, SharedState};
 use std::alloc::{AllocError, Global};
 use std::sync::Wait;

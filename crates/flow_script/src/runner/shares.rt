@@ -1,20 +1,18 @@
 //! The commands on flows that share a source.
 
 ghost use Rattle.std.specs.Prelude.{◌≡◌, IfOk};
-ghost use Rattle.flow_script.specs.declared.answer.Answer.TheVariants.{Number};
-ghost use Rattle.flow_script.specs.Replies.{tick_answer};
+ghost use Rattle.script_pipes.specs.declared.answer.Answer.TheVariants.{Number};
+ghost use Rattle.script_pipes.specs.Replies.{tick_answer};
 ghost use Rattle.flow_script.specs.Worlds.{make_share_step, unless_bound, admit_on, on_share, cached_answer, subscriber_next, subscriber_cancel};
 ghost use Rattle.flow_script.specs.Pictures.{Steps, StepsNoted, StepsOrRefused};
 
 use super::Runner;
-use crate::answer::Answer;
 use crate::binding::{Binding, Subscriber};
-use crate::listing::Listing;
-use crate::share::Share;
-use crate::source::Source;
-use crate::source_flow::SourceFlow;
+use script_flows::Share;
+use script_flows::SourceFlow;
 use flow_sharing::Started;
 use futures::task::Poll;
+use script_pipes::{Answer, Listing, Source};
 use shared_core::Config;
 use std::alloc::{AllocError, Global};
 use std::sync::Wait;

@@ -1,14 +1,14 @@
 //! The commands on states and their collectors.
 
 ghost use Rattle.std.specs.Prelude.{◌≡◌, IfOk};
-ghost use Rattle.flow_script.specs.declared.answer.Answer.TheVariants.{Number};
+ghost use Rattle.script_pipes.specs.declared.answer.Answer.TheVariants.{Number};
 ghost use Rattle.flow_script.specs.Worlds.{make_state_step, set_step, compare_step, value_step, collect_step, on_state, collector_next, collector_cancel};
 ghost use Rattle.flow_script.specs.Pictures.{Steps, StepsNoted, StepsOrRefused, bound_state, bound_settable};
 
 use super::Runner;
-use crate::answer::Answer;
 use crate::binding::{Binding, Collecting};
-use crate::watched::Watched;
+use script_flows::Watched;
+use script_pipes::Answer;
 use std::alloc::{AllocError, Global};
 
 impl<'a> Runner<'a> {

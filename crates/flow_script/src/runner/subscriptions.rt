@@ -2,13 +2,14 @@
 
 ghost use Rattle.std.specs.Prelude.{◌≡◌, IfOk};
 ghost use Rattle.shared_core.specs.Calls.{subscribe as subscribed, next_value, cancel};
-ghost use Rattle.flow_script.specs.Replies.{subscribe_answer, subscribe_binding, next_answer, cancel_answer};
+ghost use Rattle.script_pipes.specs.Replies.{subscribe_answer, next_answer, cancel_answer};
+ghost use Rattle.flow_script.specs.Bindings.{subscribe_binding};
 ghost use Rattle.flow_script.specs.Worlds.{subscribe_step, subscribe_on, next_step, cancel_step, call_on, make_on, unless_bound};
 ghost use Rattle.flow_script.specs.Pictures.{Steps, StepsNoted};
 
 use super::Runner;
-use crate::answer::Answer;
 use crate::binding::{Binding, Subscription};
+use script_pipes::Answer;
 use std::alloc::AllocError;
 use std::sync::Wait;
 

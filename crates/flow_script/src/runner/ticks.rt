@@ -1,19 +1,18 @@
 //! States that are set from a source, and the polls of sharings.
 
 ghost use Rattle.std.specs.Prelude.{IfOk};
-ghost use Rattle.flow_script.specs.Replies.{tick_answer};
+ghost use Rattle.script_pipes.specs.Replies.{tick_answer};
 ghost use Rattle.flow_script.specs.Worlds.{make_stated_step, on_stating, tick_step};
 ghost use Rattle.flow_script.specs.Pictures.{StepsNoted, StepsOrRefused};
 
 use super::Runner;
-use crate::answer::Answer;
 use crate::binding::{Binding, Stated};
-use crate::source::Source;
-use crate::source_flow::SourceFlow;
-use crate::stating::Stating;
-use crate::watched::Watched;
+use script_flows::SourceFlow;
+use script_flows::Stating;
+use script_flows::Watched;
 use flow_sharing::Started;
 use futures::task::Poll;
+use script_pipes::{Answer, Source};
 use std::alloc::{AllocError, Global};
 use std::sync::Wait;
 

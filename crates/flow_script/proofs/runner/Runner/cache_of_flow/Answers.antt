@@ -1,6 +1,6 @@
 use Rattle.std.proofs.Common.{ap, ◌∙◌}
 use Rattle.shared_core.specs.Flow.{cache}
-use Rattle.flow_script.specs.declared.answer.Answer.TheVariants.{Values}
+use Rattle.script_pipes.specs.declared.answer.Answer.TheVariants.{Values}
 use Rattle.flow_script.proofs.Picturing.{no_flow_read, on_flow_read}
 use Rattle.flow_script.proofs.runner.Runner.cache_of_flow.Goals as goal
 

@@ -1,6 +1,6 @@
 use Rattle.std.proofs.Common.{true, refl, ap}
 use Rattle.std.specs.Vec.{with_item}
-use Rattle.flow_script.specs.declared.answer.Answer.TheVariants.{Values, Refused}
+use Rattle.script_pipes.specs.declared.answer.Answer.TheVariants.{Values, Refused}
 use Rattle.flow_script.specs.Worlds.{plain, cached_answer}
 use Rattle.flow_script.proofs.Shares.{no_share, on_the_share}
 use Rattle.flow_script.proofs.runner.Runner.cache_of_share.Goals as goal

@@ -1,6 +1,6 @@
 use Rattle.std.proofs.Common.{refl, ap, map, is_some}
 use Rattle.std.specs.Vec.{with_item}
-use Rattle.flow_script.specs.declared.answer.Answer.TheVariants.{Truth}
+use Rattle.script_pipes.specs.declared.answer.Answer.TheVariants.{Truth}
 use Rattle.flow_script.specs.Worlds.{plain, on_state, settable_index_in}
 use Rattle.flow_script.proofs.Picturing.{at_name, no_name}
 use Rattle.flow_script.proofs.States.{no_state, on_the_state}

@@ -1,6 +1,6 @@
 use Rattle.std.proofs.Common.{refl, ap, map, is_some}
 use Rattle.std.specs.Vec.{with_item}
-use Rattle.flow_script.specs.declared.answer.Answer.TheVariants.{Number}
+use Rattle.script_pipes.specs.declared.answer.Answer.TheVariants.{Number}
 use Rattle.flow_script.specs.Worlds.{plain}
 use Rattle.flow_script.proofs.States.{no_state, on_the_state}
 use Rattle.flow_script.proofs.runner.Runner.count_collectors.Goals as goal

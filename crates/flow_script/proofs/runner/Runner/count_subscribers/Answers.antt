@@ -1,6 +1,6 @@
 use Rattle.std.proofs.Common.{refl}
 use Rattle.std.specs.Vec.{with_item}
-use Rattle.flow_script.specs.declared.answer.Answer.TheVariants.{Number}
+use Rattle.script_pipes.specs.declared.answer.Answer.TheVariants.{Number}
 use Rattle.flow_script.specs.Worlds.{plain}
 use Rattle.flow_script.proofs.Shares.{no_share, on_the_share}
 use Rattle.flow_script.proofs.runner.Runner.count_subscribers.Goals as goal

@@ -1,6 +1,7 @@
 use Rattle.std.proofs.Common.{refl, sym, ap, ◌∙◌, is_some}
 use Rattle.shared_core.specs.Calls as calls
-use Rattle.flow_script.specs.Replies.{emit_answer, emit_binding}
+use Rattle.script_pipes.specs.Replies.{emit_answer}
+use Rattle.flow_script.specs.Bindings.{emit_binding}
 use Rattle.flow_script.proofs.Making.{nothing_made, made_on}
 use Rattle.flow_script.proofs.runner.Runner.emit.Goals as goal
 

@@ -4,7 +4,7 @@ use Rattle.flow_script.specs.Worlds.{make_shared_step}
 use Rattle.flow_script.specs.Pictures.{StepsOrRefused}
 use Rattle.std.proofs.lemmas.Result.{IfOk-weaker}
 use Rattle.flow_script.specs.Worlds.{plain}
-use Rattle.flow_script.specs.Commands.{make_shared, subscribe, cancel, try, emit, poll, withdraw, reset, cache, make_state, set_state, collect_state}
+use Rattle.script_pipes.specs.Commands.{make_shared, subscribe, cancel, try, emit, poll, withdraw, reset, cache, make_state, set_state, collect_state}
 use Rattle.flow_script.proofs.Single.{surely, refusable}
 use Rattle.flow_script.proofs.runner.Runner.execute.Goals as goal
 

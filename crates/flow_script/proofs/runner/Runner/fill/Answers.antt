@@ -1,6 +1,6 @@
 use Rattle.std.proofs.Common.{refl}
-use Rattle.flow_script.specs.Buffers.{filled}
-use Rattle.flow_script.specs.Replies.{fill_answer}
+use Rattle.script_flows.specs.Buffers.{filled}
+use Rattle.script_pipes.specs.Replies.{fill_answer}
 use Rattle.flow_script.specs.Worlds.{plain, call_on_buffer, buffer_index_in}
 use Rattle.flow_script.proofs.Picturing.{at_name, no_name}
 use Rattle.flow_script.proofs.Buffers.{no_buffer, fills_named}

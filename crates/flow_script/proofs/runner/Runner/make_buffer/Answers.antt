@@ -1,5 +1,5 @@
 use Rattle.std.proofs.Common.{refl, sym, ap, ◌∙◌, is_some, false}
-use Rattle.flow_script.specs.Sources.{origin_in}
+use Rattle.script_pipes.specs.Sources.{origin_in}
 use Rattle.flow_script.proofs.Buffers.{new_buffer, buffer_refused}
 use Rattle.flow_script.proofs.runner.Runner.make_buffer.Goals as goal
 

@@ -1,8 +1,8 @@
 use Rattle.std.proofs.Common.{IfOk, subst}
 use Rattle.std.proofs.lemmas.Result.{IfOk-weaker}
 use Rattle.shared_core.specs.declared.config.Config.{Config}
-use Rattle.flow_script.specs.Commands.{make_buffer, make_share, make_stated}
-use Rattle.flow_script.specs.Sources.{origin_in}
+use Rattle.script_pipes.specs.Commands.{make_buffer, make_share, make_stated}
+use Rattle.script_pipes.specs.Sources.{origin_in}
 use Rattle.flow_script.specs.Worlds.{make_share_step}
 use Rattle.flow_script.specs.Pictures.{StepsOrRefused}
 use Rattle.flow_script.proofs.Single.{refusable}

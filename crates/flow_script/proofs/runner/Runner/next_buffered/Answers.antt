@@ -1,6 +1,6 @@
 use Rattle.std.proofs.Common.{refl}
-use Rattle.flow_script.specs.Buffers.{taken}
-use Rattle.flow_script.specs.Replies.{take_answer}
+use Rattle.script_flows.specs.Buffers.{taken}
+use Rattle.script_pipes.specs.Replies.{take_answer}
 use Rattle.flow_script.specs.Worlds.{plain}
 use Rattle.flow_script.proofs.Buffers.{no_buffer, on_buffer}
 use Rattle.flow_script.proofs.runner.Runner.next_buffered.Goals as goal

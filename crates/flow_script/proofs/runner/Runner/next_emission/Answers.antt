@@ -1,6 +1,6 @@
 use Rattle.std.proofs.Common.{refl}
 use Rattle.shared_core.specs.Calls as calls
-use Rattle.flow_script.specs.Replies.{next_answer}
+use Rattle.script_pipes.specs.Replies.{next_answer}
 use Rattle.flow_script.proofs.Picturing.{no_flow, on_flow}
 use Rattle.flow_script.proofs.runner.Runner.next_emission.Goals as goal
 

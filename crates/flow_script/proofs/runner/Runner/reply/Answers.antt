@@ -1,6 +1,6 @@
 use Rattle.std.proofs.Common.{refl, sym, ap, ◌∙◌, arith}
-use Rattle.flow_script.specs.Commands.{order_of}
-use Rattle.flow_script.specs.Lines.{words_of}
+use Rattle.script_pipes.specs.Commands.{order_of}
+use Rattle.script_words.specs.Lines.{words_of}
 use Rattle.flow_script.proofs.Single.{silent_reply, comment_reply, long_reply, bad_reply, order_reply}
 use Rattle.flow_script.proofs.runner.Runner.reply.Goals as goal
 

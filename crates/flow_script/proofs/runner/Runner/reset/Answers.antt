@@ -1,6 +1,6 @@
 use Rattle.std.proofs.Common.{refl}
 use Rattle.shared_core.specs.Calls as calls
-use Rattle.flow_script.specs.declared.answer.Answer.TheVariants.{Done}
+use Rattle.script_pipes.specs.declared.answer.Answer.TheVariants.{Done}
 use Rattle.flow_script.specs.Worlds.{call_on, flow_index_in, silently}
 use Rattle.flow_script.proofs.Picturing.{at_name, no_flow, on_flow}
 use Rattle.flow_script.proofs.runner.Runner.reset.Goals as goal

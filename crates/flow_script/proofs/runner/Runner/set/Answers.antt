@@ -1,5 +1,5 @@
 use Rattle.std.proofs.Common.{refl, ap, map, is_some}
-use Rattle.flow_script.specs.declared.answer.Answer.TheVariants.{Done}
+use Rattle.script_pipes.specs.declared.answer.Answer.TheVariants.{Done}
 use Rattle.flow_script.specs.Worlds.{on_state, settable_index_in}
 use Rattle.flow_script.proofs.Picturing.{at_name}
 use Rattle.flow_script.proofs.States.{on_the_state}

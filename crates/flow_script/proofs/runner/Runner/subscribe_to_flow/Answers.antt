@@ -1,6 +1,7 @@
 use Rattle.std.proofs.Common.{refl, sym, ap, ◌∙◌, is_some}
 use Rattle.shared_core.specs.Calls as calls
-use Rattle.flow_script.specs.Replies.{subscribe_answer, subscribe_binding}
+use Rattle.script_pipes.specs.Replies.{subscribe_answer}
+use Rattle.flow_script.specs.Bindings.{subscribe_binding}
 use Rattle.flow_script.proofs.Making.{nothing_made_at, made_at}
 use Rattle.flow_script.proofs.runner.Runner.subscribe_to_flow.Goals as goal
 

@@ -1,6 +1,6 @@
 use Rattle.std.proofs.Common.{refl}
 use Rattle.shared_core.specs.Calls as calls
-use Rattle.flow_script.specs.Replies.{try_answer}
+use Rattle.script_pipes.specs.Replies.{try_answer}
 use Rattle.flow_script.specs.Worlds.{call_on, flow_index_in}
 use Rattle.flow_script.proofs.Picturing.{at_name, no_flow, on_flow}
 use Rattle.flow_script.proofs.runner.Runner.try_emit.Goals as goal

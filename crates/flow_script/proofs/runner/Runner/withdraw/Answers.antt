@@ -1,7 +1,7 @@
 use Rattle.std.proofs.Common.{refl}
 use Rattle.shared_core.specs.Calls as calls
 use Rattle.flow_script.specs.declared.binding.Emission.TheVariants.{InFlight}
-use Rattle.flow_script.specs.Replies.{withdraw_answer}
+use Rattle.script_pipes.specs.Replies.{withdraw_answer}
 use Rattle.flow_script.specs.Worlds.{withdraw_on, emission_in}
 use Rattle.flow_script.proofs.Picturing.{at_name, no_flow, on_flow}
 use Rattle.flow_script.proofs.runner.Runner.withdraw.Goals as goal

@@ -1,0 +1,85 @@
+//! What a measurement gave, and how it is written.
+
+ghost use Rattle.std.specs.Prelude.{◌≡◌, ◌↔◌, IsOk, IfOk, IfErr};
+
+use crate::wrong_total::WrongTotal;
+use std::fmt;
+
+/// Which part of the library was measured. Its `Display` is the name that a line has.
+#[derive(Clone, Copy, Debug, PartialEq, Eq)]
+pub enum Part {
+    /// A shared flow on one thread.
+    Core,
+    /// A shared flow for threads.
+    Shared,
+    /// A state flow.
+    State,
+    /// A buffer between two threads.
+    Buffer,
+    /// Cold flows.
+    Cold,
+    /// Scripts.
+    Runner,
+}
+
+impl fmt::Display for Part {
+    fn fmt<W: fmt::Write>(&self, f: &mut fmt::Formatter<W>) -> fmt::Result {
+        f.write_str(match self {
+            Part::Core => "core",
+            Part::Shared => "shared",
+            Part::State => "state",
+            Part::Buffer => "buffer",
+            Part::Cold => "cold",
+            Part::Runner => "runner",
+        })
+    }
+}
+
+/// One figure of a measurement. Its `Display` is a line of columns, parted by tabs: `raw`, the part, the scenario, the
+/// figure, the unit, the operations, and the nanoseconds that all of them took.
+#[derive(Clone, Copy, Debug)]
+pub struct Figure {
+    pub part: Part,
+    /// The scenario in full, as `S1-n4`.
+    pub scenario: &'static str,
+    /// What was counted, as `receipt`.
+    pub name: &'static str,
+    pub operations: u64,
+    pub nanoseconds: u64,
+    /// What arrived, by its sum or its last value.
+    pub total: u64,
+}
+
+impl fmt::Display for Figure {
+    fn fmt<W: fmt::Write>(&self, f: &mut fmt::Formatter<W>) -> fmt::Result {
+        let Figure {
+            part,
+            scenario,
+            name,
+            operations,
+            nanoseconds,
+            ..
+        } = *self;
+        write!(
+            f,
+            "raw\thillgauze-{part}\t{scenario}\t{name}\tns\t{operations}\t{nanoseconds}"
+        )
+    }
+}
+
+impl Figure {
+    /// Refused where what arrived isn't what was to come, with the scenario's name.
+    pub fn checked(self, wanted: u64) -> Result<Figure, WrongTotal>
+        ensures right { IsOk result ↔ (self.total ≡ wanted) }
+        ensures same { IfOk result (λ figure. figure ≡ self) }
+        ensures told { IfErr result (λ wrong. wrong.scenario ≡ self.scenario) }
+    {
+        if self.total == wanted {
+            Ok(self)
+        } else {
+            Err(WrongTotal {
+                scenario: self.scenario,
+            })
+        }
+    }
+}

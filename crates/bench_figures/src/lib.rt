@@ -1,0 +1,10 @@
+//! What a benchmark measures: how large a measurement is, and the figures that it gives.
+#![tactic(auto)]
+
+mod figure;
+mod size;
+mod wrong_total;
+
+pub use figure::{Figure, Part};
+pub use size::Size;
+pub use wrong_total::WrongTotal;

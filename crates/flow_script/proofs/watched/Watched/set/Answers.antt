@@ -1,7 +1,0 @@
-use Rattle.std.proofs.Common.{ℕ, ap}
-use Rattle.state_flow.specs.declared.view.View.{View}
-use Rattle.flow_script.proofs.Watching.{stepped}
-use Rattle.flow_script.proofs.watched.Watched.set.Goals as goal
-
-pub invariant_of-self : goal.invariant_of-self
-invariant_of-self c = stepped c.self.inside.seat _ _ c.self.invariant c.set.ensures.same_flow (ap (λ (v : View ℕ). v.share) c.set.ensures.value.one_step.only)

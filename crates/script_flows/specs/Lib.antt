@@ -1,0 +1,5 @@
+pub mod Watching
+pub mod Buffers
+pub mod Buffered
+pub mod Sourced
+pub mod Shares

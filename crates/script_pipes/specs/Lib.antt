@@ -1,0 +1,10 @@
+pub mod Commands
+pub mod Listings
+pub mod Answers
+pub mod Replies
+pub mod Ticks
+pub mod Sources
+pub mod Stages
+pub mod Pipes
+pub mod Piping
+pub mod Inners

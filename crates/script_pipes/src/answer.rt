@@ -1,0 +1,102 @@
+//! What a line of a script is answered with.
+
+ghost use Rattle.std.specs.Prelude.{Some};
+ghost use Rattle.script_pipes.specs.Answers.{text_of};
+
+mod replies;
+
+use crate::listing::Listing;
+use cold_flow::Refusal;
+use std::fmt;
+
+/// What a command answers, and what a bad line is answered with.
+#[derive(Debug, Drop)]
+pub enum Answer {
+    /// The call was made.
+    Done,
+    /// The call was refused, and nothing changed.
+    Refused(Refusal),
+    Accepted,
+    Dropped,
+    Full,
+    /// An emission waits, or is pending still.
+    Waiting,
+    /// An emission is pending for no subscription any more.
+    Finished,
+    /// An emission was taken back before it was accepted.
+    Removed,
+    /// An emission stays with its subscribers.
+    Left,
+    /// An emission is known no more.
+    Gone,
+    Value(u64),
+    Pending,
+    Closed,
+    /// A buffer took a value.
+    Took,
+    /// A buffer took a value in the place of the oldest one that it held.
+    Overwrote,
+    /// A buffer's source has ended.
+    Ended,
+    /// All that a buffer gives was taken, and its source finished.
+    Completed,
+    /// All that a buffer gives was taken, and its source failed by this fault; or a source that is shared has failed by it.
+    Failed(u64),
+    /// A source is being collected.
+    On,
+    /// A source is not being collected.
+    Off,
+    Number(u64),
+    /// Whether a value was as it was expected to be.
+    Truth(bool),
+    Values(Listing),
+    /// What a pipe gave, and the fault by which it failed, if it did.
+    Collected { values: Listing, fault: Option<u64> },
+    /// A stage of a pipe gave more than 10,000 values.
+    TooMany,
+    /// The line with this number is no command.
+    BadCommand(u64),
+}
+
+impl fmt::Display for Answer {
+    ghost output = { λ answer. Some (text_of answer) };
+
+    fn fmt<W: fmt::Write>(&self, f: &mut fmt::Formatter<W>) -> fmt::Result {
+        match self {
+            Answer::Done => write!(f, "ok"),
+            Answer::Refused(refusal) => write!(f, "refused {}", refusal.number()),
+            Answer::Accepted => write!(f, "accepted"),
+            Answer::Dropped => write!(f, "dropped"),
+            Answer::Full => write!(f, "full"),
+            Answer::Waiting => write!(f, "waiting"),
+            Answer::Finished => write!(f, "done"),
+            Answer::Removed => write!(f, "removed"),
+            Answer::Left => write!(f, "left"),
+            Answer::Gone => write!(f, "gone"),
+            Answer::Value(value) => write!(f, "value {value}"),
+            Answer::Pending => write!(f, "pending"),
+            Answer::Closed => write!(f, "closed"),
+            Answer::Took => write!(f, "took"),
+            Answer::Overwrote => write!(f, "overwrote"),
+            Answer::Ended => write!(f, "ended"),
+            Answer::Completed => write!(f, "finished"),
+            Answer::Failed(fault) => write!(f, "failed {fault}"),
+            Answer::On => write!(f, "on"),
+            Answer::Off => write!(f, "off"),
+            Answer::Number(number) => write!(f, "{number}"),
+            Answer::Truth(true) => write!(f, "true"),
+            Answer::Truth(false) => write!(f, "false"),
+            Answer::Values(listing) => write!(f, "{listing}"),
+            Answer::Collected {
+                values,
+                fault: None,
+            } => write!(f, "{values} finished"),
+            Answer::Collected {
+                values,
+                fault: Some(fault),
+            } => write!(f, "{values} failed {fault}"),
+            Answer::TooMany => write!(f, "too many"),
+            Answer::BadCommand(line) => write!(f, "line {line}: bad command"),
+        }
+    }
+}

@@ -1,0 +1,4 @@
+pub mod Splitting
+pub mod Digits
+pub mod Cutting
+pub mod Playing
