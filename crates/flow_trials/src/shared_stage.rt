@@ -188,20 +188,6 @@ impl Emitting {
         }
     }
 
-    /// One turn of an emission of this value. The number that it was accepted with, once it is finished.
-    pub(crate) fn turn(&mut self, rt: &impl Wait, value: u64) -> Option<u64> {
-        let answer = if self.emitter.in_flight() {
-            self.ask(rt)
-        } else {
-            self.emit(rt, value)
-        };
-        match answer {
-            Answer::Accepted(number) => Some(number),
-            Answer::Done(number) => Some(number),
-            _ => None,
-        }
-    }
-
     /// Ends the emitter, and says whether it had nothing in flight.
     pub(crate) fn close(self, rt: &impl Wait) -> bool {
         let Emitting {

@@ -1,10 +1,15 @@
-//! Emitters and subscriptions of a shared flow, lent to threads of their own and spent after the join.
-ghost use Rattle.std.specs.Prelude.{◌≤◌};
+//! Emitters and subscriptions of a shared flow, lent to threads of their own and spent after the join. A thread sleeps until its
+//! task is woken.
+
+ghost use Rattle.futures.specs.Poll.{OnPending};
+ghost use Rattle.futures.specs.Task.{IsArmed};
 
 use crate::passed_on;
-use crate::shared_stage::{Answer, Emitting, Listening, config};
+use crate::shared_stage::config;
 use cold_flow::Policy;
-use shared_flow::SharedFlow;
+use futures::task::{Context, Doorbell, Poll, Queue};
+use shared_core::{Begun, Withdrawn};
+use shared_flow::{Emitter, Receipt, SharedFlow, Subscription};
 use std::alloc::AllocGlobal;
 use std::process::Abort;
 use std::random::RandomSource;
@@ -13,80 +18,119 @@ use std::test::Fail;
 use std::thread;
 use std::thread::Threads;
 
-/// How often each thread asks at most, where one emits and one receives.
-const TURNS: u32 = 1_000_000;
+/// How often each thread polls at most. It sleeps in between, so two polls for each value are enough.
+const TURNS: u32 = 100_000;
 
-/// The same where seven threads ask for one lock without pause, which isn't fair: most of their turns find nothing.
-const CROWDED_TURNS: u32 = 200_000_000;
+/// What a thread does, one poll after another.
+trait Worker {
+    /// Whether nothing is left to do.
+    fn is_done(&self) -> bool;
 
-fn subscribed<R: Wait + Abort + RandomSource + AllocGlobal>(
-    rt: &R,
-    flow: &mut SharedFlow<u64>,
-) -> Listening {
-    let mut listening = Listening::new(rt);
-    let answer = listening.subscribe(rt, flow);
-    assert_eq!(rt; answer, Answer::Subscribed);
-    listening
+    /// One poll. Ready where it got something, and whether that was right.
+    fn poll<R: Wait>(&mut self, rt: &R, cx: &mut Context<'_>) -> Poll<bool>
+        ensures { OnPending result (IsArmed cx.new) };
 }
 
-// Emits the values from `start` up to `end`, and says how many got their receipts, each with a number above the one before.
-fn emit_values(rt: &impl Wait, emitting: &mut Emitting, start: u64, end: u64, turns: u32) -> u64
-    requires { start ≤ end }
-{
-    let mut value = start;
-    let mut last = None;
-    for _ in 0..turns {
-        if value >= end {
-            break;
-        }
-        let Some(number) = emitting.turn(rt, value) else {
-            thread::yield_now();
-            continue;
-        };
-        if last.is_some_and(|before| number <= before) {
-            break;
-        }
-        last = Some(number);
-        value += 1;
-    }
-    value.saturating_sub(start)
+// The task of a thread.
+fn task<R: RandomSource + AllocGlobal>(rt: &R) -> Result<Queue, Fail> {
+    let queue = Queue::new(rt, Doorbell::parking())?;
+    queue.add()?.schedule();
+    Ok(queue)
 }
 
-// Receives values from 0 on, each one above the one before, and says how many came so.
-fn receive_in_order(rt: &impl Wait, listening: &mut Listening, count: u64) -> u64 {
-    let mut received = 0;
+// Polls until nothing is left to do, and sleeps after each poll that got nothing until the task is woken.
+//
+// Where it gives up, no thread sleeps any more, since what it waits for may never come.
+fn run<R: Wait, W: Worker>(rt: &R, tasks: &[Queue], task: &Queue, worker: &mut W) {
     for _ in 0..TURNS {
-        if received >= count {
+        if worker.is_done() {
+            return;
+        }
+        let Some(mut cx) = task.next(rt) else {
+            return;
+        };
+        let polled = worker.poll(rt, &mut cx);
+        if polled.is_ready() {
+            let _again: Poll<()> = cx.yield_now();
+        }
+        cx.park();
+        if polled == Poll::Ready(false) {
             break;
         }
-        match listening.next(rt) {
-            Answer::Value(value) => {
-                if value != received {
-                    break;
-                }
-                received += 1;
-            }
-            _ => thread::yield_now(),
-        }
     }
-    received
+    shut_down(tasks);
 }
 
-#[test]
-fn a_thousand_hand_overs_between_threads(rt: HostRuntime) -> Result<(), Fail> {
-    let made = SharedFlow::new(rt.alloc(), config(0, 0, Policy::Suspend));
-    let mut flow = made.map_err(|refusal| refusal.number())?;
-    let mut listening = subscribed(&rt, &mut flow);
-    let mut emitting = Emitting::new(&rt, &mut flow, 0);
-    let (emitted, received) = thread::join(
-        &rt,
-        || emit_values(&rt, &mut emitting, 0, 1000, TURNS),
-        || receive_in_order(&rt, &mut listening, 1000),
-    );
-    listening.leave(&rt);
-    let idle = emitting.close(&rt);
-    assert_eq!(rt; (emitted, received, idle), (1000, 1000, true));
-    Ok(())
+fn shut_down(tasks: &[Queue]) {
+    for task in tasks {
+        task.shut_down();
+    }
+}
+
+/// An emitter, and the values that are left for it to emit, from `next` up to `end`.
+struct Emitting {
+    emitter: Emitter<u64>,
+    id: u32,
+    next: u64,
+    end: u64,
+    /// The number of the last receipt.
+    last: Option<u64>,
+}
+
+impl Emitting {
+    // It is to emit a thousand values.
+    fn new<R: Wait + Abort>(rt: &R, flow: &mut SharedFlow<u64>, id: u32, start: u64) -> Emitting {
+        Emitting {
+            emitter: flow.emitter(rt, id).expect(rt, "an emitter"),
+            id,
+            next: start,
+            end: start.saturating_add(1000),
+            last: None,
+        }
+    }
+
+    // Takes the receipt of the next value, and says whether it is this emitter's, with a number above the one before.
+    fn take(&mut self, receipt: Receipt) -> bool {
+        let number = receipt.number();
+        if receipt.emitter() != self.id || self.last.is_some_and(|before| number <= before) {
+            return false;
+        }
+        self.last = Some(number);
+        self.next = self.next.saturating_add(1);
+        true
+    }
+
+    // Ends the emitter, and says which value would be next, and whether it had nothing in flight.
+    fn close(self, rt: &impl Wait) -> (u64, bool) {
+        let Emitting {
+            emitter,
+            id: _,
+            next,
+            end: _,
+            last: _,
+        } = self;
+        (next, matches!(emitter.close(rt), Withdrawn::Gone))
+    }
+}
+
+impl Worker for Emitting {
+    fn is_done(&self) -> bool {
+        self.next >= self.end
+    }
+
+    fn poll<R: Wait>(&mut self, rt: &R, cx: &mut Context<'_>) -> Poll<bool> {
+        if !self.emitter.in_flight() {
+            match self.emitter.start_emit(rt, self.next) {
+                Ok(Begun::Accepted(receipt)) => return Poll::Ready(self.take(receipt)),
+                Ok(Begun::Waiting(())) => {}
+                Ok(Begun::Dropped) | Err(_) => return Poll::Ready(false),
+            }
+        }
+        match self.emitter.poll_emit(rt, cx) {
+            Poll::Ready(receipt) => Poll::Ready(self.take(receipt)),
+            Poll::Pending => Poll::Pending,
+        }
+    }
 }
 
 /// How many values a subscription has from each of three emitters, which emit 0, 1000 and 2000 and the next ones.
@@ -96,6 +140,23 @@ struct Tally {
     second: u64,
     third: u64,
 }
+
+const NONE: Tally = Tally {
+    first: 0,
+    second: 0,
+    third: 0,
+};
+
+const FIRST: Tally = Tally {
+    first: 1000,
+    ..NONE
+};
+
+const ALL: Tally = Tally {
+    first: 1000,
+    second: 1000,
+    third: 1000,
+};
 
 // One more value, where it is the next one of its emitter.
 fn counted(tally: Tally, value: u64) -> Option<Tally> {
@@ -120,90 +181,141 @@ fn counted(tally: Tally, value: u64) -> Option<Tally> {
     None
 }
 
-const ALL: Tally = Tally {
-    first: 1000,
-    second: 1000,
-    third: 1000,
-};
+/// A subscription, the values that it got so far, each in its emitter's order, and those that it is to get.
+struct Listening {
+    subscription: Subscription<u64>,
+    tally: Tally,
+    wanted: Tally,
+}
 
-// Receives until all values came, or one out of its emitter's order.
-fn receive_from_three(rt: &impl Wait, listening: &mut Listening) -> Tally {
-    let mut tally = Tally {
-        first: 0,
-        second: 0,
-        third: 0,
-    };
-    for _ in 0..CROWDED_TURNS {
-        if tally == ALL {
-            break;
-        }
-        match listening.next(rt) {
-            Answer::Value(value) => match counted(tally, value) {
-                Some(more) => tally = more,
-                None => break,
-            },
-            _ => thread::yield_now(),
+impl Listening {
+    fn new<R: Wait + Abort>(rt: &R, flow: &mut SharedFlow<u64>, wanted: Tally) -> Listening {
+        Listening {
+            subscription: flow.subscribe(rt).expect(rt, "a subscription"),
+            tally: NONE,
+            wanted,
         }
     }
-    tally
+
+    // Ends the subscription, and says what it got.
+    fn leave(self, rt: &impl Wait) -> Tally {
+        let Listening {
+            subscription,
+            tally,
+            wanted: _,
+        } = self;
+        subscription.cancel(rt);
+        tally
+    }
 }
 
-// Both receive, each in a thread of its own, and have all values afterwards.
-fn both_receive<R: Wait + Threads + Sync>(rt: &R, a: &mut Listening, b: &mut Listening) -> bool {
-    let (to_a, to_b) = thread::join(
-        rt,
-        || receive_from_three(rt, a),
-        || receive_from_three(rt, b),
+impl Worker for Listening {
+    fn is_done(&self) -> bool {
+        self.tally == self.wanted
+    }
+
+    fn poll<R: Wait>(&mut self, rt: &R, cx: &mut Context<'_>) -> Poll<bool> {
+        let Poll::Ready(value) = self.subscription.poll_next(rt, cx) else {
+            return Poll::Pending;
+        };
+        let Some(more) = counted(self.tally, value) else {
+            return Poll::Ready(false);
+        };
+        self.tally = more;
+        Poll::Ready(true)
+    }
+}
+
+#[test]
+fn a_thousand_hand_overs_between_threads(rt: HostRuntime) -> Result<(), Fail> {
+    let tasks = [task(&rt)?, task(&rt)?];
+    let made = SharedFlow::new(rt.alloc(), config(0, 0, Policy::Suspend));
+    let mut flow = made.map_err(|refusal| refusal.number())?;
+    let mut listening = Listening::new(&rt, &mut flow, FIRST);
+    let mut emitting = Emitting::new(&rt, &mut flow, 0, 0);
+    thread::join(
+        &rt,
+        || run(&rt, &tasks, &tasks[0], &mut emitting),
+        || run(&rt, &tasks, &tasks[1], &mut listening),
     );
-    to_a == ALL && to_b == ALL
+    let received = listening.leave(&rt);
+    let emitted = emitting.close(&rt);
+    assert_eq!(rt; (emitted, received), ((1000, true), FIRST));
+    Ok(())
 }
 
-// All three emit, each in a thread of its own: how many receipts each got.
+// All three emit, each in a thread of its own.
 fn all_emit<R: Wait + Threads + Sync>(
     rt: &R,
+    tasks: &[Queue; 7],
     first: &mut Emitting,
     second: &mut Emitting,
     third: &mut Emitting,
-) -> (u64, (u64, u64)) {
+) {
     thread::join(
         rt,
-        || emit_values(rt, first, 0, 1000, CROWDED_TURNS),
+        || run(rt, tasks, &tasks[0], first),
         || thread::join(
             rt,
-            || emit_values(rt, second, 1000, 2000, CROWDED_TURNS),
-            || emit_values(rt, third, 2000, 3000, CROWDED_TURNS),
+            || run(rt, tasks, &tasks[1], second),
+            || run(rt, tasks, &tasks[2], third),
         ),
-    )
+    );
+}
+
+// All four receive, each in a thread of its own.
+fn all_receive<R: Wait + Threads + Sync>(
+    rt: &R,
+    tasks: &[Queue; 7],
+    a: &mut Listening,
+    b: &mut Listening,
+    c: &mut Listening,
+    d: &mut Listening,
+) {
+    thread::join(
+        rt,
+        || thread::join(
+            rt,
+            || run(rt, tasks, &tasks[3], a),
+            || run(rt, tasks, &tasks[4], b),
+        ),
+        || thread::join(
+            rt,
+            || run(rt, tasks, &tasks[5], c),
+            || run(rt, tasks, &tasks[6], d),
+        ),
+    );
 }
 
 #[test]
 fn three_emitters_and_four_subscriptions_in_threads(rt: HostRuntime) -> Result<(), Fail> {
+    let tasks = [
+        task(&rt)?,
+        task(&rt)?,
+        task(&rt)?,
+        task(&rt)?,
+        task(&rt)?,
+        task(&rt)?,
+        task(&rt)?,
+    ];
     let made = SharedFlow::new(rt.alloc(), config(0, 8, Policy::Suspend));
     let mut flow = made.map_err(|refusal| refusal.number())?;
-    let mut a = subscribed(&rt, &mut flow);
-    let mut b = subscribed(&rt, &mut flow);
-    let mut c = subscribed(&rt, &mut flow);
-    let mut d = subscribed(&rt, &mut flow);
-    let mut first = Emitting::new(&rt, &mut flow, 1);
-    let mut second = Emitting::new(&rt, &mut flow, 2);
-    let mut third = Emitting::new(&rt, &mut flow, 3);
-    let (emitted, received) = thread::join(
+    let mut a = Listening::new(&rt, &mut flow, ALL);
+    let mut b = Listening::new(&rt, &mut flow, ALL);
+    let mut c = Listening::new(&rt, &mut flow, ALL);
+    let mut d = Listening::new(&rt, &mut flow, ALL);
+    let mut first = Emitting::new(&rt, &mut flow, 1, 0);
+    let mut second = Emitting::new(&rt, &mut flow, 2, 1000);
+    let mut third = Emitting::new(&rt, &mut flow, 3, 2000);
+    thread::join(
         &rt,
-        || all_emit(&rt, &mut first, &mut second, &mut third),
-        || thread::join(
-            &rt,
-            || both_receive(&rt, &mut a, &mut b),
-            || both_receive(&rt, &mut c, &mut d),
-        ),
+        || all_emit(&rt, &tasks, &mut first, &mut second, &mut third),
+        || all_receive(&rt, &tasks, &mut a, &mut b, &mut c, &mut d),
     );
-    a.leave(&rt);
-    b.leave(&rt);
-    c.leave(&rt);
-    d.leave(&rt);
-    let idle = (first.close(&rt), (second.close(&rt), third.close(&rt)));
-    assert_eq!(rt; emitted, (1000, (1000, 1000)));
-    assert_eq!(rt; received, (true, true));
-    assert_eq!(rt; idle, (true, (true, true)));
+    let received = [a.leave(&rt), b.leave(&rt), c.leave(&rt), d.leave(&rt)];
+    let emitted = [first.close(&rt), second.close(&rt), third.close(&rt)];
+    assert_eq!(rt; emitted, [(1000, true), (2000, true), (3000, true)]);
+    assert_eq!(rt; received, [ALL; 4]);
     Ok(())
 }
 
