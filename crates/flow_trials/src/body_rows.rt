@@ -1,8 +1,8 @@
-//! The ring beside the lists that it replaced, and what it does over its capacity.
+//! The ring beside the lists that it replaced.
 
 use crate::list_body::ListBody;
-use cold_flow::{Policy, Refusal};
-use shared_core::{Call, Config, Next, SharedState, SubId, Ticket, Tried};
+use cold_flow::Policy;
+use shared_core::{Call, Config, SharedState, SubId, Ticket};
 use std::alloc::Global;
 use std::test::Fail;
 
@@ -13,10 +13,6 @@ const CALLS: u64 = 200;
 
 /// The numbers stay below this.
 const LIMIT: u64 = 1 << 62;
-
-fn number(refusal: Refusal) -> u8 {
-    refusal.number()
-}
 
 /// Numbers that look random, the same in each run.
 #[derive(Drop)]
@@ -84,14 +80,14 @@ impl Random {
 /// Makes a list of calls on both bodies. Answers whether all replies, and what is left at the end, are the same.
 fn agree(alloc: Global, random: &mut Random) -> Result<bool, Fail> {
     let config = random.config();
-    let mut ring = SharedState::<u64>::new(alloc, config).map_err(number)?;
+    let mut ring = SharedState::<u64>::new(alloc, config)?;
     let mut lists = ListBody::new(alloc, config);
     let mut replies = Vec::new(alloc);
     for _ in 0..CALLS {
         let call = random.call(&lists);
         let expected = lists.make(alloc, call)?;
         replies.clear();
-        ring.run(&[call], &mut replies).map_err(number)?;
+        ring.run(&[call], &mut replies)?;
         if replies[..] != [expected][..] {
             return Ok(false);
         }
@@ -126,31 +122,5 @@ fn ring_replies_as_the_lists_did(rt: HostRuntime) -> Result<(), Fail> {
     for list in 0..LISTS {
         assert!(rt; agree(rt.alloc(), &mut random)?, "list {list}");
     }
-    Ok(())
-}
-
-#[test]
-fn ring_over_capacity(rt: HostRuntime) -> Result<(), Fail> {
-    let config = Config {
-        replay: 1,
-        extra: 2,
-        policy: Policy::DropOldest,
-        subscribers: 2,
-        emits: 1,
-        first: 0,
-    };
-    let mut flow = SharedState::<u64>::new(rt.alloc(), config).map_err(number)?;
-    let a = flow.subscribe().map_err(number)?;
-    for value in 1..=5 {
-        let tried = flow.try_emit(1, value).map_err(number)?;
-        assert!(rt; tried == Tried::Accepted(value - 1));
-    }
-    assert!(rt; flow.replay_len() == 1);
-    let b = flow.subscribe().map_err(number)?;
-    for value in 3..=5 {
-        assert!(rt; flow.next(a) == Next::Value(value));
-    }
-    assert!(rt; flow.next(a) == Next::Nothing);
-    assert!(rt; flow.next(b) == Next::Value(5));
     Ok(())
 }

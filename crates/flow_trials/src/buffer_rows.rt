@@ -1,32 +1,51 @@
 //! Buffers, in one task and between two threads.
 
-use cold_flow::{Cause, Event, Flow, Policy, Refusal, Run, Step, failing, of, range, scripted};
-use flow_buffer::{Buffered, Drain, Feed, Fill, agree, buffer, conflate, split};
-use futures::task::Poll;
+use crate::tools::{broken, listed};
+use cold_flow::{Cause, Event, Flow, Policy, Refusal, Run, Step, range, scripted};
+use flow_buffer::{Buffer, Buffered, Drain, Feed, Fill, agree, buffer, conflate, split};
+use futures::task::{Context, Poll};
 use futures::test::MockTask;
-use std::alloc::AllocGlobal;
+use std::alloc::{AllocGlobal, Global};
+use std::process::Abort;
 use std::random::RandomSource;
 use std::sync::Wait;
 use std::test::Fail;
 use std::thread;
 use std::thread::Threads;
 
-/// What a command on a buffer has to answer.
-#[derive(Drop)]
+/// A command on a buffer, and what it has to answer.
 enum Line {
     Fill(Fill),
     Value(u64),
     Pending,
     End(Cause<u64>),
+    /// A cancel, which answers nothing.
+    Cancel,
 }
 
-/// Does the next value, or the end, come as the line says?
-fn comes(polled: Poll<Event<u64, u64>>, line: &Line) -> bool {
-    match (polled, line) {
-        (Poll::Pending, Line::Pending) => true,
-        (Poll::Ready(Event::Value(x)), Line::Value(wanted)) => x == *wanted,
-        (Poll::Ready(Event::End(cause)), Line::End(wanted)) => cause == *wanted,
-        _ => false,
+/// The commands on a new buffer, and how many values were taken and dropped after them.
+struct Row<'a> {
+    name: &'a str,
+    lines: &'a [Line],
+    taken: u64,
+    dropped: u64,
+}
+
+/// Is the command answered as the line says?
+fn is_answered<R: Run<Item = u64, Fault = u64>>(
+    buffered: &mut Buffered<R>,
+    cx: &mut Context<'_>,
+    line: &Line,
+) -> bool {
+    match line {
+        Line::Fill(wanted) => buffered.poll_fill(cx) == *wanted,
+        Line::Value(wanted) => buffered.poll_next(cx) == Poll::Ready(Event::Value(*wanted)),
+        Line::Pending => buffered.poll_next(cx).is_pending(),
+        Line::End(wanted) => buffered.poll_next(cx) == Poll::Ready(Event::End(*wanted)),
+        Line::Cancel => {
+            buffered.cancel();
+            true
+        }
     }
 }
 
@@ -37,21 +56,34 @@ fn answered<R: Run<Item = u64, Fault = u64>>(
     lines: &[Line],
 ) -> usize {
     for (number, line) in lines.iter().enumerate() {
-        let same = match line {
-            Line::Fill(wanted) => task.enter(|cx| buffered.poll_fill(cx)) == *wanted,
-            _ => comes(task.enter(|cx| buffered.poll_next(cx)), line),
-        };
-        if !same {
+        if !task.enter(|cx| is_answered(buffered, cx, line)) {
             return number;
         }
     }
     lines.len()
 }
 
-// buffers_oldest
-#[test]
-fn buffers_drop_the_oldest(rt: HostRuntime) -> Result<(), Fail> {
-    const LINES: &[Line] = &[
+fn assert_answered<F: Flow<Item = u64, Fault = u64>>(
+    rt: &impl Abort,
+    task: &MockTask,
+    flow: Buffer<F>,
+    row: &Row<'_>,
+) -> Result<(), Refusal> {
+    let mut buffered = flow.start()?;
+    assert_eq!(rt;
+        answered(task, &mut buffered, row.lines),
+        row.lines.len(),
+        "{}",
+        row.name
+    );
+    assert_eq!(rt; buffered.taken_count(), row.taken, "{}", row.name);
+    assert_eq!(rt; buffered.dropped_count(), row.dropped, "{}", row.name);
+    Ok(())
+}
+
+const DROPS_THE_OLDEST: Row<'_> = Row {
+    name: "buffers_oldest",
+    lines: &[
         Line::Fill(Fill::Took),
         Line::Fill(Fill::Took),
         Line::Fill(Fill::Overwrote),
@@ -61,104 +93,41 @@ fn buffers_drop_the_oldest(rt: HostRuntime) -> Result<(), Fail> {
         Line::Value(4),
         Line::End(Cause::Finished),
         Line::Fill(Fill::Ended),
-    ];
-    let task = MockTask::new(&rt)?;
-    let steps = vec![in rt.alloc();
-        Step::Value(1),
-        Step::Value(2),
-        Step::Value(3),
-        Step::Pending,
-        Step::Value(4),
-    ]?;
-    let flow = buffer(
-        rt.alloc(),
-        scripted::<u64, u64>(steps),
-        2,
-        Policy::DropOldest,
-    )?;
-    let mut buffered = flow.start()?;
-    assert_eq!(rt; answered(&task, &mut buffered, LINES), LINES.len());
-    assert_eq!(rt; buffered.taken_count(), 3);
-    assert_eq!(rt; buffered.dropped_count(), 1);
-    Ok(())
-}
+    ],
+    taken: 3,
+    dropped: 1,
+};
 
-// buffers_latest
-#[test]
-fn buffers_drop_the_latest(rt: HostRuntime) -> Result<(), Fail> {
-    const LINES: &[Line] = &[
+const DROPS_THE_LATEST: Row<'_> = Row {
+    name: "buffers_latest",
+    lines: &[
         Line::Fill(Fill::Took),
         Line::Fill(Fill::Dropped),
         Line::Value(1),
         Line::Value(3),
         Line::End(Cause::Finished),
-    ];
-    let task = MockTask::new(&rt)?;
-    let flow = buffer(
-        rt.alloc(),
-        of::<u64, u64>(vec![in rt.alloc(); 1, 2, 3]?),
-        1,
-        Policy::DropLatest,
-    )?;
-    let mut buffered = flow.start()?;
-    assert_eq!(rt; answered(&task, &mut buffered, LINES), LINES.len());
-    assert_eq!(rt; buffered.taken_count(), 2);
-    assert_eq!(rt; buffered.dropped_count(), 1);
-    Ok(())
-}
+    ],
+    taken: 2,
+    dropped: 1,
+};
 
-// buffers_suspend
-#[test]
-fn buffers_wait(rt: HostRuntime) -> Result<(), Fail> {
-    const LINES: &[Line] = &[
+const WAITS: Row<'_> = Row {
+    name: "buffers_suspend",
+    lines: &[
         Line::Fill(Fill::Took),
         Line::Fill(Fill::Full),
         Line::Value(1),
         Line::Value(2),
         Line::End(Cause::Failed(6)),
-    ];
-    let task = MockTask::new(&rt)?;
-    let flow = buffer(
-        rt.alloc(),
-        failing::<u64, u64>(vec![in rt.alloc(); 1, 2]?, 6),
-        1,
-        Policy::Suspend,
-    )?;
-    let mut buffered = flow.start()?;
-    assert_eq!(rt; answered(&task, &mut buffered, LINES), LINES.len());
-    assert_eq!(rt; buffered.taken_count(), 2);
-    assert_eq!(rt; buffered.dropped_count(), 0);
-    Ok(())
-}
+    ],
+    taken: 2,
+    dropped: 0,
+};
 
-// buffers_refused
-#[test]
-fn buffers_have_limits(rt: HostRuntime) -> Result<(), Fail> {
-    let alloc = rt.alloc();
-    assert!(rt;
-        matches!(
-            buffer(alloc, range::<u64>(0, 1), 0, Policy::Suspend),
-            Err(Refusal::NotPositive)
-        )
-    );
-    assert!(rt;
-        matches!(
-            buffer(alloc, range::<u64>(0, 1), 65537, Policy::Suspend),
-            Err(Refusal::TooLarge)
-        )
-    );
-    assert!(rt;
-        buffer(alloc, range::<u64>(0, 1), 65536, Policy::Suspend)?
-            .start()
-            .is_ok()
-    );
-    Ok(())
-}
-
-// conflating_buffer
-#[test]
-fn conflating_keeps_the_latest(rt: HostRuntime) -> Result<(), Fail> {
-    const LINES: &[Line] = &[
+/// The first two values are left out.
+const KEEPS_THE_LATEST: Row<'_> = Row {
+    name: "conflating_buffer",
+    lines: &[
         Line::Fill(Fill::Took),
         Line::Fill(Fill::Overwrote),
         Line::Fill(Fill::Overwrote),
@@ -166,35 +135,50 @@ fn conflating_keeps_the_latest(rt: HostRuntime) -> Result<(), Fail> {
         Line::Value(3),
         Line::End(Cause::Finished),
         Line::Fill(Fill::Ended),
-    ];
-    let task = MockTask::new(&rt)?;
-    let flow = conflate(rt.alloc(), of::<u64, u64>(vec![in rt.alloc(); 1, 2, 3]?));
-    let mut buffered = flow.start()?;
-    assert_eq!(rt; answered(&task, &mut buffered, LINES), LINES.len());
-    Ok(())
-}
+    ],
+    taken: 1,
+    dropped: 2,
+};
 
-#[test]
-fn cancelling_gives_up_what_is_held(rt: HostRuntime) -> Result<(), Fail> {
-    const LINES: &[Line] = &[
+/// What is held at a cancel is given up.
+const CANCELLED: Row<'_> = Row {
+    name: "a cancelled buffer",
+    lines: &[
         Line::Fill(Fill::Took),
         Line::Fill(Fill::Took),
         Line::Fill(Fill::Overwrote),
         Line::Value(1),
-    ];
-    const CANCELLED: &[Line] = &[
+        Line::Cancel,
         Line::End(Cause::Cancelled),
         Line::Fill(Fill::Ended),
         Line::End(Cause::Cancelled),
+    ],
+    taken: 1,
+    dropped: 1,
+};
+
+#[test]
+fn buffers_in_one_task(rt: HostRuntime) -> Result<(), Fail> {
+    const STEPS: &[Step<u64, u64>] = &[
+        Step::Value(1),
+        Step::Value(2),
+        Step::Value(3),
+        Step::Pending,
+        Step::Value(4),
     ];
+    let alloc = rt.alloc();
     let task = MockTask::new(&rt)?;
-    let flow = buffer(rt.alloc(), range::<u64>(0, 9), 2, Policy::DropOldest)?;
-    let mut buffered = flow.start()?;
-    assert_eq!(rt; answered(&task, &mut buffered, LINES), LINES.len());
-    buffered.cancel();
-    assert_eq!(rt; answered(&task, &mut buffered, CANCELLED), CANCELLED.len());
-    assert_eq!(rt; buffered.taken_count(), 1);
-    assert_eq!(rt; buffered.dropped_count(), 1);
+    let steps = scripted(STEPS.to_vec(alloc)?);
+    let oldest = buffer(alloc, steps, 2, Policy::DropOldest)?;
+    assert_answered(&rt, &task, oldest, &DROPS_THE_OLDEST)?;
+    let values = listed(alloc, &[1, 2, 3])?;
+    let latest = buffer(alloc, &values, 1, Policy::DropLatest)?;
+    assert_answered(&rt, &task, latest, &DROPS_THE_LATEST)?;
+    assert_answered(&rt, &task, conflate(alloc, &values), &KEEPS_THE_LATEST)?;
+    let waiting = buffer(alloc, broken(alloc, &[1, 2], 6)?, 1, Policy::Suspend)?;
+    assert_answered(&rt, &task, waiting, &WAITS)?;
+    let numbers = buffer(alloc, range::<u64>(0, 9), 2, Policy::DropOldest)?;
+    assert_answered(&rt, &task, numbers, &CANCELLED)?;
     Ok(())
 }
 
@@ -205,21 +189,6 @@ fn pump<U: Run<Item = u64, Fault = u64>>(
     feed: &mut Feed<U>,
 ) -> Fill {
     task.enter(|cx| feed.pump(rt, cx))
-}
-
-/// Does each pump answer as wanted?
-fn fills<U: Run<Item = u64, Fault = u64>>(
-    rt: &impl Wait,
-    task: &MockTask,
-    feed: &mut Feed<U>,
-    wanted: &[Fill],
-) -> bool {
-    for fill in wanted {
-        if pump(rt, task, feed) != *fill {
-            return false;
-        }
-    }
-    true
 }
 
 /// Pumps until the end, and says how many values were dropped.
@@ -289,150 +258,237 @@ fn split_numbers<R: Threads + Wait + RandomSource + AllocGlobal + Sync>(
     Ok((dropped.unwrap_or(0), all))
 }
 
-// split_on_two_threads
-#[test]
-fn split_waits_and_drops_nothing(rt: HostRuntime) -> Result<(), Fail> {
-    let (dropped, all) = split_numbers(&rt, 1000, Policy::Suspend)?;
-    assert!(rt; all.rising);
-    assert_eq!(rt; all.end, Some(Cause::Finished));
-    assert_eq!(rt; dropped, 0);
-    assert_eq!(rt; all.count, 1000);
-    assert_eq!(rt; all.first, 0);
-    assert_eq!(rt; all.last, 999);
-    Ok(())
+/// What a drain gave of the numbers below a bound that were split between two threads. `None` where it may be any number.
+struct Split {
+    bound: u64,
+    policy: Policy,
+    first: Option<u64>,
+    last: Option<u64>,
+    dropped: Option<u64>,
+}
+
+/// Under each policy: nothing is dropped, the last value is kept, the first one is.
+const SPLITS: &[Split] = &[
+    Split {
+        bound: 1000,
+        policy: Policy::Suspend,
+        first: Some(0),
+        last: Some(999),
+        dropped: Some(0),
+    },
+    Split {
+        bound: 1000,
+        policy: Policy::DropOldest,
+        first: None,
+        last: Some(999),
+        dropped: None,
+    },
+    Split {
+        bound: 100000,
+        policy: Policy::DropLatest,
+        first: Some(0),
+        last: None,
+        dropped: None,
+    },
+];
+
+/// Is it the number that is wanted, where one is?
+fn fits(wanted: Option<u64>, number: u64) -> bool {
+    match wanted {
+        Some(wanted) => wanted == number,
+        None => true,
+    }
 }
 
 #[test]
-fn split_drops_the_oldest_and_keeps_the_last(rt: HostRuntime) -> Result<(), Fail> {
-    let (dropped, all) = split_numbers(&rt, 1000, Policy::DropOldest)?;
-    assert!(rt; all.rising);
-    assert_eq!(rt; all.end, Some(Cause::Finished));
-    assert_eq!(rt; all.count.saturating_add(dropped), 1000);
-    assert_eq!(rt; all.last, 999);
+fn splits_between_two_threads(rt: HostRuntime) -> Result<(), Fail> {
+    for row in SPLITS {
+        let (dropped, all) = split_numbers(&rt, row.bound, row.policy)?;
+        assert!(rt; all.rising);
+        assert_eq!(rt; all.end, Some(Cause::Finished));
+        assert_eq!(rt; all.count.saturating_add(dropped), row.bound);
+        assert!(rt; fits(row.dropped, dropped), "dropped {dropped}");
+        assert!(rt; fits(row.first, all.first), "first {}", all.first);
+        assert!(rt; fits(row.last, all.last), "last {}", all.last);
+    }
     Ok(())
 }
 
-#[test]
-fn split_drops_the_latest_and_keeps_the_first(rt: HostRuntime) -> Result<(), Fail> {
-    let (dropped, all) = split_numbers(&rt, 100000, Policy::DropLatest)?;
-    assert!(rt; all.rising);
-    assert_eq!(rt; all.end, Some(Cause::Finished));
-    assert_eq!(rt; all.count.saturating_add(dropped), 100000);
-    assert_eq!(rt; all.first, 0);
-    Ok(())
+/// A call of a feed or of a drain, and what it has to answer.
+enum Turn {
+    Pump(Fill),
+    Next(Event<u64, u64>),
 }
 
-// feed_cancelled
-#[test]
-fn cancelled_feed_ends_the_drain(rt: HostRuntime) -> Result<(), Fail> {
-    const BOTH_TAKEN: &[Fill] = &[Fill::Took, Fill::Took];
-    let task = MockTask::new(&rt)?;
-    let values = vec![in rt.alloc(); 1, 2, 3]?;
-    let (mut feed, mut drain) = split(rt.alloc(), of::<u64, u64>(values), 4, Policy::Suspend)?;
-    let took = fills(&rt, &task, &mut feed, BOTH_TAKEN);
-    feed.cancel(&rt);
-    assert!(rt; took);
-    assert_eq!(rt; drain.next(&rt), Event::Value(1));
-    assert_eq!(rt; drain.next(&rt), Event::Value(2));
-    assert_eq!(rt; drain.next(&rt), Event::End(Cause::Cancelled));
-    assert_eq!(rt; drain.next(&rt), Event::End(Cause::Cancelled));
-    assert_eq!(rt; drain.taken_count(), 2);
-    Ok(())
+/// The calls of both sides in turn, then those of the drain once the feed is cancelled, and how many values were dropped and
+/// taken then.
+struct Turns<'a> {
+    name: &'a str,
+    turns: &'a [Turn],
+    rest: &'a [Event<u64, u64>],
+    dropped: u64,
+    taken: u64,
 }
 
-// A feed that ended, and one whose source has nothing yet.
-#[test]
-fn feed_sends_one_end(rt: HostRuntime) -> Result<(), Fail> {
-    const ONE_END: &[Fill] = &[Fill::Pending, Fill::Ended, Fill::Ended];
-    let task = MockTask::new(&rt)?;
-    let steps = vec![in rt.alloc(); Step::Pending, Step::Fail(6)]?;
-    let (mut feed, mut drain) = split(rt.alloc(), scripted::<u64, u64>(steps), 1, Policy::Suspend)?;
-    let ended = fills(&rt, &task, &mut feed, ONE_END);
-    feed.cancel(&rt);
-    assert!(rt; ended);
-    assert_eq!(rt; drain.next(&rt), Event::End(Cause::Failed(6)));
-    assert_eq!(rt; drain.next(&rt), Event::End(Cause::Failed(6)));
-    assert_eq!(rt; drain.taken_count(), 0);
-    Ok(())
-}
+const END: Event<u64, u64> = Event::End(Cause::Finished);
 
-/// Pumps and takes in turn. Are the values the numbers from 0 up, each taken right after it was put in?
-fn taken_in_turn<U: Run<Item = u64, Fault = u64>>(
+const FAILURE: Event<u64, u64> = Event::End(Cause::Failed(6));
+
+const CANCEL: Event<u64, u64> = Event::End(Cause::Cancelled);
+
+const CANCELLED_FEED: Turns<'_> = Turns {
+    name: "feed_cancelled",
+    turns: &[Turn::Pump(Fill::Took), Turn::Pump(Fill::Took)],
+    rest: &[Event::Value(1), Event::Value(2), CANCEL, CANCEL],
+    dropped: 0,
+    taken: 2,
+};
+
+/// A source that has nothing yet, and then fails.
+const ONE_END: Turns<'_> = Turns {
+    name: "a feed sends one end",
+    turns: &[
+        Turn::Pump(Fill::Pending),
+        Turn::Pump(Fill::Ended),
+        Turn::Pump(Fill::Ended),
+    ],
+    rest: &[FAILURE, FAILURE],
+    dropped: 0,
+    taken: 0,
+};
+
+/// A buffer that is never emptied while it is filled.
+const FULL_DROPS_THE_OLDEST: Turns<'_> = Turns {
+    name: "a full split drops the oldest",
+    turns: &[
+        Turn::Pump(Fill::Took),
+        Turn::Pump(Fill::Overwrote),
+        Turn::Pump(Fill::Overwrote),
+        Turn::Next(Event::Value(2)),
+        Turn::Pump(Fill::Ended),
+        Turn::Next(END),
+    ],
+    rest: &[END],
+    dropped: 2,
+    taken: 1,
+};
+
+const FULL_DROPS_THE_LATEST: Turns<'_> = Turns {
+    name: "a full split drops the latest",
+    turns: &[
+        Turn::Pump(Fill::Took),
+        Turn::Pump(Fill::Dropped),
+        Turn::Pump(Fill::Dropped),
+        Turn::Next(Event::Value(0)),
+        Turn::Pump(Fill::Ended),
+        Turn::Next(END),
+    ],
+    rest: &[END],
+    dropped: 2,
+    taken: 1,
+};
+
+/// How many turns, from the first on, were answered as they say.
+fn taken_turns<U: Run<Item = u64, Fault = u64>>(
     rt: &impl Wait,
     task: &MockTask,
     feed: &mut Feed<U>,
     drain: &mut Drain<u64, u64>,
-) -> bool {
-    for number in 0..1000 {
-        if pump(rt, task, feed) != Fill::Took || drain.next(rt) != Event::Value(number) {
-            return false;
+    turns: &[Turn],
+) -> usize {
+    for (number, turn) in turns.iter().enumerate() {
+        let same = match turn {
+            Turn::Pump(wanted) => pump(rt, task, feed) == *wanted,
+            Turn::Next(wanted) => drain.next(rt) == *wanted,
+        };
+        if !same {
+            return number;
         }
     }
-    true
+    turns.len()
 }
 
-/// How many values a buffer of capacity 1 drops that is emptied after each value, and how many it gave.
+fn assert_turns<R: Wait + Abort, U: Run<Item = u64, Fault = u64>>(
+    rt: &R,
+    task: &MockTask,
+    mut feed: Feed<U>,
+    mut drain: Drain<u64, u64>,
+    row: &Turns<'_>,
+) {
+    let count = taken_turns(rt, task, &mut feed, &mut drain, row.turns);
+    let dropped = feed.dropped_count();
+    feed.cancel(rt);
+    assert_eq!(rt; count, row.turns.len(), "{}", row.name);
+    assert_eq!(rt; dropped, row.dropped, "{}", row.name);
+    for event in row.rest {
+        assert_eq!(rt; drain.next(rt), *event, "{}", row.name);
+    }
+    assert_eq!(rt; drain.taken_count(), row.taken, "{}", row.name);
+}
+
+#[test]
+fn turns_of_a_split(rt: HostRuntime) -> Result<(), Fail> {
+    const STEPS: &[Step<u64, u64>] = &[Step::Pending, Step::Fail(6)];
+    let alloc = rt.alloc();
+    let task = MockTask::new(&rt)?;
+    let values = listed(alloc, &[1, 2, 3])?;
+    let (feed, drain) = split(alloc, &values, 4, Policy::Suspend)?;
+    assert_turns(&rt, &task, feed, drain, &CANCELLED_FEED);
+    let steps = scripted(STEPS.to_vec(alloc)?);
+    let (feed, drain) = split(alloc, &steps, 1, Policy::Suspend)?;
+    assert_turns(&rt, &task, feed, drain, &ONE_END);
+    let (feed, drain) = split(alloc, range::<u64>(0, 3), 1, Policy::DropOldest)?;
+    assert_turns(&rt, &task, feed, drain, &FULL_DROPS_THE_OLDEST);
+    let (feed, drain) = split(alloc, range::<u64>(0, 3), 1, Policy::DropLatest)?;
+    assert_turns(&rt, &task, feed, drain, &FULL_DROPS_THE_LATEST);
+    let (feed, drain) = split(alloc, range::<u64>(0, 2), 1, Policy::DropLatest)?;
+    agree(feed, drain);
+    Ok(())
+}
+
+/// A buffer of capacity 1 that is emptied after each value: how many of the numbers from 0 up each came right after it was put
+/// in, and how many were dropped and taken.
 fn emptied_split<R: Wait + RandomSource + AllocGlobal>(
     rt: &R,
     policy: Policy,
-) -> Result<(bool, u64, u64), Fail> {
+) -> Result<(u64, u64, u64), Fail> {
     let task = MockTask::new(rt)?;
     let (mut feed, mut drain) = split(rt.alloc(), range::<u64>(0, 1000), 1, policy)?;
-    let all_came = taken_in_turn(rt, &task, &mut feed, &mut drain);
+    let mut came = 0;
+    for number in 0..1000 {
+        if pump(rt, &task, &mut feed) != Fill::Took || drain.next(rt) != Event::Value(number) {
+            break;
+        }
+        came = number + 1;
+    }
     let dropped = feed.dropped_count();
     feed.cancel(rt);
-    Ok((all_came, dropped, drain.taken_count()))
+    Ok((came, dropped, drain.taken_count()))
 }
 
 // A buffer that is emptied after each value is never full.
 #[test]
 fn emptied_split_drops_nothing(rt: HostRuntime) -> Result<(), Fail> {
-    assert_eq!(rt; emptied_split(&rt, Policy::DropOldest)?, (true, 0, 1000));
-    assert_eq!(rt; emptied_split(&rt, Policy::DropLatest)?, (true, 0, 1000));
+    for policy in [Policy::DropOldest, Policy::DropLatest] {
+        assert_eq!(rt; emptied_split(&rt, policy)?, (1000, 0, 1000));
+    }
     Ok(())
 }
 
-/// What a buffer of capacity 1 gives that is never emptied while it is filled: whether the pumps answered as wanted, the
-/// count of dropped values, and then the two events.
-fn full_split<R: Wait + RandomSource + AllocGlobal>(
-    rt: &R,
-    policy: Policy,
-    wanted: &[Fill],
-) -> Result<(bool, u64, Event<u64, u64>, Event<u64, u64>), Fail> {
-    const THE_END: &[Fill] = &[Fill::Ended];
-    let task = MockTask::new(rt)?;
-    let (mut feed, mut drain) = split(rt.alloc(), range::<u64>(0, 3), 1, policy)?;
-    let filled = fills(rt, &task, &mut feed, wanted);
-    let dropped = feed.dropped_count();
-    let first = drain.next(rt);
-    let ended = fills(rt, &task, &mut feed, THE_END);
-    let second = drain.next(rt);
-    feed.cancel(rt);
-    Ok((filled && ended, dropped, first, second))
+/// Why no buffer of that capacity can be made and started in one task, where it can't.
+fn refused_buffer(alloc: Global, capacity: u64) -> Option<Refusal> {
+    match buffer(alloc, range::<u64>(0, 1), capacity, Policy::Suspend) {
+        Ok(flow) => flow.start().err(),
+        Err(refusal) => Some(refusal),
+    }
 }
 
-// A buffer that is never emptied while it is filled.
-#[test]
-fn full_split_drops_by_its_policy(rt: HostRuntime) -> Result<(), Fail> {
-    const OVERWRITTEN: &[Fill] = &[Fill::Took, Fill::Overwrote, Fill::Overwrote];
-    const DROPPED: &[Fill] = &[Fill::Took, Fill::Dropped, Fill::Dropped];
-    let end = Event::End(Cause::Finished);
-    assert_eq!(rt;
-        full_split(&rt, Policy::DropOldest, OVERWRITTEN)?,
-        (true, 2, Event::Value(2), end)
-    );
-    assert_eq!(rt;
-        full_split(&rt, Policy::DropLatest, DROPPED)?,
-        (true, 2, Event::Value(0), end)
-    );
-    Ok(())
-}
-
-/// Why no buffer of that capacity can be split between two threads, where it can't.
-fn refused_split<R: Wait + AllocGlobal>(rt: &R, capacity: u64) -> Option<Refusal> {
+/// Why no buffer of that capacity can be split between two threads, where it can't. One that can is cancelled at once.
+fn refused_split<R: Wait + Abort + AllocGlobal>(rt: &R, capacity: u64) -> Option<Refusal> {
     match split(rt.alloc(), range::<u64>(0, 1), capacity, Policy::Suspend) {
-        Ok((feed, _drain)) => {
+        Ok((feed, mut drain)) => {
             feed.cancel(rt);
+            assert_eq!(rt; drain.next(rt), CANCEL);
             None
         }
         Err(refusal) => Some(refusal),
@@ -440,18 +496,18 @@ fn refused_split<R: Wait + AllocGlobal>(rt: &R, capacity: u64) -> Option<Refusal
 }
 
 #[test]
-fn split_has_limits(rt: HostRuntime) -> Result<(), Fail> {
-    assert_eq!(rt; refused_split(&rt, 0), Some(Refusal::NotPositive));
-    assert_eq!(rt; refused_split(&rt, 65537), Some(Refusal::TooLarge));
-    let (feed, mut drain) = split(rt.alloc(), range::<u64>(0, 1), 65536, Policy::Suspend)?;
-    feed.cancel(&rt);
-    assert_eq!(rt; drain.next(&rt), Event::End(Cause::Cancelled));
-    Ok(())
-}
-
-#[test]
-fn both_sides_meet(rt: HostRuntime) -> Result<(), Fail> {
-    let (feed, drain) = split(rt.alloc(), range::<u64>(0, 2), 1, Policy::DropLatest)?;
-    agree(feed, drain);
-    Ok(())
+fn capacities_have_limits(rt: HostRuntime) {
+    const LIMITS: &[(u64, Option<Refusal>)] = &[
+        (0, Some(Refusal::NotPositive)),
+        (65536, None),
+        (65537, Some(Refusal::TooLarge)),
+    ];
+    for (capacity, refusal) in LIMITS {
+        assert_eq!(rt;
+            refused_buffer(rt.alloc(), *capacity),
+            *refusal,
+            "{capacity}"
+        );
+        assert_eq!(rt; refused_split(&rt, *capacity), *refusal, "{capacity}");
+    }
 }

@@ -1,18 +1,17 @@
 //! Cold flows poll by poll: the worked examples, each operator and end once with ample memory, and cancelled runs.
 ghost use Rattle.std.specs.Prelude.{◌≡◌, ◌+◌, ◌%◌, ◌^◌, nat_lt, Some};
-ghost use Rattle.cold_flow.specs.declared.operators.catch_with.Caught.TheVariants.{Last};
-ghost use Rattle.cold_flow.specs.declared.operators.few.Few.TheVariants.{Two, Three, Zero};
-ghost use Rattle.std.specs.Prelude.{if◌then◌else◌};
+ghost use Rattle.cold_flow.specs.declared.operators.few.Few.TheVariants.{Two};
 
+use crate::tools::{Answer, Polling, Sum, assert_polls, broken, listed, next};
 use crate::{Countdown, chain, mapped_list, taken_down};
 use cold_flow::{
-    Apply, Caught, Cause, Collected, Collecting, Event, Few, Finite, First, Flow, Folding, Listed,
-    Refusal, Run, Step, catch_with, collect, distinct, drop_first, failing, filter, first, fold,
-    map, of, on_completion, range, scripted, take, to_list, transform,
+    Apply, Caught, Cause, Collected, Collecting, Event, Few, Finite, First, Flow, Folding, Refusal,
+    Run, Step, catch_with, collect, distinct, drop_first, filter, first, fold, map, on_completion,
+    range, scripted, take, to_list, transform,
 };
 use futures::task::Poll;
 use futures::test::MockTask;
-use std::alloc::{AllocError, Global};
+use std::alloc::Global;
 use std::process::Abort;
 use std::test::Fail;
 
@@ -26,20 +25,6 @@ impl Apply<u64> for Add {
 
     fn apply(&self, argument: u64) -> u64 {
         argument.wrapping_add(self.0)
-    }
-}
-
-// The state and the next value added.
-#[derive(Clone, Copy)]
-struct Sum;
-
-impl Apply<(u64, u64)> for Sum {
-    type Out = u64;
-
-    ghost gives = { λ _ x. (x.0 + x.1) % 2 ^ 64 };
-
-    fn apply(&self, argument: (u64, u64)) -> u64 {
-        argument.0.wrapping_add(argument.1)
     }
 }
 
@@ -83,20 +68,6 @@ impl Apply<u64> for Twice {
     }
 }
 
-// Any failure becomes a given answer.
-#[derive(Clone, Copy)]
-struct Answer(Caught<u64, u64>);
-
-impl Apply<u64> for Answer {
-    type Out = Caught<u64, u64>;
-
-    ghost gives = { λ f _. f.0 };
-
-    fn apply(&self, _argument: u64) -> Caught<u64, u64> {
-        self.0
-    }
-}
-
 // A last value, whatever the cause.
 #[derive(Clone, Copy)]
 struct LastValue(Option<u64>);
@@ -123,56 +94,56 @@ fn assert_gives<F: Flow<Item = u64, Fault = u64>>(
 where
     F::Running: Finite,
 {
-    let list = list_of(alloc, task, flow.start()?)?;
+    let run = flow.start()?;
+    let list = task.enter(move |cx| to_list(alloc, run, cx))?;
     assert_eq!(rt; list.values.as_slice(), values);
     assert_eq!(rt; list.cause, cause);
     Ok(())
 }
 
-// The flow of a list.
-fn listed(alloc: Global, values: &[u64]) -> Result<Listed<u64, u64>, AllocError> {
-    Ok(of(values.to_vec(alloc)?))
-}
-
-// The flow of a list that fails then.
-fn broken(alloc: Global, values: &[u64], fault: u64) -> Result<Listed<u64, u64>, AllocError> {
-    Ok(failing(values.to_vec(alloc)?, fault))
-}
-
-// What a finite run gives, at once.
-fn list_of<R: Finite>(
-    alloc: Global,
-    task: &MockTask,
-    run: R,
-) -> Result<Collected<R::Item, R::Fault>, Refusal> {
-    task.enter(move |cx| to_list(alloc, run, cx))
-}
-
-// One poll of a collection.
-fn gather<R: Run>(
+// What one poll of a collection gives. A failure where that waits.
+fn gathered<R: Run<Item = u64, Fault = u64>>(
     task: &MockTask,
     gathering: &mut Collecting<R>,
-) -> Poll<Result<Collected<R::Item, R::Fault>, Refusal>> {
-    task.enter(|cx| gathering.poll(cx))
+) -> Result<Collected<u64, u64>, Fail> {
+    match task.enter(|cx| gathering.poll(cx)) {
+        Poll::Ready(list) => Ok(list?),
+        Poll::Pending => Err(Fail::from("it waits")),
+    }
 }
 
-// One poll.
-fn next<R: Run>(task: &MockTask, run: &mut R) -> Poll<Event<R::Item, R::Fault>> {
-    task.enter(|cx| run.poll_next(cx))
-}
+const ENDED: Polling = Poll::Ready(Event::End(Cause::Finished));
 
+const FAILED: Polling = Poll::Ready(Event::End(Cause::Failed(5)));
+
+const CANCELLED: Polling = Poll::Ready(Event::End(Cause::Cancelled));
+
+const FIRST_VALUE: Polling = Poll::Ready(Event::Value(1));
+
+const SECOND_VALUE: Polling = Poll::Ready(Event::Value(2));
+
+const LAST_VALUE: Polling = Poll::Ready(Event::Value(9));
+
+// A filter that finds nothing in 64 values yields, three times for 199. The end of a scripted flow is given again.
 #[test]
-fn filter_yields(rt: HostRuntime) -> Result<(), Fail> {
+fn runs_poll_by_poll(rt: HostRuntime) -> Result<(), Fail> {
+    const FOUND: Polling = Poll::Ready(Event::Value(199));
+    const STEPS: &[Step<u64, u64>] = &[
+        Step::Value(1),
+        Step::Pending,
+        Step::Fail(5),
+        Step::Value(2),
+    ];
     let task = MockTask::new(&rt)?;
     let mut run = filter(range::<u64>(0, 200), IsAbove(198)).start()?;
-    for _poll in 0..3 {
-        assert_eq!(rt; next(&task, &mut run), Poll::Pending);
-        assert!(rt; task.is_woken());
-    }
-    assert_eq!(rt; next(&task, &mut run), Poll::Ready(Event::Value(199)));
-    assert_eq!(rt;
-        next(&task, &mut run),
-        Poll::Ready(Event::End(Cause::Finished))
+    let answers = [Poll::Pending, Poll::Pending, Poll::Pending, FOUND, ENDED];
+    assert_polls(&rt, &task, &mut run, &answers);
+    let mut run = scripted(STEPS.to_vec(rt.alloc())?).start()?;
+    assert_polls(
+        &rt,
+        &task,
+        &mut run,
+        &[FIRST_VALUE, Poll::Pending, FAILED, FAILED],
     );
     Ok(())
 }
@@ -196,74 +167,85 @@ fn collect_takes_64_values_a_poll(rt: HostRuntime) -> Result<(), Fail> {
     let task = MockTask::new(&rt)?;
     let mut gathering = collect(rt.alloc(), range::<u64>(0, 130).start()?);
     for count in [64, 128] {
-        assert!(rt; gather(&task, &mut gathering).is_pending());
+        assert!(rt; task.enter(|cx| gathering.poll(cx)).is_pending());
         assert!(rt; task.is_woken());
         assert_eq!(rt; gathering.so_far().len(), count);
     }
-    let Poll::Ready(list) = gather(&task, &mut gathering) else {
-        return Err(Fail::from("a third poll waits"));
-    };
-    let list = list?;
+    let list = gathered(&task, &mut gathering)?;
     assert_eq!(rt; list.values.len(), 130);
     assert!(rt; counts_up(list.values.as_slice()));
     assert_eq!(rt; list.cause, Cause::Finished);
     assert!(rt; gathering.so_far().is_empty());
-    let Poll::Ready(again) = gather(&task, &mut gathering) else {
-        return Err(Fail::from("a poll after the end waits"));
-    };
-    let again = again?;
+    let again = gathered(&task, &mut gathering)?;
     assert!(rt; again.values.is_empty());
     assert_eq!(rt; again.cause, Cause::Finished);
-    Ok(())
-}
-
-#[test]
-fn completion_action(rt: HostRuntime) -> Result<(), Fail> {
-    const GIVEN: &[u64] = &[1, 2, 9];
-    let task = MockTask::new(&rt)?;
-    let flow = on_completion(listed(rt.alloc(), TWO)?, LastValue(Some(9)));
-    let mut run = flow.start()?;
-    assert_eq!(rt; run.noted(), None);
-    for value in GIVEN {
-        assert_eq!(rt; next(&task, &mut run), Poll::Ready(Event::Value(*value)));
-    }
-    assert_eq!(rt;
-        next(&task, &mut run),
-        Poll::Ready(Event::End(Cause::Finished))
-    );
-    assert_eq!(rt; run.noted(), Some(Cause::Finished));
-    Ok(())
-}
-
-#[test]
-fn completion_action_at_a_cancel(rt: HostRuntime) -> Result<(), Fail> {
-    let task = MockTask::new(&rt)?;
-    let mut run = on_completion(listed(rt.alloc(), TWO)?, LastValue(Some(9))).start()?;
-    assert_eq!(rt; next(&task, &mut run), Poll::Ready(Event::Value(1)));
-    assert_eq!(rt; run.noted(), None);
-    run.cancel();
-    assert_eq!(rt;
-        next(&task, &mut run),
-        Poll::Ready(Event::End(Cause::Cancelled))
-    );
-    assert_eq!(rt; run.noted(), Some(Cause::Cancelled));
-    Ok(())
-}
-
-#[test]
-fn collect_takes_a_short_list_at_once(rt: HostRuntime) -> Result<(), Fail> {
-    let task = MockTask::new(&rt)?;
-    let mut gathering = collect(rt.alloc(), listed(rt.alloc(), TWO)?.start()?);
-    let Poll::Ready(list) = gather(&task, &mut gathering) else {
-        return Err(Fail::from("it waits"));
-    };
-    let list = list?;
+    let mut short = collect(rt.alloc(), listed(rt.alloc(), TWO)?.start()?);
+    let list = gathered(&task, &mut short)?;
     assert_eq!(rt; list.values.as_slice(), TWO);
     assert_eq!(rt; list.cause, Cause::Finished);
     Ok(())
 }
 
-// Pipes of flows that fail.
+// Polls of a list whose completion action gives 9, what the action noted after them, and the same after a cancel.
+struct Completion<'a> {
+    name: &'a str,
+    values: &'a [u64],
+    polls: &'a [Polling],
+    noted: Option<Cause<u64>>,
+    is_cancelled: bool,
+    polls_then: &'a [Polling],
+    noted_then: Option<Cause<u64>>,
+}
+
+const COMPLETIONS: &[Completion<'_>] = &[
+    Completion {
+        name: "completion_action",
+        values: TWO,
+        polls: &[FIRST_VALUE, SECOND_VALUE, LAST_VALUE, ENDED],
+        noted: Some(Cause::Finished),
+        is_cancelled: false,
+        polls_then: &[ENDED],
+        noted_then: Some(Cause::Finished),
+    },
+    Completion {
+        name: "completion_action, cancelled after a value",
+        values: TWO,
+        polls: &[FIRST_VALUE],
+        noted: None,
+        is_cancelled: true,
+        polls_then: &[CANCELLED],
+        noted_then: Some(Cause::Cancelled),
+    },
+    Completion {
+        name: "a cancel after the last value keeps the cause that was noted",
+        values: ONE,
+        polls: &[FIRST_VALUE, LAST_VALUE],
+        noted: Some(Cause::Finished),
+        is_cancelled: true,
+        polls_then: &[CANCELLED],
+        noted_then: Some(Cause::Finished),
+    },
+];
+
+#[test]
+fn completion_actions(rt: HostRuntime) -> Result<(), Fail> {
+    let task = MockTask::new(&rt)?;
+    for row in COMPLETIONS {
+        let flow = on_completion(listed(rt.alloc(), row.values)?, LastValue(Some(9)));
+        let mut run = flow.start()?;
+        assert_eq!(rt; run.noted(), None, "{}", row.name);
+        assert_polls(&rt, &task, &mut run, row.polls);
+        assert_eq!(rt; run.noted(), row.noted, "{}", row.name);
+        if row.is_cancelled {
+            run.cancel();
+        }
+        assert_polls(&rt, &task, &mut run, row.polls_then);
+        assert_eq!(rt; run.noted(), row.noted_then, "{}", row.name);
+    }
+    Ok(())
+}
+
+// Pipes of flows that fail, and what a handler makes of a failure.
 fn assert_failures(rt: &impl Abort, alloc: Global, task: &MockTask) -> Result<(), Fail> {
     const CAUGHT: &[u64] = &[1, 2, 9];
     let failed = broken(alloc, TWO, 7)?;
@@ -273,11 +255,6 @@ fn assert_failures(rt: &impl Abort, alloc: Global, task: &MockTask) -> Result<()
     assert_gives(rt, alloc, task, caught, CAUGHT, Cause::Finished)?;
     let completed = on_completion(&failed, LastValue(Some(9)));
     assert_gives(rt, alloc, task, completed, TWO, Cause::Failed(7))?;
-    Ok(())
-}
-
-// What a handler makes of a failure.
-fn assert_handled(rt: &impl Abort, alloc: Global, task: &MockTask) -> Result<(), Fail> {
     let other = catch_with(broken(alloc, ONE, 3)?, Answer(Caught::Fault(4)));
     assert_gives(rt, alloc, task, other, ONE, Cause::Failed(4))?;
     let ended = catch_with(broken(alloc, ONE, 3)?, Answer(Caught::End));
@@ -321,31 +298,8 @@ fn cold_pipes(rt: HostRuntime) -> Result<(), Fail> {
     let refused = take(range::<u64>(1, 4), 0).is_err_and(|refusal| refusal.number() == 8);
     assert!(rt; refused);
     assert_failures(&rt, rt.alloc(), &task)?;
-    assert_handled(&rt, rt.alloc(), &task)?;
     assert_lists(&rt, rt.alloc(), &task)?;
     assert_ranges(&rt, rt.alloc(), &task)
-}
-
-#[test]
-fn scripted_steps(rt: HostRuntime) -> Result<(), Fail> {
-    const STEPS: &[Step<u64, u64>] = &[
-        Step::Value(1),
-        Step::Pending,
-        Step::Fail(5),
-        Step::Value(2),
-    ];
-    let task = MockTask::new(&rt)?;
-    let mut run = scripted(STEPS.to_vec(rt.alloc())?).start()?;
-    assert_eq!(rt; next(&task, &mut run), Poll::Ready(Event::Value(1)));
-    assert_eq!(rt; next(&task, &mut run), Poll::Pending);
-    assert!(rt; task.is_woken());
-    for _poll in 0..2 {
-        assert_eq!(rt;
-            next(&task, &mut run),
-            Poll::Ready(Event::End(Cause::Failed(5)))
-        );
-    }
-    Ok(())
 }
 
 // One poll of a sum.
@@ -364,10 +318,13 @@ fn first_of<R: Run>(
     task.enter(|cx| first.poll(cx))
 }
 
+// The sum of a range, and the first value of a flow with some and of one with none. Each is given again.
 #[test]
-fn fold_of_a_range(rt: HostRuntime) -> Result<(), Fail> {
+fn folds_and_firsts(rt: HostRuntime) -> Result<(), Fail> {
     let task = MockTask::new(&rt)?;
     let mut folding = fold(range::<u64>(1, 101).start()?, 0, Sum);
+    let mut some = first(range::<u64>(7, 9).start()?);
+    let mut none = first(broken(rt.alloc(), &[], 3)?.start()?);
     assert_eq!(rt; add_up(&task, &mut folding), Poll::Pending);
     assert!(rt; task.is_woken());
     for _poll in 0..2 {
@@ -375,17 +332,6 @@ fn fold_of_a_range(rt: HostRuntime) -> Result<(), Fail> {
             add_up(&task, &mut folding),
             Poll::Ready((5050, Cause::Finished))
         );
-    }
-    Ok(())
-}
-
-#[test]
-fn first_of_some_and_of_none(rt: HostRuntime) -> Result<(), Fail> {
-    const NONE: &[u64] = &[];
-    let task = MockTask::new(&rt)?;
-    let mut some = first(range::<u64>(7, 9).start()?);
-    let mut none = first(broken(rt.alloc(), NONE, 3)?.start()?);
-    for _poll in 0..2 {
         assert_eq!(rt; first_of(&task, &mut some), Poll::Ready(Ok(7)));
         assert_eq!(rt;
             first_of(&task, &mut none),
@@ -395,35 +341,22 @@ fn first_of_some_and_of_none(rt: HostRuntime) -> Result<(), Fail> {
     Ok(())
 }
 
-// Polls a run some times, cancels it, and asks it twice more.
-fn assert_cancelled<R: Run<Item = u64, Fault = u64>>(
-    rt: &impl Abort,
-    task: &MockTask,
-    mut run: R,
-    polls: u32,
-) {
-    for _poll in 0..polls {
-        let polled = next(task, &mut run);
-        assert!(rt; matches!(&polled, Poll::Ready(Event::Value(_))));
-    }
-    run.cancel();
-    for _poll in 0..2 {
-        assert_eq!(rt;
-            next(task, &mut run),
-            Poll::Ready(Event::End(Cause::Cancelled))
-        );
-        run.cancel();
-    }
-}
-
-// Starts a flow and cancels its run after so many polls.
+// Starts a flow, polls its run some times, cancels it, and asks it twice more.
 fn assert_cancels<F: Flow<Item = u64, Fault = u64>>(
     rt: &impl Abort,
     task: &MockTask,
     flow: F,
     polls: u32,
 ) -> Result<(), Refusal> {
-    assert_cancelled(rt, task, flow.start()?, polls);
+    let mut run = flow.start()?;
+    for _poll in 0..polls {
+        let polled = next(task, &mut run);
+        assert!(rt; matches!(&polled, Poll::Ready(Event::Value(_))));
+    }
+    for _poll in 0..2 {
+        run.cancel();
+        assert_eq!(rt; next(task, &mut run), CANCELLED);
+    }
     Ok(())
 }
 
@@ -454,65 +387,29 @@ fn cancelled_runs_give_nothing_more(rt: HostRuntime) -> Result<(), Fail> {
 }
 
 #[test]
-fn a_cancel_after_the_last_value_keeps_the_cause(rt: HostRuntime) -> Result<(), Fail> {
-    let task = MockTask::new(&rt)?;
-    let mut run = on_completion(listed(rt.alloc(), ONE)?, LastValue(Some(9))).start()?;
-    assert_eq!(rt; next(&task, &mut run), Poll::Ready(Event::Value(1)));
-    assert_eq!(rt; next(&task, &mut run), Poll::Ready(Event::Value(9)));
-    run.cancel();
-    assert_eq!(rt;
-        next(&task, &mut run),
-        Poll::Ready(Event::End(Cause::Cancelled))
-    );
-    assert_eq!(rt; run.noted(), Some(Cause::Finished));
-    Ok(())
-}
-
-// What the caller of a countdown gives.
-fn counted_down(
-    alloc: Global,
-    task: &MockTask,
-    from: u32,
-    count: u32,
-) -> Result<Collected<u32, u8>, Refusal> {
-    task.enter(|cx| taken_down(alloc, from, count, cx))
-}
-
-#[test]
 fn a_flow_of_ones_own(rt: HostRuntime) -> Result<(), Fail> {
-    const FIRST: &[u32] = &[5, 4, 3];
-    const REST: &[u32] = &[3, 2, 1];
+    let alloc = rt.alloc();
     let task = MockTask::new(&rt)?;
-    let list = counted_down(rt.alloc(), &task, 5, 3)?;
-    assert_eq!(rt; list.values.as_slice(), FIRST);
+    let list = task.enter(|cx| taken_down(alloc, 5, 3, cx))?;
+    assert_eq!(rt; list.values.as_slice(), [5, 4, 3].as_slice());
     assert_eq!(rt; list.cause, Cause::Finished);
     let run = distinct(drop_first(Countdown { from: 4 }, 1)).start()?;
-    let list = list_of(rt.alloc(), &task, run)?;
-    assert_eq!(rt; list.values.as_slice(), REST);
+    let list = task.enter(move |cx| to_list(alloc, run, cx))?;
+    assert_eq!(rt; list.values.as_slice(), [3, 2, 1].as_slice());
     Ok(())
 }
 
-// What the caller of five operators gives.
-fn chained(alloc: Global, task: &MockTask) -> Result<Collected<u64, u64>, Refusal> {
-    task.enter(|cx| chain::<u64, Add, IsEven>(alloc, 9, Add(2), IsEven, cx))
-}
-
-// What the caller of a map gives.
-fn mapped(alloc: Global, task: &MockTask, values: &[u64]) -> Result<Collected<u64, u64>, Refusal> {
-    let values = values.to_vec(alloc)?;
-    task.enter(move |cx| mapped_list::<u64, u64, u64, Add>(alloc, values, Add(1), cx))
-}
-
+// What the callers of five operators and of a map give.
 #[test]
 fn chains_of_operators(rt: HostRuntime) -> Result<(), Fail> {
-    const CHAINED: &[u64] = &[4, 6, 8];
-    const MAPPED: &[u64] = &[2, 3];
+    let alloc = rt.alloc();
     let task = MockTask::new(&rt)?;
-    let list = chained(rt.alloc(), &task)?;
-    assert_eq!(rt; list.values.as_slice(), CHAINED);
+    let list = task.enter(|cx| chain::<u64, Add, IsEven>(alloc, 9, Add(2), IsEven, cx))?;
+    assert_eq!(rt; list.values.as_slice(), [4, 6, 8].as_slice());
     assert_eq!(rt; list.cause, Cause::Finished);
-    let list = mapped(rt.alloc(), &task, TWO)?;
-    assert_eq!(rt; list.values.as_slice(), MAPPED);
+    let values = TWO.to_vec(alloc)?;
+    let list = task.enter(move |cx| mapped_list::<u64, u64, u64, Add>(alloc, values, Add(1), cx))?;
+    assert_eq!(rt; list.values.as_slice(), [2, 3].as_slice());
     assert_eq!(rt; list.cause, Cause::Finished);
     Ok(())
 }

@@ -11,6 +11,10 @@ use std::test::Fail;
 /// The numbers stay below this.
 const LIMIT: u64 = 1 << 62;
 
+const LAST: u64 = LIMIT - 1;
+
+const NEXT_TO_LAST: u64 = LIMIT - 2;
+
 const PLAIN: Config = Config {
     replay: 0,
     extra: 1,
@@ -20,87 +24,248 @@ const PLAIN: Config = Config {
     first: 0,
 };
 
-fn number(refusal: Refusal) -> u8 {
-    refusal.number()
-}
+/// A flow of two subscribers that hands its values over.
+const HANDING_OVER: Config = Config {
+    extra: 0,
+    subscribers: 2,
+    ..PLAIN
+};
 
-/// The replies of a new flow to these calls.
-fn replies_of(
-    alloc: Global,
+/// A call, and its reply.
+type Exchange = (Call<u64>, Reply<u64>);
+
+/// The calls of a new flow with their replies, and its replay cache after them.
+struct Row<'a> {
+    name: &'a str,
     config: Config,
-    calls: &[Call<u64>],
-) -> Result<Vec<Reply<u64>>, Refusal> {
-    let mut flow = SharedState::new(alloc, config)?;
-    let mut replies = Vec::new(alloc);
-    flow.run(calls, &mut replies)?;
-    Ok(replies)
+    exchanges: &'a [Exchange],
+    cache: &'a [u64],
 }
 
-#[test]
-fn run_of_calls(rt: HostRuntime) -> Result<(), Fail> {
-    const CALLS: &[Call<u64>] = &[
-        Call::Subscribe,
-        Call::Try(1, 7),
-        Call::Next(SubId(0)),
-        Call::Next(SubId(0)),
-    ];
-    const EXPECTED: &[Reply<u64>] = &[
-        Reply::Sub(Ok(SubId(0))),
-        Reply::Tried(Ok(Tried::Accepted(0))),
-        Reply::Next(Next::Value(7)),
-        Reply::Next(Next::Nothing),
-    ];
-    let replies = replies_of(rt.alloc(), PLAIN, CALLS).map_err(number)?;
-    assert!(rt; replies[..] == EXPECTED[..]);
-    Ok(())
-}
+const FIRST_SUBSCRIBES: Exchange = (Call::Subscribe, Reply::Sub(Ok(SubId(0))));
 
-#[test]
-fn run_of_every_call(rt: HostRuntime) -> Result<(), Fail> {
-    const CONFIG: Config = Config {
-        replay: 1,
-        extra: 0,
-        emits: 2,
-        ..PLAIN
-    };
-    const CALLS: &[Call<u64>] = &[
-        Call::Subscribe,
-        Call::Count,
-        Call::Start(1, 10),
-        Call::Start(1, 11),
-        Call::Start(2, 12),
-        Call::Withdraw(Ticket(1)),
-        Call::Next(SubId(0)),
-        Call::Poll(Ticket(0)),
-        Call::Withdraw(Ticket(0)),
-        Call::Try(3, 13),
-        Call::Reset,
-        Call::Cancel(SubId(0)),
-        Call::Subscribe,
-        Call::Next(SubId(1)),
-        Call::Count,
-    ];
-    const EXPECTED: &[Reply<u64>] = &[
-        Reply::Sub(Ok(SubId(0))),
-        Reply::Count(1),
-        Reply::Begun(Ok(Begun::Accepted(0))),
-        Reply::Begun(Ok(Begun::Waiting(Ticket(0)))),
-        Reply::Begun(Ok(Begun::Waiting(Ticket(1)))),
-        Reply::Withdrawn(Withdrawn::Removed),
-        Reply::Next(Next::Value(10)),
-        Reply::Emit(Emit::Done(1)),
-        Reply::Withdrawn(Withdrawn::Gone),
-        Reply::Tried(Ok(Tried::Full)),
-        Reply::Reset,
-        Reply::Cancelled(true),
-        Reply::Sub(Ok(SubId(1))),
-        Reply::Next(Next::Nothing),
-        Reply::Count(1),
-    ];
-    let replies = replies_of(rt.alloc(), CONFIG, CALLS).map_err(number)?;
-    assert!(rt; replies[..] == EXPECTED[..]);
-    Ok(())
-}
+const SECOND_SUBSCRIBES: Exchange = (Call::Subscribe, Reply::Sub(Ok(SubId(1))));
+
+const EMISSION_WAITS: Exchange = (
+    Call::Start(0, 7),
+    Reply::Begun(Ok(Begun::Waiting(Ticket(0)))),
+);
+
+const FIRST_RECEIVES: Exchange = (Call::Next(SubId(0)), Reply::Next(Next::Value(7)));
+
+const SECOND_RECEIVES: Exchange = (Call::Next(SubId(1)), Reply::Next(Next::Value(7)));
+
+const LEFT: Exchange = (
+    Call::Withdraw(Ticket(0)),
+    Reply::Withdrawn(Withdrawn::Left(0)),
+);
+
+const GONE: Exchange = (Call::Withdraw(Ticket(0)), Reply::Withdrawn(Withdrawn::Gone));
+
+const ROWS: &[Row<'_>] = &[
+    Row {
+        name: "run_of_calls",
+        config: PLAIN,
+        exchanges: &[
+            FIRST_SUBSCRIBES,
+            (Call::Try(1, 7), Reply::Tried(Ok(Tried::Accepted(0)))),
+            FIRST_RECEIVES,
+            (Call::Next(SubId(0)), Reply::Next(Next::Nothing)),
+        ],
+        cache: &[],
+    },
+    Row {
+        name: "run_of_every_call",
+        config: Config {
+            replay: 1,
+            extra: 0,
+            emits: 2,
+            ..PLAIN
+        },
+        exchanges: &[
+            FIRST_SUBSCRIBES,
+            (Call::Count, Reply::Count(1)),
+            (Call::Start(1, 10), Reply::Begun(Ok(Begun::Accepted(0)))),
+            (
+                Call::Start(1, 11),
+                Reply::Begun(Ok(Begun::Waiting(Ticket(0)))),
+            ),
+            (
+                Call::Start(2, 12),
+                Reply::Begun(Ok(Begun::Waiting(Ticket(1)))),
+            ),
+            (
+                Call::Withdraw(Ticket(1)),
+                Reply::Withdrawn(Withdrawn::Removed),
+            ),
+            (Call::Next(SubId(0)), Reply::Next(Next::Value(10))),
+            (Call::Poll(Ticket(0)), Reply::Emit(Emit::Done(1))),
+            GONE,
+            (Call::Try(3, 13), Reply::Tried(Ok(Tried::Full))),
+            (Call::Reset, Reply::Reset),
+            (Call::Cancel(SubId(0)), Reply::Cancelled(true)),
+            SECOND_SUBSCRIBES,
+            (Call::Next(SubId(1)), Reply::Next(Next::Nothing)),
+            (Call::Count, Reply::Count(1)),
+        ],
+        cache: &[],
+    },
+    Row {
+        name: "numbers_spent, from the last number on",
+        config: Config {
+            extra: 2,
+            subscribers: 2,
+            emits: 2,
+            first: LAST,
+            ..PLAIN
+        },
+        exchanges: &[
+            (Call::Subscribe, Reply::Sub(Ok(SubId(LAST)))),
+            (Call::Subscribe, Reply::Sub(Err(Refusal::Spent))),
+            (Call::Try(0, 7), Reply::Tried(Ok(Tried::Accepted(LAST)))),
+            (Call::Try(0, 8), Reply::Tried(Err(Refusal::Spent))),
+            (Call::Next(SubId(LAST)), Reply::Next(Next::Value(7))),
+            (Call::Next(SubId(LAST)), Reply::Next(Next::Nothing)),
+        ],
+        cache: &[],
+    },
+    Row {
+        name: "numbers_spent, without any number",
+        config: Config {
+            extra: 2,
+            subscribers: 2,
+            emits: 2,
+            first: LIMIT,
+            ..PLAIN
+        },
+        exchanges: &[(Call::Try(0, 7), Reply::Tried(Err(Refusal::Spent)))],
+        cache: &[],
+    },
+    Row {
+        name: "spent_before_full",
+        config: Config {
+            extra: 0,
+            first: LAST,
+            ..PLAIN
+        },
+        exchanges: &[
+            (Call::Subscribe, Reply::Sub(Ok(SubId(LAST)))),
+            (
+                Call::Start(0, 7),
+                Reply::Begun(Ok(Begun::Waiting(Ticket(LAST)))),
+            ),
+            (Call::Start(0, 8), Reply::Begun(Err(Refusal::Spent))),
+            (Call::Next(SubId(LAST)), Reply::Next(Next::Value(7))),
+            (Call::Poll(Ticket(LAST)), Reply::Emit(Emit::Done(LAST))),
+            (Call::Poll(Ticket(LAST)), Reply::Emit(Emit::Gone)),
+            (Call::Try(0, 9), Reply::Tried(Err(Refusal::Spent))),
+            (Call::Cancel(SubId(LAST)), Reply::Cancelled(true)),
+            (Call::Try(0, 9), Reply::Tried(Err(Refusal::Spent))),
+        ],
+        cache: &[],
+    },
+    Row {
+        name: "withdrawn_tickets_stay_spent",
+        config: Config {
+            emits: 2,
+            first: NEXT_TO_LAST,
+            ..PLAIN
+        },
+        exchanges: &[
+            (Call::Subscribe, Reply::Sub(Ok(SubId(NEXT_TO_LAST)))),
+            (
+                Call::Try(0, 1),
+                Reply::Tried(Ok(Tried::Accepted(NEXT_TO_LAST))),
+            ),
+            (
+                Call::Start(0, 2),
+                Reply::Begun(Ok(Begun::Waiting(Ticket(NEXT_TO_LAST)))),
+            ),
+            (
+                Call::Withdraw(Ticket(NEXT_TO_LAST)),
+                Reply::Withdrawn(Withdrawn::Removed),
+            ),
+            (
+                Call::Start(0, 3),
+                Reply::Begun(Ok(Begun::Waiting(Ticket(LAST)))),
+            ),
+            (
+                Call::Withdraw(Ticket(LAST)),
+                Reply::Withdrawn(Withdrawn::Removed),
+            ),
+            (Call::Start(0, 4), Reply::Begun(Err(Refusal::Spent))),
+            (Call::Try(0, 5), Reply::Tried(Ok(Tried::Full))),
+        ],
+        cache: &[],
+    },
+    Row {
+        name: "withdrawn_at_hand_over, before the receipts",
+        config: HANDING_OVER,
+        exchanges: &[
+            FIRST_SUBSCRIBES,
+            SECOND_SUBSCRIBES,
+            EMISSION_WAITS,
+            LEFT,
+            FIRST_RECEIVES,
+            SECOND_RECEIVES,
+            GONE,
+        ],
+        cache: &[],
+    },
+    Row {
+        name: "withdrawn_at_hand_over, between the receipts",
+        config: HANDING_OVER,
+        exchanges: &[
+            FIRST_SUBSCRIBES,
+            SECOND_SUBSCRIBES,
+            EMISSION_WAITS,
+            FIRST_RECEIVES,
+            LEFT,
+            SECOND_RECEIVES,
+            GONE,
+        ],
+        cache: &[],
+    },
+    Row {
+        name: "withdrawn_at_hand_over, after the receipts",
+        config: HANDING_OVER,
+        exchanges: &[
+            FIRST_SUBSCRIBES,
+            SECOND_SUBSCRIBES,
+            EMISSION_WAITS,
+            FIRST_RECEIVES,
+            SECOND_RECEIVES,
+            LEFT,
+            GONE,
+        ],
+        cache: &[],
+    },
+    Row {
+        name: "ring_over_capacity",
+        config: Config {
+            replay: 1,
+            extra: 2,
+            policy: Policy::DropOldest,
+            subscribers: 2,
+            ..PLAIN
+        },
+        exchanges: &[
+            FIRST_SUBSCRIBES,
+            (Call::Try(1, 1), Reply::Tried(Ok(Tried::Accepted(0)))),
+            (Call::Try(1, 2), Reply::Tried(Ok(Tried::Accepted(1)))),
+            (Call::Try(1, 3), Reply::Tried(Ok(Tried::Accepted(2)))),
+            (Call::Try(1, 4), Reply::Tried(Ok(Tried::Accepted(3)))),
+            (Call::Try(1, 5), Reply::Tried(Ok(Tried::Accepted(4)))),
+            SECOND_SUBSCRIBES,
+            (Call::Next(SubId(0)), Reply::Next(Next::Value(3))),
+            (Call::Next(SubId(0)), Reply::Next(Next::Value(4))),
+            (Call::Next(SubId(0)), Reply::Next(Next::Value(5))),
+            (Call::Next(SubId(0)), Reply::Next(Next::Nothing)),
+            (Call::Next(SubId(1)), Reply::Next(Next::Value(5))),
+        ],
+        cache: &[5],
+    },
+];
 
 /// The reply of a flow to a call, made by its method.
 fn reply_to(flow: &mut SharedState<u64>, call: Call<u64>) -> Reply<u64> {
@@ -120,9 +285,6 @@ fn reply_to(flow: &mut SharedState<u64>, call: Call<u64>) -> Reply<u64> {
     }
 }
 
-/// A call, and its reply.
-type Exchange = (Call<u64>, Reply<u64>);
-
 /// How many of the calls, from the first on, were replied to as they should be.
 fn replied(flow: &mut SharedState<u64>, exchanges: &[Exchange]) -> usize {
     for (index, (call, reply)) in exchanges.iter().enumerate() {
@@ -133,141 +295,21 @@ fn replied(flow: &mut SharedState<u64>, exchanges: &[Exchange]) -> usize {
     exchanges.len()
 }
 
-#[test]
-fn numbers_spent(rt: HostRuntime) -> Result<(), Fail> {
-    const CONFIG: Config = Config {
-        extra: 2,
-        subscribers: 2,
-        emits: 2,
-        first: LIMIT - 1,
-        ..PLAIN
-    };
-    const NEXT_TO_LAST: &[Exchange] = &[
-        (Call::Subscribe, Reply::Sub(Ok(SubId(LIMIT - 1)))),
-        (Call::Subscribe, Reply::Sub(Err(Refusal::Spent))),
-        (
-            Call::Try(0, 7),
-            Reply::Tried(Ok(Tried::Accepted(LIMIT - 1))),
-        ),
-        (Call::Try(0, 8), Reply::Tried(Err(Refusal::Spent))),
-        (Call::Next(SubId(LIMIT - 1)), Reply::Next(Next::Value(7))),
-        (Call::Next(SubId(LIMIT - 1)), Reply::Next(Next::Nothing)),
-    ];
-    const LAST: Config = Config {
-        first: LIMIT,
-        ..CONFIG
-    };
-    const AT_LAST: &[Exchange] = &[(Call::Try(0, 7), Reply::Tried(Err(Refusal::Spent)))];
-    const OVER: Config = Config {
-        first: LIMIT + 1,
-        ..CONFIG
-    };
-    let mut flow = SharedState::new(rt.alloc(), CONFIG).map_err(number)?;
-    assert_eq!(rt; replied(&mut flow, NEXT_TO_LAST), NEXT_TO_LAST.len());
-    let mut flow = SharedState::new(rt.alloc(), LAST).map_err(number)?;
-    assert_eq!(rt; replied(&mut flow, AT_LAST), AT_LAST.len());
-    let refused = SharedState::<u64>::new(rt.alloc(), OVER).map(|_| ());
-    assert_eq!(rt; refused, Err(Refusal::BadLimit));
-    Ok(())
-}
-
-#[test]
-fn spent_before_full(rt: HostRuntime) -> Result<(), Fail> {
-    const LAST: u64 = LIMIT - 1;
-    const CONFIG: Config = Config {
-        extra: 0,
-        first: LAST,
-        ..PLAIN
-    };
-    const EXCHANGES: &[Exchange] = &[
-        (Call::Subscribe, Reply::Sub(Ok(SubId(LAST)))),
-        (
-            Call::Start(0, 7),
-            Reply::Begun(Ok(Begun::Waiting(Ticket(LAST)))),
-        ),
-        (Call::Start(0, 8), Reply::Begun(Err(Refusal::Spent))),
-        (Call::Next(SubId(LAST)), Reply::Next(Next::Value(7))),
-        (Call::Poll(Ticket(LAST)), Reply::Emit(Emit::Done(LAST))),
-        (Call::Poll(Ticket(LAST)), Reply::Emit(Emit::Gone)),
-        (Call::Try(0, 9), Reply::Tried(Err(Refusal::Spent))),
-        (Call::Cancel(SubId(LAST)), Reply::Cancelled(true)),
-        (Call::Try(0, 9), Reply::Tried(Err(Refusal::Spent))),
-    ];
-    let mut flow = SharedState::new(rt.alloc(), CONFIG).map_err(number)?;
-    assert_eq!(rt; replied(&mut flow, EXCHANGES), EXCHANGES.len());
-    Ok(())
-}
-
-#[test]
-fn withdrawn_tickets_stay_spent(rt: HostRuntime) -> Result<(), Fail> {
-    const FIRST: u64 = LIMIT - 2;
-    const SECOND: u64 = LIMIT - 1;
-    const CONFIG: Config = Config {
-        emits: 2,
-        first: FIRST,
-        ..PLAIN
-    };
-    const EXCHANGES: &[Exchange] = &[
-        (Call::Subscribe, Reply::Sub(Ok(SubId(FIRST)))),
-        (Call::Try(0, 1), Reply::Tried(Ok(Tried::Accepted(FIRST)))),
-        (
-            Call::Start(0, 2),
-            Reply::Begun(Ok(Begun::Waiting(Ticket(FIRST)))),
-        ),
-        (
-            Call::Withdraw(Ticket(FIRST)),
-            Reply::Withdrawn(Withdrawn::Removed),
-        ),
-        (
-            Call::Start(0, 3),
-            Reply::Begun(Ok(Begun::Waiting(Ticket(SECOND)))),
-        ),
-        (
-            Call::Withdraw(Ticket(SECOND)),
-            Reply::Withdrawn(Withdrawn::Removed),
-        ),
-        (Call::Start(0, 4), Reply::Begun(Err(Refusal::Spent))),
-        (Call::Try(0, 5), Reply::Tried(Ok(Tried::Full))),
-    ];
-    let mut flow = SharedState::new(rt.alloc(), CONFIG).map_err(number)?;
-    assert_eq!(rt; replied(&mut flow, EXCHANGES), EXCHANGES.len());
-    Ok(())
-}
-
-#[test]
-fn withdrawn_at_hand_over(rt: HostRuntime) -> Result<(), Fail> {
-    const CONFIG: Config = Config {
-        extra: 0,
-        subscribers: 2,
-        ..PLAIN
-    };
-    const BEGUN: &[Exchange] = &[
-        (Call::Subscribe, Reply::Sub(Ok(SubId(0)))),
-        (Call::Subscribe, Reply::Sub(Ok(SubId(1)))),
-        (
-            Call::Start(0, 7),
-            Reply::Begun(Ok(Begun::Waiting(Ticket(0)))),
-        ),
-    ];
-    const ONE: Exchange = (Call::Next(SubId(0)), Reply::Next(Next::Value(7)));
-    const TWO: Exchange = (Call::Next(SubId(1)), Reply::Next(Next::Value(7)));
-    const LEFT: Exchange = (
-        Call::Withdraw(Ticket(0)),
-        Reply::Withdrawn(Withdrawn::Left(0)),
-    );
-    const GONE: Exchange = (Call::Withdraw(Ticket(0)), Reply::Withdrawn(Withdrawn::Gone));
-    // Withdrawn before, between and after the receipts.
-    const ORDERS: [&[Exchange]; 3] = [
-        &[LEFT, ONE, TWO, GONE],
-        &[ONE, LEFT, TWO, GONE],
-        &[ONE, TWO, LEFT, GONE],
-    ];
-    for order in &ORDERS {
-        let mut flow = SharedState::new(rt.alloc(), CONFIG).map_err(number)?;
-        assert_eq!(rt; replied(&mut flow, BEGUN), BEGUN.len());
-        assert_eq!(rt; replied(&mut flow, order), order.len());
+/// The same, where a new flow runs the calls as one list. A reply that is missing or too much is not as it should be.
+fn run_replied(alloc: Global, row: &Row<'_>) -> Result<usize, Refusal> {
+    let mut calls = Vec::new(alloc);
+    let mut wanted = Vec::new(alloc);
+    for (call, reply) in row.exchanges {
+        calls.push(*call)?;
+        wanted.push(*reply)?;
     }
-    Ok(())
+    let mut flow = SharedState::new(alloc, row.config)?;
+    let mut replies = Vec::new(alloc);
+    flow.run(&calls, &mut replies)?;
+    if replies[..] != wanted[..] {
+        return Ok(0);
+    }
+    Ok(replies.len())
 }
 
 /// Is the replay cache these values?
@@ -284,6 +326,33 @@ fn caches(flow: &SharedState<u64>, values: &[u64]) -> bool {
 }
 
 #[test]
+fn calls_are_replied_to(rt: HostRuntime) -> Result<(), Fail> {
+    const OVER: Config = Config {
+        first: LIMIT + 1,
+        ..PLAIN
+    };
+    for row in ROWS {
+        let mut flow = SharedState::new(rt.alloc(), row.config)?;
+        assert_eq!(rt;
+            replied(&mut flow, row.exchanges),
+            row.exchanges.len(),
+            "{}",
+            row.name
+        );
+        assert!(rt; caches(&flow, row.cache), "{}", row.name);
+        assert_eq!(rt;
+            run_replied(rt.alloc(), row)?,
+            row.exchanges.len(),
+            "{}",
+            row.name
+        );
+    }
+    let refused = SharedState::<u64>::new(rt.alloc(), OVER);
+    assert!(rt; matches!(refused, Err(Refusal::BadLimit)));
+    Ok(())
+}
+
+#[test]
 fn each_call_succeeds(rt: HostRuntime) -> Result<(), Fail> {
     const CONFIG: Config = Config { replay: 2, ..PLAIN };
     const TRIES: &[Exchange] = &[
@@ -292,7 +361,7 @@ fn each_call_succeeds(rt: HostRuntime) -> Result<(), Fail> {
         (Call::Try(0, 3), Reply::Tried(Ok(Tried::Accepted(2)))),
     ];
     const SUBSCRIBED: &[Exchange] = &[
-        (Call::Subscribe, Reply::Sub(Ok(SubId(0)))),
+        FIRST_SUBSCRIBES,
         (Call::Subscribe, Reply::Sub(Err(Refusal::SubscribersFull))),
         (Call::Count, Reply::Count(1)),
     ];
@@ -308,9 +377,9 @@ fn each_call_succeeds(rt: HostRuntime) -> Result<(), Fail> {
         (Call::Poll(Ticket(0)), Reply::Emit(Emit::Waiting)),
         (Call::Cancel(SubId(0)), Reply::Cancelled(true)),
         (Call::Poll(Ticket(0)), Reply::Emit(Emit::Done(5))),
-        (Call::Withdraw(Ticket(0)), Reply::Withdrawn(Withdrawn::Gone)),
+        GONE,
     ];
-    let mut flow = SharedState::new(rt.alloc(), CONFIG).map_err(number)?;
+    let mut flow = SharedState::new(rt.alloc(), CONFIG)?;
     assert_eq!(rt; replied(&mut flow, TRIES), TRIES.len());
     assert!(rt; caches(&flow, &[2, 3]));
     assert_eq!(rt; replied(&mut flow, SUBSCRIBED), SUBSCRIBED.len());

@@ -1,7 +1,7 @@
 //! Tests that cross crates, and the callers that the crates' documents show.
 //!
 //! A file `SUBJECT_calling.rt` has callers: each is proved from the contracts of the crates below alone. A file
-//! `SUBJECT_rows.rt` has tests, with answers known from outside.
+//! `SUBJECT_rows.rt` has tests, with answers known from outside: mostly a table, and one function for all its rows.
 #![tactic(auto)]
 
 #[cfg(test)]
@@ -43,6 +43,10 @@ mod state_sharing_rows;
 mod strategy_calling;
 #[cfg(test)]
 mod strategy_rows;
+#[cfg(test)]
+mod ticks;
+#[cfg(test)]
+mod tools;
 
 pub use buffer_calling::{buffered_list, conflated_list};
 pub use cold_calling::{Countdown, CountdownRun, chain, mapped_list, taken_down};

@@ -1,14 +1,14 @@
 //! Flows of several sources, poll by poll and collected: the worked examples, yields, cancelled runs and refusals.
 ghost use Rattle.cold_flow.specs.Poll.{Unless};
 ghost use Rattle.flow_trials.specs.Uncancelled.{AnyTrace};
-ghost use Rattle.std.specs.Prelude.{◌≡◌, is_some, ◌==◌, ◌+◌, ◌%◌, ◌^◌, if◌then◌else◌};
+ghost use Rattle.std.specs.Prelude.{◌≡◌, is_some, ◌==◌, if◌then◌else◌};
 ghost use Rattle.std.specs.Iterator.{at_most};
-ghost use Rattle.cold_flow.specs.declared.operators.catch_with.Caught.TheVariants.{Last};
 
+use crate::tools::{Answer, Polling, Sum, assert_polls, broken, listed, next};
 use crate::{joined_list, zipped_lists};
 use cold_flow::{
-    Apply, Caught, Cause, Collected, Event, Finite, Flow, Listed, Numbers, Refusal, Run, Step,
-    catch_with, collect, failing, of, range, scripted, to_list,
+    Apply, Caught, Cause, Event, Flow, Numbers, Refusal, Run, Step, catch_with, collect, range,
+    scripted, to_list,
 };
 use flow_merge::{Bound, KnownBound, MAX_WORKERS, combine, flat_map_concat, flat_map_merge, zip};
 use futures::task::{Context, Poll};
@@ -17,34 +17,6 @@ use std::alloc::{AllocError, Global};
 use std::cell::Cell;
 use std::process::Abort;
 use std::test::Fail;
-
-// The sum of both values.
-#[derive(Clone, Copy)]
-struct Sum;
-
-impl Apply<(u64, u64)> for Sum {
-    type Out = u64;
-
-    ghost gives = { λ _ x. (x.0 + x.1) % 2 ^ 64 };
-
-    fn apply(&self, argument: (u64, u64)) -> u64 {
-        argument.0.wrapping_add(argument.1)
-    }
-}
-
-// The last value 9 after any failure.
-#[derive(Clone, Copy)]
-struct Nine;
-
-impl Apply<u64> for Nine {
-    type Out = Caught<u64, u64>;
-
-    ghost gives = { λ _ _. Last 9 };
-
-    fn apply(&self, _argument: u64) -> Caught<u64, u64> {
-        Caught::Last(9)
-    }
-}
 
 // An inner flow that waits so many polls, gives the numbers from `next` up to below `to`, and fails if it is to.
 #[derive(Clone, Copy)]
@@ -182,11 +154,6 @@ impl KnownBound for Two {
     ghost known = { tt };
 }
 
-// One poll.
-fn next<R: Run>(task: &MockTask, run: &mut R) -> Poll<Event<R::Item, R::Fault>> {
-    task.enter(|cx| run.poll_next(cx))
-}
-
 // Starts a flow, gathers what comes in one poll, and compares it with what is wanted.
 fn assert_gives<F: Flow<Item = u64, Fault = u64>>(
     rt: &impl Abort,
@@ -207,14 +174,26 @@ fn assert_gives<F: Flow<Item = u64, Fault = u64>>(
     Ok(())
 }
 
-// Polls a run `polls` times, cancels it, and looks for the end that follows.
-fn assert_cancelled<F: Flow<Item = u64, Fault = u64>>(
+// After each number of polls up to `most`, cancels a run, and looks for the end that follows.
+fn assert_cancelled_at_any_time<F: Flow<Item = u64, Fault = u64>>(
     rt: &impl Abort,
     task: &MockTask,
     flow: &F,
-    polls: u32,
+    most: u32,
 ) -> Result<(), Refusal> {
-    let mut run = flow.start()?;
+    for polls in 0..most {
+        assert_cancelled(rt, task, flow.start()?, polls);
+    }
+    Ok(())
+}
+
+// Polls a run `polls` times and cancels it twice. Each time its end follows.
+fn assert_cancelled<R: Run<Item = u64, Fault = u64>>(
+    rt: &impl Abort,
+    task: &MockTask,
+    mut run: R,
+    polls: u32,
+) {
     let mut cause = Cause::Cancelled;
     for _poll in 0..polls {
         if let Poll::Ready(Event::End(given)) = next(task, &mut run) {
@@ -225,30 +204,6 @@ fn assert_cancelled<F: Flow<Item = u64, Fault = u64>>(
     assert_eq!(rt; next(task, &mut run), Poll::Ready(Event::End(cause)));
     run.cancel();
     assert_eq!(rt; next(task, &mut run), Poll::Ready(Event::End(cause)));
-    Ok(())
-}
-
-// The same after each number of polls up to `most`.
-fn assert_cancelled_at_any_time<F: Flow<Item = u64, Fault = u64>>(
-    rt: &impl Abort,
-    task: &MockTask,
-    flow: &F,
-    most: u32,
-) -> Result<(), Refusal> {
-    for polls in 0..most {
-        assert_cancelled(rt, task, flow, polls)?;
-    }
-    Ok(())
-}
-
-// The flow of a list.
-fn listed(alloc: Global, values: &[u64]) -> Result<Listed<u64, u64>, AllocError> {
-    Ok(of(values.to_vec(alloc)?))
-}
-
-// The flow of a list that fails then.
-fn broken(alloc: Global, values: &[u64], fault: u64) -> Result<Listed<u64, u64>, AllocError> {
-    Ok(failing(values.to_vec(alloc)?, fault))
 }
 
 // What comes in so many polls, in order of size, and whether the flow finished in them.
@@ -273,19 +228,6 @@ fn sorted_rest<R: Run<Item = u64, Fault = u64>>(
     }
     rest.sort()?;
     Ok((rest, finished))
-}
-
-// What a finite flow gives, at once.
-fn list_of<F: Flow<Item = u64, Fault = u64>>(
-    alloc: Global,
-    task: &MockTask,
-    flow: F,
-) -> Result<Collected<u64, u64>, Refusal>
-where
-    F::Running: Finite,
-{
-    let run = flow.start()?;
-    task.enter(move |cx| to_list(alloc, run, cx))
 }
 
 #[test]
@@ -333,6 +275,10 @@ fn refused_merge(alloc: Global, inner: Pick, limit: u32) -> u8 {
     }
 }
 
+const ENDED: Polling = Poll::Ready(Event::End(Cause::Finished));
+
+const FAILED: Polling = Poll::Ready(Event::End(Cause::Failed(7)));
+
 #[test]
 fn merge_limits(rt: HostRuntime) -> Result<(), Fail> {
     const INNER: Pick = Pick {
@@ -349,29 +295,33 @@ fn merge_limits(rt: HostRuntime) -> Result<(), Fail> {
     assert_eq!(rt; refused_merge(rt.alloc(), INNER, 0), 8);
     assert_eq!(rt; refused_merge(rt.alloc(), INNER, MAX_WORKERS + 1), 9);
     let mut run = flat_map_merge(rt.alloc(), range::<u64>(0, 3), INNER, MAX_WORKERS)?.start()?;
-    assert_eq!(rt; next(&task, &mut run), Poll::Pending);
-    let failed = Poll::Ready(Event::End(Cause::Failed(7)));
-    assert!(rt; next(&task, &mut run) == failed && next(&task, &mut run) == failed);
+    assert_polls(&rt, &task, &mut run, &[Poll::Pending, FAILED, FAILED]);
     Ok(())
 }
 
+// A combination asks its sources in turn. A concatenation yields after 64 answers that give the caller nothing: the values and
+// the ends of 32 empty inner flows.
 #[test]
-fn combine_turns(rt: HostRuntime) -> Result<(), Fail> {
+fn turns_and_yields(rt: HostRuntime) -> Result<(), Fail> {
     const STEPS: &[Step<u64, u64>] = &[Step::Value(1), Step::Pending, Step::Value(2)];
-    const RIGHT: &[u64] = &[10, 20];
-    const GIVEN: &[u64] = &[11, 21, 22];
+    const COMBINED: &[Polling] = &[
+        Poll::Ready(Event::Value(11)),
+        Poll::Ready(Event::Value(21)),
+        Poll::Ready(Event::Value(22)),
+        ENDED,
+    ];
+    const NOTHING: Pick = Pick {
+        zero: EMPTY,
+        one: EMPTY,
+        other: EMPTY,
+    };
     let alloc = rt.alloc();
     let task = MockTask::new(&rt)?;
-    let flow = combine(scripted(STEPS.to_vec(alloc)?), listed(alloc, RIGHT)?, Sum);
-    let mut run = flow.start()?;
-    for value in GIVEN {
-        assert_eq!(rt; next(&task, &mut run), Poll::Ready(Event::Value(*value)));
-    }
-    assert_eq!(rt;
-        next(&task, &mut run),
-        Poll::Ready(Event::End(Cause::Finished))
-    );
+    let flow = combine(scripted(STEPS.to_vec(alloc)?), listed(alloc, TENS)?, Sum);
+    assert_polls(&rt, &task, &mut flow.start()?, COMBINED);
     assert_cancelled_at_any_time(&rt, &task, &flow, 6)?;
+    let mut run = flat_map_concat(range::<u64>(0, 40), NOTHING).start()?;
+    assert_polls(&rt, &task, &mut run, &[Poll::Pending, ENDED]);
     Ok(())
 }
 
@@ -399,19 +349,8 @@ fn assert_pairs(rt: &impl Abort, alloc: Global, task: &MockTask) -> Result<(), F
     Ok(())
 }
 
-#[test]
-fn pipes_of_several_sources(rt: HostRuntime) -> Result<(), Fail> {
-    const LATEST: &[u64] = &[11, 12, 22];
-    let alloc = rt.alloc();
-    let task = MockTask::new(&rt)?;
-    assert_pairs(&rt, alloc, &task)?;
-    let latest = combine(listed(alloc, TWO)?, listed(alloc, TENS)?, Sum);
-    assert_gives(&rt, alloc, &task, latest, LATEST, Cause::Finished)?;
-    Ok(())
-}
-
-#[test]
-fn cold_pipes(rt: HostRuntime) -> Result<(), Fail> {
+// Inner flows of lists, one after the other.
+fn assert_joined(rt: &impl Abort, alloc: Global, task: &MockTask) -> Result<(), Fail> {
     const INNER: Pick = Pick {
         zero: Brief {
             waits: 0,
@@ -432,48 +371,25 @@ fn cold_pipes(rt: HostRuntime) -> Result<(), Fail> {
             fault: None,
         },
     };
-    const OUTER: &[u64] = &[0, 8];
     const JOINED: &[u64] = &[5, 6, 8, 9];
+    let joined = flat_map_concat(listed(alloc, &[0, 8])?, INNER);
+    assert_gives(rt, alloc, task, &joined, JOINED, Cause::Finished)?;
+    assert_cancelled_at_any_time(rt, task, &joined, 6)?;
+    let caught = catch_with(listed(alloc, TWO)?, Answer(Caught::Last(9)));
+    let failed = flat_map_concat(caught, INNER);
+    assert_gives(rt, alloc, task, failed, ONE, Cause::Failed(7))?;
+    Ok(())
+}
+
+#[test]
+fn pipes_of_several_sources(rt: HostRuntime) -> Result<(), Fail> {
+    const LATEST: &[u64] = &[11, 12, 22];
     let alloc = rt.alloc();
     let task = MockTask::new(&rt)?;
-    let joined = flat_map_concat(listed(alloc, OUTER)?, INNER);
-    assert_gives(&rt, alloc, &task, &joined, JOINED, Cause::Finished)?;
-    assert_cancelled_at_any_time(&rt, &task, &joined, 6)?;
-    let caught = catch_with(listed(alloc, TWO)?, Nine);
-    let failed = flat_map_concat(caught, INNER);
-    assert_gives(&rt, alloc, &task, failed, ONE, Cause::Failed(7))?;
-    Ok(())
-}
-
-// 64 answers that give the caller nothing: the values and the ends of 32 empty inner flows.
-#[test]
-fn concat_yields(rt: HostRuntime) -> Result<(), Fail> {
-    const INNER: Pick = Pick {
-        zero: EMPTY,
-        one: EMPTY,
-        other: EMPTY,
-    };
-    let task = MockTask::new(&rt)?;
-    let mut run = flat_map_concat(range::<u64>(0, 40), INNER).start()?;
-    assert_eq!(rt; next(&task, &mut run), Poll::Pending);
-    assert!(rt; task.is_woken());
-    assert_eq!(rt;
-        next(&task, &mut run),
-        Poll::Ready(Event::End(Cause::Finished))
-    );
-    Ok(())
-}
-
-// Where a number bounds the inner runs, a concatenation is known to end.
-#[test]
-fn concat_to_list(rt: HostRuntime) -> Result<(), Fail> {
-    const JOINED: &[u64] = &[0, 1, 0, 1, 0, 1];
-    let task = MockTask::new(&rt)?;
-    let flow = flat_map_concat(range::<u64>(0, 3), Same(range(0, 2))).within::<Two>();
-    let list = list_of(rt.alloc(), &task, flow)?;
-    assert_eq!(rt; list.values.as_slice(), JOINED);
-    assert_eq!(rt; list.cause, Cause::Finished);
-    Ok(())
+    assert_pairs(&rt, alloc, &task)?;
+    let latest = combine(listed(alloc, TWO)?, listed(alloc, TENS)?, Sum);
+    assert_gives(&rt, alloc, &task, latest, LATEST, Cause::Finished)?;
+    assert_joined(&rt, alloc, &task)
 }
 
 // A flow whose runs wait for good and count the cancels that they get.
@@ -572,36 +488,30 @@ fn refused_start_cancels_the_other_side(rt: HostRuntime) {
     assert_eq!(rt; cancels.get(), 2);
 }
 
-// What the caller of a zip gives.
-fn zipped(
-    alloc: Global,
-    task: &MockTask,
-    left: &[u64],
-    right: &[u64],
-) -> Result<Collected<u64, u64>, Refusal> {
-    let left = left.to_vec(alloc)?;
-    let right = right.to_vec(alloc)?;
-    task.enter(move |cx| zipped_lists::<u64, u64, u64, u64, Sum>(alloc, left, right, Sum, cx))
-}
-
-// What the caller of a concatenation gives, of two numbers for each value.
-fn joined(alloc: Global, task: &MockTask, outer: &[u64]) -> Result<Collected<u64, u64>, Refusal> {
-    let outer = outer.to_vec(alloc)?;
-    task.enter(move |cx| {
-        joined_list::<u64, u64, u64, Numbers<u64>, Same, Two>(alloc, outer, Same(range(0, 2)), cx)
-    })
-}
-
+// What the caller of a zip gives, and that of a concatenation, of two numbers for each value. Where a number bounds the inner
+// runs, a concatenation is known to end, and so becomes a list.
 #[test]
 fn callers_of_several_sources(rt: HostRuntime) -> Result<(), Fail> {
-    const SUMS: &[u64] = &[11, 22];
-    const JOINED: &[u64] = &[0, 1, 0, 1];
+    let alloc = rt.alloc();
     let task = MockTask::new(&rt)?;
-    let sums = zipped(rt.alloc(), &task, THREE, TENS)?;
-    assert_eq!(rt; sums.values.as_slice(), SUMS);
+    let left = THREE.to_vec(alloc)?;
+    let right = TENS.to_vec(alloc)?;
+    let outer = TENS.to_vec(alloc)?;
+    let sums = task.enter(move |cx| zipped_lists::<u64, u64, u64, u64, Sum>(
+        alloc, left, right, Sum, cx,
+    ))?;
+    assert_eq!(rt; sums.values.as_slice(), [11, 22].as_slice());
     assert_eq!(rt; sums.cause, Cause::Finished);
-    let numbers = joined(rt.alloc(), &task, TENS)?;
-    assert_eq!(rt; numbers.values.as_slice(), JOINED);
+    let numbers = task.enter(move |cx| {
+        joined_list::<u64, u64, u64, Numbers<u64>, Same, Two>(alloc, outer, Same(range(0, 2)), cx)
+    })?;
+    assert_eq!(rt; numbers.values.as_slice(), [0, 1, 0, 1].as_slice());
     assert_eq!(rt; numbers.cause, Cause::Finished);
+    let run = flat_map_concat(range::<u64>(0, 3), Same(range(0, 2)))
+        .within::<Two>()
+        .start()?;
+    let list = task.enter(move |cx| to_list(alloc, run, cx))?;
+    assert_eq!(rt; list.values.as_slice(), [0, 1, 0, 1, 0, 1].as_slice());
+    assert_eq!(rt; list.cause, Cause::Finished);
     Ok(())
 }

@@ -6,222 +6,205 @@ use crate::shared_stage::Answer::{
 };
 use crate::shared_stage::Call::{Ask, Cancel, Emit, Next, Subscribe, TakeBack, Try};
 use crate::shared_stage::Party::{A, B, First, Owner, Second, Third};
-use crate::shared_stage::{Call, config, played};
+use crate::shared_stage::{Call, Emitting, Line, Listening, played};
 use cold_flow::Policy;
-use futures::task::Poll;
-use futures::test::MockTask;
-use shared_core::{Begun, Config, Tried, Withdrawn};
-use shared_flow::{Emitter, SharedFlow, Subscription};
+use shared_core::{Begun, Config, Withdrawn};
+use shared_flow::{Emitter, SharedFlow};
 use std::process::Abort;
 use std::sync::Wait;
 use std::test::Fail;
 
-#[test]
-fn waiting_in_order(rt: HostRuntime) -> Result<(), Fail> {
-    let lines = [
-        (A, Subscribe, Subscribed),
-        (First, Emit(1), Accepted(0)),
-        (Second, Emit(2), Waiting),
-        (Third, Emit(3), Waiting),
-        (A, Next, Value(1)),
-        (Third, Ask, Pending),
-        (Second, Ask, Done(1)),
-        (A, Next, Value(2)),
-        (Third, Ask, Done(2)),
-        (A, Next, Value(3)),
-    ];
-    let played = played(&rt, config(0, 1, Policy::Suspend), &lines);
-    assert_eq!(rt; played.lines, lines.len());
-    Ok(())
+/// The greatest number.
+const LAST: u64 = (1 << 62) - 1;
+
+/// A config with 8 subscribers and 8 emissions in flight, and numbers from 0 on. It has no places.
+pub(crate) const PLAIN: Config = Config {
+    replay: 0,
+    extra: 0,
+    policy: Policy::Suspend,
+    subscribers: 8,
+    emits: 8,
+    first: 0,
+};
+
+/// The calls on a new flow with their answers, and the replay cache after them.
+struct Row<'a> {
+    name: &'a str,
+    config: Config,
+    lines: &'a [Line],
+    cache: &'a [u64],
 }
 
-#[test]
-fn hand_over(rt: HostRuntime) -> Result<(), Fail> {
-    let lines = [
-        (First, Try(1), Accepted(0)),
-        (A, Subscribe, Subscribed),
-        (First, Try(2), Full),
-        (First, Emit(3), Waiting),
-        (A, Next, Value(3)),
-        (First, Ask, Done(1)),
-        (A, Next, Pending),
-    ];
-    let played = played(&rt, config(0, 0, Policy::Suspend), &lines);
-    assert_eq!(rt; played.lines, lines.len());
-    Ok(())
-}
+const ROWS: &[Row<'_>] = &[
+    Row {
+        name: "waiting_in_order",
+        config: Config { extra: 1, ..PLAIN },
+        lines: &[
+            (A, Subscribe, Subscribed),
+            (First, Emit(1), Accepted(0)),
+            (Second, Emit(2), Waiting),
+            (Third, Emit(3), Waiting),
+            (A, Next, Value(1)),
+            (Third, Ask, Pending),
+            (Second, Ask, Done(1)),
+            (A, Next, Value(2)),
+            (Third, Ask, Done(2)),
+            (A, Next, Value(3)),
+        ],
+        cache: &[],
+    },
+    Row {
+        name: "hand_over",
+        config: PLAIN,
+        lines: &[
+            (First, Try(1), Accepted(0)),
+            (A, Subscribe, Subscribed),
+            (First, Try(2), Full),
+            (First, Emit(3), Waiting),
+            (A, Next, Value(3)),
+            (First, Ask, Done(1)),
+            (A, Next, Pending),
+        ],
+        cache: &[],
+    },
+    Row {
+        name: "cancel_frees_waiting",
+        config: Config { replay: 1, ..PLAIN },
+        lines: &[
+            (A, Subscribe, Subscribed),
+            (First, Emit(1), Accepted(0)),
+            (Second, Emit(2), Waiting),
+            (Third, Emit(3), Waiting),
+            (A, Cancel, Cancelled),
+            (Second, Ask, Done(1)),
+            (Third, Ask, Done(2)),
+            (Owner, Call::Count, Count(0)),
+        ],
+        cache: &[3],
+    },
+    Row {
+        name: "withdraw",
+        config: Config { extra: 1, ..PLAIN },
+        lines: &[
+            (A, Subscribe, Subscribed),
+            (First, Emit(1), Accepted(0)),
+            (Second, Emit(2), Waiting),
+            (Third, Emit(3), Waiting),
+            (Second, TakeBack, Removed),
+            (A, Next, Value(1)),
+            (A, Next, Value(3)),
+            (Third, TakeBack, Left(1)),
+        ],
+        cache: &[],
+    },
+    Row {
+        name: "late_subscriber_at_hand_over",
+        config: PLAIN,
+        lines: &[
+            (A, Subscribe, Subscribed),
+            (First, Emit(5), Waiting),
+            (B, Subscribe, Subscribed),
+            (B, Next, Pending),
+            (First, Ask, Pending),
+            (A, Cancel, Cancelled),
+            (First, Ask, Done(0)),
+        ],
+        cache: &[],
+    },
+    Row {
+        name: "reset_keeps_pending",
+        config: Config { replay: 1, ..PLAIN },
+        lines: &[
+            (First, Emit(1), Accepted(0)),
+            (A, Subscribe, Subscribed),
+            (Owner, Call::Reset, Reset),
+            (B, Subscribe, Subscribed),
+            (Owner, Call::Count, Count(2)),
+            (A, Next, Value(1)),
+            (B, Next, Pending),
+        ],
+        cache: &[],
+    },
+    Row {
+        name: "places_run_out",
+        config: Config {
+            subscribers: 1,
+            emits: 1,
+            ..PLAIN
+        },
+        lines: &[
+            (A, Subscribe, Subscribed),
+            (B, Subscribe, Refused(5)),
+            (First, Emit(1), Waiting),
+            (Second, Emit(2), Refused(6)),
+            (Second, Try(2), Full),
+            (A, Cancel, Cancelled),
+            (B, Subscribe, Subscribed),
+            (First, TakeBack, Left(0)),
+            (B, Next, Pending),
+        ],
+        cache: &[],
+    },
+    Row {
+        name: "numbers_run_out",
+        config: Config {
+            replay: 1,
+            policy: Policy::DropOldest,
+            first: LAST,
+            ..PLAIN
+        },
+        lines: &[
+            (First, Try(7), Accepted(LAST)),
+            (Second, Try(8), Refused(7)),
+            (Second, Emit(8), Refused(7)),
+            (A, Subscribe, Subscribed),
+            (B, Subscribe, Refused(7)),
+            (A, Next, Value(7)),
+        ],
+        cache: &[7],
+    },
+];
 
 #[test]
-fn cancel_frees_waiting(rt: HostRuntime) -> Result<(), Fail> {
-    let lines = [
-        (A, Subscribe, Subscribed),
-        (First, Emit(1), Accepted(0)),
-        (Second, Emit(2), Waiting),
-        (Third, Emit(3), Waiting),
-        (A, Cancel, Cancelled),
-        (Second, Ask, Done(1)),
-        (Third, Ask, Done(2)),
-        (Owner, Call::Count, Count(0)),
-    ];
-    let played = played(&rt, config(1, 0, Policy::Suspend), &lines);
-    assert_eq!(rt; played.lines, lines.len());
-    assert_eq!(rt; played.cache.as_slice(), [3].as_slice());
-    Ok(())
-}
-
-#[test]
-fn withdraw(rt: HostRuntime) -> Result<(), Fail> {
-    let lines = [
-        (A, Subscribe, Subscribed),
-        (First, Emit(1), Accepted(0)),
-        (Second, Emit(2), Waiting),
-        (Third, Emit(3), Waiting),
-        (Second, TakeBack, Removed),
-        (A, Next, Value(1)),
-        (A, Next, Value(3)),
-        (Third, TakeBack, Left(1)),
-    ];
-    let played = played(&rt, config(0, 1, Policy::Suspend), &lines);
-    assert_eq!(rt; played.lines, lines.len());
-    Ok(())
-}
-
-#[test]
-fn late_subscriber_at_hand_over(rt: HostRuntime) -> Result<(), Fail> {
-    let lines = [
-        (A, Subscribe, Subscribed),
-        (First, Emit(5), Waiting),
-        (B, Subscribe, Subscribed),
-        (B, Next, Pending),
-        (First, Ask, Pending),
-        (A, Cancel, Cancelled),
-        (First, Ask, Done(0)),
-    ];
-    let played = played(&rt, config(0, 0, Policy::Suspend), &lines);
-    assert_eq!(rt; played.lines, lines.len());
-    Ok(())
-}
-
-#[test]
-fn reset_keeps_pending(rt: HostRuntime) -> Result<(), Fail> {
-    let lines = [
-        (First, Emit(1), Accepted(0)),
-        (A, Subscribe, Subscribed),
-        (Owner, Call::Reset, Reset),
-        (B, Subscribe, Subscribed),
-        (Owner, Call::Count, Count(2)),
-        (A, Next, Value(1)),
-        (B, Next, Pending),
-    ];
-    let played = played(&rt, config(1, 0, Policy::Suspend), &lines);
-    assert_eq!(rt; played.lines, lines.len());
-    assert!(rt; played.cache.is_empty());
-    Ok(())
-}
-
-#[test]
-fn places_run_out(rt: HostRuntime) -> Result<(), Fail> {
-    let small = Config {
-        subscribers: 1,
-        emits: 1,
-        ..config(0, 0, Policy::Suspend)
-    };
-    let lines = [
-        (A, Subscribe, Subscribed),
-        (B, Subscribe, Refused(5)),
-        (First, Emit(1), Waiting),
-        (Second, Emit(2), Refused(6)),
-        (Second, Try(2), Full),
-        (A, Cancel, Cancelled),
-        (B, Subscribe, Subscribed),
-        (First, TakeBack, Left(0)),
-        (B, Next, Pending),
-    ];
-    assert_eq!(rt; played(&rt, small, &lines).lines, lines.len());
-    Ok(())
-}
-
-#[test]
-fn numbers_run_out(rt: HostRuntime) -> Result<(), Fail> {
-    let last = Config {
-        first: (1 << 62) - 1,
-        ..config(1, 0, Policy::DropOldest)
-    };
-    let number = (1 << 62) - 1;
-    let lines = [
-        (First, Try(7), Accepted(number)),
-        (Second, Try(8), Refused(7)),
-        (Second, Emit(8), Refused(7)),
-        (A, Subscribe, Subscribed),
-        (B, Subscribe, Refused(7)),
-        (A, Next, Value(7)),
-    ];
-    assert_eq!(rt; played(&rt, last, &lines).lines, lines.len());
-    Ok(())
-}
-
-// The emitter and the number of the receipt of a value that is accepted at once.
-fn receipt_of<R: Wait>(rt: &R, emitter: &mut Emitter<u64>, value: u64) -> Option<(u32, u64)> {
-    if emitter.in_flight() {
-        return None;
+fn calls_are_answered(rt: HostRuntime) -> Result<(), Fail> {
+    for row in ROWS {
+        let played = played(&rt, row.config, row.lines);
+        assert_eq!(rt; played.lines, row.lines.len(), "{}", row.name);
+        assert_eq!(rt; played.cache.as_slice(), row.cache, "{}", row.name);
     }
-    match emitter.try_emit(rt, value) {
-        Ok(Tried::Accepted(receipt)) => Some((receipt.emitter(), receipt.number())),
-        _ => None,
-    }
+    Ok(())
 }
 
-// The receipts of three tries of one emitter.
-fn receipts_of<R: Wait + Abort>(rt: &R, flow: &mut SharedFlow<u64>) -> [Option<(u32, u64)>; 3] {
-    let mut emitter = flow.emitter(rt, 7).expect(rt, "an emitter");
-    let receipts = [
-        receipt_of(rt, &mut emitter, 1),
-        receipt_of(rt, &mut emitter, 2),
-        receipt_of(rt, &mut emitter, 3),
-    ];
-    let withdrawn = emitter.close(rt);
-    assert_eq!(rt; withdrawn, Withdrawn::Gone);
-    receipts
-}
-
-fn polled<R: Wait>(rt: &R, task: &MockTask, subscription: &mut Subscription<u64>) -> Option<u64> {
-    match task.enter(|cx| subscription.poll_next(rt, cx)) {
-        Poll::Ready(value) => Some(value),
-        Poll::Pending => None,
-    }
-}
-
-// What three polls of a new subscription give, and how many subscriptions are live before and after its end.
-fn three_polls<R: Wait + Abort>(
-    rt: &R,
-    task: &MockTask,
-    flow: &mut SharedFlow<u64>,
-) -> ([Option<u64>; 3], (u32, u32)) {
-    let mut subscription = flow.subscribe(rt).expect(rt, "a subscription");
-    let values = [
-        polled(rt, task, &mut subscription),
-        polled(rt, task, &mut subscription),
-        polled(rt, task, &mut subscription),
-    ];
-    let before = flow.subscription_count(rt);
-    subscription.cancel(rt);
-    (values, (before, flow.subscription_count(rt)))
-}
-
+// The receipts of an emitter of another owner have its id, 7: else they were answered as foreign ones.
 #[test]
 fn another_owner_emits(rt: HostRuntime) -> Result<(), Fail> {
-    let task = MockTask::new(&rt)?;
-    let made = SharedFlow::new(rt.alloc(), config(2, 0, Policy::Suspend));
-    let mut flow = made.map_err(|refusal| refusal.number())?;
-    let mut other = flow.dup(&rt).map_err(|refusal| refusal.number())?;
-    let receipts = receipts_of(&rt, &mut other);
-    assert_eq!(rt; receipts, [Some((7, 0)), Some((7, 1)), Some((7, 2))]);
+    let mut flow = SharedFlow::new(rt.alloc(), Config { replay: 2, ..PLAIN })?;
+    let mut other = flow.dup(&rt)?;
+    let mut emitting = Emitting::new(&rt, &mut other, 7);
+    let receipts = [
+        emitting.perform(&rt, Try(1)),
+        emitting.perform(&rt, Try(2)),
+        emitting.perform(&rt, Try(3)),
+    ];
+    let idle = emitting.close(&rt);
     let mut cache = Vec::new(rt.alloc());
-    assert_eq!(rt; flow.replay_cache_into(&rt, &mut cache), Ok(()));
+    let added = flow.replay_cache_into(&rt, &mut cache);
+    let mut listening = Listening::new(&rt);
+    let subscribed = listening.perform(&rt, &mut flow, Subscribe);
+    let values = [
+        listening.perform(&rt, &mut flow, Next),
+        listening.perform(&rt, &mut flow, Next),
+        listening.perform(&rt, &mut flow, Next),
+    ];
+    let before = flow.subscription_count(&rt);
+    listening.leave(&rt);
+    assert_eq!(rt; receipts, [Accepted(0), Accepted(1), Accepted(2)]);
+    assert!(rt; idle);
+    assert_eq!(rt; added, Ok(()));
     assert_eq!(rt; cache.as_slice(), [2, 3].as_slice());
-    let (values, counts) = three_polls(&rt, &task, &mut flow);
-    assert_eq!(rt; values, [Some(2), Some(3), None]);
-    assert_eq!(rt; counts, (1, 0));
+    assert_eq!(rt; subscribed, Subscribed);
+    assert_eq!(rt; values, [Value(2), Value(3), Pending]);
+    assert_eq!(rt; (before, flow.subscription_count(&rt)), (1, 0));
     Ok(())
 }
 
@@ -244,26 +227,27 @@ fn waiting<R: Wait + Abort>(
 // The emission of the second emitter waits when its emitter is closed. That of the third was accepted by then.
 #[test]
 fn close_gives_up_the_emission_in_flight(rt: HostRuntime) -> Result<(), Fail> {
-    let task = MockTask::new(&rt)?;
-    let made = SharedFlow::new(rt.alloc(), config(0, 1, Policy::Suspend));
-    let mut flow = made.map_err(|refusal| refusal.number())?;
-    let mut subscription = flow.subscribe(&rt).expect(&rt, "a subscription");
-    let mut first = flow.emitter(&rt, 1).expect(&rt, "an emitter");
-    assert_eq!(rt; receipt_of(&rt, &mut first, 1), Some((1, 0)));
+    let mut flow = SharedFlow::new(rt.alloc(), Config { extra: 1, ..PLAIN })?;
+    let mut listening = Listening::new(&rt);
+    let subscribed = listening.perform(&rt, &mut flow, Subscribe);
+    let mut first = Emitting::new(&rt, &mut flow, 1);
+    let accepted = first.perform(&rt, Try(1));
     let second = waiting(&rt, &mut flow, 2, 2);
     let third = waiting(&rt, &mut flow, 3, 3);
-    assert_eq!(rt; second.close(&rt), Withdrawn::Removed);
-    let received = polled(&rt, &task, &mut subscription);
+    let removed = second.close(&rt);
+    let received = listening.perform(&rt, &mut flow, Next);
     let left = match third.close(&rt) {
         Withdrawn::Left(receipt) => Some((receipt.emitter(), receipt.number())),
         _ => None,
     };
-    let last = polled(&rt, &task, &mut subscription);
-    let none = polled(&rt, &task, &mut subscription);
+    let last = listening.perform(&rt, &mut flow, Next);
+    let none = listening.perform(&rt, &mut flow, Next);
     let idle = first.close(&rt);
-    subscription.cancel(&rt);
-    assert_eq!(rt; (received, left), (Some(1), Some((3, 1))));
-    assert_eq!(rt; (last, none), (Some(3), None));
-    assert_eq!(rt; idle, Withdrawn::Gone);
+    listening.leave(&rt);
+    assert_eq!(rt; (subscribed, accepted), (Subscribed, Accepted(0)));
+    assert_eq!(rt; removed, Withdrawn::Removed);
+    assert_eq!(rt; (received, left), (Value(1), Some((3, 1))));
+    assert_eq!(rt; (last, none), (Value(3), Pending));
+    assert!(rt; idle);
     Ok(())
 }

@@ -1,281 +1,340 @@
 //! Sharings, by calls: worked examples, and what no clause says of the flow that they emit into.
 
-use cold_flow::{Cause, Flow, Policy, Refusal, Step, failing, of, range, scripted};
-use flow_sharing::{Polled, Sharing, Started, share_in};
-use futures::task::Poll;
+use crate::shared_rows::PLAIN;
+use crate::shared_stage::Answer::{Cancelled, Gone, Left, Pending, Removed, Subscribed, Value};
+use crate::shared_stage::Call::{Cancel, Next, Subscribe};
+use crate::shared_stage::{Answer, Call, Listening};
+use crate::ticks::Tick;
+use crate::tools::{broken, listed};
+use cold_flow::{Cause, Flow, Refusal, Step, range, scripted};
+use flow_sharing::{Sharing, Started, share_in};
 use futures::test::MockTask;
 use shared_core::{Config, Withdrawn};
-use shared_flow::{SharedFlow, Subscription};
+use shared_flow::{Receipt, SharedFlow};
 use std::alloc::AllocGlobal;
 use std::process::Abort;
 use std::random::RandomSource;
 use std::sync::Wait;
 use std::test::Fail;
 
-/// What a poll of a sharing came to.
-#[derive(Clone, Copy, Debug, PartialEq, Eq)]
-enum Tick {
-    On,
-    Off,
-    Failed(u64),
-    Refused(u8),
+/// What is done with a sharing, with a subscription of its flow or with the flow, and what has to come of it.
+#[derive(Clone, Copy)]
+enum Line<'a> {
+    /// A poll at a moment, with so many subscriptions.
+    Poll(u64, u32, Tick),
+    Woken,
+    Call(Call, Answer),
+    Cache(&'a [u64]),
 }
 
-fn number(refusal: Refusal) -> u8 {
-    refusal.number()
-}
-
-fn config(replay: u64, extra: u64, first: u64) -> Config {
-    Config {
-        replay,
-        extra,
-        policy: Policy::Suspend,
-        subscribers: 8,
-        emits: 8,
-        first,
-    }
-}
-
-fn flow_of<R: Wait + AllocGlobal>(rt: &R, config: Config) -> Result<SharedFlow<u64>, u8> {
-    SharedFlow::new(rt.alloc(), config).map_err(number)
-}
-
-fn shared<R: Wait + Abort, F: Flow<Item = u64, Fault = u64>>(
-    rt: &R,
-    flow: &mut SharedFlow<u64>,
-    upstream: F,
+/// What is done with a new flow that is shared, what the close of the sharing gives, and what the subscription gives after that.
+struct Row<'a> {
+    name: &'a str,
+    config: Config,
     started: Started,
-) -> Sharing<u64, F> {
-    share_in(rt, flow, upstream, started).expect(rt, "a sharing")
+    lines: &'a [Line<'a>],
+    closed: Answer,
+    rest: &'a [Line<'a>],
 }
 
-fn subscription_of<R: Wait + Abort>(rt: &R, flow: &mut SharedFlow<u64>) -> Subscription<u64> {
-    flow.subscribe(rt).expect(rt, "a subscription")
-}
+const REPLAYS_ONE: Config = Config { replay: 1, ..PLAIN };
 
-fn poll_at<F: Flow<Item = u64, Fault = u64>>(
-    rt: &impl Wait,
-    task: &MockTask,
-    sharing: &mut Sharing<u64, F>,
-    now: u64,
-) -> Tick {
-    let polled = match task.enter(|cx| sharing.poll(rt, now, cx)) {
-        Ok(polled) => polled,
-        Err(refusal) => return Tick::Refused(refusal.number()),
-    };
-    match sharing.fault() {
-        Some(Cause::Failed(fault)) => Tick::Failed(fault),
-        Some(Cause::Refused(refusal)) => Tick::Refused(refusal.number()),
-        _ if polled.on => Tick::On,
-        _ => Tick::Off,
-    }
-}
+const HOLDS_ONE: Config = Config { extra: 1, ..PLAIN };
 
-fn next(rt: &impl Wait, task: &MockTask, subscription: &mut Subscription<u64>) -> Option<u64> {
-    match task.enter(|cx| subscription.poll_next(rt, cx)) {
-        Poll::Ready(value) => Some(value),
-        Poll::Pending => None,
-    }
-}
+const AT_ONCE: Started = Started::WhileSubscribed {
+    stop: 0,
+    expire: None,
+};
 
-fn cache_is<R: Wait + AllocGlobal>(rt: &R, flow: &mut SharedFlow<u64>, values: &[u64]) -> bool {
-    let mut cache = Vec::new(rt.alloc());
-    flow.replay_cache_into(rt, &mut cache).is_ok() && cache.as_slice() == values
-}
-
-// share_while_subscribed
-#[test]
-fn stops_after_the_last_subscription(rt: HostRuntime) -> Result<(), Fail> {
-    let task = MockTask::new(&rt)?;
-    let mut flow = flow_of(&rt, config(1, 0, 0))?;
-    let steps = vec![in rt.alloc(); Step::Value(1), Step::Pending, Step::Value(2)]?;
-    let started = Started::WhileSubscribed {
+const STOPS: Row<'_> = Row {
+    name: "share_while_subscribed",
+    config: REPLAYS_ONE,
+    started: Started::WhileSubscribed {
         stop: 100,
         expire: Some(50),
+    },
+    lines: &[
+        Line::Poll(0, 0, Tick::Off),
+        Line::Call(Subscribe, Subscribed),
+        Line::Poll(10, 1, Tick::On),
+        Line::Call(Next, Value(1)),
+        Line::Poll(20, 1, Tick::On),
+        Line::Call(Next, Value(2)),
+        Line::Call(Cancel, Cancelled),
+        Line::Poll(1000, 0, Tick::On),
+        Line::Poll(1099, 0, Tick::On),
+        Line::Poll(1100, 0, Tick::Off),
+        Line::Poll(1149, 0, Tick::Off),
+        Line::Cache(&[2]),
+        Line::Poll(1150, 0, Tick::Reset),
+        Line::Cache(&[]),
+        Line::Call(Subscribe, Subscribed),
+        Line::Poll(1150, 1, Tick::On),
+        Line::Call(Next, Value(1)),
+        Line::Call(Cancel, Cancelled),
+    ],
+    closed: Gone,
+    rest: &[],
+};
+
+/// The second emission waits until the subscription received the first, and is not asked for since.
+const NEVER_EXPIRES: Row<'_> = Row {
+    name: "share_never_expires",
+    config: REPLAYS_ONE,
+    started: AT_ONCE,
+    lines: &[
+        Line::Call(Subscribe, Subscribed),
+        Line::Poll(0, 1, Tick::On),
+        Line::Call(Cancel, Cancelled),
+        Line::Poll(5, 0, Tick::Off),
+        Line::Poll(3, 0, Tick::Off),
+        Line::Cache(&[1]),
+        Line::Call(Subscribe, Subscribed),
+        Line::Poll(4, 1, Tick::On),
+        Line::Call(Next, Value(1)),
+        Line::Call(Next, Value(1)),
+        Line::Call(Cancel, Cancelled),
+    ],
+    closed: Left(1),
+    rest: &[],
+};
+
+const TAKES_32_EVENTS: Row<'_> = Row {
+    name: "share_takes_32_events",
+    config: REPLAYS_ONE,
+    started: Started::Eagerly,
+    lines: &[
+        Line::Poll(0, 0, Tick::On),
+        Line::Cache(&[31]),
+        Line::Woken,
+        Line::Poll(0, 0, Tick::On),
+        Line::Cache(&[32]),
+    ],
+    closed: Gone,
+    rest: &[],
+};
+
+/// The end is one of the 32 events.
+const THE_END_IS_AN_EVENT: Row<'_> = Row {
+    name: "the end is an event",
+    config: REPLAYS_ONE,
+    started: Started::Eagerly,
+    lines: &[
+        Line::Poll(0, 0, Tick::On),
+        Line::Poll(0, 0, Tick::Ends(Cause::Failed(9))),
+    ],
+    closed: Gone,
+    rest: &[],
+};
+
+const A_FAILURE_ENDS_SHARING: Row<'_> = Row {
+    name: "of stated_and_shared, the flow that fails",
+    config: REPLAYS_ONE,
+    started: Started::Eagerly,
+    lines: &[
+        Line::Poll(5, 0, Tick::Ends(Cause::Failed(7))),
+        Line::Cache(&[1]),
+        Line::Poll(3, 0, Tick::Over(Cause::Failed(7))),
+        Line::Cache(&[1]),
+    ],
+    closed: Gone,
+    rest: &[],
+};
+
+const GOES_ON: Row<'_> = Row {
+    name: "of stated_and_shared, the flow whose emission waits until its value is received",
+    config: HOLDS_ONE,
+    started: Started::Lazily,
+    lines: &[
+        Line::Call(Subscribe, Subscribed),
+        Line::Poll(0, 1, Tick::On),
+        Line::Call(Next, Value(1)),
+        Line::Call(Next, Value(2)),
+        Line::Call(Next, Pending),
+        Line::Poll(1, 1, Tick::On),
+        Line::Call(Next, Value(3)),
+        Line::Call(Next, Pending),
+        Line::Call(Cancel, Cancelled),
+    ],
+    closed: Gone,
+    rest: &[],
+};
+
+const WITHDRAWN: Row<'_> = Row {
+    name: "a waiting value is never accepted once it was withdrawn",
+    config: HOLDS_ONE,
+    started: Started::Lazily,
+    lines: &[
+        Line::Call(Subscribe, Subscribed),
+        Line::Poll(0, 1, Tick::On),
+    ],
+    closed: Removed,
+    rest: &[
+        Line::Call(Next, Value(1)),
+        Line::Call(Next, Pending),
+        Line::Call(Cancel, Cancelled),
+    ],
+};
+
+/// The value was accepted when the subscription ended, and nobody asked for the emission since.
+const STOP_WITHDRAWS: Row<'_> = Row {
+    name: "a stop withdraws the emission in flight",
+    config: HOLDS_ONE,
+    started: AT_ONCE,
+    lines: &[
+        Line::Call(Subscribe, Subscribed),
+        Line::Poll(0, 1, Tick::On),
+        Line::Call(Cancel, Cancelled),
+        Line::Poll(1, 0, Tick::Off),
+    ],
+    closed: Gone,
+    rest: &[],
+};
+
+/// The flow has one number left.
+const A_REFUSAL_ENDS_SHARING: Row<'_> = Row {
+    name: "a refused emission ends sharing",
+    config: Config {
+        first: (1 << 62) - 1,
+        ..REPLAYS_ONE
+    },
+    started: Started::Eagerly,
+    lines: &[
+        Line::Poll(0, 0, Tick::Ends(Cause::Refused(Refusal::Spent))),
+        Line::Cache(&[1]),
+        Line::Poll(1, 0, Tick::Over(Cause::Refused(Refusal::Spent))),
+    ],
+    closed: Gone,
+    rest: &[],
+};
+
+/// A flow, a subscription of it, and the latest moment of a poll of its sharing.
+struct Stage {
+    flow: SharedFlow<u64>,
+    listening: Listening,
+    task: MockTask,
+    latest: u64,
+}
+
+impl Stage {
+    fn caches<R: Wait + AllocGlobal>(&mut self, rt: &R, values: &[u64]) -> bool {
+        let mut cache = Vec::new(rt.alloc());
+        self.flow.replay_cache_into(rt, &mut cache).is_ok() && cache.as_slice() == values
+    }
+
+    /// A call of the subscription or a look at the cache. Nothing else is such a line.
+    fn is_answered<R: Wait + AllocGlobal>(&mut self, rt: &R, line: Line<'_>) -> bool {
+        match line {
+            Line::Call(call, answer) => {
+                self.listening.perform(rt, &mut self.flow, call) == answer
+            }
+            Line::Cache(values) => self.caches(rt, values),
+            _ => false,
+        }
+    }
+
+    fn is_shared<R: Wait + AllocGlobal, F: Flow<Item = u64, Fault = u64>>(
+        &mut self,
+        rt: &R,
+        sharing: &mut Sharing<u64, F>,
+        line: Line<'_>,
+    ) -> bool {
+        match line {
+            Line::Poll(now, count, tick) => {
+                let answer = self.task.enter(|cx| sharing.poll(rt, now, cx));
+                self.latest = self.latest.max(now);
+                tick.fits(self.latest, count, answer, sharing.fault())
+            }
+            Line::Woken => self.task.is_woken(),
+            _ => self.is_answered(rt, line),
+        }
+    }
+
+    /// The number of the first line that was answered otherwise, or of all lines where none was.
+    fn shared<R: Wait + AllocGlobal, F: Flow<Item = u64, Fault = u64>>(
+        &mut self,
+        rt: &R,
+        sharing: &mut Sharing<u64, F>,
+        lines: &[Line<'_>],
+    ) -> usize {
+        for (number, line) in lines.iter().enumerate() {
+            if !self.is_shared(rt, sharing, *line) {
+                return number;
+            }
+        }
+        lines.len()
+    }
+
+    /// Ends the subscription, where there is one.
+    fn leave(self, rt: &impl Wait) {
+        let Stage {
+            flow: _,
+            listening,
+            task: _,
+            latest: _,
+        } = self;
+        listening.leave(rt);
+    }
+
+    /// The same once the sharing is closed.
+    fn answered<R: Wait + AllocGlobal>(&mut self, rt: &R, lines: &[Line<'_>]) -> usize {
+        for (number, line) in lines.iter().enumerate() {
+            if !self.is_answered(rt, *line) {
+                return number;
+            }
+        }
+        lines.len()
+    }
+}
+
+/// What became of the emission of a sharing, whose emitter is 0.
+fn closed_with(withdrawn: Withdrawn<Receipt>) -> Answer {
+    match withdrawn {
+        Withdrawn::Gone => Gone,
+        Withdrawn::Removed => Removed,
+        Withdrawn::Left(receipt) if receipt.emitter() == 0 => Left(receipt.number()),
+        Withdrawn::Left(_) => Answer::Foreign,
+    }
+}
+
+fn assert_shares<R, F: Flow<Item = u64, Fault = u64>>(
+    rt: &R,
+    upstream: F,
+    row: &Row<'_>,
+) -> Result<(), Fail>
+where
+    R: Wait + Abort + RandomSource + AllocGlobal,
+{
+    let mut stage = Stage {
+        flow: SharedFlow::new(rt.alloc(), row.config)?,
+        listening: Listening::new(rt),
+        task: MockTask::new(rt).expect(rt, "a task"),
+        latest: 0,
     };
-    let mut sharing = shared(&rt, &mut flow, scripted::<u64, u64>(steps), started);
-    assert_eq!(rt; poll_at(&rt, &task, &mut sharing, 0), Tick::Off);
-    let mut a = subscription_of(&rt, &mut flow);
-    assert_eq!(rt; poll_at(&rt, &task, &mut sharing, 10), Tick::On);
-    assert_eq!(rt; next(&rt, &task, &mut a), Some(1));
-    assert_eq!(rt; poll_at(&rt, &task, &mut sharing, 20), Tick::On);
-    assert_eq!(rt; next(&rt, &task, &mut a), Some(2));
-    a.cancel(&rt);
-    assert_eq!(rt; poll_at(&rt, &task, &mut sharing, 1000), Tick::On);
-    assert_eq!(rt; poll_at(&rt, &task, &mut sharing, 1099), Tick::On);
-    assert_eq!(rt; poll_at(&rt, &task, &mut sharing, 1100), Tick::Off);
-    assert_eq!(rt; poll_at(&rt, &task, &mut sharing, 1149), Tick::Off);
-    assert!(rt; cache_is(&rt, &mut flow, &[2]));
-    assert_eq!(rt; poll_at(&rt, &task, &mut sharing, 1150), Tick::Off);
-    assert!(rt; cache_is(&rt, &mut flow, &[]));
-    let mut b = subscription_of(&rt, &mut flow);
-    assert_eq!(rt; poll_at(&rt, &task, &mut sharing, 1150), Tick::On);
-    assert_eq!(rt; next(&rt, &task, &mut b), Some(1));
-    b.cancel(&rt);
-    assert_eq!(rt; sharing.close(&rt), Withdrawn::Gone);
-    Ok(())
-}
-
-// share_never_expires
-#[test]
-fn keeps_the_cache_where_it_never_expires(rt: HostRuntime) -> Result<(), Fail> {
-    let task = MockTask::new(&rt)?;
-    let mut flow = flow_of(&rt, config(1, 0, 0))?;
-    let upstream = of::<u64, u64>(vec![in rt.alloc(); 1]?);
-    let started = Started::WhileSubscribed {
-        stop: 0,
-        expire: None,
-    };
-    let mut sharing = shared(&rt, &mut flow, upstream, started);
-    let a = subscription_of(&rt, &mut flow);
-    assert_eq!(rt; poll_at(&rt, &task, &mut sharing, 0), Tick::On);
-    a.cancel(&rt);
-    assert_eq!(rt; poll_at(&rt, &task, &mut sharing, 5), Tick::Off);
-    assert_eq!(rt; poll_at(&rt, &task, &mut sharing, 3), Tick::Off);
-    assert!(rt; cache_is(&rt, &mut flow, &[1]));
-    let mut b = subscription_of(&rt, &mut flow);
-    assert_eq!(rt; poll_at(&rt, &task, &mut sharing, 4), Tick::On);
-    assert_eq!(rt; next(&rt, &task, &mut b), Some(1));
-    assert_eq!(rt; next(&rt, &task, &mut b), Some(1));
-    b.cancel(&rt);
-    // The second emission waited until the subscription received the first, and was not asked for since.
-    let withdrawn = sharing.close(&rt);
-    assert!(rt;
-        matches!(withdrawn, Withdrawn::Left(receipt) if receipt.emitter() == 0 && receipt.number() == 1)
-    );
-    Ok(())
-}
-
-// share_takes_32_events
-#[test]
-fn takes_32_events_in_a_poll(rt: HostRuntime) -> Result<(), Fail> {
-    let task = MockTask::new(&rt)?;
-    let mut flow = flow_of(&rt, config(1, 0, 0))?;
-    let mut sharing = shared(&rt, &mut flow, range::<u64>(0, 33), Started::Eagerly);
-    assert_eq!(rt; poll_at(&rt, &task, &mut sharing, 0), Tick::On);
-    assert!(rt; cache_is(&rt, &mut flow, &[31]));
-    assert!(rt; task.is_woken());
-    assert_eq!(rt; poll_at(&rt, &task, &mut sharing, 0), Tick::On);
-    assert!(rt; cache_is(&rt, &mut flow, &[32]));
-    assert_eq!(rt; sharing.close(&rt), Withdrawn::Gone);
-    Ok(())
-}
-
-// The end is one of the 32 events.
-#[test]
-fn counts_the_end_as_an_event(rt: HostRuntime) -> Result<(), Fail> {
-    let task = MockTask::new(&rt)?;
-    let mut flow = flow_of(&rt, config(1, 0, 0))?;
-    let values = vec![in rt.alloc(); 7; 32]?;
-    let mut sharing = shared(&rt, &mut flow, failing(values, 9), Started::Eagerly);
-    assert_eq!(rt; poll_at(&rt, &task, &mut sharing, 0), Tick::On);
-    assert_eq!(rt; poll_at(&rt, &task, &mut sharing, 0), Tick::Failed(9));
-    assert_eq!(rt; sharing.close(&rt), Withdrawn::Gone);
-    Ok(())
-}
-
-// Of the row stated_and_shared, the shared flows.
-#[test]
-fn a_failure_ends_sharing(rt: HostRuntime) -> Result<(), Fail> {
-    let task = MockTask::new(&rt)?;
-    let mut flow = flow_of(&rt, config(1, 0, 0))?;
-    let upstream = failing::<u64, u64>(vec![in rt.alloc(); 1]?, 7);
-    let mut sharing = shared(&rt, &mut flow, upstream, Started::Eagerly);
-    let ending = task.enter(|cx| sharing.poll(&rt, 5, cx));
-    assert!(rt;
-        matches!(
-            ending,
-            Ok(Polled {
-                now: 5,
-                count: 0,
-                on: true,
-                reset: false
-            })
-        )
-    );
-    assert!(rt; cache_is(&rt, &mut flow, &[1]));
-    assert_eq!(rt; sharing.fault(), Some(Cause::Failed(7)));
-    let later = task.enter(|cx| sharing.poll(&rt, 3, cx));
-    assert!(rt;
-        matches!(
-            later,
-            Ok(Polled {
-                now: 5,
-                count: 0,
-                on: false,
-                reset: false
-            })
-        )
-    );
-    assert_eq!(rt; sharing.fault(), Some(Cause::Failed(7)));
-    assert!(rt; cache_is(&rt, &mut flow, &[1]));
-    assert_eq!(rt; sharing.close(&rt), Withdrawn::Gone);
-    Ok(())
-}
-
-// Of the row stated_and_shared, the flow whose emission waits.
-#[test]
-fn goes_on_once_the_waiting_value_was_taken(rt: HostRuntime) -> Result<(), Fail> {
-    let task = MockTask::new(&rt)?;
-    let mut flow = flow_of(&rt, config(0, 1, 0))?;
-    let upstream = of::<u64, u64>(vec![in rt.alloc(); 1, 2, 3]?);
-    let mut sharing = shared(&rt, &mut flow, upstream, Started::Lazily);
-    let mut a = subscription_of(&rt, &mut flow);
-    assert_eq!(rt; poll_at(&rt, &task, &mut sharing, 0), Tick::On);
-    assert_eq!(rt; next(&rt, &task, &mut a), Some(1));
-    assert_eq!(rt; next(&rt, &task, &mut a), Some(2));
-    assert_eq!(rt; next(&rt, &task, &mut a), None);
-    assert_eq!(rt; poll_at(&rt, &task, &mut sharing, 1), Tick::On);
-    assert_eq!(rt; next(&rt, &task, &mut a), Some(3));
-    assert_eq!(rt; next(&rt, &task, &mut a), None);
-    a.cancel(&rt);
-    assert_eq!(rt; sharing.close(&rt), Withdrawn::Gone);
+    let made = share_in(rt, &mut stage.flow, upstream, row.started);
+    let mut sharing = made.expect(rt, "a sharing");
+    let lines = stage.shared(rt, &mut sharing, row.lines);
+    let closed = closed_with(sharing.close(rt));
+    let rest = stage.answered(rt, row.rest);
+    stage.leave(rt);
+    assert_eq!(rt; lines, row.lines.len(), "{}", row.name);
+    assert_eq!(rt; closed, row.closed, "{}", row.name);
+    assert_eq!(rt; rest, row.rest.len(), "{}", row.name);
     Ok(())
 }
 
 #[test]
-fn a_waiting_value_is_never_accepted_once_it_was_withdrawn(rt: HostRuntime) -> Result<(), Fail> {
-    let task = MockTask::new(&rt)?;
-    let mut flow = flow_of(&rt, config(0, 1, 0))?;
-    let upstream = of::<u64, u64>(vec![in rt.alloc(); 1, 2]?);
-    let mut sharing = shared(&rt, &mut flow, upstream, Started::Lazily);
-    let mut a = subscription_of(&rt, &mut flow);
-    assert_eq!(rt; poll_at(&rt, &task, &mut sharing, 0), Tick::On);
-    assert_eq!(rt; sharing.close(&rt), Withdrawn::Removed);
-    assert_eq!(rt; next(&rt, &task, &mut a), Some(1));
-    assert_eq!(rt; next(&rt, &task, &mut a), None);
-    a.cancel(&rt);
-    Ok(())
-}
-
-// Its value was accepted when the subscription ended, and nobody asked for the emission since.
-#[test]
-fn a_stop_withdraws_the_emission_in_flight(rt: HostRuntime) -> Result<(), Fail> {
-    let task = MockTask::new(&rt)?;
-    let mut flow = flow_of(&rt, config(0, 1, 0))?;
-    let upstream = of::<u64, u64>(vec![in rt.alloc(); 1, 2]?);
-    let started = Started::WhileSubscribed {
-        stop: 0,
-        expire: None,
-    };
-    let mut sharing = shared(&rt, &mut flow, upstream, started);
-    let a = subscription_of(&rt, &mut flow);
-    assert_eq!(rt; poll_at(&rt, &task, &mut sharing, 0), Tick::On);
-    a.cancel(&rt);
-    assert_eq!(rt; poll_at(&rt, &task, &mut sharing, 1), Tick::Off);
-    assert_eq!(rt; sharing.close(&rt), Withdrawn::Gone);
-    Ok(())
-}
-
-#[test]
-fn a_refused_emission_ends_sharing(rt: HostRuntime) -> Result<(), Fail> {
-    let task = MockTask::new(&rt)?;
-    let mut flow = flow_of(&rt, config(1, 0, (1 << 62) - 1))?;
-    let upstream = of::<u64, u64>(vec![in rt.alloc(); 1, 2]?);
-    let mut sharing = shared(&rt, &mut flow, upstream, Started::Eagerly);
-    assert_eq!(rt; poll_at(&rt, &task, &mut sharing, 0), Tick::Refused(7));
-    assert!(rt; cache_is(&rt, &mut flow, &[1]));
-    assert_eq!(rt; poll_at(&rt, &task, &mut sharing, 1), Tick::Refused(7));
-    assert_eq!(rt; sharing.close(&rt), Withdrawn::Gone);
-    Ok(())
+fn flows_are_shared(rt: HostRuntime) -> Result<(), Fail> {
+    const STEPS: &[Step<u64, u64>] = &[Step::Value(1), Step::Pending, Step::Value(2)];
+    let alloc = rt.alloc();
+    let two = listed(alloc, &[1, 2])?;
+    assert_shares(&rt, scripted(STEPS.to_vec(alloc)?), &STOPS)?;
+    assert_shares(&rt, listed(alloc, &[1])?, &NEVER_EXPIRES)?;
+    assert_shares(&rt, range::<u64>(0, 33), &TAKES_32_EVENTS)?;
+    assert_shares(&rt, broken(alloc, &[7; 32], 9)?, &THE_END_IS_AN_EVENT)?;
+    assert_shares(&rt, broken(alloc, &[1], 7)?, &A_FAILURE_ENDS_SHARING)?;
+    assert_shares(&rt, listed(alloc, &[1, 2, 3])?, &GOES_ON)?;
+    assert_shares(&rt, &two, &WITHDRAWN)?;
+    assert_shares(&rt, &two, &STOP_WITHDRAWS)?;
+    assert_shares(&rt, &two, &A_REFUSAL_ENDS_SHARING)
 }

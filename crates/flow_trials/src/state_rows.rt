@@ -1,5 +1,5 @@
 //! A state flow's worked examples, two writers and many collectors on threads, seats that run out, and want of memory.
-ghost use Rattle.std.specs.Prelude.{◌≡◌, IfOk};
+ghost use Rattle.std.specs.Prelude.{◌≡◌};
 
 use crate::{Dimmer, Light, asked_twice};
 use cold_flow::Refusal;
@@ -7,26 +7,8 @@ use futures::task::Poll;
 use futures::test::MockTask;
 use linked_list_allocator::LocalHeap;
 use state_flow::{Collector, StateFlow, StateSeat};
-use std::alloc::Global;
 use std::test::Fail;
 use std::thread;
-
-fn number(refusal: Refusal) -> u8 {
-    refusal.number()
-}
-
-/// A state flow that holds 0.
-fn opened(alloc: Global, seats: u32) -> Result<StateSeat<u64>, u8> {
-    StateFlow::new(alloc, 0u64, seats).map_err(number)
-}
-
-/// A seat of the same flow.
-fn taken(seat: &mut StateSeat<u64>, share: u32) -> Result<StateSeat<u64>, u8>
-    ensures same_flow { seat.new.flow ≡ seat.old.flow }
-    ensures taken { IfOk result (λ other. other.flow ≡ seat.old.flow) }
-{
-    seat.take_seat(share).map_err(number)
-}
 
 /// The number of the refusal of a further seat, or 0 where there is one.
 fn refused_seat(seat: &mut StateSeat<u64>, share: u32) -> u8
@@ -113,8 +95,8 @@ fn state_conflates(rt: HostRuntime) -> Result<(), Fail> {
         Line::Poll(Some(5)),
     ];
     let task = MockTask::new(&rt)?;
-    let mut seat = opened(rt.alloc(), 2)?;
-    let mut collector = taken(&mut seat, 0)?.collect();
+    let mut seat = StateFlow::new(rt.alloc(), 0u64, 2)?;
+    let mut collector = seat.take_seat(0)?.collect();
     let count = answered(&task, &mut seat, &mut collector, LINES);
     drop(collector.cancel());
     assert_eq!(rt; count, LINES.len());
@@ -123,18 +105,12 @@ fn state_conflates(rt: HostRuntime) -> Result<(), Fail> {
 
 #[test]
 fn two_writers_one_state(rt: HostRuntime) -> Result<(), Fail> {
-    let mut one = StateFlow::new(rt.alloc(), 0u32, 2).map_err(number)?;
-    let mut two = one.take_seat(0).map_err(number)?;
-    let ((mut one, first), (mut two, second)) = thread::join(
+    let mut one = StateFlow::new(rt.alloc(), 0u32, 2)?;
+    let mut two = one.take_seat(0)?;
+    let (first, second) = thread::join(
         &rt,
-        move || {
-            let won = one.compare_and_set(0, 1);
-            (one, won)
-        },
-        move || {
-            let won = two.compare_and_set(0, 2);
-            (two, won)
-        },
+        || one.compare_and_set(0, 1),
+        || two.compare_and_set(0, 2),
     );
     assert!(rt; first != second);
     let winner = if first { 1 } else { 2 };
@@ -182,28 +158,35 @@ fn take_seats(
     seat: &mut StateSeat<u64>,
     mut seats: Vec<StateSeat<u64>>,
     count: usize,
-) -> Result<Vec<StateSeat<u64>>, u8>
+) -> Result<Vec<StateSeat<u64>>, Refusal>
     ensures { seat.new.flow ≡ seat.old.flow }
 {
     for _ in 0..count {
-        let taken = seat.take_seat(0).map_err(number)?;
-        seats.push(taken).map_err(|_| 4)?;
+        let taken = seat.take_seat(0)?;
+        if seats.push(taken).is_err() {
+            return Err(Refusal::NoMemory);
+        }
     }
     Ok(seats)
 }
 
 #[test]
 fn seats_have_limits(rt: HostRuntime) {
-    assert_eq!(rt; spare_of(&rt, 0), Err(3));
-    assert_eq!(rt; spare_of(&rt, 1), Ok(0));
-    assert_eq!(rt; spare_of(&rt, 1024), Ok(1023));
-    assert_eq!(rt; spare_of(&rt, 1025), Err(3));
+    const LIMITS: &[(u32, Result<u32, u8>)] = &[
+        (0, Err(3)),
+        (1, Ok(0)),
+        (1024, Ok(1023)),
+        (1025, Err(3)),
+    ];
+    for (seats, spare) in LIMITS {
+        assert_eq!(rt; spare_of(&rt, *seats), *spare, "{seats}");
+    }
 }
 
 #[test]
 fn seats_full(rt: HostRuntime) -> Result<(), Fail> {
-    let mut seat = opened(rt.alloc(), 9)?;
-    let first = taken(&mut seat, 0)?;
+    let mut seat = StateFlow::new(rt.alloc(), 0u64, 9)?;
+    let first = seat.take_seat(0)?;
     let others = take_seats(&mut seat, Vec::new(rt.alloc()), 7)?;
     let collectors = Vec::with_capacity(rt.alloc(), 7)?;
     let first = first.collect();
@@ -215,7 +198,7 @@ fn seats_full(rt: HostRuntime) -> Result<(), Fail> {
     assert_eq!(rt; seat.collectors(), 7);
     let ninth = seat.take_seat(0);
     cancel_all(collectors);
-    let mut ninth = ninth.map_err(number)?.collect();
+    let mut ninth = ninth?.collect();
     assert_eq!(rt; ninth.try_next(), Some(0));
     assert_eq!(rt; seat.collectors(), 1);
     drop(ninth.cancel());
@@ -225,12 +208,12 @@ fn seats_full(rt: HostRuntime) -> Result<(), Fail> {
 
 #[test]
 fn shares_are_counted(rt: HostRuntime) -> Result<(), Fail> {
-    let mut seat = opened(rt.alloc(), 10)?;
+    let mut seat = StateFlow::new(rt.alloc(), 0u64, 10)?;
     assert_eq!(rt; seat.spare(), 9);
-    let mut half = taken(&mut seat, 4)?;
+    let mut half = seat.take_seat(4)?;
     assert_eq!(rt; (seat.spare(), half.spare()), (4, 4));
     assert_eq!(rt; refused_seat(&mut seat, 4), 5);
-    let quarter = taken(&mut half, 1)?;
+    let quarter = half.take_seat(1)?;
     assert_eq!(rt; (half.spare(), quarter.spare()), (2, 1));
     seat.give_back(quarter);
     seat.give_back(half);
@@ -238,58 +221,46 @@ fn shares_are_counted(rt: HostRuntime) -> Result<(), Fail> {
     Ok(())
 }
 
-fn set_up_to(mut seat: StateSeat<u64>, last: u64) -> StateSeat<u64> {
-    for value in 1..=last {
+/// The last value that is set where threads collect.
+const LAST: u64 = 100_000;
+
+fn set_up_to_last(seat: &mut StateSeat<u64>) {
+    for value in 1..=LAST {
         seat.set(value);
     }
-    seat
 }
 
-// Asks until `last` came. Says whether each value was above the one before, and which was the highest.
-fn collect_to(seat: StateSeat<u64>, last: u64) -> (StateSeat<u64>, bool, u64) {
+// Asks until the last value came. Says whether each value was above the one before, and how far they came.
+fn collect_to_last(seat: StateSeat<u64>) -> (bool, u64) {
     let mut collector = seat.collect();
     let mut rises = true;
-    let mut highest = None;
+    let mut least = 0;
     for _ in 0..20_000_000u32 {
         if let Some(value) = collector.try_next() {
-            rises = rises && highest.is_none_or(|before| before < value);
-            highest = Some(value);
+            rises = rises && value >= least;
+            least = value.saturating_add(1);
         } else {
             thread::yield_now();
         }
-        if highest == Some(last) {
+        if least > LAST {
             break;
         }
     }
-    (collector.cancel(), rises, highest.unwrap_or(0))
+    drop(collector.cancel());
+    (rises, least)
 }
 
 #[test]
 fn three_threads_collect_what_one_sets(rt: HostRuntime) -> Result<(), Fail> {
-    let last = 100_000;
-    let mut setter = StateFlow::new(rt.alloc(), 0u64, 4).map_err(number)?;
-    let one = setter.take_seat(0).map_err(number)?;
-    let two = setter.take_seat(0).map_err(number)?;
-    let three = setter.take_seat(0).map_err(number)?;
-    let (mut setter, (one, (two, three))) = thread::join(
+    let mut setter = StateFlow::new(rt.alloc(), 0u64, 4)?;
+    let seats = take_seats(&mut setter, Vec::new(rt.alloc()), 3)?;
+    let ((), collected) = thread::join(
         &rt,
-        move || set_up_to(setter, last),
-        || {
-            thread::join(
-                &rt,
-                move || collect_to(one, last),
-                || thread::join(
-                    &rt,
-                    move || collect_to(two, last),
-                    move || collect_to(three, last),
-                ),
-            )
-        },
+        || set_up_to_last(&mut setter),
+        || thread::map_vec(&rt, seats, &collect_to_last),
     );
-    for (_seat, rises, highest) in [one, two, three] {
-        assert!(rt; rises);
-        assert_eq!(rt; highest, last);
-    }
+    let collected = collected?;
+    assert_eq!(rt; collected.as_slice(), [(true, LAST + 1); 3].as_slice());
     assert_eq!(rt; setter.collectors(), 0);
     Ok(())
 }
@@ -323,10 +294,11 @@ fn want_of_memory_is_answered(rt: HostRuntime) -> Result<(), Fail> {
     Err(Fail::from("never made"))
 }
 
+// A type of the caller's own is a value. A collector's first ask gives the value.
 #[test]
-fn a_type_of_the_callers_own_is_a_value(rt: HostRuntime) -> Result<(), Fail> {
-    let mut seat = StateFlow::new(rt.alloc(), Light::Off, 2).map_err(number)?;
-    let mut collector = seat.take_seat(0).map_err(number)?.collect();
+fn callers_of_a_state(rt: HostRuntime) -> Result<(), Fail> {
+    let mut seat = StateFlow::new(rt.alloc(), Light::Off, 2)?;
+    let mut collector = seat.take_seat(0)?.collect();
     let mut dimmer = Dimmer::new(seat);
     assert_eq!(rt; collector.try_next(), Some(Light::Off));
     assert_eq!(rt; dimmer.switch(Light::On), 1);
@@ -334,12 +306,7 @@ fn a_type_of_the_callers_own_is_a_value(rt: HostRuntime) -> Result<(), Fail> {
     assert_eq!(rt; collector.try_next(), None);
     drop(collector.cancel());
     assert_eq!(rt; dimmer.switch(Light::Off), 0);
-    Ok(())
-}
-
-#[test]
-fn a_first_ask_gives_the_value(rt: HostRuntime) -> Result<(), Fail> {
-    let seat = StateFlow::new(rt.alloc(), 7u64, 1).map_err(number)?;
+    let seat = StateFlow::new(rt.alloc(), 7u64, 1)?;
     let (collector, first, second) = asked_twice(seat);
     assert_eq!(rt; (first, second), (Some(7), None));
     drop(collector.cancel());

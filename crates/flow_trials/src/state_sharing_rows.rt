@@ -1,145 +1,251 @@
 //! Worked examples of a state that is set from a cold flow.
-use cold_flow::{Cause, Flow, NumbersRun, Refusal, Step, failing, of, range, scripted};
-use flow_sharing::{Polled, Started, state_in};
+
+use crate::ticks::Tick;
+use crate::tools::{broken, listed};
+use cold_flow::{Cause, Flow, NumbersRun, Refusal, Step, range, scripted};
+use flow_sharing::{Started, StateSharing, state_in};
 use futures::test::MockTask;
-use state_flow::StateFlow;
+use state_flow::{Collector, StateFlow, StateSeat};
+use std::alloc::AllocGlobal;
+use std::process::Abort;
+use std::random::RandomSource;
 use std::test::Fail;
 
-fn number(refusal: Refusal) -> u8 {
-    refusal.number()
+/// What is done with a sharing, its state or a collector, and what has to come of it.
+#[derive(Clone, Copy)]
+enum Line {
+    /// A poll at a moment, with so many collectors.
+    Poll(u64, u32, Tick),
+    Woken,
+    Value(u64),
+    Set(u64),
+    Collect,
+    Ask(Option<u64>),
+    Cancel,
 }
 
-fn polled(now: u64, count: u32, on: bool, reset: bool) -> Result<Polled, Refusal> {
-    Ok(Polled {
-        now,
-        count,
-        on,
-        reset,
-    })
+/// What is done with a new sharing, whose state has the initial value from then on.
+struct Row<'a> {
+    name: &'a str,
+    initial: u64,
+    started: Started,
+    lines: &'a [Line],
 }
 
-#[test]
-fn stated_and_shared(rt: HostRuntime) -> Result<(), Fail> {
-    let task = MockTask::new(&rt)?;
-    let upstream = of::<u64, u64>(vec![in rt.alloc(); 1]?);
-    let mut seat = StateFlow::new(rt.alloc(), 3u64, 3).map_err(number)?;
-    let shared = seat.take_seat(0).map_err(number)?;
-    let taken = seat.take_seat(0).map_err(number)?;
-    let started = Started::WhileSubscribed {
+const STATED_AND_SHARED: Row<'_> = Row {
+    name: "stated_and_shared",
+    initial: 7,
+    started: Started::WhileSubscribed {
         stop: 0,
         expire: Some(0),
-    };
-    let mut sharing = state_in(shared, 7, upstream, started);
-    assert_eq!(rt; seat.value(), 7);
-    let mut collector = taken.collect();
-    assert_eq!(rt; collector.try_next(), Some(7));
-    assert_eq!(rt;
-        task.enter(|cx| sharing.poll(5, cx)),
-        polled(5, 1, true, false)
-    );
-    assert_eq!(rt; seat.value(), 1);
-    drop(collector.cancel());
-    assert_eq!(rt;
-        task.enter(|cx| sharing.poll(6, cx)),
-        polled(6, 0, false, true)
-    );
-    assert_eq!(rt; seat.value(), 7);
-    assert_eq!(rt; sharing.fault(), None);
-    drop(sharing.close());
-    Ok(())
-}
+    },
+    lines: &[
+        Line::Collect,
+        Line::Ask(Some(7)),
+        Line::Poll(5, 1, Tick::On),
+        Line::Value(1),
+        Line::Cancel,
+        Line::Poll(6, 0, Tick::Reset),
+        Line::Value(7),
+    ],
+};
 
-#[test]
-fn takes_32_events(rt: HostRuntime) -> Result<(), Fail> {
-    let task = MockTask::new(&rt)?;
-    let mut seat = StateFlow::new(rt.alloc(), 0u64, 2).map_err(number)?;
-    let shared = seat.take_seat(0).map_err(number)?;
-    let mut sharing = state_in(shared, 0, range::<u64>(0, 33), Started::Eagerly);
-    assert_eq!(rt;
-        task.enter(|cx| sharing.poll(0, cx)),
-        polled(0, 0, true, false)
-    );
-    assert_eq!(rt; seat.value(), 31);
-    assert!(rt; task.is_woken());
-    assert_eq!(rt;
-        task.enter(|cx| sharing.poll(0, cx)),
-        polled(0, 0, true, false)
-    );
-    assert_eq!(rt; seat.value(), 32);
-    drop(sharing.close());
-    Ok(())
-}
+const TAKES_32_EVENTS: Row<'_> = Row {
+    name: "32 events in a poll",
+    initial: 0,
+    started: Started::Eagerly,
+    lines: &[
+        Line::Poll(0, 0, Tick::On),
+        Line::Value(31),
+        Line::Woken,
+        Line::Poll(0, 0, Tick::On),
+        Line::Value(32),
+    ],
+};
 
-#[test]
-fn the_end_is_an_event(rt: HostRuntime) -> Result<(), Fail> {
-    let task = MockTask::new(&rt)?;
-    for (count, first) in [(31, Some(Cause::Failed(6))), (32, None)] {
-        let mut values = Vec::new(rt.alloc());
-        for value in 0..count {
-            values.push(value)?;
-        }
-        let mut seat = StateFlow::new(rt.alloc(), 0u64, 2).map_err(number)?;
-        let shared = seat.take_seat(0).map_err(number)?;
-        let mut sharing = state_in(shared, 99, failing(values, 6u64), Started::Eagerly);
-        assert_eq!(rt;
-            task.enter(|cx| sharing.poll(4, cx)),
-            polled(4, 0, true, false)
-        );
-        assert_eq!(rt; sharing.fault(), first);
-        let on = first.is_none();
-        assert_eq!(rt;
-            task.enter(|cx| sharing.poll(3, cx)),
-            polled(4, 0, on, false)
-        );
-        assert_eq!(rt; sharing.fault(), Some(Cause::Failed(6)));
-        assert_eq!(rt;
-            task.enter(|cx| sharing.poll(9, cx)),
-            polled(9, 0, false, false)
-        );
-        assert_eq!(rt; seat.value(), count - 1);
-        drop(sharing.close());
-    }
-    Ok(())
-}
+/// The end after 31 values is the last event of the first poll.
+const FAILS_AFTER_31: Row<'_> = Row {
+    name: "a failure after 31 values",
+    initial: 99,
+    started: Started::Eagerly,
+    lines: &[
+        Line::Poll(4, 0, Tick::Ends(Cause::Failed(6))),
+        Line::Poll(3, 0, Tick::Over(Cause::Failed(6))),
+        Line::Poll(9, 0, Tick::Over(Cause::Failed(6))),
+        Line::Value(30),
+    ],
+};
 
-#[test]
-fn a_stop_cancels_and_a_start_begins_anew(rt: HostRuntime) -> Result<(), Fail> {
-    let task = MockTask::new(&rt)?;
-    let steps = vec![in rt.alloc(); Step::Value(1), Step::Pending, Step::Value(2)]?;
-    let mut seat = StateFlow::new(rt.alloc(), 0u64, 3).map_err(number)?;
-    let shared = seat.take_seat(0).map_err(number)?;
-    let taken = seat.take_seat(0).map_err(number)?;
-    let started = Started::WhileSubscribed {
+const FAILS_AFTER_32: Row<'_> = Row {
+    name: "a failure after 32 values",
+    initial: 99,
+    started: Started::Eagerly,
+    lines: &[
+        Line::Poll(4, 0, Tick::On),
+        Line::Poll(3, 0, Tick::Ends(Cause::Failed(6))),
+        Line::Poll(9, 0, Tick::Over(Cause::Failed(6))),
+        Line::Value(31),
+    ],
+};
+
+const STARTS_ANEW: Row<'_> = Row {
+    name: "a stop cancels and a start begins anew",
+    initial: 0,
+    started: Started::WhileSubscribed {
         stop: 0,
         expire: None,
+    },
+    lines: &[
+        Line::Collect,
+        Line::Poll(1, 1, Tick::On),
+        Line::Value(1),
+        Line::Cancel,
+        Line::Poll(2, 0, Tick::Off),
+        Line::Value(1),
+        Line::Set(5),
+        Line::Collect,
+        Line::Poll(3, 1, Tick::On),
+        Line::Value(1),
+        Line::Poll(4, 1, Tick::On),
+        Line::Value(2),
+        Line::Cancel,
+    ],
+};
+
+/// The latest moment stays too.
+const NEVER_STARTS: Row<'_> = Row {
+    name: "a refused start changes nothing",
+    initial: 8,
+    started: Started::Lazily,
+    lines: &[
+        Line::Collect,
+        Line::Poll(100, 1, Tick::Refused),
+        Line::Poll(100, 1, Tick::Refused),
+        Line::Cancel,
+        Line::Poll(5, 0, Tick::Off),
+        Line::Value(8),
+    ],
+};
+
+/// Two seats of a state, of which one may collect, and the latest moment of a poll of its sharing.
+struct Stage {
+    seat: StateSeat<u64>,
+    idle: Option<StateSeat<u64>>,
+    collector: Option<Collector<u64>>,
+    task: MockTask,
+    latest: u64,
+}
+
+impl Stage {
+    fn collect(&mut self) -> bool {
+        let Some(seat) = self.idle.take() else {
+            return false;
+        };
+        match self.collector.replace(seat.collect()) {
+            None => true,
+            Some(before) => {
+                drop(before.cancel());
+                false
+            }
+        }
+    }
+
+    fn cancel(&mut self) -> bool {
+        let Some(collector) = self.collector.take() else {
+            return false;
+        };
+        self.idle = Some(collector.cancel());
+        true
+    }
+
+    /// Is the line of the state or the collector so?
+    fn is_so(&mut self, line: Line) -> bool {
+        match line {
+            Line::Value(value) => self.seat.value() == value,
+            Line::Set(value) => {
+                self.seat.set(value);
+                true
+            }
+            Line::Collect => self.collect(),
+            Line::Ask(value) => match &mut self.collector {
+                Some(collector) => collector.try_next() == value,
+                None => false,
+            },
+            Line::Cancel => self.cancel(),
+            Line::Woken => self.task.is_woken(),
+            Line::Poll(..) => false,
+        }
+    }
+
+    fn is_polled<F: Flow<Item = u64, Fault = u64>>(
+        &mut self,
+        sharing: &mut StateSharing<u64, F>,
+        now: u64,
+        count: u32,
+        tick: Tick,
+    ) -> bool {
+        let answer = self.task.enter(|cx| sharing.poll(now, cx));
+        if answer.is_ok() {
+            self.latest = self.latest.max(now);
+        }
+        tick.fits(self.latest, count, answer, sharing.fault())
+    }
+
+    /// The number of the first line that was answered otherwise, or of all lines where none was.
+    fn answered<F: Flow<Item = u64, Fault = u64>>(
+        &mut self,
+        sharing: &mut StateSharing<u64, F>,
+        lines: &[Line],
+    ) -> usize {
+        for (number, line) in lines.iter().enumerate() {
+            let same = match *line {
+                Line::Poll(now, count, tick) => self.is_polled(sharing, now, count, tick),
+                other => self.is_so(other),
+            };
+            if !same {
+                return number;
+            }
+        }
+        lines.len()
+    }
+
+    /// Ends the collector, where there is one.
+    fn leave(self) {
+        let Stage {
+            seat: _,
+            idle: _,
+            collector,
+            task: _,
+            latest: _,
+        } = self;
+        if let Some(collector) = collector {
+            drop(collector.cancel());
+        }
+    }
+}
+
+fn assert_shares<R: Abort + RandomSource + AllocGlobal, F: Flow<Item = u64, Fault = u64>>(
+    rt: &R,
+    upstream: F,
+    row: &Row<'_>,
+) -> Result<(), Fail> {
+    let task = MockTask::new(rt)?;
+    let mut seat = StateFlow::new(rt.alloc(), 3u64, 3)?;
+    let shared = seat.take_seat(0)?;
+    let idle = Some(seat.take_seat(0)?);
+    let mut stage = Stage {
+        seat,
+        idle,
+        collector: None,
+        task,
+        latest: 0,
     };
-    let mut sharing = state_in(shared, 0, scripted::<u64, u64>(steps), started);
-    let collector = taken.collect();
-    assert_eq!(rt;
-        task.enter(|cx| sharing.poll(1, cx)),
-        polled(1, 1, true, false)
-    );
-    assert_eq!(rt; seat.value(), 1);
-    let freed = collector.cancel();
-    assert_eq!(rt;
-        task.enter(|cx| sharing.poll(2, cx)),
-        polled(2, 0, false, false)
-    );
-    assert_eq!(rt; seat.value(), 1);
-    seat.set(5);
-    let collector = freed.collect();
-    assert_eq!(rt;
-        task.enter(|cx| sharing.poll(3, cx)),
-        polled(3, 1, true, false)
-    );
-    assert_eq!(rt; seat.value(), 1);
-    assert_eq!(rt;
-        task.enter(|cx| sharing.poll(4, cx)),
-        polled(4, 1, true, false)
-    );
-    assert_eq!(rt; seat.value(), 2);
-    drop(collector.cancel());
+    let mut sharing = state_in(shared, row.initial, upstream, row.started);
+    assert_eq!(rt; stage.seat.value(), row.initial, "{}", row.name);
+    let lines = stage.answered(&mut sharing, row.lines);
     drop(sharing.close());
+    stage.leave();
+    assert_eq!(rt; lines, row.lines.len(), "{}", row.name);
     Ok(())
 }
 
@@ -163,29 +269,24 @@ impl Flow for Unstarted {
     ghost uncancelled = { λ flow xs never. never };
 }
 
+const UP_TO_30: [u64; 31] = [
+    0, 1, 2, 3, 4, 5, 6, 7, 8, 9, 10, 11, 12, 13, 14, 15, 16, 17, 18, 19, 20, 21, 22, 23, 24, 25,
+    26, 27, 28, 29, 30,
+];
+
+const UP_TO_31: [u64; 32] = [
+    0, 1, 2, 3, 4, 5, 6, 7, 8, 9, 10, 11, 12, 13, 14, 15, 16, 17, 18, 19, 20, 21, 22, 23, 24, 25,
+    26, 27, 28, 29, 30, 31,
+];
+
 #[test]
-fn a_refused_start_changes_nothing(rt: HostRuntime) -> Result<(), Fail> {
-    let task = MockTask::new(&rt)?;
-    let mut seat = StateFlow::new(rt.alloc(), 0u64, 3).map_err(number)?;
-    let shared = seat.take_seat(0).map_err(number)?;
-    let taken = seat.take_seat(0).map_err(number)?;
-    let mut sharing = state_in(shared, 8, Unstarted, Started::Lazily);
-    let collector = taken.collect();
-    assert_eq!(rt;
-        task.enter(|cx| sharing.poll(100, cx)),
-        Err(Refusal::NoMemory)
-    );
-    assert_eq!(rt;
-        task.enter(|cx| sharing.poll(100, cx)),
-        Err(Refusal::NoMemory)
-    );
-    assert_eq!(rt; sharing.fault(), None);
-    drop(collector.cancel());
-    assert_eq!(rt;
-        task.enter(|cx| sharing.poll(5, cx)),
-        polled(5, 0, false, false)
-    );
-    assert_eq!(rt; seat.value(), 8);
-    drop(sharing.close());
-    Ok(())
+fn states_are_set(rt: HostRuntime) -> Result<(), Fail> {
+    const STEPS: &[Step<u64, u64>] = &[Step::Value(1), Step::Pending, Step::Value(2)];
+    let alloc = rt.alloc();
+    assert_shares(&rt, listed(alloc, &[1])?, &STATED_AND_SHARED)?;
+    assert_shares(&rt, range::<u64>(0, 33), &TAKES_32_EVENTS)?;
+    assert_shares(&rt, broken(alloc, &UP_TO_30, 6)?, &FAILS_AFTER_31)?;
+    assert_shares(&rt, broken(alloc, &UP_TO_31, 6)?, &FAILS_AFTER_32)?;
+    assert_shares(&rt, scripted(STEPS.to_vec(alloc)?), &STARTS_ANEW)?;
+    assert_shares(&rt, Unstarted, &NEVER_STARTS)
 }

@@ -39,71 +39,96 @@ fn while_subscribed(rt: HostRuntime) -> Result<(), Fail> {
     Ok(())
 }
 
-/// Polls of a strategy, the second with a moment that lies before the first's.
-const GOES_BACK: &[(u64, u32)] = &[
-    (50, 1),
-    (40, 0),
-    (59, 0),
-    (60, 0),
-    (64, 0),
-    (65, 0),
-    (99, 0),
+/// Polls of a new strategy, each a moment and a count, what they command, and whether it is on after them. The latest moment
+/// is the greatest one.
+struct Row<'a> {
+    name: &'a str,
+    started: Started,
+    polls: &'a [(u64, u32)],
+    commands: &'a [Option<Command>],
+    is_on: bool,
+    latest: u64,
+}
+
+const ROWS: &[Row<'_>] = &[
+    Row {
+        name: "a moment that goes back",
+        started: Started::WhileSubscribed {
+            stop: 10,
+            expire: Some(5),
+        },
+        polls: &[
+            (50, 1),
+            (40, 0),
+            (59, 0),
+            (60, 0),
+            (64, 0),
+            (65, 0),
+            (99, 0),
+        ],
+        commands: &[START, None, None, STOP, None, RESET, None],
+        is_on: false,
+        latest: 99,
+    },
+    Row {
+        name: "stop and reset at once",
+        started: Started::WhileSubscribed {
+            stop: 0,
+            expire: Some(0),
+        },
+        polls: &[(5, 0), (5, 1), (6, 0), (7, 0), (7, 2), (7, 0)],
+        commands: &[None, START, RESET, None, START, RESET],
+        is_on: false,
+        latest: 7,
+    },
+    Row {
+        name: "eagerly",
+        started: Started::Eagerly,
+        polls: &[(0, 0), (1, 3), (u64::MAX, 0)],
+        commands: &[START, None, None],
+        is_on: true,
+        latest: u64::MAX,
+    },
+    Row {
+        name: "lazily",
+        started: Started::Lazily,
+        polls: &[(0, 0), (1, 3), (u64::MAX, 0)],
+        commands: &[None, START, None],
+        is_on: true,
+        latest: u64::MAX,
+    },
+    Row {
+        name: "a stop after the end of the range",
+        started: Started::WhileSubscribed {
+            stop: u64::MAX,
+            expire: Some(u64::MAX),
+        },
+        polls: &[(1, 1), (1, 0), (u64::MAX - 1, 0), (u64::MAX, 0)],
+        commands: &[START, None, None, None],
+        is_on: true,
+        latest: u64::MAX,
+    },
+    Row {
+        name: "a stop and a reset at the end of the range",
+        started: Started::WhileSubscribed {
+            stop: u64::MAX - 2,
+            expire: Some(1),
+        },
+        polls: &[(1, 1), (1, 0), (u64::MAX - 1, 0), (u64::MAX, 0)],
+        commands: &[START, None, STOP, RESET],
+        is_on: false,
+        latest: u64::MAX,
+    },
 ];
 
 #[test]
-fn a_moment_that_goes_back(rt: HostRuntime) -> Result<(), Fail> {
-    let started = Started::WhileSubscribed {
-        stop: 10,
-        expire: Some(5),
-    };
-    let mut answers = [None; 7];
-    let strategy = commands_of(started, GOES_BACK, &mut answers);
-    assert_eq!(rt; answers, [START, None, None, STOP, None, RESET, None]);
-    assert_eq!(rt; strategy.latest(), 99);
-    Ok(())
-}
-
-#[test]
-fn stop_and_reset_at_once(rt: HostRuntime) -> Result<(), Fail> {
-    let started = Started::WhileSubscribed {
-        stop: 0,
-        expire: Some(0),
-    };
-    let mut answers = [None; 6];
-    let polls = [(5, 0), (5, 1), (6, 0), (7, 0), (7, 2), (7, 0)];
-    let _after = commands_of(started, &polls, &mut answers);
-    assert_eq!(rt; answers, [None, START, RESET, None, START, RESET]);
-    Ok(())
-}
-
-#[test]
-fn eagerly_and_lazily(rt: HostRuntime) -> Result<(), Fail> {
-    let polls = [(0, 0), (1, 3), (u64::MAX, 0)];
-    let mut answers = [None; 3];
-    let eager = commands_of(Started::Eagerly, &polls, &mut answers);
-    assert_eq!(rt; answers, [START, None, None]);
-    assert!(rt; eager.on());
-    let lazy = commands_of(Started::Lazily, &polls, &mut answers);
-    assert_eq!(rt; answers, [None, START, None]);
-    assert!(rt; lazy.on());
-    Ok(())
-}
-
-#[test]
-fn the_end_of_the_range(rt: HostRuntime) -> Result<(), Fail> {
-    let mut answers = [None; 4];
-    let polls = [(1, 1), (1, 0), (u64::MAX - 1, 0), (u64::MAX, 0)];
-    let long = Started::WhileSubscribed {
-        stop: u64::MAX,
-        expire: Some(u64::MAX),
-    };
-    let _after = commands_of(long, &polls, &mut answers);
-    assert_eq!(rt; answers, [START, None, None, None]);
-    let shorter = Started::WhileSubscribed {
-        stop: u64::MAX - 2,
-        expire: Some(1),
-    };
-    let _after = commands_of(shorter, &polls, &mut answers);
-    assert_eq!(rt; answers, [START, None, STOP, RESET]);
+fn commands(rt: HostRuntime) -> Result<(), Fail> {
+    for row in ROWS {
+        let mut commands = vec![in rt.alloc(); None; row.polls.len()]?;
+        let strategy = commands_of(row.started, row.polls, &mut commands);
+        assert_eq!(rt; commands.as_slice(), row.commands, "{}", row.name);
+        assert_eq!(rt; strategy.on(), row.is_on, "{}", row.name);
+        assert_eq!(rt; strategy.latest(), row.latest, "{}", row.name);
+    }
     Ok(())
 }

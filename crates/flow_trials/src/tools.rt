@@ -1,0 +1,71 @@
+//! Tools of the tests of cold flows and of flows of several sources.
+ghost use Rattle.std.specs.Prelude.{◌≡◌, ◌+◌, ◌%◌, ◌^◌};
+
+use cold_flow::{Apply, Caught, Event, Listed, Run, failing, of};
+use futures::task::Poll;
+use futures::test::MockTask;
+use std::alloc::{AllocError, Global};
+use std::process::Abort;
+
+/// The sum of two values.
+#[derive(Clone, Copy)]
+pub struct Sum;
+
+impl Apply<(u64, u64)> for Sum {
+    type Out = u64;
+
+    ghost gives = { λ _ x. (x.0 + x.1) % 2 ^ 64 };
+
+    fn apply(&self, argument: (u64, u64)) -> u64 {
+        argument.0.wrapping_add(argument.1)
+    }
+}
+
+/// Any failure becomes a given answer.
+#[derive(Clone, Copy)]
+pub struct Answer(pub Caught<u64, u64>);
+
+impl Apply<u64> for Answer {
+    type Out = Caught<u64, u64>;
+
+    ghost gives = { λ f _. f.0 };
+
+    fn apply(&self, _argument: u64) -> Caught<u64, u64> {
+        self.0
+    }
+}
+
+/// The flow of a list.
+pub(crate) fn listed(alloc: Global, values: &[u64]) -> Result<Listed<u64, u64>, AllocError> {
+    Ok(of(values.to_vec(alloc)?))
+}
+
+/// The flow of a list that fails then.
+pub(crate) fn broken(
+    alloc: Global,
+    values: &[u64],
+    fault: u64,
+) -> Result<Listed<u64, u64>, AllocError> {
+    Ok(failing(values.to_vec(alloc)?, fault))
+}
+
+/// What a poll of a run gives.
+pub type Polling = Poll<Event<u64, u64>>;
+
+/// One poll.
+pub(crate) fn next<R: Run<Item = u64, Fault = u64>>(task: &MockTask, run: &mut R) -> Polling {
+    task.enter(|cx| run.poll_next(cx))
+}
+
+/// Polls a run, and compares each answer. A poll that is pending has woken its task.
+pub(crate) fn assert_polls<R: Run<Item = u64, Fault = u64>>(
+    rt: &impl Abort,
+    task: &MockTask,
+    run: &mut R,
+    answers: &[Polling],
+) {
+    for answer in answers {
+        assert_eq!(rt; next(task, run), *answer);
+        assert!(rt; answer.is_ready() || task.is_woken());
+    }
+}
