@@ -107,10 +107,16 @@ fn state_conflates(rt: HostRuntime) -> Result<(), Fail> {
 fn two_writers_one_state(rt: HostRuntime) -> Result<(), Fail> {
     let mut one = StateFlow::new(rt.alloc(), 0u32, 2)?;
     let mut two = one.take_seat(0)?;
-    let (first, second) = thread::join(
+    let ((mut one, first), (mut two, second)) = thread::join(
         &rt,
-        || one.compare_and_set(0, 1),
-        || two.compare_and_set(0, 2),
+        move || {
+            let won = one.compare_and_set(0, 1);
+            (one, won)
+        },
+        move || {
+            let won = two.compare_and_set(0, 2);
+            (two, won)
+        },
     );
     assert!(rt; first != second);
     let winner = if first { 1 } else { 2 };
