@@ -14,7 +14,7 @@ use std::sync::Wait;
 /// An owner of the lock, with room for the wakers of one call. Contracts see it as the config of the flow.
 #[derive(Drop)]
 pub struct Access<T: Word> {
-    lock: Lock<Shared<T>, Config>,
+    lock: Lock<Box<Shared<T>>, Config>,
     wakes: Wakes,
     alloc: Global,
     /// How many wakers one call has to keep at most.
@@ -42,7 +42,7 @@ impl<T: Word> Access<T> {
     {
         let wakes_count = wakes_of(&config);
         let wakes = Wakes::new(alloc, wakes_count)?;
-        let lock = Lock::new(alloc, shared)?;
+        let lock = Lock::new(alloc, Box::new(alloc, shared)?)?;
         Ok(Access {
             lock,
             wakes,
@@ -68,16 +68,16 @@ impl<T: Word> Access<T> {
     }
 
     /// Takes the lock.
-    pub fn take(&mut self, rt: &impl Wait) -> Held<Shared<T>>
-        ensures config { Some result.state.config ≡ self.old }
+    pub fn take(&mut self, rt: &impl Wait) -> Held<Box<Shared<T>>>
+        ensures config { Some result.state.value.config ≡ self.old }
         ensures same { self.new ≡ self.old }
     {
         self.lock.take(rt)
     }
 
     /// Gives the lock back, and then wakes those that the call helps.
-    pub fn put(&mut self, rt: &impl Wait, held: Held<Shared<T>>)
-        requires config { Some held.state.config ≡ self.old }
+    pub fn put(&mut self, rt: &impl Wait, held: Held<Box<Shared<T>>>)
+        requires config { Some held.state.value.config ≡ self.old }
         ensures same { self.new ≡ self.old }
     {
         let mut held = held;

@@ -74,7 +74,7 @@ impl<T: Word> Emitter<T> {
         ensures same { self.new ≡ self.old }
     {
         let mut held = self.access.take(rt);
-        let tried = laws::try_emit(&mut held.state, self.id, value);
+        let tried = laws::try_emit(&mut *held.state, self.id, value);
         self.access.put(rt, held);
         match tried? {
             Tried::Accepted(number) => Ok(Tried::Accepted(Receipt::new(self.id, number))),
@@ -95,7 +95,7 @@ impl<T: Word> Emitter<T> {
         ensures waits { self.new ≡ record self.old { in_flight = is_waiting result } }
     {
         let mut held = self.access.take(rt);
-        let begun = laws::start_emit(&mut held.state, self.id, value);
+        let begun = laws::start_emit(&mut *held.state, self.id, value);
         self.access.put(rt, held);
         match begun? {
             Begun::Accepted(number) => Ok(Begun::Accepted(Receipt::new(self.id, number))),
@@ -121,7 +121,7 @@ impl<T: Word> Emitter<T> {
             unreachable!()
         };
         let mut held = self.access.take(rt);
-        let emit = laws::poll_emit(&mut held.state, ticket, &mut self.bed, cx);
+        let emit = laws::poll_emit(&mut *held.state, ticket, &mut self.bed, cx);
         self.access.put(rt, held);
         match emit {
             Emit::Done(number) => {
@@ -145,7 +145,7 @@ impl<T: Word> Emitter<T> {
             return Withdrawn::Gone;
         };
         let mut held = self.access.take(rt);
-        let withdrawn = laws::cancel_emit(&mut held.state, ticket, &self.bed);
+        let withdrawn = laws::cancel_emit(&mut *held.state, ticket, &self.bed);
         self.access.put(rt, held);
         match withdrawn {
             Withdrawn::Removed => Withdrawn::Removed,

@@ -85,7 +85,7 @@ impl<T: Word> SharedFlow<T> {
     {
         let access = self.access.another(rt)?;
         let mut held = self.access.take(rt);
-        let subscribed = laws::subscribe(&mut held.state);
+        let subscribed = laws::subscribe(&mut *held.state);
         self.access.put(rt, held);
         let id = subscribed?;
         Ok(Subscription::new(access, id))
@@ -96,7 +96,7 @@ impl<T: Word> SharedFlow<T> {
         ensures { self.new ≡ self.old }
     {
         let mut held = self.access.take(rt);
-        laws::reset_replay(&mut held.state);
+        laws::reset_replay(&mut *held.state);
         self.access.put(rt, held);
     }
 
@@ -108,7 +108,7 @@ impl<T: Word> SharedFlow<T> {
         ensures same { self.new ≡ self.old }
     {
         let held = self.access.take(rt);
-        let added = laws::replay_cache_into(&held.state, out);
+        let added = laws::replay_cache_into(&*held.state, out);
         self.access.put(rt, held);
         added
     }
@@ -118,7 +118,7 @@ impl<T: Word> SharedFlow<T> {
         ensures { self.new ≡ self.old }
     {
         let held = self.access.take(rt);
-        let count = laws::subscription_count(&held.state);
+        let count = laws::subscription_count(&*held.state);
         self.access.put(rt, held);
         count
     }

@@ -43,8 +43,9 @@ impl<T: Copy> Model for Shared<T> {
     ghost invariant = { λ s. IsOf s.config s.flow };
 }
 
-impl<T: Copy> Keyed<Config> for Shared<T> {
-    ghost key = { λ s. s.config };
+// It lies under the lock in a box, so that a call moves no more than a pointer.
+impl<T: Copy> Keyed<Config> for Box<Shared<T>> {
+    ghost key = { λ s. s.value.config };
 }
 
 impl<T: Copy> Shared<T> {

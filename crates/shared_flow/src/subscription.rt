@@ -52,7 +52,7 @@ impl<T: Word> Subscription<T> {
         ensures kept { Keeps cx.old cx.new }
     {
         let mut held = self.access.take(rt);
-        let next = laws::next(&mut held.state, self.id, &mut self.bed, cx);
+        let next = laws::next(&mut *held.state, self.id, &mut self.bed, cx);
         self.access.put(rt, held);
         match next {
             Next::Value(value) => Poll::Ready(value),
@@ -71,7 +71,7 @@ impl<T: Word> Subscription<T> {
             bed,
         } = self;
         let mut held = access.take(rt);
-        let _live = laws::cancel(&mut held.state, id, &bed);
+        let _live = laws::cancel(&mut *held.state, id, &bed);
         access.put(rt, held);
     }
 }
