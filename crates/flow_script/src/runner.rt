@@ -17,12 +17,9 @@ mod states;
 mod subscriptions;
 mod ticks;
 
-use script_flows::ScriptBuffer;
 use crate::names::Names;
-use script_flows::Share;
-use script_flows::Stating;
-use script_flows::Watched;
 use futures::task::Solo;
+use script_flows::{ScriptBuffer, Share, Stating, Watched};
 use script_pipes::{Answer, Command, Sourced};
 use script_words::Words;
 use shared::config_of;

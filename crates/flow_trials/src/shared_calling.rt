@@ -86,7 +86,7 @@ where
 
 /// One thread emits a value that another receives. The emitter and the subscription are lent to the threads, since no closure may
 /// own them, and are spent after the join. Without memory for its task the receiving thread ends the subscription at once, so
-/// that the emission doesn't wait for it.
+/// that the emission doesn't wait for it. Where the emission is refused, the receiving thread sleeps until another emitter emits.
 pub fn passed_on<R>(
     rt: &R,
     flow: &mut SharedFlow<u64>,

@@ -9,9 +9,9 @@ ghost use Rattle.flow_script.specs.Pictures.{StepsNoted, StepsOrRefused, bound_b
 
 use super::Runner;
 use crate::binding::Binding;
-use script_flows::ScriptBuffer;
 use cold_flow::Policy;
 use futures::task::Poll;
+use script_flows::ScriptBuffer;
 use script_pipes::{Answer, Source};
 use std::alloc::{AllocError, Global};
 

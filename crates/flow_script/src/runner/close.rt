@@ -3,9 +3,7 @@
 ghost use Rattle.std.specs.Prelude.{◌≡◌, length};
 
 use super::Runner;
-use script_flows::Share;
-use script_flows::Stating;
-use script_flows::Watched;
+use script_flows::{Share, Stating, Watched};
 use std::sync::Wait;
 
 /// How many things were closed at the end of a script.

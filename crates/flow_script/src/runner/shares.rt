@@ -8,10 +8,9 @@ ghost use Rattle.flow_script.specs.Pictures.{Steps, StepsNoted, StepsOrRefused};
 
 use super::Runner;
 use crate::binding::{Binding, Subscriber};
-use script_flows::Share;
-use script_flows::SourceFlow;
 use flow_sharing::Started;
 use futures::task::Poll;
+use script_flows::{Share, SourceFlow};
 use script_pipes::{Answer, Listing, Source};
 use shared_core::Config;
 use std::alloc::{AllocError, Global};

@@ -7,11 +7,9 @@ ghost use Rattle.flow_script.specs.Pictures.{StepsNoted, StepsOrRefused};
 
 use super::Runner;
 use crate::binding::{Binding, Stated};
-use script_flows::SourceFlow;
-use script_flows::Stating;
-use script_flows::Watched;
 use flow_sharing::Started;
 use futures::task::Poll;
+use script_flows::{SourceFlow, Stating, Watched};
 use script_pipes::{Answer, Source};
 use std::alloc::{AllocError, Global};
 use std::sync::Wait;
