@@ -1,4 +1,1 @@
-pub mod Countdown
-pub mod Lights
-pub mod LightLaws
 pub mod Uncancelled

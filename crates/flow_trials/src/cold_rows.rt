@@ -3,12 +3,12 @@ ghost use Rattle.std.specs.Prelude.{◌≡◌, ◌+◌, ◌%◌, ◌^◌, nat_lt
 ghost use Rattle.cold_flow.specs.declared.operators.few.Few.TheVariants.{Two};
 
 use crate::tools::{Answer, Polling, Sum, assert_polls, broken, listed, next};
-use crate::{Countdown, chain, mapped_list, taken_down};
 use cold_flow::{
     Apply, Caught, Cause, Collected, Collecting, Event, Few, Finite, First, Flow, Folding, Refusal,
     Run, Step, catch_with, collect, distinct, drop_first, filter, first, fold, map, on_completion,
     range, scripted, take, to_list, transform,
 };
+use flow_callers::{Countdown, chain, mapped_list, taken_down};
 use futures::task::Poll;
 use futures::test::MockTask;
 use std::alloc::Global;

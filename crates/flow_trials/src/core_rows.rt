@@ -1,7 +1,7 @@
 //! A shared flow's worked examples on one thread, by its calls, and each call once where all goes well.
 
-use crate::{received_in_turn, received_once};
 use cold_flow::{Policy, Refusal};
+use flow_callers::{received_in_turn, received_once};
 use shared_core::{
     Begun, Call, Config, Emit, Next, Reply, SharedState, SubId, Ticket, Tried, Withdrawn,
 };

@@ -5,11 +5,11 @@ ghost use Rattle.std.specs.Prelude.{◌≡◌, is_some, ◌==◌, if◌then◌el
 ghost use Rattle.std.specs.Iterator.{at_most};
 
 use crate::tools::{Answer, Polling, Sum, assert_polls, broken, listed, next};
-use crate::{joined_list, zipped_lists};
 use cold_flow::{
     Apply, Caught, Cause, Event, Flow, Numbers, Refusal, Run, Step, catch_with, collect, range,
     scripted, to_list,
 };
+use flow_callers::{joined_list, zipped_lists};
 use flow_merge::{Bound, KnownBound, MAX_WORKERS, combine, flat_map_concat, flat_map_merge, zip};
 use futures::task::{Context, Poll};
 use futures::test::MockTask;

@@ -4,9 +4,9 @@
 ghost use Rattle.futures.specs.Poll.{OnPending};
 ghost use Rattle.futures.specs.Task.{IsArmed};
 
-use crate::passed_on;
 use crate::shared_stage::config;
 use cold_flow::Policy;
+use flow_callers::passed_on;
 use futures::task::{Context, Doorbell, Poll, Queue};
 use shared_core::{Begun, Withdrawn};
 use shared_flow::{Emitter, Receipt, SharedFlow, Subscription};

@@ -1,8 +1,8 @@
 //! A state flow's worked examples, two writers and many collectors on threads, seats that run out, and want of memory.
 ghost use Rattle.std.specs.Prelude.{◌≡◌};
 
-use crate::{Dimmer, Light, asked_twice};
 use cold_flow::Refusal;
+use flow_callers::{Dimmer, Light, asked_twice};
 use futures::task::Poll;
 use futures::test::MockTask;
 use linked_list_allocator::LocalHeap;

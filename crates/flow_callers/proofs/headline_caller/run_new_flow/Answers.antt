@@ -1,0 +1,31 @@
+use Rattle.std.proofs.Common.{◌≡◌, Option, Some, None, Result, Ok, Err, IfSome, map, sym, subst}
+use Rattle.shared_core.specs.Headline.{Headline}
+use Rattle.shared_core.specs.Kept.{making_refusal, parameters_of}
+use Rattle.shared_core.specs.Runs.{Runs, call_of}
+use Rattle.shared_core.proofs.Replaying.{made_is}
+use Rattle.flow_callers.proofs.headline_caller.run_new_flow.Goals as goal
+
+-- a flow that was made was not refused, whatever it became
+refuses : {A E : Type 0} (o : Option E) (x y : A) → IfSome o (λ e. ◌≡◌ {A = Result A E} (Ok x) (Err e)) → IfSome o (λ e. ◌≡◌ {A = Result A E} (Ok y) (Err e))
+refuses None x y was = tt
+refuses (Some e) x y was = absurd (cc)
+
+pub returns-clause-refused : goal.returns-clause-refused
+returns-clause-refused g c = refuses (making_refusal c.args.config) c.in_ok-flow.flow c.run.new.self c.in_ok-flow.ensures.refused
+
+pub returns-clause-headline : goal.returns-clause-headline
+returns-clause-headline g c =
+    let p = parameters_of c.args.config in
+    let calls = c.args.calls.now in
+    let runs = subst (λ before. Runs calls c.in_ok-flow.flow before c.run.new.out.items c.run.new.self) c.requires c.in_ok-run.ensures.ok in
+    let law = c.each_subscription_receives_cache_then_later.ensures in
+    subst Headline (sym (made_is p calls c.run.new.out.items c.in_ok-flow.flow c.run.new.self c.in_ok-flow.ensures.shows runs))
+    record {
+      each_receives_cache_then_later = law.each_receives_cache_then_later p (map call_of calls);
+      each_emitter_in_its_own_order = law.each_emitter_in_its_own_order p (map call_of calls);
+      numbers_count_what_was_accepted = law.numbers_count_what_was_accepted p (map call_of calls);
+      each_live_was_opened = law.each_live_was_opened p (map call_of calls);
+      live_until_cancelled = law.live_until_cancelled p (map call_of calls);
+      nothing_after_cancellation = law.nothing_after_cancellation p (map call_of calls);
+      nothing_without_opening = law.nothing_without_opening p (map call_of calls);
+    }

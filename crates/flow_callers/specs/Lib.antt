@@ -1,0 +1,3 @@
+pub mod Countdown
+pub mod Lights
+pub mod LightLaws
