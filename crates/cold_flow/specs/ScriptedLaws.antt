@@ -1,11 +1,11 @@
 -- Laws of flows of given steps.
 use Rattle.std.specs.Prelude.{◌≡◌, ℕ, ◌+◌, List, [], ◌∷◌, Some, false, refl, drop, slice_get}
-use Rattle.std.proofs.Common.{ap, zero, suc, add-one}
-use Rattle.cold_flow.specs.declared.cause.Cause.TheVariants.{Cancelled}
+use Rattle.std.proofs.Common.{ap, zero, suc, add-one, inl}
+use Rattle.cold_flow.specs.declared.cause.Cause.TheVariants.{Cancelled, Failed}
 use Rattle.cold_flow.specs.declared.builders.scripted.Step.{Step}
 use Rattle.cold_flow.specs.declared.builders.scripted.Step.TheVariants.{Value, Pending, Fail}
 use Rattle.cold_flow.specs.Trace.{Trace, ◌⊑◌, ended_by}
-use Rattle.cold_flow.specs.Poll.{After, Beginnings}
+use Rattle.cold_flow.specs.Poll.{Within, After, Beginnings}
 use Rattle.cold_flow.specs.Scripted.{played, never_pends}
 use Rattle.cold_flow.specs.Laws.{ended-begins, led-begins}
 
@@ -31,6 +31,14 @@ module _ {A E : Type 0} where
       → After (Beginnings (played (drop i steps))) v (Beginnings (played (drop (i + 1) steps)))
   played_value steps i v is t h =
       rw (drop-at steps i (Value v) is) (led-begins v t (played (drop (suc i) steps)) (rw add-one at h))
+
+  pub played_pending : (steps : List (Step A E)) (i : ℕ) → slice_get steps i ≡ Some Pending
+      → Within (Beginnings (played (drop i steps))) (Beginnings (played (drop (i + 1) steps)))
+  played_pending steps i is t h = rw (drop-at steps i Pending is) (rw add-one at h)
+
+  pub played_fail : (steps : List (Step A E)) (i : ℕ) (f : E) → slice_get steps i ≡ Some (Fail f)
+      → ended_by [] (Failed f) ⊑ played (drop i steps)
+  played_fail steps i f is = rw (drop-at steps i (Fail f) is) (inl refl)
 
   pub pends_value : (steps : List (Step A E)) (i : ℕ) (v : A) → slice_get steps i ≡ Some (Value v)
       → never_pends (drop i steps) ≡ never_pends (drop (i + 1) steps)

@@ -94,7 +94,6 @@ impl<T: Copy, E: Copy> Run for SteppedRun<T, E> {
 
     ghost prompt = { λ r. never_pends (drop r.next r.steps.items) };
 
-    #[tactic(auto, using(crate::specs::ScriptedLaws::pends_value, crate::specs::ScriptedLaws::pends_pending))]
     fn poll_next(&mut self, cx: &mut Context<'_>) -> Poll<Event<T, E>> {
         if let Some(cause) = self.ended {
             return Poll::Ready(Event::End(cause));

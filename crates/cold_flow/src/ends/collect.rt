@@ -68,7 +68,6 @@ impl<R: Run> Collecting<R> {
     ///
     /// Where memory lacks for a value the run is cancelled, `so_far` keeps the values before it, and this and every later poll answers
     /// `Refusal::NoMemory`.
-    #[tactic(auto, using(crate::specs::GatherLaws::gathers_value, crate::specs::GatherLaws::gathers_end, crate::specs::GatherLaws::gathers_so_far, crate::specs::GatherLaws::gathers_within))]
     pub fn poll(
         &mut self,
         cx: &mut Context<'_>,

@@ -128,7 +128,6 @@ impl<T: Copy, E: Copy, S: Run<Item = T, Fault = E>, G: Apply<Cause<E>, Out = Opt
 
     ghost prompt = { λ r. is_prompt r.closing (S.prompt r.source) };
 
-    #[tactic(auto, using(crate::specs::FinaleLaws::finale_passes, crate::specs::FinaleLaws::finale_last, crate::specs::FinaleLaws::finale_ends))]
     fn poll_next(&mut self, cx: &mut Context<'_>) -> Poll<Event<T, E>> {
         if let Some(cause) = self.closing.settle() {
             return Poll::Ready(Event::End(cause));

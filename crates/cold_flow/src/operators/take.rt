@@ -97,7 +97,6 @@ impl<E: Copy, S: Run<Fault = E>> Run for TakenRun<S, E> {
 
     ghost prompt = { λ r. is_prompt r.closing (S.prompt r.source) };
 
-    #[tactic(auto, using(crate::specs::TakeLaws::take_more, crate::specs::TakeLaws::take_last, crate::specs::TakeLaws::take_ends))]
     fn poll_next(&mut self, cx: &mut Context<'_>) -> Poll<Event<S::Item, E>> {
         if let Some(cause) = self.closing.settle() {
             return Poll::Ready(Event::End(cause));

@@ -88,7 +88,6 @@ impl<U: Copy, S: Run, G: Apply<S::Item, Out = Few<U>>> Run for TransformedRun<S,
 
     ghost polls = { λ r. count_map (λ n. 4 * n + few_len r.held) (S.polls r.source) };
 
-    #[tactic(auto, using(crate::specs::FewLaws::held_gives, crate::specs::FewLaws::asked_gives, crate::specs::FewLaws::asked_skips))]
     fn poll_next(&mut self, cx: &mut Context<'_>) -> Poll<Event<U, S::Fault>> {
         if let Some((value, rest)) = self.held.split_first() {
             self.held = rest;
