@@ -4,7 +4,8 @@ use Rattle.std.proofs.Common.{zero, suc, ap, sym, ◌∙◌, inl, inr}
 use Rattle.std.proofs.Math.Numerals.{sub-one}
 use Rattle.std.specs.List.{cons_option}
 use Rattle.cold_flow.specs.Trace.{on_values}
-use Rattle.cold_flow.specs.Laws.{Monotone}
+use Rattle.cold_flow.specs.Poll.{Traces, Within, After, Through}
+use Rattle.cold_flow.specs.Laws.{Monotone, Through-skip}
 
 cons_option-append : {A : Type 0} (o : Option A) (ys zs : List A) → cons_option o ys ++ zs ≡ cons_option o (ys ++ zs)
 cons_option-append None ys zs = refl
@@ -49,3 +50,11 @@ module _ {S A B E : Type 0} (passes : S → List A → List B) (keeps : S → A 
   sift-monotone none step s t u (inl e) = inl (ap (on_values (passes s)) e)
   sift-monotone none step s t u (inr h) =
       let grown = sift-grows passes keeps after none step s t.0 h.1.0 in inr (h.0, (grown.0, grown.1 ∙ ap (passes s) h.1.1))
+
+  -- the next value is left out
+  pub sift_skips : ((s : S) (x : A) (xs : List A) → passes s (x ∷ xs) ≡ cons_option (keeps s x) (passes (after s x) xs))
+      → (s next : S) (x : A) (o : Option B) (old new : Traces A E) → o ≡ keeps s x → o ≡ None → next ≡ after s x → After old x new
+      → Within (Through (on_values (passes s)) old) (Through (on_values (passes next)) new)
+  sift_skips step s next x o old new kept none is came =
+      Through-skip (on_values (passes s)) (on_values (passes next)) old new x
+      (λ u. ap (λ (ys : List B). (ys, u.1)) (step s x u.0 ∙ rw (sym kept ∙ none, is) refl)) came
