@@ -33,6 +33,10 @@ pub after_wait : (old new : Count) (n most : ℕ) → IsFinite old × (size old 
     → IsFinite new × (size new + n ≤ most)
 after_wait old new n most was now = let h = now was.0 in (h.0, omega arith)
 
+-- as many questions as a poll asks
+pub no_more_questions : (now : Count) (n most : ℕ) → IsFinite now × (size now + n ≤ most) → 64 ≤ n → IsFinite now × (size now < most)
+no_more_questions now n most was asked = (was.0, omega arith)
+
 -- ---- runs that start inner runs
 
 -- where most is a number, no more polls are left than that

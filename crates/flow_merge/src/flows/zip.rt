@@ -106,7 +106,6 @@ impl<C: Copy, A: Run, B: Run<Fault = A::Fault>, G: Apply<(A::Item, B::Item), Out
 
     ghost polls = { λ r. count_add (A.polls r.left) (B.polls r.right) };
 
-    #[tactic(auto, using(crate::specs::ZipLaws::zip_holds, crate::specs::ZipLaws::zip_pairs, crate::specs::ZipLaws::zip_left_ends, crate::specs::ZipLaws::zip_right_ends, crate::specs::ZipLaws::zip_left_waits, crate::specs::ZipLaws::zip_right_waits))]
     fn poll_next(&mut self, cx: &mut Context<'_>) -> Poll<Event<C, A::Fault>> {
         if let Some(cause) = self.ended {
             return Poll::Ready(Event::End(cause));

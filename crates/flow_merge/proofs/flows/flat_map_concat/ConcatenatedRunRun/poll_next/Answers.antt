@@ -1,5 +1,5 @@
 use Rattle.std.proofs.Common.{rules, ◌≡◌, ◌∙◌, None}
-use Rattle.flow_merge.specs.Counting.{after_question}
+use Rattle.flow_merge.specs.Counting.{after_question, no_more_questions}
 use Rattle.flow_merge.proofs.flows.flat_map_concat.ConcatenatedRunRun.poll_next.Goals as goal
 
 pub returns-in-Ready-Some-Value-clause-narrows : goal.returns-in-Ready-Some-Value-clause-narrows
@@ -33,3 +33,7 @@ loop-asked-preserved g c =
 pub returns-clause-narrows : goal.returns-clause-narrows
 returns-clause-narrows g c =
     rw (c.yield_now.ensures.pending, c.loop-asked.invariant.begun, c.loop-asked.invariant.going) c.loop-asked.invariant.within
+
+pub returns-clause-approaches : goal.returns-clause-approaches
+returns-clause-approaches g c =
+    rw c.yield_now.ensures.pending (λ h. no_more_questions _ _ _ (c.loop-asked.invariant.approaches h) c.loop-asked-test.false)
