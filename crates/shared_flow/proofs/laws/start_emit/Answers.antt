@@ -1,4 +1,4 @@
-use Rattle.std.proofs.Common.{◌≡◌, ◌⊎◌, IfErr, subst, sym}
+use Rattle.std.proofs.Common.{rules, ◌≡◌, ◌⊎◌, IfErr, subst, sym}
 use Rattle.cold_flow.specs.declared.refusal.Refusal.TheVariants.{Spent, EmitsFull}
 use Rattle.shared_core.specs.Calls.{starting}
 use Rattle.shared_flow.proofs.Configs.{stays}
@@ -21,3 +21,7 @@ returns-clause-policy g c =
     let is = c.shared.invariant in let config = c.shared.inside.config in
     subst (λ (s : Guarded _). BegunUnder s.config.policy c.start_emit-begun.result) c.shared.view_is
     (subst (λ r. BegunUnder config.policy r) (sym (c.start_emit-begun.ensures is.0 is.1).0) (start_under config c.args.emitter c.args.value is.0 is.3 is.2))
+
+-- A wrong body makes this false: so answered, it is refused at once.
+pub returns-clause-follows : goal.returns-clause-follows
+returns-clause-follows g c = search rules

@@ -1,4 +1,4 @@
-use Rattle.std.proofs.Common.{◌≡◌, ◌⊎◌, IfErr, subst, sym}
+use Rattle.std.proofs.Common.{rules, ◌≡◌, ◌⊎◌, IfErr, subst, sym}
 use Rattle.cold_flow.specs.declared.refusal.Refusal.TheVariants.{Spent, SubscribersFull}
 use Rattle.shared_core.specs.Calls.{subscribing}
 use Rattle.shared_flow.proofs.Configs.{stays}
@@ -12,3 +12,7 @@ pub returns-clause-refused : goal.returns-clause-refused
 returns-clause-refused g c =
     let is = c.shared.invariant in
     subst (λ r. IfErr r (λ refusal. (refusal ≡ Spent) ⊎ (refusal ≡ SubscribersFull))) (sym (c.subscribe.ensures is.0 is.1).0) (subscribe_refused is.0)
+
+-- A wrong body makes this false: so answered, it is refused at once.
+pub returns-clause-follows : goal.returns-clause-follows
+returns-clause-follows g c = search rules

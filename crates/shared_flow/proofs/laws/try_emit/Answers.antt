@@ -1,4 +1,4 @@
-use Rattle.std.proofs.Common.{◌≡◌, IfErr, subst, sym}
+use Rattle.std.proofs.Common.{rules, ◌≡◌, IfErr, subst, sym}
 use Rattle.cold_flow.specs.declared.refusal.Refusal.TheVariants.{Spent}
 use Rattle.shared_core.specs.Calls.{trying}
 use Rattle.shared_flow.proofs.Configs.{stays}
@@ -21,3 +21,7 @@ returns-clause-policy g c =
     let is = c.shared.invariant in let config = c.shared.inside.config in
     subst (λ (s : Guarded _). TriedUnder s.config.policy c.try_emit-tried.result) c.shared.view_is
     (subst (λ r. TriedUnder config.policy r) (sym (c.try_emit-tried.ensures is.0 is.1).0) (try_under config c.args.emitter c.args.value is.0 is.3 is.2))
+
+-- A wrong body makes this false: so answered, it is refused at once.
+pub returns-clause-follows : goal.returns-clause-follows
+returns-clause-follows g c = search rules

@@ -19,3 +19,16 @@ returns-in-Ready-End-clause-narrows g c =
     let came = rw c.in-Ready-End.field-0-is at c.in-Ready-End.ensures.narrows in
     let old = c.args.self.now.store in
     ends_narrow _ (g.S.Run.may c.poll_next.new.self) old (record old { ending = Kept c.in-Ready-End.cause }) (search rules) c.in-Ready-End.cause (g.met.S.Run.begins c.args.self.now.source) came refl
+
+-- A wrong body makes these false: so answered, it is refused at once.
+pub put-requires-clause-free : goal.put-requires-clause-free
+put-requires-clause-free g c = search rules
+
+pub returns-in-Ready-End-clause-fills : goal.returns-in-Ready-End-clause-fills
+returns-in-Ready-End-clause-fills g c = search rules
+
+pub returns-in-Pending-clause-fills : goal.returns-in-Pending-clause-fills
+returns-in-Pending-clause-fills g c = search rules
+
+pub invariant_of-self-in-Ready-End : goal.invariant_of-self-in-Ready-End
+invariant_of-self-in-Ready-End g c = search rules

@@ -1,4 +1,4 @@
-use Rattle.std.proofs.Common.{◌≡◌, Some, vec_len}
+use Rattle.std.proofs.Common.{rules, ◌≡◌, Some, vec_len}
 use Rattle.std.specs.Prelude.{slice_get}
 use Rattle.flow_merge.specs.StandingLaws.{stand_gave, stand_ended, stand_waits, remove-set}
 use Rattle.std.proofs.lemmas.Option.{slice_get_read}
@@ -20,3 +20,7 @@ pub returns-in-Pending-clause-answered : goal.returns-in-Pending-clause-answered
 returns-in-Pending-clause-answered g c =
     let there : slice_get c.args.runs.now.items c.args.index ≡ Some c.index_mut-run.result.now = slice_get_read c.args.runs.now.items (vec_len c.args.runs.now) c.args.index _ c.args.runs.now.ok.0 c.requires c.index_mut-run.ensures.value in
     stand_waits g.R.Run.may _ _ _ _ there c.in-Pending.ensures.narrows
+
+-- A wrong body makes this false: so answered, it is refused at once.
+pub returns-in-Pending-clause-left : goal.returns-in-Pending-clause-left
+returns-in-Pending-clause-left g c = search rules

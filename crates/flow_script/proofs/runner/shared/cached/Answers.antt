@@ -1,4 +1,4 @@
-use Rattle.std.proofs.Common.{sym, arith}
+use Rattle.std.proofs.Common.{rules, sym, arith}
 use Rattle.shared_core.specs.Flow.{cache}
 use Rattle.flow_script.proofs.Caching.{take_more, one_longer}
 use Rattle.flow_script.proofs.runner.shared.cached.Goals as goal
@@ -12,3 +12,7 @@ loop-index-preserved c = record {
   filled = rw c.push_reserved.ensures.items (one_longer c.loop-index.values.items c.replay_at.result c.loop-index.index c.loop-index.invariant.filled);
   room = rw c.push_reserved.ensures.capacity c.loop-index.invariant.room;
 }
+
+-- A wrong body makes this false: so answered, it is refused at once.
+pub loop-index-init : goal.loop-index-init
+loop-index-init c = search rules

@@ -1,4 +1,4 @@
-use Rattle.std.proofs.Common.{refl, sym, ap, ◌∙◌, ◌≡◌, is_some}
+use Rattle.std.proofs.Common.{rules, refl, sym, ap, ◌∙◌, ◌≡◌, is_some}
 use Rattle.flow_sharing.proofs.Sharings.{acts_not, acts_so, shares_on, shares_off}
 use Rattle.flow_sharing.proofs.sharing.Sharing.poll.Goals as goal
 use Rattle.flow_sharing.proofs.sharing.Sharing.poll.Goals.{then-turn, else-turn}
@@ -28,3 +28,10 @@ returns-clause-acts g c =
       | then-turn w ↦ rw w.self-is (shares_on _ _ _ _ _ _ _ _ w.if-turn.true (rw kept at w.share.ensures.shares))
       | else-turn w ↦ rw w.self-is (shares_off _ _ _ _ _ _ _ _ w.if-turn.false refl refl)
     ])
+
+-- A wrong body makes these false: so answered, it is refused at once.
+pub returns-then-is_some-clause-answers : goal.returns-then-is_some-clause-answers
+returns-then-is_some-clause-answers g c = search rules
+
+pub returns-in_err-obey-clause-err : goal.returns-in_err-obey-clause-err
+returns-in_err-obey-clause-err g c = search rules

@@ -1,4 +1,4 @@
-use Rattle.std.proofs.Common.{refl, sym, ap, ◌∙◌, ◌≡◌, is_some}
+use Rattle.std.proofs.Common.{rules, refl, sym, ap, ◌∙◌, ◌≡◌, is_some}
 use Rattle.flow_sharing.proofs.StateSharings.{acts_not, acts_so, shares_on, shares_off}
 use Rattle.flow_sharing.proofs.state_sharing.StateSharing.poll.Goals as goal
 use Rattle.flow_sharing.proofs.state_sharing.StateSharing.poll.Goals.{then-turn, else-turn}
@@ -31,3 +31,10 @@ returns-clause-acts g c =
             | else-turn w ↦ rw w.self-is (shares_off _ _ _ _ _ _ _ w.if-turn.false refl refl)
           ]),
     )
+
+-- A wrong body makes these false: so answered, it is refused at once.
+pub returns-in_err-obey-clause-starts : goal.returns-in_err-obey-clause-starts
+returns-in_err-obey-clause-starts g c = search rules
+
+pub returns-in_err-obey-clause-err : goal.returns-in_err-obey-clause-err
+returns-in_err-obey-clause-err g c = search rules

@@ -1,4 +1,4 @@
-use Rattle.std.proofs.Common.{ℕ, ap, ◌∙◌}
+use Rattle.std.proofs.Common.{rules, ℕ, ap, ◌∙◌}
 use Rattle.state_flow.specs.declared.view.View.{View}
 use Rattle.script_flows.proofs.Watching.{stepped, added}
 use Rattle.script_flows.proofs.watched.Watched.collect.Goals as goal
@@ -12,3 +12,7 @@ invariant_of-self-2 c =
     let share = λ (v : View ℕ). v.share in
     rw (c.push_reserved.ensures.items, c.reserve.ensures.items) (added c.self.inside.seat c.take_seat.new.self c.self.inside.collectors.items c.collect-collector.result c.self.invariant c.take_seat.ensures.same_flow (ap share c.in_ok-take_seat.ensures.left) c.in_ok-take_seat.ensures.enough
     (c.collect-collector.ensures.same_flow ∙ c.in_ok-take_seat.ensures.taken.0) (ap share c.collect-collector.ensures.begins.only ∙ ap share c.in_ok-take_seat.ensures.taken.1))
+
+-- A wrong body makes this false: so answered, it is refused at once.
+pub returns-clause-begins : goal.returns-clause-begins
+returns-clause-begins c = search rules

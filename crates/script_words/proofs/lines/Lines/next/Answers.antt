@@ -1,4 +1,4 @@
-use Rattle.std.proofs.Common.{◌∙◌, sym, add-one, refl}
+use Rattle.std.proofs.Common.{rules, ◌∙◌, sym, add-one, refl}
 use Rattle.script_words.specs.Lines.{is_newline}
 use Rattle.script_words.proofs.Splitting.{found, not_found, newline_splits, no_newline, nonempty}
 use Rattle.script_words.proofs.lines.Lines.next.Goals as goal
@@ -11,3 +11,7 @@ returns-in-Some-clause-some c =
 
 pub returns-in-None-clause-some : goal.returns-in-None-clause-some
 returns-in-None-clause-some c = no_newline _ (not_found is_newline c.args.self.now.rest.now (sym c.in-None.ensures)) (nonempty _ c.if-is_empty.ensures)
+
+-- A wrong body makes this false: so answered, it is refused at once.
+pub returns-in-Some-clause-shorter : goal.returns-in-Some-clause-shorter
+returns-in-Some-clause-shorter c = search rules

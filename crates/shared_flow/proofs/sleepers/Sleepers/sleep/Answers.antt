@@ -13,3 +13,7 @@ returns-clause-sleeps c _ =
     ] in
     let read : get c.else-not-is_in.self.sleeping c.in-Some.key ≡ Some c.in-Some-get_mut.sleeper.now = search rules in
     sleeps_still c.else-not-is_in.self.sleeping _ _ _ _ _ there c.in-Some.is read
+
+-- A wrong body makes this false: so answered, it is refused at once.
+pub returns-clause-armed : goal.returns-clause-armed
+returns-clause-armed c = search rules

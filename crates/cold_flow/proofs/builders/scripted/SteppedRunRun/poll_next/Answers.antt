@@ -37,3 +37,7 @@ returns-in-Some-Fail-clause-narrows g c =
 
 pub returns-in-None-clause-narrows : goal.returns-in-None-clause-narrows
 returns-in-None-clause-narrows g c = grind (arith, common_steps)
+
+-- A wrong body makes this false: so answered, it is refused at once.
+pub returns-in-Some-Pending-clause-armed : goal.returns-in-Some-Pending-clause-armed
+returns-in-Some-Pending-clause-armed g c = search rules

@@ -24,3 +24,7 @@ loop-taken-preserved g c =
       within = λ t h. c.loop-taken.invariant.within t (gathers_value _ _ _ _ _ after more t h);
       kept = search rules;
     }
+
+-- A wrong body makes this false: so answered, it is refused at once.
+pub returns-then-is_err-clause-cancelled : goal.returns-then-is_err-clause-cancelled
+returns-then-is_err-clause-cancelled g c = search rules

@@ -13,3 +13,7 @@ loop-taken-preserved g c =
       folds = folds_value _ _ _ _ _ _ _ _ c.loop-taken.invariant.folds after made;
       kept = search rules;
     }
+
+-- A wrong body makes this false: so answered, it is refused at once.
+pub returns-in-Ready-End-clause-folds : goal.returns-in-Ready-End-clause-folds
+returns-in-Ready-End-clause-folds g c = search rules

@@ -12,3 +12,10 @@ returns-in-Last-clause-narrows g c =
     let last : catching (g.G.Apply.gives c.args.self.now.handler) (Failed c.in-Ready-End-Failed.fault) ≡ (Some c.in-Last.value, Finished) =
     ap caught_by (sym c.in-Last.ensures) in
     rw e (finale_last _ _ _ _ last came)
+
+-- A wrong body makes these false: so answered, it is refused at once.
+pub returns-clause-narrows : goal.returns-clause-narrows
+returns-clause-narrows g c = search rules
+
+pub returns-in-Last-clause-approaches : goal.returns-in-Last-clause-approaches
+returns-in-Last-clause-approaches g c = search rules

@@ -13,3 +13,7 @@ returns-in-Some-last-clause-narrows g c =
     let last : completing (g.G.Apply.gives c.args.self.now.action) c.in-Ready-End.cause ≡ (Some c.in-Some-last.value, Finished) =
     rw c.in-Finished.is (ap (λ o. (o, Finished)) (sym gave)) in
     rw e (finale_last _ _ _ _ last came)
+
+-- A wrong body makes this false: so answered, it is refused at once.
+pub returns-after-cause-clause-narrows : goal.returns-after-cause-clause-narrows
+returns-after-cause-clause-narrows g c = search rules

@@ -21,3 +21,10 @@ returns-in-Ready-End-clause-narrows g c =
     let e : c.args.self.now.closing ≡ Open = search rules in
     let came = rw c.in-Ready-End.field-0-is at c.in-Ready-End.ensures.narrows in
     rw e (take_ends _ _ _ c.args.self.now.positive came)
+
+-- A wrong body makes these false: so answered, it is refused at once.
+pub returns-else-self-gt1-clause-approaches : goal.returns-else-self-gt1-clause-approaches
+returns-else-self-gt1-clause-approaches g c = search rules
+
+pub returns-else-self-gt1-clause-prompt : goal.returns-else-self-gt1-clause-prompt
+returns-else-self-gt1-clause-prompt g c = search rules

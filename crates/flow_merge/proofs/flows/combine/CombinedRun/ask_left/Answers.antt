@@ -43,3 +43,7 @@ returns-in-Pending-clause-asked g c =
     let going : c.args.self.now.left_finished ≡ false = not-finished_left c.args.self.now.left_finished c.args.self.now.right_finished (rw c.requires.turn at c.args.self.now.at_turn) in
     rw (c.unless-self-in-Pending.ensures, c.requires.turn, going)
     (combine_left_waits _ _ _ _ _ _ c.args.self.now.right_finished _ _ (g.B.Run.may c.args.self.now.right) (λ h. (c.in-Pending.ensures.prompt h).1) (λ h. (c.in-Pending.ensures.prompt h).0) c.in-Pending.ensures.narrows)
+
+-- A wrong body makes this false: so answered, it is refused at once.
+pub invariant_of-self-in-Finished : goal.invariant_of-self-in-Finished
+invariant_of-self-in-Finished g c = search rules

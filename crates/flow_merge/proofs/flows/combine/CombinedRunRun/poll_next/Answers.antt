@@ -41,3 +41,7 @@ turns-preserved g c =
 pub returns-clause-narrows : goal.returns-clause-narrows
 returns-clause-narrows g c =
     rw (c.yield_now.ensures.pending, c.turns.invariant.begun, c.turns.invariant.going) c.turns.invariant.within
+
+-- A wrong body makes this false: so answered, it is refused at once.
+pub turns-smaller : goal.turns-smaller
+turns-smaller g c = search rules

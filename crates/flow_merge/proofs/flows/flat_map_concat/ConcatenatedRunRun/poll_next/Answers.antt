@@ -37,3 +37,7 @@ returns-clause-narrows g c =
 pub returns-clause-approaches : goal.returns-clause-approaches
 returns-clause-approaches g c =
     rw c.yield_now.ensures.pending (λ h. no_more_questions _ _ _ (c.loop-asked.invariant.approaches h) c.loop-asked-test.false)
+
+-- A wrong body makes this false: so answered, it is refused at once.
+pub returns-in-Ready-Some-End-clause-ends : goal.returns-in-Ready-Some-End-clause-ends
+returns-in-Ready-Some-End-clause-ends g c = search rules

@@ -39,3 +39,7 @@ returns-in-Ready-End g c =
       armed = tt;
       kept = search rules;
     }
+
+-- A wrong body makes this false: so answered, it is refused at once.
+pub returns-in-Finished-clause-asked : goal.returns-in-Finished-clause-asked
+returns-in-Finished-clause-asked g c = search rules

@@ -42,3 +42,7 @@ returns-in-Pending-poll_next-clause-narrows g c =
           let after = rw w.in-Ready-Value.field-0-is at w.in-Ready-Value.ensures.narrows in
           rw (w.self-is, c.in_default.is, w.in-None.is) (λ t h. zip_holds _ _ _ _ _ after _ (zip_right_waits _ _ _ _ _ within t h))
     ]
+
+-- A wrong body makes this false: so answered, it is refused at once.
+pub invariant_of-self-in-Ready-End : goal.invariant_of-self-in-Ready-End
+invariant_of-self-in-Ready-End g c = search rules

@@ -1,0 +1,6 @@
+use Rattle.std.proofs.Common.{rules}
+use Rattle.flow_buffer.proofs.store.Store.count_taken.Goals as goal
+
+-- A wrong body makes this false: so answered, it is refused at once.
+pub returns : goal.returns
+returns g c = search rules
