@@ -1,6 +1,7 @@
 //! What a measurement gave, and how it is written.
 
-ghost use Rattle.std.specs.Prelude.{◌≡◌, ◌↔◌, IsOk, IfOk, IfErr};
+ghost use Rattle.std.specs.Prelude.{◌≡◌, ◌↔◌, IsOk, IfOk, IfErr, Some};
+ghost use Rattle.bench_figures.specs.Lines.{part_name, line_of};
 
 use crate::wrong_total::WrongTotal;
 use std::fmt;
@@ -23,15 +24,17 @@ pub enum Part {
 }
 
 impl fmt::Display for Part {
+    ghost output = { λ part. Some (part_name part) };
+
     fn fmt<W: fmt::Write>(&self, f: &mut fmt::Formatter<W>) -> fmt::Result {
-        f.write_str(match self {
-            Part::Core => "core",
-            Part::Shared => "shared",
-            Part::State => "state",
-            Part::Buffer => "buffer",
-            Part::Cold => "cold",
-            Part::Runner => "runner",
-        })
+        match self {
+            Part::Core => write!(f, "core"),
+            Part::Shared => write!(f, "shared"),
+            Part::State => write!(f, "state"),
+            Part::Buffer => write!(f, "buffer"),
+            Part::Cold => write!(f, "cold"),
+            Part::Runner => write!(f, "runner"),
+        }
     }
 }
 
@@ -51,6 +54,8 @@ pub struct Figure {
 }
 
 impl fmt::Display for Figure {
+    ghost output = { λ figure. Some (line_of figure) };
+
     fn fmt<W: fmt::Write>(&self, f: &mut fmt::Formatter<W>) -> fmt::Result {
         let Figure {
             part,
