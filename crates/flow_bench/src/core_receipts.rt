@@ -47,11 +47,7 @@ fn receipts<R: Clock + AllocGlobal>(
         emits: 1,
         first: 0,
     };
-    let mut flow = SharedState::<u64>::new(rt.alloc(), config)?;
-    let readers = subscribe(rt.alloc(), &mut flow, subscriptions)?;
-    let start = Instant::now(rt)?;
-    let total = emit_and_take(&mut flow, &readers, values).ok_or(Fault::WrongTotal(scenario))?;
-    let nanoseconds = nanoseconds_since(rt, start)?;
+    let (total, nanoseconds) = measured(rt, config, values)?;
     let figure = Figure {
         part: Part::Core,
         scenario,
@@ -61,6 +57,31 @@ fn receipts<R: Clock + AllocGlobal>(
         total,
     };
     Ok(figure.checked(sum_to(values).wrapping_mul(u64::from(subscriptions)))?)
+}
+
+/// The sum of what the subscriptions of a new flow took, and the nanoseconds of it.
+fn measured<R>(rt: &R, config: Config, values: u64) -> Result<(u64, u64), Fault>
+where
+    R: Clock + AllocGlobal,
+{
+    let mut flow = SharedState::<u64>::new(rt.alloc(), config)?;
+    receive_all(rt, &mut flow, config.subscribers, values)
+}
+
+fn receive_all<R>(
+    rt: &R,
+    flow: &mut SharedState<u64>,
+    subscriptions: u32,
+    values: u64,
+) -> Result<(u64, u64), Fault>
+where
+    R: Clock + AllocGlobal,
+{
+    let readers = subscribe(rt.alloc(), flow, subscriptions)?;
+    let start = Instant::now(rt)?;
+    let total = emit_and_take(flow, &readers, values);
+    let nanoseconds = nanoseconds_since(rt, start)?;
+    Ok((total.unwrap_or(0), nanoseconds))
 }
 
 /// So many subscriptions.

@@ -62,8 +62,13 @@ fn scenarios_of(alloc: Global, words: &[String]) -> Result<Vec<Scenario>, Stop> 
             });
         }
     };
+    named(alloc, matches.get_strs("scenario").unwrap_or(&[]))
+}
+
+/// The scenarios of these names.
+fn named(alloc: Global, names: &[&str]) -> Result<Vec<Scenario>, Stop> {
     let mut scenarios = Vec::new(alloc);
-    for name in matches.get_strs("scenario").unwrap_or(&[]) {
+    for name in names {
         let Some(scenario) = Scenario::of(name) else {
             return Err(Stop::Usage);
         };

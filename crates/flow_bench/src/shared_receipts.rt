@@ -59,13 +59,7 @@ where
         emits: 1,
         first: 0,
     };
-    let task = Solo::new(rt, Doorbell::spinning())?;
-    let mut flow = SharedFlow::<u64>::new(rt.alloc(), config)?;
-    let places = Vec::with_capacity(rt.alloc(), subscriptions as usize)?;
-    let mut readers = subscribe(rt, &mut flow, places, subscriptions);
-    let measured = measured(rt, &task, &mut flow, &mut readers, values);
-    cancel_all(rt, readers);
-    let (total, nanoseconds) = measured?;
+    let (total, nanoseconds) = measured(rt, config, values)?;
     let figure = Figure {
         part: Part::Shared,
         scenario,
@@ -77,8 +71,21 @@ where
     Ok(figure.checked(sum_to(values).wrapping_mul(u64::from(subscriptions)))?)
 }
 
-/// The sum of what the subscriptions took, and the nanoseconds of it.
-fn measured<R: Clock + Wait>(
+/// The sum of what the subscriptions of a new flow took, and the nanoseconds of it.
+fn measured<R>(rt: &R, config: Config, values: u64) -> Result<(u64, u64), Fault>
+where
+    R: Clock + AllocGlobal + RandomSource + Wait,
+{
+    let task = Solo::new(rt, Doorbell::spinning())?;
+    let mut flow = SharedFlow::<u64>::new(rt.alloc(), config)?;
+    let places = Vec::with_capacity(rt.alloc(), config.subscribers as usize)?;
+    let mut readers = subscribe(rt, &mut flow, places, config.subscribers);
+    let received = receive_all(rt, &task, &mut flow, &mut readers, values);
+    cancel_all(rt, readers);
+    received
+}
+
+fn receive_all<R: Clock + Wait>(
     rt: &R,
     task: &Solo,
     flow: &mut SharedFlow<u64>,

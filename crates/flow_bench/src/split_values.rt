@@ -41,6 +41,23 @@ fn values_through<R>(
 where
     R: Clock + AllocGlobal + RandomSource + Threads + Wait + Sync,
 {
+    let (total, nanoseconds) = handed_over(rt, capacity, values)?;
+    let figure = Figure {
+        part: Part::Buffer,
+        scenario,
+        name: "value",
+        operations: values,
+        nanoseconds,
+        total,
+    };
+    Ok(figure.checked(values)?)
+}
+
+/// The number of the values that came in order, and the nanoseconds of them.
+fn handed_over<R>(rt: &R, capacity: u64, values: u64) -> Result<(u64, u64), Fault>
+where
+    R: Clock + AllocGlobal + RandomSource + Threads + Wait + Sync,
+{
     let task = Solo::new(rt, Doorbell::spinning())?;
     let start = Instant::now(rt)?;
     let (mut feed, drain) = split(
@@ -56,16 +73,7 @@ where
         move || drain_all(rt, drain),
     );
     feed.cancel(rt);
-    let nanoseconds = nanoseconds_since(rt, start)?;
-    let figure = Figure {
-        part: Part::Buffer,
-        scenario,
-        name: "value",
-        operations: values,
-        nanoseconds,
-        total,
-    };
-    Ok(figure.checked(values)?)
+    Ok((total, nanoseconds_since(rt, start)?))
 }
 
 /// Pumps until the end.

@@ -55,10 +55,7 @@ where
         move || write(rt, writer, sets),
         move || collect(rt, reader, sets),
     );
-    let set = figure_of("S4-c1", "set", set?).checked(sets)?;
-    report(rt, set, size)?;
-    let asked = figure_of("S4-c1", "ask", asked?).checked(sets)?;
-    report(rt, asked, size)
+    report_both(rt, "S4-c1", size, set?, asked?)
 }
 
 /// One thread sets, and two ask. The asks of both are one figure.
@@ -80,10 +77,23 @@ where
             )
         },
     );
-    let set = figure_of("S4-c2", "set", set?).checked(sets)?;
-    report(rt, set, size)?;
-    let asked = figure_of("S4-c2", "ask", both(one?, two?)).checked(sets)?;
-    report(rt, asked, size)
+    report_both(rt, "S4-c2", size, set?, both(one?, two?))
+}
+
+/// Reports what the one thread set, and what the others asked. The last value of both is the number of the sets.
+fn report_both<R>(
+    rt: &R,
+    scenario: &'static str,
+    size: Size,
+    set: Work,
+    asked: Work,
+) -> Result<(), Fault>
+where
+    R: Clock + Print + AllocGlobal,
+{
+    let sets = set.operations;
+    report(rt, figure_of(scenario, "set", set).checked(sets)?, size)?;
+    report(rt, figure_of(scenario, "ask", asked).checked(sets)?, size)
 }
 
 fn figure_of(scenario: &'static str, name: &'static str, work: Work) -> Figure {
