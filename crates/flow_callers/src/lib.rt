@@ -1,20 +1,16 @@
 //! Callers of the flows, as the crates' documents show them. Each is proved from the contracts of the crates below alone.
 #![tactic(auto)]
 
-mod buffer_calling;
 mod cold_calling;
 mod core_calling;
-mod headline_caller;
 mod merge_calling;
 mod shared_calling;
 mod sharing_calling;
 mod state_calling;
 mod strategy_calling;
 
-pub use buffer_calling::{buffered_list, conflated_list};
 pub use cold_calling::{Countdown, CountdownRun, chain, mapped_list, taken_down};
 pub use core_calling::{received_in_turn, received_once};
-pub use headline_caller::run_new_flow;
 pub use merge_calling::{joined_list, zipped_lists};
 pub use shared_calling::{emitted, finished, passed_on, received};
 pub use sharing_calling::first_poll;

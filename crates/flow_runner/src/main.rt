@@ -4,9 +4,6 @@
 //! written, where the command line is no engine.
 #![tactic(auto)]
 
-#[cfg(test)]
-mod tests;
-
 use clap::error::ErrorKind;
 use clap::{Arg, Command};
 use flow_script::{Engine, ScriptFault, run_script};

@@ -82,9 +82,19 @@ fn agree(alloc: Global, random: &mut Random) -> Result<bool, Fail> {
     let config = random.config();
     let mut ring = SharedState::<u64>::new(alloc, config)?;
     let mut lists = ListBody::new(alloc, config);
+    let all_agree = replies_agree(alloc, random, &mut ring, &mut lists)?;
+    Ok(all_agree && same_state(&ring, &lists))
+}
+
+fn replies_agree(
+    alloc: Global,
+    random: &mut Random,
+    ring: &mut SharedState<u64>,
+    lists: &mut ListBody,
+) -> Result<bool, Fail> {
     let mut replies = Vec::new(alloc);
     for _ in 0..CALLS {
-        let call = random.call(&lists);
+        let call = random.call(lists);
         let expected = lists.make(alloc, call)?;
         replies.clear();
         ring.run(&[call], &mut replies)?;
@@ -92,7 +102,7 @@ fn agree(alloc: Global, random: &mut Random) -> Result<bool, Fail> {
             return Ok(false);
         }
     }
-    Ok(same_state(&ring, &lists))
+    Ok(true)
 }
 
 /// Whether both have the same replay cache, and as many values pending for each subscription.

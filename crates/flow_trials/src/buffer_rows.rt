@@ -81,7 +81,7 @@ fn assert_answered<F: Flow<Item = u64, Fault = u64>>(
     Ok(())
 }
 
-const DROPS_THE_OLDEST: Row<'_> = Row {
+const DROPS_THE_OLDEST: &Row<'_> = &Row {
     name: "buffers_oldest",
     lines: &[
         Line::Fill(Fill::Took),
@@ -98,7 +98,7 @@ const DROPS_THE_OLDEST: Row<'_> = Row {
     dropped: 1,
 };
 
-const DROPS_THE_LATEST: Row<'_> = Row {
+const DROPS_THE_LATEST: &Row<'_> = &Row {
     name: "buffers_latest",
     lines: &[
         Line::Fill(Fill::Took),
@@ -111,7 +111,7 @@ const DROPS_THE_LATEST: Row<'_> = Row {
     dropped: 1,
 };
 
-const WAITS: Row<'_> = Row {
+const WAITS: &Row<'_> = &Row {
     name: "buffers_suspend",
     lines: &[
         Line::Fill(Fill::Took),
@@ -125,7 +125,7 @@ const WAITS: Row<'_> = Row {
 };
 
 /// The first two values are left out.
-const KEEPS_THE_LATEST: Row<'_> = Row {
+const KEEPS_THE_LATEST: &Row<'_> = &Row {
     name: "conflating_buffer",
     lines: &[
         Line::Fill(Fill::Took),
@@ -141,7 +141,7 @@ const KEEPS_THE_LATEST: Row<'_> = Row {
 };
 
 /// What is held at a cancel is given up.
-const CANCELLED: Row<'_> = Row {
+const CANCELLED: &Row<'_> = &Row {
     name: "a cancelled buffer",
     lines: &[
         Line::Fill(Fill::Took),
@@ -159,6 +159,12 @@ const CANCELLED: Row<'_> = Row {
 
 #[test]
 fn buffers_in_one_task(rt: HostRuntime) -> Result<(), Fail> {
+    let task = MockTask::new(&rt)?;
+    assert_buffers(&rt, rt.alloc(), &task)?;
+    Ok(())
+}
+
+fn assert_buffers(rt: &impl Abort, alloc: Global, task: &MockTask) -> Result<(), Refusal> {
     const STEPS: &[Step<u64, u64>] = &[
         Step::Value(1),
         Step::Value(2),
@@ -166,20 +172,17 @@ fn buffers_in_one_task(rt: HostRuntime) -> Result<(), Fail> {
         Step::Pending,
         Step::Value(4),
     ];
-    let alloc = rt.alloc();
-    let task = MockTask::new(&rt)?;
     let steps = scripted(STEPS.to_vec(alloc)?);
     let oldest = buffer(alloc, steps, 2, Policy::DropOldest)?;
-    assert_answered(&rt, &task, oldest, &DROPS_THE_OLDEST)?;
+    assert_answered(rt, task, oldest, DROPS_THE_OLDEST)?;
+    let waiting = buffer(alloc, broken(alloc, &[1, 2], 6)?, 1, Policy::Suspend)?;
+    assert_answered(rt, task, waiting, WAITS)?;
+    let numbers = buffer(alloc, range::<u64>(0, 9), 2, Policy::DropOldest)?;
+    assert_answered(rt, task, numbers, CANCELLED)?;
     let values = listed(alloc, &[1, 2, 3])?;
     let latest = buffer(alloc, &values, 1, Policy::DropLatest)?;
-    assert_answered(&rt, &task, latest, &DROPS_THE_LATEST)?;
-    assert_answered(&rt, &task, conflate(alloc, &values), &KEEPS_THE_LATEST)?;
-    let waiting = buffer(alloc, broken(alloc, &[1, 2], 6)?, 1, Policy::Suspend)?;
-    assert_answered(&rt, &task, waiting, &WAITS)?;
-    let numbers = buffer(alloc, range::<u64>(0, 9), 2, Policy::DropOldest)?;
-    assert_answered(&rt, &task, numbers, &CANCELLED)?;
-    Ok(())
+    assert_answered(rt, task, latest, DROPS_THE_LATEST)?;
+    assert_answered(rt, task, conflate(alloc, &values), KEEPS_THE_LATEST)
 }
 
 /// Pumps once.
@@ -336,7 +339,7 @@ const FAILURE: Event<u64, u64> = Event::End(Cause::Failed(6));
 
 const CANCEL: Event<u64, u64> = Event::End(Cause::Cancelled);
 
-const CANCELLED_FEED: Turns<'_> = Turns {
+const CANCELLED_FEED: &Turns<'_> = &Turns {
     name: "feed_cancelled",
     turns: &[Turn::Pump(Fill::Took), Turn::Pump(Fill::Took)],
     rest: &[Event::Value(1), Event::Value(2), CANCEL, CANCEL],
@@ -345,7 +348,7 @@ const CANCELLED_FEED: Turns<'_> = Turns {
 };
 
 /// A source that has nothing yet, and then fails.
-const ONE_END: Turns<'_> = Turns {
+const ONE_END: &Turns<'_> = &Turns {
     name: "a feed sends one end",
     turns: &[
         Turn::Pump(Fill::Pending),
@@ -358,7 +361,7 @@ const ONE_END: Turns<'_> = Turns {
 };
 
 /// A buffer that is never emptied while it is filled.
-const FULL_DROPS_THE_OLDEST: Turns<'_> = Turns {
+const FULL_DROPS_THE_OLDEST: &Turns<'_> = &Turns {
     name: "a full split drops the oldest",
     turns: &[
         Turn::Pump(Fill::Took),
@@ -373,7 +376,7 @@ const FULL_DROPS_THE_OLDEST: Turns<'_> = Turns {
     taken: 1,
 };
 
-const FULL_DROPS_THE_LATEST: Turns<'_> = Turns {
+const FULL_DROPS_THE_LATEST: &Turns<'_> = &Turns {
     name: "a full split drops the latest",
     turns: &[
         Turn::Pump(Fill::Took),
@@ -431,16 +434,22 @@ fn turns_of_a_split(rt: HostRuntime) -> Result<(), Fail> {
     const STEPS: &[Step<u64, u64>] = &[Step::Pending, Step::Fail(6)];
     let alloc = rt.alloc();
     let task = MockTask::new(&rt)?;
-    let values = listed(alloc, &[1, 2, 3])?;
-    let (feed, drain) = split(alloc, &values, 4, Policy::Suspend)?;
-    assert_turns(&rt, &task, feed, drain, &CANCELLED_FEED);
+    let (feed, drain) = split(alloc, listed(alloc, &[1, 2, 3])?, 4, Policy::Suspend)?;
+    assert_turns(&rt, &task, feed, drain, CANCELLED_FEED);
     let steps = scripted(STEPS.to_vec(alloc)?);
-    let (feed, drain) = split(alloc, &steps, 1, Policy::Suspend)?;
-    assert_turns(&rt, &task, feed, drain, &ONE_END);
+    let (feed, drain) = split(alloc, steps, 1, Policy::Suspend)?;
+    assert_turns(&rt, &task, feed, drain, ONE_END);
+    Ok(())
+}
+
+#[test]
+fn turns_of_a_full_split(rt: HostRuntime) -> Result<(), Fail> {
+    let alloc = rt.alloc();
+    let task = MockTask::new(&rt)?;
     let (feed, drain) = split(alloc, range::<u64>(0, 3), 1, Policy::DropOldest)?;
-    assert_turns(&rt, &task, feed, drain, &FULL_DROPS_THE_OLDEST);
+    assert_turns(&rt, &task, feed, drain, FULL_DROPS_THE_OLDEST);
     let (feed, drain) = split(alloc, range::<u64>(0, 3), 1, Policy::DropLatest)?;
-    assert_turns(&rt, &task, feed, drain, &FULL_DROPS_THE_LATEST);
+    assert_turns(&rt, &task, feed, drain, FULL_DROPS_THE_LATEST);
     let (feed, drain) = split(alloc, range::<u64>(0, 2), 1, Policy::DropLatest)?;
     agree(feed, drain);
     Ok(())

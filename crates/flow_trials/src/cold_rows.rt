@@ -171,14 +171,28 @@ fn collect_takes_64_values_a_poll(rt: HostRuntime) -> Result<(), Fail> {
         assert!(rt; task.is_woken());
         assert_eq!(rt; gathering.so_far().len(), count);
     }
-    let list = gathered(&task, &mut gathering)?;
-    assert_eq!(rt; list.values.len(), 130);
+    assert_counted(&rt, &task, &mut gathering, 130)?;
+    assert!(rt; gathering.so_far().is_empty());
+    assert_counted(&rt, &task, &mut gathering, 0)
+}
+
+// The collection is ready with so many numbers from 0 up.
+fn assert_counted<R: Run<Item = u64, Fault = u64>>(
+    rt: &impl Abort,
+    task: &MockTask,
+    gathering: &mut Collecting<R>,
+    count: usize,
+) -> Result<(), Fail> {
+    let list = gathered(task, gathering)?;
+    assert_eq!(rt; list.values.len(), count);
     assert!(rt; counts_up(list.values.as_slice()));
     assert_eq!(rt; list.cause, Cause::Finished);
-    assert!(rt; gathering.so_far().is_empty());
-    let again = gathered(&task, &mut gathering)?;
-    assert!(rt; again.values.is_empty());
-    assert_eq!(rt; again.cause, Cause::Finished);
+    Ok(())
+}
+
+#[test]
+fn collect_takes_a_short_list_in_one_poll(rt: HostRuntime) -> Result<(), Fail> {
+    let task = MockTask::new(&rt)?;
     let mut short = collect(rt.alloc(), listed(rt.alloc(), TWO)?.start()?);
     let list = gathered(&task, &mut short)?;
     assert_eq!(rt; list.values.as_slice(), TWO);
@@ -255,6 +269,11 @@ fn assert_failures(rt: &impl Abort, alloc: Global, task: &MockTask) -> Result<()
     assert_gives(rt, alloc, task, caught, CAUGHT, Cause::Finished)?;
     let completed = on_completion(&failed, LastValue(Some(9)));
     assert_gives(rt, alloc, task, completed, TWO, Cause::Failed(7))?;
+    Ok(())
+}
+
+// A handler gives another failure, or the end.
+fn assert_other_ends(rt: &impl Abort, alloc: Global, task: &MockTask) -> Result<(), Fail> {
     let other = catch_with(broken(alloc, ONE, 3)?, Answer(Caught::Fault(4)));
     assert_gives(rt, alloc, task, other, ONE, Cause::Failed(4))?;
     let ended = catch_with(broken(alloc, ONE, 3)?, Answer(Caught::End));
@@ -298,6 +317,7 @@ fn cold_pipes(rt: HostRuntime) -> Result<(), Fail> {
     let refused = take(range::<u64>(1, 4), 0).is_err_and(|refusal| refusal.number() == 8);
     assert!(rt; refused);
     assert_failures(&rt, rt.alloc(), &task)?;
+    assert_other_ends(&rt, rt.alloc(), &task)?;
     assert_lists(&rt, rt.alloc(), &task)?;
     assert_ranges(&rt, rt.alloc(), &task)
 }
@@ -318,13 +338,11 @@ fn first_of<R: Run>(
     task.enter(|cx| first.poll(cx))
 }
 
-// The sum of a range, and the first value of a flow with some and of one with none. Each is given again.
+// The sum of a range. It is given again.
 #[test]
-fn folds_and_firsts(rt: HostRuntime) -> Result<(), Fail> {
+fn a_fold_gives_the_sum(rt: HostRuntime) -> Result<(), Fail> {
     let task = MockTask::new(&rt)?;
     let mut folding = fold(range::<u64>(1, 101).start()?, 0, Sum);
-    let mut some = first(range::<u64>(7, 9).start()?);
-    let mut none = first(broken(rt.alloc(), &[], 3)?.start()?);
     assert_eq!(rt; add_up(&task, &mut folding), Poll::Pending);
     assert!(rt; task.is_woken());
     for _poll in 0..2 {
@@ -332,6 +350,17 @@ fn folds_and_firsts(rt: HostRuntime) -> Result<(), Fail> {
             add_up(&task, &mut folding),
             Poll::Ready((5050, Cause::Finished))
         );
+    }
+    Ok(())
+}
+
+// The first value of a flow with some and of one with none. Each is given again.
+#[test]
+fn first_values(rt: HostRuntime) -> Result<(), Fail> {
+    let task = MockTask::new(&rt)?;
+    let mut some = first(range::<u64>(7, 9).start()?);
+    let mut none = first(broken(rt.alloc(), &[], 3)?.start()?);
+    for _poll in 0..2 {
         assert_eq!(rt; first_of(&task, &mut some), Poll::Ready(Ok(7)));
         assert_eq!(rt;
             first_of(&task, &mut none),

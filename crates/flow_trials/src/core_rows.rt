@@ -5,7 +5,7 @@ use flow_callers::{received_in_turn, received_once};
 use shared_core::{
     Begun, Call, Config, Emit, Next, Reply, SharedState, SubId, Ticket, Tried, Withdrawn,
 };
-use std::alloc::Global;
+use std::alloc::{AllocError, Global};
 use std::test::Fail;
 
 /// The numbers stay below this.
@@ -295,21 +295,44 @@ fn replied(flow: &mut SharedState<u64>, exchanges: &[Exchange]) -> usize {
     exchanges.len()
 }
 
-/// The same, where a new flow runs the calls as one list. A reply that is missing or too much is not as it should be.
-fn run_replied(alloc: Global, row: &Row<'_>) -> Result<usize, Refusal> {
-    let mut calls = Vec::new(alloc);
-    let mut wanted = Vec::new(alloc);
-    for (call, reply) in row.exchanges {
-        calls.push(*call)?;
-        wanted.push(*reply)?;
-    }
+/// How many of the calls on a new flow, from the first on, were replied to as they should be, and whether its replay cache is then
+/// as it should be.
+fn replied_by_new(alloc: Global, row: &Row<'_>) -> Result<(usize, bool), Refusal> {
     let mut flow = SharedState::new(alloc, row.config)?;
-    let mut replies = Vec::new(alloc);
-    flow.run(&calls, &mut replies)?;
-    if replies[..] != wanted[..] {
-        return Ok(0);
+    let count = replied(&mut flow, row.exchanges);
+    Ok((count, caches(&flow, row.cache)))
+}
+
+fn calls_of(alloc: Global, exchanges: &[Exchange]) -> Result<Vec<Call<u64>>, AllocError> {
+    let mut calls = Vec::new(alloc);
+    for (call, _) in exchanges {
+        calls.push(*call)?;
     }
-    Ok(replies.len())
+    Ok(calls)
+}
+
+/// The replies of a new flow that runs the calls as one list.
+fn replies_to(
+    alloc: Global,
+    config: Config,
+    calls: &[Call<u64>],
+) -> Result<Vec<Reply<u64>>, Refusal> {
+    let mut replies = Vec::new(alloc);
+    SharedState::new(alloc, config)?.run(calls, &mut replies)?;
+    Ok(replies)
+}
+
+/// Are these the wanted replies? One that is missing or too much is not as it should be.
+fn are_replies(replies: &[Reply<u64>], exchanges: &[Exchange]) -> bool {
+    if replies.len() != exchanges.len() {
+        return false;
+    }
+    for (reply, (_, wanted)) in replies.iter().zip(exchanges) {
+        if *reply != *wanted {
+            return false;
+        }
+    }
+    true
 }
 
 /// Is the replay cache these values?
@@ -332,20 +355,11 @@ fn calls_are_replied_to(rt: HostRuntime) -> Result<(), Fail> {
         ..PLAIN
     };
     for row in ROWS {
-        let mut flow = SharedState::new(rt.alloc(), row.config)?;
-        assert_eq!(rt;
-            replied(&mut flow, row.exchanges),
-            row.exchanges.len(),
-            "{}",
-            row.name
-        );
-        assert!(rt; caches(&flow, row.cache), "{}", row.name);
-        assert_eq!(rt;
-            run_replied(rt.alloc(), row)?,
-            row.exchanges.len(),
-            "{}",
-            row.name
-        );
+        let replied = replied_by_new(rt.alloc(), row)?;
+        assert_eq!(rt; replied, (row.exchanges.len(), true), "{}", row.name);
+        let calls = calls_of(rt.alloc(), row.exchanges)?;
+        let replies = replies_to(rt.alloc(), row.config, &calls)?;
+        assert!(rt; are_replies(&replies, row.exchanges), "{}", row.name);
     }
     let refused = SharedState::<u64>::new(rt.alloc(), OVER);
     assert!(rt; matches!(refused, Err(Refusal::BadLimit)));

@@ -14,6 +14,8 @@ mod list_body;
 #[cfg(test)]
 mod merge_rows;
 #[cfg(test)]
+mod script_rows;
+#[cfg(test)]
 mod shared_memory;
 #[cfg(test)]
 mod shared_rows;

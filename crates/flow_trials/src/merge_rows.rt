@@ -335,13 +335,18 @@ const TEN: &[u64] = &[10];
 
 const TENS: &[u64] = &[10, 20];
 
-// Pairs of lists, and of a list and one that fails.
+// Pairs of lists.
 fn assert_pairs(rt: &impl Abort, alloc: Global, task: &MockTask) -> Result<(), Fail> {
     const SUMS: &[u64] = &[11, 22];
-    const FIRST: &[u64] = &[11];
     let pairs = zip(listed(alloc, THREE)?, listed(alloc, TENS)?, Sum);
     assert_gives(rt, alloc, task, &pairs, SUMS, Cause::Finished)?;
     assert_cancelled_at_any_time(rt, task, &pairs, 4)?;
+    Ok(())
+}
+
+// Pairs of a list and one that fails: that counts where the first list goes on.
+fn assert_failing_pairs(rt: &impl Abort, alloc: Global, task: &MockTask) -> Result<(), Fail> {
+    const FIRST: &[u64] = &[11];
     let short = zip(listed(alloc, ONE)?, broken(alloc, TEN, 3)?, Sum);
     assert_gives(rt, alloc, task, short, FIRST, Cause::Finished)?;
     let failed = zip(listed(alloc, TWO)?, broken(alloc, TEN, 3)?, Sum);
@@ -387,6 +392,7 @@ fn pipes_of_several_sources(rt: HostRuntime) -> Result<(), Fail> {
     let alloc = rt.alloc();
     let task = MockTask::new(&rt)?;
     assert_pairs(&rt, alloc, &task)?;
+    assert_failing_pairs(&rt, alloc, &task)?;
     let latest = combine(listed(alloc, TWO)?, listed(alloc, TENS)?, Sum);
     assert_gives(&rt, alloc, &task, latest, LATEST, Cause::Finished)?;
     assert_joined(&rt, alloc, &task)
@@ -488,25 +494,40 @@ fn refused_start_cancels_the_other_side(rt: HostRuntime) {
     assert_eq!(rt; cancels.get(), 2);
 }
 
-// What the caller of a zip gives, and that of a concatenation, of two numbers for each value. Where a number bounds the inner
-// runs, a concatenation is known to end, and so becomes a list.
+// What the caller of a zip gives.
 #[test]
-fn callers_of_several_sources(rt: HostRuntime) -> Result<(), Fail> {
+fn lists_are_zipped(rt: HostRuntime) -> Result<(), Fail> {
     let alloc = rt.alloc();
     let task = MockTask::new(&rt)?;
     let left = THREE.to_vec(alloc)?;
     let right = TENS.to_vec(alloc)?;
-    let outer = TENS.to_vec(alloc)?;
     let sums = task.enter(move |cx| zipped_lists::<u64, u64, u64, u64, Sum>(
         alloc, left, right, Sum, cx,
     ))?;
     assert_eq!(rt; sums.values.as_slice(), [11, 22].as_slice());
     assert_eq!(rt; sums.cause, Cause::Finished);
+    Ok(())
+}
+
+// What the caller of a concatenation gives, of two numbers for each value.
+#[test]
+fn a_list_is_joined(rt: HostRuntime) -> Result<(), Fail> {
+    let alloc = rt.alloc();
+    let task = MockTask::new(&rt)?;
+    let outer = TENS.to_vec(alloc)?;
     let numbers = task.enter(move |cx| {
         joined_list::<u64, u64, u64, Numbers<u64>, Same, Two>(alloc, outer, Same(range(0, 2)), cx)
     })?;
     assert_eq!(rt; numbers.values.as_slice(), [0, 1, 0, 1].as_slice());
     assert_eq!(rt; numbers.cause, Cause::Finished);
+    Ok(())
+}
+
+// Where a number bounds the inner runs, a concatenation is known to end, and so becomes a list.
+#[test]
+fn a_bounded_concatenation_becomes_a_list(rt: HostRuntime) -> Result<(), Fail> {
+    let alloc = rt.alloc();
+    let task = MockTask::new(&rt)?;
     let run = flat_map_concat(range::<u64>(0, 3), Same(range(0, 2)))
         .within::<Two>()
         .start()?;

@@ -10,7 +10,9 @@ use crate::shared_stage::{Call, Emitting, Line, Listening, played};
 use cold_flow::Policy;
 use shared_core::{Begun, Config, Withdrawn};
 use shared_flow::{Emitter, SharedFlow};
+use std::alloc::AllocGlobal;
 use std::process::Abort;
+use std::random::RandomSource;
 use std::sync::Wait;
 use std::test::Fail;
 
@@ -180,32 +182,49 @@ fn calls_are_answered(rt: HostRuntime) -> Result<(), Fail> {
 fn another_owner_emits(rt: HostRuntime) -> Result<(), Fail> {
     let mut flow = SharedFlow::new(rt.alloc(), Config { replay: 2, ..PLAIN })?;
     let mut other = flow.dup(&rt)?;
-    let mut emitting = Emitting::new(&rt, &mut other, 7);
-    let receipts = [
-        emitting.perform(&rt, Try(1)),
-        emitting.perform(&rt, Try(2)),
-        emitting.perform(&rt, Try(3)),
-    ];
-    let idle = emitting.close(&rt);
+    assert_three_accepted(&rt, &mut other);
     let mut cache = Vec::new(rt.alloc());
     let added = flow.replay_cache_into(&rt, &mut cache);
-    let mut listening = Listening::new(&rt);
-    let subscribed = listening.perform(&rt, &mut flow, Subscribe);
-    let values = [
-        listening.perform(&rt, &mut flow, Next),
-        listening.perform(&rt, &mut flow, Next),
-        listening.perform(&rt, &mut flow, Next),
-    ];
-    let before = flow.subscription_count(&rt);
-    listening.leave(&rt);
-    assert_eq!(rt; receipts, [Accepted(0), Accepted(1), Accepted(2)]);
-    assert!(rt; idle);
     assert_eq!(rt; added, Ok(()));
     assert_eq!(rt; cache.as_slice(), [2, 3].as_slice());
+    assert_two_received(&rt, &mut flow);
+    assert_eq!(rt; flow.subscription_count(&rt), 0);
+    Ok(())
+}
+
+// An emitter of the flow tries three values.
+fn assert_three_accepted<R>(rt: &R, flow: &mut SharedFlow<u64>)
+where
+    R: Wait + Abort + RandomSource + AllocGlobal,
+{
+    let mut emitting = Emitting::new(rt, flow, 7);
+    let receipts = [
+        emitting.perform(rt, Try(1)),
+        emitting.perform(rt, Try(2)),
+        emitting.perform(rt, Try(3)),
+    ];
+    let idle = emitting.close(rt);
+    assert_eq!(rt; receipts, [Accepted(0), Accepted(1), Accepted(2)]);
+    assert!(rt; idle);
+}
+
+// A subscription receives the last two of them, and is the only one while it does.
+fn assert_two_received<R>(rt: &R, flow: &mut SharedFlow<u64>)
+where
+    R: Wait + Abort + RandomSource + AllocGlobal,
+{
+    let mut listening = Listening::new(rt);
+    let subscribed = listening.perform(rt, flow, Subscribe);
+    let values = [
+        listening.perform(rt, flow, Next),
+        listening.perform(rt, flow, Next),
+        listening.perform(rt, flow, Next),
+    ];
+    let count = flow.subscription_count(rt);
+    listening.leave(rt);
     assert_eq!(rt; subscribed, Subscribed);
     assert_eq!(rt; values, [Value(2), Value(3), Pending]);
-    assert_eq!(rt; (before, flow.subscription_count(&rt)), (1, 0));
-    Ok(())
+    assert_eq!(rt; count, 1);
 }
 
 // An emitter with this id, whose emission of this value waits.

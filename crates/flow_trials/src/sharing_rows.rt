@@ -46,7 +46,7 @@ const AT_ONCE: Started = Started::WhileSubscribed {
     expire: None,
 };
 
-const STOPS: Row<'_> = Row {
+const STOPS: &Row<'_> = &Row {
     name: "share_while_subscribed",
     config: REPLAYS_ONE,
     started: Started::WhileSubscribed {
@@ -78,7 +78,7 @@ const STOPS: Row<'_> = Row {
 };
 
 /// The second emission waits until the subscription received the first, and is not asked for since.
-const NEVER_EXPIRES: Row<'_> = Row {
+const NEVER_EXPIRES: &Row<'_> = &Row {
     name: "share_never_expires",
     config: REPLAYS_ONE,
     started: AT_ONCE,
@@ -99,7 +99,7 @@ const NEVER_EXPIRES: Row<'_> = Row {
     rest: &[],
 };
 
-const TAKES_32_EVENTS: Row<'_> = Row {
+const TAKES_32_EVENTS: &Row<'_> = &Row {
     name: "share_takes_32_events",
     config: REPLAYS_ONE,
     started: Started::Eagerly,
@@ -115,7 +115,7 @@ const TAKES_32_EVENTS: Row<'_> = Row {
 };
 
 /// The end is one of the 32 events.
-const THE_END_IS_AN_EVENT: Row<'_> = Row {
+const THE_END_IS_AN_EVENT: &Row<'_> = &Row {
     name: "the end is an event",
     config: REPLAYS_ONE,
     started: Started::Eagerly,
@@ -127,7 +127,7 @@ const THE_END_IS_AN_EVENT: Row<'_> = Row {
     rest: &[],
 };
 
-const A_FAILURE_ENDS_SHARING: Row<'_> = Row {
+const A_FAILURE_ENDS_SHARING: &Row<'_> = &Row {
     name: "of stated_and_shared, the flow that fails",
     config: REPLAYS_ONE,
     started: Started::Eagerly,
@@ -141,7 +141,7 @@ const A_FAILURE_ENDS_SHARING: Row<'_> = Row {
     rest: &[],
 };
 
-const GOES_ON: Row<'_> = Row {
+const GOES_ON: &Row<'_> = &Row {
     name: "of stated_and_shared, the flow whose emission waits until its value is received",
     config: HOLDS_ONE,
     started: Started::Lazily,
@@ -160,7 +160,7 @@ const GOES_ON: Row<'_> = Row {
     rest: &[],
 };
 
-const WITHDRAWN: Row<'_> = Row {
+const WITHDRAWN: &Row<'_> = &Row {
     name: "a waiting value is never accepted once it was withdrawn",
     config: HOLDS_ONE,
     started: Started::Lazily,
@@ -177,7 +177,7 @@ const WITHDRAWN: Row<'_> = Row {
 };
 
 /// The value was accepted when the subscription ended, and nobody asked for the emission since.
-const STOP_WITHDRAWS: Row<'_> = Row {
+const STOP_WITHDRAWS: &Row<'_> = &Row {
     name: "a stop withdraws the emission in flight",
     config: HOLDS_ONE,
     started: AT_ONCE,
@@ -192,7 +192,7 @@ const STOP_WITHDRAWS: Row<'_> = Row {
 };
 
 /// The flow has one number left.
-const A_REFUSAL_ENDS_SHARING: Row<'_> = Row {
+const A_REFUSAL_ENDS_SHARING: &Row<'_> = &Row {
     name: "a refused emission ends sharing",
     config: Config {
         first: (1 << 62) - 1,
@@ -327,14 +327,14 @@ where
 fn flows_are_shared(rt: HostRuntime) -> Result<(), Fail> {
     const STEPS: &[Step<u64, u64>] = &[Step::Value(1), Step::Pending, Step::Value(2)];
     let alloc = rt.alloc();
+    assert_shares(&rt, scripted(STEPS.to_vec(alloc)?), STOPS)?;
+    assert_shares(&rt, listed(alloc, &[1])?, NEVER_EXPIRES)?;
+    assert_shares(&rt, range::<u64>(0, 33), TAKES_32_EVENTS)?;
+    assert_shares(&rt, broken(alloc, &[7; 32], 9)?, THE_END_IS_AN_EVENT)?;
+    assert_shares(&rt, broken(alloc, &[1], 7)?, A_FAILURE_ENDS_SHARING)?;
+    assert_shares(&rt, listed(alloc, &[1, 2, 3])?, GOES_ON)?;
     let two = listed(alloc, &[1, 2])?;
-    assert_shares(&rt, scripted(STEPS.to_vec(alloc)?), &STOPS)?;
-    assert_shares(&rt, listed(alloc, &[1])?, &NEVER_EXPIRES)?;
-    assert_shares(&rt, range::<u64>(0, 33), &TAKES_32_EVENTS)?;
-    assert_shares(&rt, broken(alloc, &[7; 32], 9)?, &THE_END_IS_AN_EVENT)?;
-    assert_shares(&rt, broken(alloc, &[1], 7)?, &A_FAILURE_ENDS_SHARING)?;
-    assert_shares(&rt, listed(alloc, &[1, 2, 3])?, &GOES_ON)?;
-    assert_shares(&rt, &two, &WITHDRAWN)?;
-    assert_shares(&rt, &two, &STOP_WITHDRAWS)?;
-    assert_shares(&rt, &two, &A_REFUSAL_ENDS_SHARING)
+    assert_shares(&rt, &two, WITHDRAWN)?;
+    assert_shares(&rt, &two, STOP_WITHDRAWS)?;
+    assert_shares(&rt, &two, A_REFUSAL_ENDS_SHARING)
 }

@@ -312,6 +312,11 @@ fn callers_of_a_state(rt: HostRuntime) -> Result<(), Fail> {
     assert_eq!(rt; collector.try_next(), None);
     drop(collector.cancel());
     assert_eq!(rt; dimmer.switch(Light::Off), 0);
+    Ok(())
+}
+
+#[test]
+fn a_second_ask_has_nothing(rt: HostRuntime) -> Result<(), Fail> {
     let seat = StateFlow::new(rt.alloc(), 7u64, 1)?;
     let (collector, first, second) = asked_twice(seat);
     assert_eq!(rt; (first, second), (Some(7), None));

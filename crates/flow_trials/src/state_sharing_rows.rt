@@ -32,7 +32,7 @@ struct Row<'a> {
     lines: &'a [Line],
 }
 
-const STATED_AND_SHARED: Row<'_> = Row {
+const STATED_AND_SHARED: &Row<'_> = &Row {
     name: "stated_and_shared",
     initial: 7,
     started: Started::WhileSubscribed {
@@ -50,7 +50,7 @@ const STATED_AND_SHARED: Row<'_> = Row {
     ],
 };
 
-const TAKES_32_EVENTS: Row<'_> = Row {
+const TAKES_32_EVENTS: &Row<'_> = &Row {
     name: "32 events in a poll",
     initial: 0,
     started: Started::Eagerly,
@@ -64,7 +64,7 @@ const TAKES_32_EVENTS: Row<'_> = Row {
 };
 
 /// The end after 31 values is the last event of the first poll.
-const FAILS_AFTER_31: Row<'_> = Row {
+const FAILS_AFTER_31: &Row<'_> = &Row {
     name: "a failure after 31 values",
     initial: 99,
     started: Started::Eagerly,
@@ -76,7 +76,7 @@ const FAILS_AFTER_31: Row<'_> = Row {
     ],
 };
 
-const FAILS_AFTER_32: Row<'_> = Row {
+const FAILS_AFTER_32: &Row<'_> = &Row {
     name: "a failure after 32 values",
     initial: 99,
     started: Started::Eagerly,
@@ -88,7 +88,7 @@ const FAILS_AFTER_32: Row<'_> = Row {
     ],
 };
 
-const STARTS_ANEW: Row<'_> = Row {
+const STARTS_ANEW: &Row<'_> = &Row {
     name: "a stop cancels and a start begins anew",
     initial: 0,
     started: Started::WhileSubscribed {
@@ -113,7 +113,7 @@ const STARTS_ANEW: Row<'_> = Row {
 };
 
 /// The latest moment stays too.
-const NEVER_STARTS: Row<'_> = Row {
+const NEVER_STARTS: &Row<'_> = &Row {
     name: "a refused start changes nothing",
     initial: 8,
     started: Started::Lazily,
@@ -283,10 +283,10 @@ const UP_TO_31: [u64; 32] = [
 fn states_are_set(rt: HostRuntime) -> Result<(), Fail> {
     const STEPS: &[Step<u64, u64>] = &[Step::Value(1), Step::Pending, Step::Value(2)];
     let alloc = rt.alloc();
-    assert_shares(&rt, listed(alloc, &[1])?, &STATED_AND_SHARED)?;
-    assert_shares(&rt, range::<u64>(0, 33), &TAKES_32_EVENTS)?;
-    assert_shares(&rt, broken(alloc, &UP_TO_30, 6)?, &FAILS_AFTER_31)?;
-    assert_shares(&rt, broken(alloc, &UP_TO_31, 6)?, &FAILS_AFTER_32)?;
-    assert_shares(&rt, scripted(STEPS.to_vec(alloc)?), &STARTS_ANEW)?;
-    assert_shares(&rt, Unstarted, &NEVER_STARTS)
+    assert_shares(&rt, listed(alloc, &[1])?, STATED_AND_SHARED)?;
+    assert_shares(&rt, range::<u64>(0, 33), TAKES_32_EVENTS)?;
+    assert_shares(&rt, broken(alloc, &UP_TO_30, 6)?, FAILS_AFTER_31)?;
+    assert_shares(&rt, broken(alloc, &UP_TO_31, 6)?, FAILS_AFTER_32)?;
+    assert_shares(&rt, scripted(STEPS.to_vec(alloc)?), STARTS_ANEW)?;
+    assert_shares(&rt, Unstarted, NEVER_STARTS)
 }

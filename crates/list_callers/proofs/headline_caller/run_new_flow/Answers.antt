@@ -3,7 +3,7 @@ use Rattle.shared_core.specs.Headline.{Headline}
 use Rattle.shared_core.specs.Kept.{making_refusal, parameters_of}
 use Rattle.shared_core.specs.Runs.{Runs, call_of}
 use Rattle.shared_core.proofs.Replaying.{made_is}
-use Rattle.flow_callers.proofs.headline_caller.run_new_flow.Goals as goal
+use Rattle.list_callers.proofs.headline_caller.run_new_flow.Goals as goal
 
 -- a flow that was made was not refused, whatever it became
 refuses : {A E : Type 0} (o : Option E) (x y : A) → IfSome o (λ e. ◌≡◌ {A = Result A E} (Ok x) (Err e)) → IfSome o (λ e. ◌≡◌ {A = Result A E} (Ok y) (Err e))

@@ -2,7 +2,7 @@ use Rattle.std.proofs.Common.{None, ap, ◌∙◌}
 use Rattle.std.proofs.lemmas.Result.{IfOk-weaker}
 use Rattle.cold_flow.specs.Laws.{ended-begins}
 use Rattle.flow_buffer.specs.Delivery.{latest}
-use Rattle.flow_callers.proofs.buffer_calling.conflated_list.Goals as goal
+use Rattle.list_callers.proofs.buffer_calling.conflated_list.Goals as goal
 
 pub returns : goal.returns
 returns g c =

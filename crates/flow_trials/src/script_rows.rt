@@ -11,7 +11,7 @@ mod streams;
 
 use flow_script::{Engine, ScriptFault, run_script};
 use rows::ROWS;
-use std::alloc::AllocGlobal;
+use std::alloc::{AllocError, AllocGlobal, Global};
 use std::random::RandomSource;
 use std::sync::Wait;
 use std::test::Fail;
@@ -34,13 +34,18 @@ fn answers(rt: &(impl Wait + RandomSource + AllocGlobal), script: &[u8]) -> Resu
     Ok(text)
 }
 
+/// The text with an end of line at each ` ; ` and at its end.
+fn lines_of(alloc: Global, text: &str) -> Result<String, AllocError> {
+    let mut lines = text.replace(alloc, " ; ", "\n")?;
+    lines.push_str("\n")?;
+    Ok(lines)
+}
+
 #[test]
 fn each_row_gives_its_answers(rt: HostRuntime) -> Result<(), Fail> {
     for row in ROWS {
-        let mut script = row.script.replace(rt.alloc(), " ; ", "\n")?;
-        script.push_str("\n")?;
-        let mut want = row.answers.replace(rt.alloc(), " ; ", "\n")?;
-        want.push_str("\n")?;
+        let script = lines_of(rt.alloc(), row.script)?;
+        let want = lines_of(rt.alloc(), row.answers)?;
         let text = answers(&rt, script.as_bytes())?;
         assert_eq!(rt; text.as_slice(), want.as_bytes(), "at {}", row.name);
     }

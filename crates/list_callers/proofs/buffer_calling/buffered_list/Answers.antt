@@ -1,7 +1,7 @@
 use Rattle.std.proofs.Common.{refl}
 use Rattle.std.proofs.lemmas.Result.{IfOk-weaker}
 use Rattle.cold_flow.specs.Laws.{ended-begins}
-use Rattle.flow_callers.proofs.buffer_calling.buffered_list.Goals as goal
+use Rattle.list_callers.proofs.buffer_calling.buffered_list.Goals as goal
 
 pub returns : goal.returns
 returns g c =
