@@ -7,7 +7,7 @@ use cold_flow::Refusal;
 use shared_core::{Begun, SubId, Ticket};
 
 /// A subscription of a flow.
-#[derive(Clone, Copy, Debug, PartialEq, Eq)]
+#[derive(Clone, Copy)]
 pub struct Subscription {
     /// The index of its flow.
     pub flow_index: usize,
@@ -15,7 +15,7 @@ pub struct Subscription {
 }
 
 /// An emission that a script began.
-#[derive(Clone, Copy, Debug, PartialEq, Eq)]
+#[derive(Clone, Copy)]
 pub enum Emission {
     /// It was given a ticket by the flow with this index.
     InFlight { flow_index: usize, ticket: Ticket },
@@ -24,7 +24,7 @@ pub enum Emission {
 }
 
 /// A collector of a state.
-#[derive(Clone, Copy, Debug, PartialEq, Eq)]
+#[derive(Clone, Copy)]
 pub struct Collecting {
     /// The index of its state.
     pub state_index: usize,
@@ -33,7 +33,7 @@ pub struct Collecting {
 }
 
 /// A subscription of a flow that shares a source.
-#[derive(Clone, Copy, Debug, PartialEq, Eq)]
+#[derive(Clone, Copy)]
 pub struct Subscriber {
     /// The index of its flow among those that share a source.
     pub share_index: usize,
@@ -42,7 +42,7 @@ pub struct Subscriber {
 }
 
 /// A state that is set from a source.
-#[derive(Clone, Copy, Debug, PartialEq, Eq)]
+#[derive(Clone, Copy)]
 pub struct Stated {
     /// Its index among all states.
     pub state_index: usize,
@@ -51,7 +51,7 @@ pub struct Stated {
 }
 
 /// What a name stands for.
-#[derive(Clone, Copy, Debug, PartialEq, Eq)]
+#[derive(Clone, Copy)]
 pub enum Binding {
     /// The flow with this index.
     Flow(usize),

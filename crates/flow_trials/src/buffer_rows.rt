@@ -1,6 +1,6 @@
 //! Buffers, in one task and between two threads.
 
-use crate::tools::{broken, listed};
+use crate::tools::{assert_same, broken, listed};
 use cold_flow::{Cause, Event, Flow, Policy, Refusal, Run, Step, range, scripted};
 use flow_buffer::{Buffer, Buffered, Drain, Feed, Fill, agree, buffer, conflate, split};
 use futures::task::{Context, Poll};
@@ -70,14 +70,14 @@ fn assert_answered<F: Flow<Item = u64, Fault = u64>>(
     row: &Row<'_>,
 ) -> Result<(), Refusal> {
     let mut buffered = flow.start()?;
-    assert_eq!(rt;
+    assert_same(
+        rt,
+        row.name,
         answered(task, &mut buffered, row.lines),
         row.lines.len(),
-        "{}",
-        row.name
     );
-    assert_eq!(rt; buffered.taken_count(), row.taken, "{}", row.name);
-    assert_eq!(rt; buffered.dropped_count(), row.dropped, "{}", row.name);
+    assert_same(rt, row.name, buffered.taken_count(), row.taken);
+    assert_same(rt, row.name, buffered.dropped_count(), row.dropped);
     Ok(())
 }
 
@@ -421,12 +421,12 @@ fn assert_turns<R: Wait + Abort, U: Run<Item = u64, Fault = u64>>(
     let count = taken_turns(rt, task, &mut feed, &mut drain, row.turns);
     let dropped = feed.dropped_count();
     feed.cancel(rt);
-    assert_eq!(rt; count, row.turns.len(), "{}", row.name);
-    assert_eq!(rt; dropped, row.dropped, "{}", row.name);
+    assert_same(rt, row.name, count, row.turns.len());
+    assert_same(rt, row.name, dropped, row.dropped);
     for event in row.rest {
-        assert_eq!(rt; drain.next(rt), *event, "{}", row.name);
+        assert_same(rt, row.name, drain.next(rt), *event);
     }
-    assert_eq!(rt; drain.taken_count(), row.taken, "{}", row.name);
+    assert_same(rt, row.name, drain.taken_count(), row.taken);
 }
 
 #[test]

@@ -2,7 +2,9 @@
 ghost use Rattle.std.specs.Prelude.{◌≡◌, ◌+◌, ◌%◌, ◌^◌, nat_lt, Some};
 ghost use Rattle.cold_flow.specs.declared.operators.few.Few.TheVariants.{Two};
 
-use crate::tools::{Answer, Polling, Sum, assert_polls, broken, listed, next};
+use crate::tools::{
+    Answer, Polling, Sum, assert_list, assert_polls, assert_same, broken, listed, next,
+};
 use cold_flow::{
     Apply, Caught, Cause, Collected, Collecting, Event, Few, Finite, First, Flow, Folding, Refusal,
     Run, Step, catch_with, collect, distinct, drop_first, filter, first, fold, map, on_completion,
@@ -96,8 +98,7 @@ where
 {
     let run = flow.start()?;
     let list = task.enter(move |cx| to_list(alloc, run, cx))?;
-    assert_eq!(rt; list.values.as_slice(), values);
-    assert_eq!(rt; list.cause, cause);
+    assert_list(rt, &list, values, cause);
     Ok(())
 }
 
@@ -169,7 +170,7 @@ fn collect_takes_64_values_a_poll(rt: HostRuntime) -> Result<(), Fail> {
     for count in [64, 128] {
         assert!(rt; task.enter(|cx| gathering.poll(cx)).is_pending());
         assert!(rt; task.is_woken());
-        assert_eq!(rt; gathering.so_far().len(), count);
+        assert_same(&rt, "values so far", gathering.so_far().len(), count);
     }
     assert_counted(&rt, &task, &mut gathering, 130)?;
     assert!(rt; gathering.so_far().is_empty());
@@ -184,9 +185,9 @@ fn assert_counted<R: Run<Item = u64, Fault = u64>>(
     count: usize,
 ) -> Result<(), Fail> {
     let list = gathered(task, gathering)?;
-    assert_eq!(rt; list.values.len(), count);
+    assert_same(rt, "values", list.values.len(), count);
     assert!(rt; counts_up(list.values.as_slice()));
-    assert_eq!(rt; list.cause, Cause::Finished);
+    assert_same(rt, "cause", list.cause, Cause::Finished);
     Ok(())
 }
 
@@ -195,8 +196,7 @@ fn collect_takes_a_short_list_in_one_poll(rt: HostRuntime) -> Result<(), Fail> {
     let task = MockTask::new(&rt)?;
     let mut short = collect(rt.alloc(), listed(rt.alloc(), TWO)?.start()?);
     let list = gathered(&task, &mut short)?;
-    assert_eq!(rt; list.values.as_slice(), TWO);
-    assert_eq!(rt; list.cause, Cause::Finished);
+    assert_list(&rt, &list, TWO, Cause::Finished);
     Ok(())
 }
 
@@ -247,14 +247,14 @@ fn completion_actions(rt: HostRuntime) -> Result<(), Fail> {
     for row in COMPLETIONS {
         let flow = on_completion(listed(rt.alloc(), row.values)?, LastValue(Some(9)));
         let mut run = flow.start()?;
-        assert_eq!(rt; run.noted(), None, "{}", row.name);
+        assert_same(&rt, row.name, run.noted(), None);
         assert_polls(&rt, &task, &mut run, row.polls);
-        assert_eq!(rt; run.noted(), row.noted, "{}", row.name);
+        assert_same(&rt, row.name, run.noted(), row.noted);
         if row.is_cancelled {
             run.cancel();
         }
         assert_polls(&rt, &task, &mut run, row.polls_then);
-        assert_eq!(rt; run.noted(), row.noted_then, "{}", row.name);
+        assert_same(&rt, row.name, run.noted(), row.noted_then);
     }
     Ok(())
 }
@@ -343,12 +343,19 @@ fn first_of<R: Run>(
 fn a_fold_gives_the_sum(rt: HostRuntime) -> Result<(), Fail> {
     let task = MockTask::new(&rt)?;
     let mut folding = fold(range::<u64>(1, 101).start()?, 0, Sum);
-    assert_eq!(rt; add_up(&task, &mut folding), Poll::Pending);
+    assert_same(
+        &rt,
+        "first poll",
+        add_up(&task, &mut folding),
+        Poll::Pending,
+    );
     assert!(rt; task.is_woken());
     for _poll in 0..2 {
-        assert_eq!(rt;
+        assert_same(
+            &rt,
+            "second poll",
             add_up(&task, &mut folding),
-            Poll::Ready((5050, Cause::Finished))
+            Poll::Ready((5050, Cause::Finished)),
         );
     }
     Ok(())
@@ -361,10 +368,17 @@ fn first_values(rt: HostRuntime) -> Result<(), Fail> {
     let mut some = first(range::<u64>(7, 9).start()?);
     let mut none = first(broken(rt.alloc(), &[], 3)?.start()?);
     for _poll in 0..2 {
-        assert_eq!(rt; first_of(&task, &mut some), Poll::Ready(Ok(7)));
-        assert_eq!(rt;
+        assert_same(
+            &rt,
+            "first of some",
+            first_of(&task, &mut some),
+            Poll::Ready(Ok(7)),
+        );
+        assert_same(
+            &rt,
+            "first of none",
             first_of(&task, &mut none),
-            Poll::Ready(Err(Cause::Failed(3)))
+            Poll::Ready(Err(Cause::Failed(3))),
         );
     }
     Ok(())
@@ -420,8 +434,7 @@ fn a_flow_of_ones_own(rt: HostRuntime) -> Result<(), Fail> {
     let alloc = rt.alloc();
     let task = MockTask::new(&rt)?;
     let list = task.enter(|cx| taken_down(alloc, 5, 3, cx))?;
-    assert_eq!(rt; list.values.as_slice(), [5, 4, 3].as_slice());
-    assert_eq!(rt; list.cause, Cause::Finished);
+    assert_list(&rt, &list, &[5, 4, 3], Cause::Finished);
     let run = distinct(drop_first(Countdown { from: 4 }, 1)).start()?;
     let list = task.enter(move |cx| to_list(alloc, run, cx))?;
     assert_eq!(rt; list.values.as_slice(), [3, 2, 1].as_slice());
@@ -434,11 +447,9 @@ fn chains_of_operators(rt: HostRuntime) -> Result<(), Fail> {
     let alloc = rt.alloc();
     let task = MockTask::new(&rt)?;
     let list = task.enter(|cx| chain::<u64, Add, IsEven>(alloc, 9, Add(2), IsEven, cx))?;
-    assert_eq!(rt; list.values.as_slice(), [4, 6, 8].as_slice());
-    assert_eq!(rt; list.cause, Cause::Finished);
+    assert_list(&rt, &list, &[4, 6, 8], Cause::Finished);
     let values = TWO.to_vec(alloc)?;
     let list = task.enter(move |cx| mapped_list::<u64, u64, u64, Add>(alloc, values, Add(1), cx))?;
-    assert_eq!(rt; list.values.as_slice(), [2, 3].as_slice());
-    assert_eq!(rt; list.cause, Cause::Finished);
+    assert_list(&rt, &list, &[2, 3], Cause::Finished);
     Ok(())
 }

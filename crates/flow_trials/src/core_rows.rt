@@ -1,5 +1,6 @@
 //! A shared flow's worked examples on one thread, by its calls, and each call once where all goes well.
 
+use crate::tools::assert_same;
 use cold_flow::{Policy, Refusal};
 use flow_callers::{received_in_turn, received_once};
 use shared_core::{
@@ -356,7 +357,7 @@ fn calls_are_replied_to(rt: HostRuntime) -> Result<(), Fail> {
     };
     for row in ROWS {
         let replied = replied_by_new(rt.alloc(), row)?;
-        assert_eq!(rt; replied, (row.exchanges.len(), true), "{}", row.name);
+        assert_same(&rt, row.name, replied, (row.exchanges.len(), true));
         let calls = calls_of(rt.alloc(), row.exchanges)?;
         let replies = replies_to(rt.alloc(), row.config, &calls)?;
         assert!(rt; are_replies(&replies, row.exchanges), "{}", row.name);
@@ -394,14 +395,24 @@ fn each_call_succeeds(rt: HostRuntime) -> Result<(), Fail> {
         GONE,
     ];
     let mut flow = SharedState::new(rt.alloc(), CONFIG)?;
-    assert_eq!(rt; replied(&mut flow, TRIES), TRIES.len());
+    assert_same(&rt, "tries", replied(&mut flow, TRIES), TRIES.len());
     assert!(rt; caches(&flow, &[2, 3]));
-    assert_eq!(rt; replied(&mut flow, SUBSCRIBED), SUBSCRIBED.len());
-    assert_eq!(rt; flow.pending(SubId(0)), 2);
+    assert_same(
+        &rt,
+        "subscriptions",
+        replied(&mut flow, SUBSCRIBED),
+        SUBSCRIBED.len(),
+    );
+    assert_same(&rt, "pending values", flow.pending(SubId(0)), 2);
     flow.reset_replay();
     assert!(rt; caches(&flow, &[]));
-    assert_eq!(rt; flow.pending(SubId(0)), 2);
-    assert_eq!(rt; replied(&mut flow, EMITTED), EMITTED.len());
+    assert_same(
+        &rt,
+        "pending values after the reset",
+        flow.pending(SubId(0)),
+        2,
+    );
+    assert_same(&rt, "emissions", replied(&mut flow, EMITTED), EMITTED.len());
     Ok(())
 }
 

@@ -4,7 +4,9 @@ ghost use Rattle.flow_trials.specs.Uncancelled.{AnyTrace};
 ghost use Rattle.std.specs.Prelude.{◌≡◌, is_some, ◌==◌, if◌then◌else◌};
 ghost use Rattle.std.specs.Iterator.{at_most};
 
-use crate::tools::{Answer, Polling, Sum, assert_polls, broken, listed, next};
+use crate::tools::{
+    Answer, Polling, Sum, assert_list, assert_polls, assert_same, broken, listed, next,
+};
 use cold_flow::{
     Apply, Caught, Cause, Event, Flow, Numbers, Refusal, Run, Step, catch_with, collect, range,
     scripted, to_list,
@@ -169,8 +171,7 @@ fn assert_gives<F: Flow<Item = u64, Fault = u64>>(
         return Ok(());
     };
     let list = list?;
-    assert_eq!(rt; list.values.as_slice(), values);
-    assert_eq!(rt; list.cause, cause);
+    assert_list(rt, &list, values, cause);
     Ok(())
 }
 
@@ -201,9 +202,19 @@ fn assert_cancelled<R: Run<Item = u64, Fault = u64>>(
         }
     }
     run.cancel();
-    assert_eq!(rt; next(task, &mut run), Poll::Ready(Event::End(cause)));
+    assert_same(
+        rt,
+        "poll after the cancel",
+        next(task, &mut run),
+        Poll::Ready(Event::End(cause)),
+    );
     run.cancel();
-    assert_eq!(rt; next(task, &mut run), Poll::Ready(Event::End(cause)));
+    assert_same(
+        rt,
+        "poll after it",
+        next(task, &mut run),
+        Poll::Ready(Event::End(cause)),
+    );
 }
 
 // What comes in so many polls, in order of size, and whether the flow finished in them.
@@ -258,11 +269,21 @@ fn merge_two_at_a_time(rt: HostRuntime) -> Result<(), Fail> {
     let flow = flat_map_merge(alloc, range::<u64>(0, 3), INNER, 2)?;
     let mut run = flow.start()?;
     // Both inner flows stand at once: the second gives while the first waits.
-    assert_eq!(rt; next(&task, &mut run), Poll::Ready(Event::Value(20)));
-    assert_eq!(rt; next(&task, &mut run), Poll::Ready(Event::Value(21)));
+    assert_same(
+        &rt,
+        "first value",
+        next(&task, &mut run),
+        Poll::Ready(Event::Value(20)),
+    );
+    assert_same(
+        &rt,
+        "second value",
+        next(&task, &mut run),
+        Poll::Ready(Event::Value(21)),
+    );
     let (rest, finished) = sorted_rest(&rt, alloc, &task, &mut run, 8)?;
     assert!(rt; finished);
-    assert_eq!(rt; rest.as_slice(), REST);
+    assert_same(&rt, "the rest, sorted", rest.as_slice(), REST);
     assert_cancelled_at_any_time(&rt, &task, &flow, 8)?;
     Ok(())
 }
@@ -292,8 +313,18 @@ fn merge_limits(rt: HostRuntime) -> Result<(), Fail> {
         other: EMPTY,
     };
     let task = MockTask::new(&rt)?;
-    assert_eq!(rt; refused_merge(rt.alloc(), INNER, 0), 8);
-    assert_eq!(rt; refused_merge(rt.alloc(), INNER, MAX_WORKERS + 1), 9);
+    assert_same(
+        &rt,
+        "refusal of no workers",
+        refused_merge(rt.alloc(), INNER, 0),
+        8,
+    );
+    assert_same(
+        &rt,
+        "refusal of too many workers",
+        refused_merge(rt.alloc(), INNER, MAX_WORKERS + 1),
+        9,
+    );
     let mut run = flat_map_merge(rt.alloc(), range::<u64>(0, 3), INNER, MAX_WORKERS)?.start()?;
     assert_polls(&rt, &task, &mut run, &[Poll::Pending, FAILED, FAILED]);
     Ok(())
@@ -488,10 +519,10 @@ fn refused_start_cancels_the_other_side(rt: HostRuntime) {
     let left = Watched { cancels: &cancels };
     let refused = zip(left, Refused, Sum).start().is_err();
     assert!(rt; refused);
-    assert_eq!(rt; cancels.get(), 1);
+    assert_same(&rt, "cancels by the zip", cancels.get(), 1);
     let refused = combine(left, Refused, Sum).start().is_err();
     assert!(rt; refused);
-    assert_eq!(rt; cancels.get(), 2);
+    assert_same(&rt, "cancels by both", cancels.get(), 2);
 }
 
 // What the caller of a zip gives.
@@ -504,8 +535,7 @@ fn lists_are_zipped(rt: HostRuntime) -> Result<(), Fail> {
     let sums = task.enter(move |cx| zipped_lists::<u64, u64, u64, u64, Sum>(
         alloc, left, right, Sum, cx,
     ))?;
-    assert_eq!(rt; sums.values.as_slice(), [11, 22].as_slice());
-    assert_eq!(rt; sums.cause, Cause::Finished);
+    assert_list(&rt, &sums, &[11, 22], Cause::Finished);
     Ok(())
 }
 
@@ -518,8 +548,7 @@ fn a_list_is_joined(rt: HostRuntime) -> Result<(), Fail> {
     let numbers = task.enter(move |cx| {
         joined_list::<u64, u64, u64, Numbers<u64>, Same, Two>(alloc, outer, Same(range(0, 2)), cx)
     })?;
-    assert_eq!(rt; numbers.values.as_slice(), [0, 1, 0, 1].as_slice());
-    assert_eq!(rt; numbers.cause, Cause::Finished);
+    assert_list(&rt, &numbers, &[0, 1, 0, 1], Cause::Finished);
     Ok(())
 }
 
@@ -532,7 +561,6 @@ fn a_bounded_concatenation_becomes_a_list(rt: HostRuntime) -> Result<(), Fail> {
         .within::<Two>()
         .start()?;
     let list = task.enter(move |cx| to_list(alloc, run, cx))?;
-    assert_eq!(rt; list.values.as_slice(), [0, 1, 0, 1, 0, 1].as_slice());
-    assert_eq!(rt; list.cause, Cause::Finished);
+    assert_list(&rt, &list, &[0, 1, 0, 1, 0, 1], Cause::Finished);
     Ok(())
 }

@@ -3,6 +3,7 @@
 //! made once more.
 
 use crate::shared_stage::config;
+use crate::tools::assert_same;
 use cold_flow::{Policy, Refusal};
 use shared_core::{Tried, Withdrawn};
 use shared_flow::{Emitter, SharedFlow, Subscription};
@@ -113,9 +114,19 @@ fn what_was_refused_for_want_of_memory_is_as_before(rt: HostRuntime) -> Result<(
     let count = other.subscription_count(&rt);
     subscription.cancel(&rt);
     let idle = emitter.close(&rt);
-    assert_eq!(rt; cache_added(&rt, &mut other, &mut cache), Ok(()));
-    assert_eq!(rt; (first, second, count), (Some(0), Some(1), 1));
-    assert_eq!(rt; idle, Withdrawn::Gone);
-    assert_eq!(rt; cache.as_slice(), [4, 5, 6].as_slice());
+    assert_same(
+        &rt,
+        "the cache's call",
+        cache_added(&rt, &mut other, &mut cache),
+        Ok(()),
+    );
+    assert_same(
+        &rt,
+        "receipts and subscriptions",
+        (first, second, count),
+        (Some(0), Some(1), 1),
+    );
+    assert_same(&rt, "the emitter at its close", idle, Withdrawn::Gone);
+    assert_same(&rt, "cache", cache.as_slice(), [4, 5, 6].as_slice());
     Ok(())
 }

@@ -7,6 +7,7 @@ use crate::shared_stage::Answer::{
 use crate::shared_stage::Call::{Ask, Cancel, Emit, Next, Subscribe, TakeBack, Try};
 use crate::shared_stage::Party::{A, B, First, Owner, Second, Third};
 use crate::shared_stage::{Call, Emitting, Line, Listening, played};
+use crate::tools::assert_same;
 use cold_flow::Policy;
 use shared_core::{Begun, Config, Withdrawn};
 use shared_flow::{Emitter, SharedFlow};
@@ -171,8 +172,8 @@ const ROWS: &[Row<'_>] = &[
 fn calls_are_answered(rt: HostRuntime) -> Result<(), Fail> {
     for row in ROWS {
         let played = played(&rt, row.config, row.lines);
-        assert_eq!(rt; played.lines, row.lines.len(), "{}", row.name);
-        assert_eq!(rt; played.cache.as_slice(), row.cache, "{}", row.name);
+        assert_same(&rt, row.name, played.lines, row.lines.len());
+        assert_same(&rt, row.name, played.cache.as_slice(), row.cache);
     }
     Ok(())
 }
@@ -185,10 +186,10 @@ fn another_owner_emits(rt: HostRuntime) -> Result<(), Fail> {
     assert_three_accepted(&rt, &mut other);
     let mut cache = Vec::new(rt.alloc());
     let added = flow.replay_cache_into(&rt, &mut cache);
-    assert_eq!(rt; added, Ok(()));
-    assert_eq!(rt; cache.as_slice(), [2, 3].as_slice());
+    assert_same(&rt, "the cache's call", added, Ok(()));
+    assert_same(&rt, "cache", cache.as_slice(), [2, 3].as_slice());
     assert_two_received(&rt, &mut flow);
-    assert_eq!(rt; flow.subscription_count(&rt), 0);
+    assert_same(&rt, "subscriptions", flow.subscription_count(&rt), 0);
     Ok(())
 }
 
@@ -222,9 +223,9 @@ where
     ];
     let count = flow.subscription_count(rt);
     listening.leave(rt);
-    assert_eq!(rt; subscribed, Subscribed);
-    assert_eq!(rt; values, [Value(2), Value(3), Pending]);
-    assert_eq!(rt; count, 1);
+    assert_same(rt, "subscription", subscribed, Subscribed);
+    assert_same(rt, "receipts", values, [Value(2), Value(3), Pending]);
+    assert_same(rt, "subscriptions", count, 1);
 }
 
 // An emitter with this id, whose emission of this value waits.
@@ -263,10 +264,25 @@ fn close_gives_up_the_emission_in_flight(rt: HostRuntime) -> Result<(), Fail> {
     let none = listening.perform(&rt, &mut flow, Next);
     let idle = first.close(&rt);
     listening.leave(&rt);
-    assert_eq!(rt; (subscribed, accepted), (Subscribed, Accepted(0)));
-    assert_eq!(rt; removed, Withdrawn::Removed);
-    assert_eq!(rt; (received, left), (Value(1), Some((3, 1))));
-    assert_eq!(rt; (last, none), (Value(3), Pending));
+    assert_same(
+        &rt,
+        "subscription and first emission",
+        (subscribed, accepted),
+        (Subscribed, Accepted(0)),
+    );
+    assert_same(&rt, "the second emission", removed, Withdrawn::Removed);
+    assert_same(
+        &rt,
+        "first value, and the third emission",
+        (received, left),
+        (Value(1), Some((3, 1))),
+    );
+    assert_same(
+        &rt,
+        "second value, and an ask after it",
+        (last, none),
+        (Value(3), Pending),
+    );
     assert!(rt; idle);
     Ok(())
 }

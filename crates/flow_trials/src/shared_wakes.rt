@@ -7,6 +7,7 @@ use crate::shared_stage::Answer::{
 use crate::shared_stage::Call::{Ask, Cancel, Emit, Next, Subscribe, TakeBack, Try};
 use crate::shared_stage::Party::{A, B, First, Owner, Second, Third};
 use crate::shared_stage::{Call, Line, watched};
+use crate::tools::assert_same;
 use cold_flow::Policy;
 use shared_core::Config;
 use std::test::Fail;
@@ -135,7 +136,7 @@ const ROWS: &[Row<'_>] = &[
 fn calls_wake(rt: HostRuntime) -> Result<(), Fail> {
     for row in ROWS {
         let watched = watched(&rt, row.config, row.lines);
-        assert_eq!(rt; watched.lines, row.lines.len(), "{}", row.name);
+        assert_same(&rt, row.name, watched.lines, row.lines.len());
     }
     Ok(())
 }

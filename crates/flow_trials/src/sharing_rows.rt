@@ -5,7 +5,7 @@ use crate::shared_stage::Answer::{Cancelled, Gone, Left, Pending, Removed, Subsc
 use crate::shared_stage::Call::{Cancel, Next, Subscribe};
 use crate::shared_stage::{Answer, Call, Listening};
 use crate::ticks::Tick;
-use crate::tools::{broken, listed};
+use crate::tools::{assert_same, broken, listed};
 use cold_flow::{Cause, Flow, Refusal, Step, range, scripted};
 use flow_sharing::{Sharing, Started, share_in};
 use futures::test::MockTask;
@@ -317,9 +317,9 @@ where
     let closed = closed_with(sharing.close(rt));
     let rest = stage.answered(rt, row.rest);
     stage.leave(rt);
-    assert_eq!(rt; lines, row.lines.len(), "{}", row.name);
-    assert_eq!(rt; closed, row.closed, "{}", row.name);
-    assert_eq!(rt; rest, row.rest.len(), "{}", row.name);
+    assert_same(rt, row.name, lines, row.lines.len());
+    assert_same(rt, row.name, closed, row.closed);
+    assert_same(rt, row.name, rest, row.rest.len());
     Ok(())
 }
 

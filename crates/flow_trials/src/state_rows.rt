@@ -1,6 +1,7 @@
 //! A state flow's worked examples, two writers and many collectors on threads, seats that run out, and want of memory.
 ghost use Rattle.std.specs.Prelude.{◌≡◌};
 
+use crate::tools::assert_same;
 use cold_flow::Refusal;
 use flow_callers::{Dimmer, Light, asked_twice};
 use futures::task::Poll;
@@ -99,7 +100,7 @@ fn state_conflates(rt: HostRuntime) -> Result<(), Fail> {
     let mut collector = seat.take_seat(0)?.collect();
     let count = answered(&task, &mut seat, &mut collector, LINES);
     drop(collector.cancel());
-    assert_eq!(rt; count, LINES.len());
+    assert_same(&rt, "lines answered", count, LINES.len());
     Ok(())
 }
 
@@ -120,13 +121,18 @@ fn two_writers_one_state(rt: HostRuntime) -> Result<(), Fail> {
     );
     assert!(rt; first != second);
     let winner = if first { 1 } else { 2 };
-    assert_eq!(rt; (one.value(), two.value()), (winner, winner));
+    assert_same(
+        &rt,
+        "the winner's word in both seats",
+        (one.value(), two.value()),
+        (winner, winner),
+    );
     one.give_back(two);
-    assert_eq!(rt; one.spare(), 1);
+    assert_same(&rt, "spare seats", one.spare(), 1);
     one.set(5);
-    assert_eq!(rt; one.value(), 5);
+    assert_same(&rt, "value", one.value(), 5);
     let mut collector = one.collect();
-    assert_eq!(rt; collector.try_next(), Some(5));
+    assert_same(&rt, "next value", collector.try_next(), Some(5));
     drop(collector.cancel());
     Ok(())
 }
@@ -197,33 +203,63 @@ fn seats_full(rt: HostRuntime) -> Result<(), Fail> {
     let collectors = Vec::with_capacity(rt.alloc(), 7)?;
     let first = first.collect();
     let collectors = all_collect(others, collectors);
-    assert_eq!(rt; collectors.len(), 7);
-    assert_eq!(rt; refused_seat(&mut seat, 0), 5);
-    assert_eq!(rt; seat.collectors(), 8);
+    assert_same(&rt, "collectors made", collectors.len(), 7);
+    assert_same(
+        &rt,
+        "refusal of a tenth seat",
+        refused_seat(&mut seat, 0),
+        5,
+    );
+    assert_same(&rt, "collectors", seat.collectors(), 8);
     seat.give_back(first.cancel());
-    assert_eq!(rt; seat.collectors(), 7);
+    assert_same(
+        &rt,
+        "collectors after one is given back",
+        seat.collectors(),
+        7,
+    );
     let ninth = seat.take_seat(0);
     cancel_all(collectors);
     let mut ninth = ninth?.collect();
-    assert_eq!(rt; ninth.try_next(), Some(0));
-    assert_eq!(rt; seat.collectors(), 1);
+    assert_same(&rt, "the ninth's value", ninth.try_next(), Some(0));
+    assert_same(
+        &rt,
+        "collectors after the others are cancelled",
+        seat.collectors(),
+        1,
+    );
     drop(ninth.cancel());
-    assert_eq!(rt; seat.collectors(), 0);
+    assert_same(&rt, "collectors at the end", seat.collectors(), 0);
     Ok(())
 }
 
 #[test]
 fn shares_are_counted(rt: HostRuntime) -> Result<(), Fail> {
     let mut seat = StateFlow::new(rt.alloc(), 0u64, 10)?;
-    assert_eq!(rt; seat.spare(), 9);
+    assert_same(&rt, "spare seats", seat.spare(), 9);
     let mut half = seat.take_seat(4)?;
-    assert_eq!(rt; (seat.spare(), half.spare()), (4, 4));
-    assert_eq!(rt; refused_seat(&mut seat, 4), 5);
+    assert_same(
+        &rt,
+        "spare seats of both halves",
+        (seat.spare(), half.spare()),
+        (4, 4),
+    );
+    assert_same(
+        &rt,
+        "refusal of more seats than are spare",
+        refused_seat(&mut seat, 4),
+        5,
+    );
     let quarter = half.take_seat(1)?;
-    assert_eq!(rt; (half.spare(), quarter.spare()), (2, 1));
+    assert_same(
+        &rt,
+        "spare seats of the quarters",
+        (half.spare(), quarter.spare()),
+        (2, 1),
+    );
     seat.give_back(quarter);
     seat.give_back(half);
-    assert_eq!(rt; seat.spare(), 9);
+    assert_same(&rt, "spare seats at the end", seat.spare(), 9);
     Ok(())
 }
 
@@ -285,14 +321,14 @@ fn want_of_memory_is_answered(rt: HostRuntime) -> Result<(), Fail> {
         let heap = LocalHeap::new(rt.alloc(), 16 * blocks)?;
         match made_in(&heap) {
             Ok(spare) => {
-                assert_eq!(rt; spare, 0);
-                assert_eq!(rt; heap.used(), 0);
+                assert_same(&rt, "spare seats", spare, 0);
+                assert_same(&rt, "heap after the flow", heap.used(), 0);
                 assert!(rt; was_refused);
                 return Ok(());
             }
             Err(refusal) => {
-                assert_eq!(rt; refusal.number(), 4);
-                assert_eq!(rt; heap.used(), 0);
+                assert_same(&rt, "refusal", refusal.number(), 4);
+                assert_same(&rt, "heap after the refusal", heap.used(), 0);
                 was_refused = true;
             }
         }
@@ -306,12 +342,12 @@ fn callers_of_a_state(rt: HostRuntime) -> Result<(), Fail> {
     let mut seat = StateFlow::new(rt.alloc(), Light::Off, 2)?;
     let mut collector = seat.take_seat(0)?.collect();
     let mut dimmer = Dimmer::new(seat);
-    assert_eq!(rt; collector.try_next(), Some(Light::Off));
-    assert_eq!(rt; dimmer.switch(Light::On), 1);
-    assert_eq!(rt; collector.try_next(), Some(Light::On));
-    assert_eq!(rt; collector.try_next(), None);
+    assert_same(&rt, "first value", collector.try_next(), Some(Light::Off));
+    assert_same(&rt, "collectors told", dimmer.switch(Light::On), 1);
+    assert_same(&rt, "second value", collector.try_next(), Some(Light::On));
+    assert_same(&rt, "third ask", collector.try_next(), None);
     drop(collector.cancel());
-    assert_eq!(rt; dimmer.switch(Light::Off), 0);
+    assert_same(&rt, "collectors left", dimmer.switch(Light::Off), 0);
     Ok(())
 }
 

@@ -1,7 +1,7 @@
 //! Worked examples of a state that is set from a cold flow.
 
 use crate::ticks::Tick;
-use crate::tools::{broken, listed};
+use crate::tools::{assert_same, broken, listed};
 use cold_flow::{Cause, Flow, NumbersRun, Refusal, Step, range, scripted};
 use flow_sharing::{Started, StateSharing, state_in};
 use futures::test::MockTask;
@@ -241,11 +241,11 @@ fn assert_shares<R: Abort + RandomSource + AllocGlobal, F: Flow<Item = u64, Faul
         latest: 0,
     };
     let mut sharing = state_in(shared, row.initial, upstream, row.started);
-    assert_eq!(rt; stage.seat.value(), row.initial, "{}", row.name);
+    assert_same(rt, row.name, stage.seat.value(), row.initial);
     let lines = stage.answered(&mut sharing, row.lines);
     drop(sharing.close());
     stage.leave();
-    assert_eq!(rt; lines, row.lines.len(), "{}", row.name);
+    assert_same(rt, row.name, lines, row.lines.len());
     Ok(())
 }
 

@@ -1,4 +1,5 @@
 //! Worked examples of sharing strategies: what each poll commands.
+use crate::tools::assert_same;
 use flow_sharing::laws::commands_of;
 use flow_sharing::{Command, Started, Strategy};
 use std::test::Fail;
@@ -126,9 +127,9 @@ fn commands(rt: HostRuntime) -> Result<(), Fail> {
     for row in ROWS {
         let mut commands = vec![in rt.alloc(); None; row.polls.len()]?;
         let strategy = commands_of(row.started, row.polls, &mut commands);
-        assert_eq!(rt; commands.as_slice(), row.commands, "{}", row.name);
-        assert_eq!(rt; strategy.on(), row.is_on, "{}", row.name);
-        assert_eq!(rt; strategy.latest(), row.latest, "{}", row.name);
+        assert_same(&rt, row.name, commands.as_slice(), row.commands);
+        assert_same(&rt, row.name, strategy.on(), row.is_on);
+        assert_same(&rt, row.name, strategy.latest(), row.latest);
     }
     Ok(())
 }

@@ -1,10 +1,11 @@
 //! Tools of the tests of cold flows and of flows of several sources.
 ghost use Rattle.std.specs.Prelude.{◌≡◌, ◌+◌, ◌%◌, ◌^◌};
 
-use cold_flow::{Apply, Caught, Event, Listed, Run, failing, of};
+use cold_flow::{Apply, Caught, Cause, Collected, Event, Listed, Run, failing, of};
 use futures::task::Poll;
 use futures::test::MockTask;
 use std::alloc::{AllocError, Global};
+use std::fmt::Debug;
 use std::process::Abort;
 
 /// The sum of two values.
@@ -47,6 +48,27 @@ pub(crate) fn broken(
     fault: u64,
 ) -> Result<Listed<u64, u64>, AllocError> {
     Ok(failing(values.to_vec(alloc)?, fault))
+}
+
+/// Fails with this name where what was found isn't what was wanted.
+pub(crate) fn assert_same<T: PartialEq + Debug + Drop>(
+    rt: &impl Abort,
+    name: &str,
+    found: T,
+    wanted: T,
+) {
+    assert_eq!(rt; found, wanted, "{name}");
+}
+
+/// Fails where a list isn't of these values, or ended by another cause.
+pub(crate) fn assert_list<T: Copy + PartialEq + Debug, E: Copy + PartialEq + Debug>(
+    rt: &impl Abort,
+    list: &Collected<T, E>,
+    values: &[T],
+    cause: Cause<E>,
+) {
+    assert_eq!(rt; list.values.as_slice(), values);
+    assert_eq!(rt; list.cause, cause);
 }
 
 /// What a poll of a run gives.
