@@ -91,7 +91,7 @@ fn report_both<R>(
 where
     R: Clock + Print + AllocGlobal,
 {
-    let sets = set.operations;
+    let sets = size.of(SETS);
     report(rt, figure_of(scenario, "set", set).checked(sets)?, size)?;
     report(rt, figure_of(scenario, "ask", asked).checked(sets)?, size)
 }
