@@ -179,10 +179,10 @@ fn assert_buffers(rt: &impl Abort, alloc: Global, task: &MockTask) -> Result<(),
     assert_answered(rt, task, waiting, WAITS)?;
     let numbers = buffer(alloc, range::<u64>(0, 9), 2, Policy::DropOldest)?;
     assert_answered(rt, task, numbers, CANCELLED)?;
-    let values = listed(alloc, &[1, 2, 3])?;
-    let latest = buffer(alloc, &values, 1, Policy::DropLatest)?;
+    let latest = buffer(alloc, listed(alloc, &[1, 2, 3])?, 1, Policy::DropLatest)?;
     assert_answered(rt, task, latest, DROPS_THE_LATEST)?;
-    assert_answered(rt, task, conflate(alloc, &values), KEEPS_THE_LATEST)
+    let newest = conflate(alloc, listed(alloc, &[1, 2, 3])?);
+    assert_answered(rt, task, newest, KEEPS_THE_LATEST)
 }
 
 /// Pumps once.

@@ -262,12 +262,13 @@ fn completion_actions(rt: HostRuntime) -> Result<(), Fail> {
 // Pipes of flows that fail, and what a handler makes of a failure.
 fn assert_failures(rt: &impl Abort, alloc: Global, task: &MockTask) -> Result<(), Fail> {
     const CAUGHT: &[u64] = &[1, 2, 9];
+    let taken = take(broken(alloc, TWO, 7)?, 2)?;
+    assert_gives(rt, alloc, task, taken, TWO, Cause::Finished)?;
     let failed = broken(alloc, TWO, 7)?;
-    assert_gives(rt, alloc, task, take(&failed, 2)?, TWO, Cause::Finished)?;
-    assert_gives(rt, alloc, task, &failed, TWO, Cause::Failed(7))?;
-    let caught = catch_with(&failed, Answer(Caught::Last(9)));
+    assert_gives(rt, alloc, task, failed, TWO, Cause::Failed(7))?;
+    let caught = catch_with(broken(alloc, TWO, 7)?, Answer(Caught::Last(9)));
     assert_gives(rt, alloc, task, caught, CAUGHT, Cause::Finished)?;
-    let completed = on_completion(&failed, LastValue(Some(9)));
+    let completed = on_completion(broken(alloc, TWO, 7)?, LastValue(Some(9)));
     assert_gives(rt, alloc, task, completed, TWO, Cause::Failed(7))?;
     Ok(())
 }
@@ -419,11 +420,11 @@ fn assert_operators_cancel(rt: &impl Abort, task: &MockTask, polls: u32) -> Resu
 #[test]
 fn cancelled_runs_give_nothing_more(rt: HostRuntime) -> Result<(), Fail> {
     let task = MockTask::new(&rt)?;
-    let failed = broken(rt.alloc(), TWO, 7)?;
     for polls in 0..3 {
         assert_operators_cancel(&rt, &task, polls)?;
-        assert_cancels(&rt, &task, &failed, polls)?;
-        let caught = catch_with(&failed, Answer(Caught::Last(9)));
+        let failed = broken(rt.alloc(), TWO, 7)?;
+        assert_cancels(&rt, &task, failed, polls)?;
+        let caught = catch_with(broken(rt.alloc(), TWO, 7)?, Answer(Caught::Last(9)));
         assert_cancels(&rt, &task, caught, polls + 1)?;
     }
     Ok(())

@@ -7,6 +7,7 @@ use shared_core::{
     Begun, Call, Config, Emit, Next, Reply, SharedState, SubId, Ticket, Tried, Withdrawn,
 };
 use std::alloc::{AllocError, Global};
+use std::process::Abort;
 use std::test::Fail;
 
 /// The numbers stay below this.
@@ -349,6 +350,16 @@ fn caches(flow: &SharedState<u64>, values: &[u64]) -> bool {
     true
 }
 
+// A row's calls, one by one and as a list.
+fn assert_row(rt: &impl Abort, alloc: Global, row: &Row<'_>) -> Result<(), Fail> {
+    let replied = replied_by_new(alloc, row)?;
+    assert_same(rt, row.name, replied, (row.exchanges.len(), true));
+    let calls = calls_of(alloc, row.exchanges)?;
+    let replies = replies_to(alloc, row.config, &calls)?;
+    assert!(rt; are_replies(&replies, row.exchanges), "{}", row.name);
+    Ok(())
+}
+
 #[test]
 fn calls_are_replied_to(rt: HostRuntime) -> Result<(), Fail> {
     const OVER: Config = Config {
@@ -356,11 +367,7 @@ fn calls_are_replied_to(rt: HostRuntime) -> Result<(), Fail> {
         ..PLAIN
     };
     for row in ROWS {
-        let replied = replied_by_new(rt.alloc(), row)?;
-        assert_same(&rt, row.name, replied, (row.exchanges.len(), true));
-        let calls = calls_of(rt.alloc(), row.exchanges)?;
-        let replies = replies_to(rt.alloc(), row.config, &calls)?;
-        assert!(rt; are_replies(&replies, row.exchanges), "{}", row.name);
+        assert_row(&rt, rt.alloc(), row)?;
     }
     let refused = SharedState::<u64>::new(rt.alloc(), OVER);
     assert!(rt; matches!(refused, Err(Refusal::BadLimit)));

@@ -188,6 +188,31 @@ fn assert_cancelled_at_any_time<F: Flow<Item = u64, Fault = u64>>(
     Ok(())
 }
 
+// What a flow gives in one poll, and that each of its runs can be cancelled at any time.
+fn assert_gives_and_cancels<F: Flow<Item = u64, Fault = u64>>(
+    rt: &impl Abort,
+    alloc: Global,
+    task: &MockTask,
+    flow: F,
+    values: &[u64],
+    most: u32,
+) -> Result<(), Refusal> {
+    assert_gives(rt, alloc, task, &flow, values, Cause::Finished)?;
+    assert_cancelled_at_any_time(rt, task, &flow, most)
+}
+
+// What the polls of a flow's run answer, and that each of its runs can be cancelled at any time.
+fn assert_polls_and_cancels<F: Flow<Item = u64, Fault = u64>>(
+    rt: &impl Abort,
+    task: &MockTask,
+    flow: F,
+    answers: &[Polling],
+    most: u32,
+) -> Result<(), Refusal> {
+    assert_polls(rt, task, &mut flow.start()?, answers);
+    assert_cancelled_at_any_time(rt, task, &flow, most)
+}
+
 // Polls a run `polls` times and cancels it twice. Each time its end follows.
 fn assert_cancelled<R: Run<Item = u64, Fault = u64>>(
     rt: &impl Abort,
@@ -263,28 +288,26 @@ fn merge_two_at_a_time(rt: HostRuntime) -> Result<(), Fail> {
             fault: None,
         },
     };
-    const REST: &[u64] = &[10, 30];
-    let alloc = rt.alloc();
     let task = MockTask::new(&rt)?;
-    let flow = flat_map_merge(alloc, range::<u64>(0, 3), INNER, 2)?;
+    let flow = flat_map_merge(rt.alloc(), range::<u64>(0, 3), INNER, 2)?;
+    assert_merges(&rt, rt.alloc(), &task, flow)
+}
+
+// Both inner flows stand at once: the second gives while the first waits.
+fn assert_merges<F: Flow<Item = u64, Fault = u64>>(
+    rt: &impl Abort,
+    alloc: Global,
+    task: &MockTask,
+    flow: F,
+) -> Result<(), Fail> {
+    const FIRST: &[Polling] = &[Poll::Ready(Event::Value(20)), Poll::Ready(Event::Value(21))];
+    const REST: &[u64] = &[10, 30];
     let mut run = flow.start()?;
-    // Both inner flows stand at once: the second gives while the first waits.
-    assert_same(
-        &rt,
-        "first value",
-        next(&task, &mut run),
-        Poll::Ready(Event::Value(20)),
-    );
-    assert_same(
-        &rt,
-        "second value",
-        next(&task, &mut run),
-        Poll::Ready(Event::Value(21)),
-    );
-    let (rest, finished) = sorted_rest(&rt, alloc, &task, &mut run, 8)?;
+    assert_polls(rt, task, &mut run, FIRST);
+    let (rest, finished) = sorted_rest(rt, alloc, task, &mut run, 8)?;
     assert!(rt; finished);
-    assert_same(&rt, "the rest, sorted", rest.as_slice(), REST);
-    assert_cancelled_at_any_time(&rt, &task, &flow, 8)?;
+    assert_same(rt, "the rest, sorted", rest.as_slice(), REST);
+    assert_cancelled_at_any_time(rt, task, &flow, 8)?;
     Ok(())
 }
 
@@ -349,8 +372,7 @@ fn turns_and_yields(rt: HostRuntime) -> Result<(), Fail> {
     let alloc = rt.alloc();
     let task = MockTask::new(&rt)?;
     let flow = combine(scripted(STEPS.to_vec(alloc)?), listed(alloc, TENS)?, Sum);
-    assert_polls(&rt, &task, &mut flow.start()?, COMBINED);
-    assert_cancelled_at_any_time(&rt, &task, &flow, 6)?;
+    assert_polls_and_cancels(&rt, &task, flow, COMBINED, 6)?;
     let mut run = flat_map_concat(range::<u64>(0, 40), NOTHING).start()?;
     assert_polls(&rt, &task, &mut run, &[Poll::Pending, ENDED]);
     Ok(())
@@ -370,8 +392,7 @@ const TENS: &[u64] = &[10, 20];
 fn assert_pairs(rt: &impl Abort, alloc: Global, task: &MockTask) -> Result<(), Fail> {
     const SUMS: &[u64] = &[11, 22];
     let pairs = zip(listed(alloc, THREE)?, listed(alloc, TENS)?, Sum);
-    assert_gives(rt, alloc, task, &pairs, SUMS, Cause::Finished)?;
-    assert_cancelled_at_any_time(rt, task, &pairs, 4)?;
+    assert_gives_and_cancels(rt, alloc, task, pairs, SUMS, 4)?;
     Ok(())
 }
 
@@ -409,8 +430,7 @@ fn assert_joined(rt: &impl Abort, alloc: Global, task: &MockTask) -> Result<(), 
     };
     const JOINED: &[u64] = &[5, 6, 8, 9];
     let joined = flat_map_concat(listed(alloc, &[0, 8])?, INNER);
-    assert_gives(rt, alloc, task, &joined, JOINED, Cause::Finished)?;
-    assert_cancelled_at_any_time(rt, task, &joined, 6)?;
+    assert_gives_and_cancels(rt, alloc, task, joined, JOINED, 6)?;
     let caught = catch_with(listed(alloc, TWO)?, Answer(Caught::Last(9)));
     let failed = flat_map_concat(caught, INNER);
     assert_gives(rt, alloc, task, failed, ONE, Cause::Failed(7))?;

@@ -9,9 +9,11 @@ mod rows;
 mod sharings;
 mod streams;
 
+use crate::tools::assert_same;
 use flow_script::{Engine, ScriptFault, run_script};
-use rows::ROWS;
+use rows::{ROWS, Row};
 use std::alloc::{AllocError, AllocGlobal, Global};
+use std::process::Abort;
 use std::random::RandomSource;
 use std::sync::Wait;
 use std::test::Fail;
@@ -41,13 +43,22 @@ fn lines_of(alloc: Global, text: &str) -> Result<String, AllocError> {
     Ok(lines)
 }
 
+/// Fails where a row's script has other answers.
+fn assert_row(
+    rt: &(impl Abort + Wait + RandomSource + AllocGlobal),
+    row: &Row,
+) -> Result<(), Fail> {
+    let script = lines_of(rt.alloc(), row.script)?;
+    let want = lines_of(rt.alloc(), row.answers)?;
+    let text = answers(rt, script.as_bytes())?;
+    assert_same(rt, row.name, text.as_slice(), want.as_bytes());
+    Ok(())
+}
+
 #[test]
 fn each_row_gives_its_answers(rt: HostRuntime) -> Result<(), Fail> {
     for row in ROWS {
-        let script = lines_of(rt.alloc(), row.script)?;
-        let want = lines_of(rt.alloc(), row.answers)?;
-        let text = answers(&rt, script.as_bytes())?;
-        assert_eq!(rt; text.as_slice(), want.as_bytes(), "at {}", row.name);
+        assert_row(&rt, row)?;
     }
     Ok(())
 }
@@ -156,16 +167,26 @@ fn a_failing_read_writes_nothing(rt: HostRuntime) -> Result<(), Fail> {
     Ok(())
 }
 
+/// Runs the script into a sink that fails at this byte, and compares what it took with this front of the answers.
+fn assert_front(
+    rt: &(impl Abort + Wait + RandomSource + AllocGlobal),
+    fails_at: usize,
+    failure: Failure,
+    front: &[u8],
+) {
+    let mut sink = Sink::new(rt.alloc(), fails_at, failure);
+    let mut script = SCRIPT;
+    let ran = run_script(rt, &mut script, &mut sink, Engine::Core);
+    assert_eq!(rt; ran, Err(ScriptFault::Write), "at {fails_at}");
+    assert_eq!(rt; sink.taken(), front, "at {fails_at}");
+}
+
 #[test]
 fn a_failing_write_leaves_a_front_of_the_text(rt: HostRuntime) -> Result<(), Fail> {
     for failure in [Failure::Error, Failure::Nothing] {
         for fails_at in 1..TEXT.len() + 1 {
-            let mut sink = Sink::new(rt.alloc(), fails_at, failure);
-            let mut script = SCRIPT;
-            let ran = run_script(&rt, &mut script, &mut sink, Engine::Core);
-            assert_eq!(rt; ran, Err(ScriptFault::Write), "at {fails_at}");
             let front = TEXT.get(..fails_at - 1).ok_or("the text is longer")?;
-            assert_eq!(rt; sink.taken(), front, "at {fails_at}");
+            assert_front(&rt, fails_at, failure, front);
         }
     }
     Ok(())

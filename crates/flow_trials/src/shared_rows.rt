@@ -168,12 +168,19 @@ const ROWS: &[Row<'_>] = &[
     },
 ];
 
+fn assert_row<R>(rt: &R, row: &Row<'_>)
+where
+    R: Wait + RandomSource + AllocGlobal + Abort,
+{
+    let played = played(rt, row.config, row.lines);
+    assert_same(rt, row.name, played.lines, row.lines.len());
+    assert_same(rt, row.name, played.cache.as_slice(), row.cache);
+}
+
 #[test]
 fn calls_are_answered(rt: HostRuntime) -> Result<(), Fail> {
     for row in ROWS {
-        let played = played(&rt, row.config, row.lines);
-        assert_same(&rt, row.name, played.lines, row.lines.len());
-        assert_same(&rt, row.name, played.cache.as_slice(), row.cache);
+        assert_row(&rt, row);
     }
     Ok(())
 }

@@ -319,16 +319,30 @@ fn three_emitters_and_four_subscriptions_in_threads(rt: HostRuntime) -> Result<(
     Ok(())
 }
 
+// One thread emits a value, its emitter's so many-th, and another sleeps until it has it.
+fn assert_passed_on<R>(
+    rt: &R,
+    flow: &mut SharedFlow<u64>,
+    number: u64,
+    value: u64,
+) -> Result<(), u8>
+where
+    R: AllocGlobal + RandomSource + Threads + Wait + Abort + Sync,
+{
+    let passed = passed_on(rt, flow, value);
+    let (receipt, received) = passed.map_err(|refusal| refusal.number())?;
+    let receipt = receipt.map(|receipt| (receipt.emitter(), receipt.number()));
+    assert_eq!(rt; (receipt, received), (Some((1, number)), Some(value)));
+    Ok(())
+}
+
 #[test]
 fn a_sleeping_thread_is_woken(rt: HostRuntime) -> Result<(), Fail> {
     for extra in [0, 1] {
         let made = SharedFlow::new(rt.alloc(), config(0, extra, Policy::Suspend));
         let mut flow = made.map_err(|refusal| refusal.number())?;
         for number in 0..20 {
-            let passed = passed_on(&rt, &mut flow, number + 7);
-            let (receipt, received) = passed.map_err(|refusal| refusal.number())?;
-            let receipt = receipt.map(|receipt| (receipt.emitter(), receipt.number()));
-            assert_eq!(rt; (receipt, received), (Some((1, number)), Some(number + 7)));
+            assert_passed_on(&rt, &mut flow, number, number + 7)?;
         }
     }
     Ok(())

@@ -333,8 +333,7 @@ fn flows_are_shared(rt: HostRuntime) -> Result<(), Fail> {
     assert_shares(&rt, broken(alloc, &[7; 32], 9)?, THE_END_IS_AN_EVENT)?;
     assert_shares(&rt, broken(alloc, &[1], 7)?, A_FAILURE_ENDS_SHARING)?;
     assert_shares(&rt, listed(alloc, &[1, 2, 3])?, GOES_ON)?;
-    let two = listed(alloc, &[1, 2])?;
-    assert_shares(&rt, &two, WITHDRAWN)?;
-    assert_shares(&rt, &two, STOP_WITHDRAWS)?;
-    assert_shares(&rt, &two, A_REFUSAL_ENDS_SHARING)
+    assert_shares(&rt, listed(alloc, &[1, 2])?, WITHDRAWN)?;
+    assert_shares(&rt, listed(alloc, &[1, 2])?, STOP_WITHDRAWS)?;
+    assert_shares(&rt, listed(alloc, &[1, 2])?, A_REFUSAL_ENDS_SHARING)
 }

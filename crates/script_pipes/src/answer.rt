@@ -1,7 +1,7 @@
 //! What a line of a script is answered with.
 
-ghost use Rattle.std.specs.Prelude.{Some};
-ghost use Rattle.script_pipes.specs.Answers.{text_of};
+ghost use Rattle.std.specs.Prelude.{◌≡◌, Some};
+ghost use Rattle.script_pipes.specs.Answers.{text_of, word_of};
 
 mod replies;
 
@@ -58,35 +58,46 @@ pub enum Answer {
     BadCommand(u64),
 }
 
+impl Answer {
+    /// The word that is the whole answer, or nothing where the answer says more.
+    fn word(&self) -> &'static str
+        ensures { result.now ≡ word_of self.now }
+    {
+        match self {
+            Answer::Done => "ok",
+            Answer::Accepted => "accepted",
+            Answer::Dropped => "dropped",
+            Answer::Full => "full",
+            Answer::Waiting => "waiting",
+            Answer::Finished => "done",
+            Answer::Removed => "removed",
+            Answer::Left => "left",
+            Answer::Gone => "gone",
+            Answer::Pending => "pending",
+            Answer::Closed => "closed",
+            Answer::Took => "took",
+            Answer::Overwrote => "overwrote",
+            Answer::Ended => "ended",
+            Answer::Completed => "finished",
+            Answer::On => "on",
+            Answer::Off => "off",
+            Answer::TooMany => "too many",
+            _ => "",
+        }
+    }
+}
+
 impl fmt::Display for Answer {
     ghost output = { λ answer. Some (text_of answer) };
 
     fn fmt<W: fmt::Write>(&self, f: &mut fmt::Formatter<W>) -> fmt::Result {
         match self {
-            Answer::Done => write!(f, "ok"),
             Answer::Refused(refusal) => write!(f, "refused {}", refusal.number()),
-            Answer::Accepted => write!(f, "accepted"),
-            Answer::Dropped => write!(f, "dropped"),
-            Answer::Full => write!(f, "full"),
-            Answer::Waiting => write!(f, "waiting"),
-            Answer::Finished => write!(f, "done"),
-            Answer::Removed => write!(f, "removed"),
-            Answer::Left => write!(f, "left"),
-            Answer::Gone => write!(f, "gone"),
             Answer::Value(value) => write!(f, "value {value}"),
-            Answer::Pending => write!(f, "pending"),
-            Answer::Closed => write!(f, "closed"),
-            Answer::Took => write!(f, "took"),
-            Answer::Overwrote => write!(f, "overwrote"),
-            Answer::Ended => write!(f, "ended"),
-            Answer::Completed => write!(f, "finished"),
             Answer::Failed(fault) => write!(f, "failed {fault}"),
-            Answer::On => write!(f, "on"),
-            Answer::Off => write!(f, "off"),
             Answer::Number(number) => write!(f, "{number}"),
-            Answer::Truth(true) => write!(f, "true"),
-            Answer::Truth(false) => write!(f, "false"),
-            Answer::Values(listing) => write!(f, "{listing}"),
+            Answer::Truth(truth) => write!(f, "{truth}"),
+            Answer::Values(values) => write!(f, "{values}"),
             Answer::Collected {
                 values,
                 fault: None,
@@ -95,8 +106,8 @@ impl fmt::Display for Answer {
                 values,
                 fault: Some(fault),
             } => write!(f, "{values} failed {fault}"),
-            Answer::TooMany => write!(f, "too many"),
             Answer::BadCommand(line) => write!(f, "line {line}: bad command"),
+            _ => f.write_str(self.word()),
         }
     }
 }

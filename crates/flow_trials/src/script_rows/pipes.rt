@@ -64,326 +64,337 @@ struct Case {
     answer: &'static [u8],
 }
 
-#[test]
-fn pipes_and_their_answers(rt: HostRuntime) -> Result<(), Fail> {
-    let cases = [
-        Case {
-            pipe: b"cold of",
-            answer: b"[] finished\n",
-        },
-        Case {
-            pipe: b"cold of p",
-            answer: b"[] finished\n",
-        },
-        Case {
-            pipe: b"cold of p,1,p,p,2",
-            answer: b"[1,2] finished\n",
-        },
-        Case {
-            pipe: b"cold fail 3",
-            answer: b"[] failed 3\n",
-        },
-        Case {
-            pipe: b"cold fail 3 p",
-            answer: b"[] failed 3\n",
-        },
-        Case {
-            pipe: b"  cold   of  007   |  add   1  ",
-            answer: b"[8] finished\n",
-        },
-        Case {
-            pipe: b"cold range 7 3",
-            answer: b"[] finished\n",
-        },
-        Case {
-            pipe: b"cold range 18446744073709551613 18446744073709551615",
-            answer: b"[18446744073709551613,18446744073709551614] finished\n",
-        },
-        Case {
-            pipe: b"cold range 0 18446744073709551615",
-            answer: b"too many\n",
-        },
-        Case {
-            pipe: b"cold range 0 10000 | take 1",
-            answer: b"[0] finished\n",
-        },
-        Case {
-            pipe: b"cold range 0 10001 | take 1",
-            answer: b"too many\n",
-        },
-        Case {
-            pipe: b"cold range 0 10001 | take 0",
-            answer: b"too many\n",
-        },
-        Case {
-            pipe: b"cold of 1 | take 0 | twice",
-            answer: b"refused 8\n",
-        },
-        Case {
-            pipe: b"cold range 0 5001 | twice | take 0",
-            answer: b"too many\n",
-        },
-        Case {
-            pipe: b"cold range 0 10000 | done 1 | take 1",
-            answer: b"too many\n",
-        },
-        Case {
-            pipe: b"cold range 0 5000 | twice | drop 9998",
-            answer: b"[4999,4999] finished\n",
-        },
-        Case {
-            pipe: b"cold of 1 | take 4294967295",
-            answer: b"[1] finished\n",
-        },
-        Case {
-            pipe: b"cold of 1,2 | drop 4294967295",
-            answer: b"[] finished\n",
-        },
-        Case {
-            pipe: b"cold of 1,2,3 | drop 1 | take 1",
-            answer: b"[2] finished\n",
-        },
-        Case {
-            pipe: b"cold of 2,1,4,4 | even | add 3",
-            answer: b"[5,7,7] finished\n",
-        },
-        Case {
-            pipe: b"cold of 1,2 | catch 9",
-            answer: b"[1,2] finished\n",
-        },
-        Case {
-            pipe: b"cold fail 3 1 | catch end",
-            answer: b"[1] finished\n",
-        },
-        Case {
-            pipe: b"cold fail 3 1 | done 9",
-            answer: b"[1] failed 3\n",
-        },
-        Case {
-            pipe: b"cold fail 3 1 | catch 8 | done 9",
-            answer: b"[1,8,9] finished\n",
-        },
-        Case {
-            pipe: b"cold fail 3 1,2 | take 2 | catch 9",
-            answer: b"[1,2] finished\n",
-        },
-        Case {
-            pipe: b"cold fail 3 1,2 | take 3",
-            answer: b"[1,2] failed 3\n",
-        },
-        Case {
-            pipe: b"cold of 5,5 | distinct | done 5 | distinct",
-            answer: b"[5] finished\n",
-        },
-    ];
-    for case in &cases {
-        answers(&rt, case.pipe, case.answer)?;
+/// Compares what each pipe answers.
+fn each_is_answered(
+    rt: &(impl Abort + Wait + RandomSource + AllocGlobal),
+    cases: &[Case],
+) -> Result<(), Fail> {
+    for case in cases {
+        answers(rt, case.pipe, case.answer)?;
     }
     Ok(())
 }
+
+/// Pipes of one source, and of what a stage makes of it.
+const ONE_SOURCE: &[Case] = &[
+    Case {
+        pipe: b"cold of",
+        answer: b"[] finished\n",
+    },
+    Case {
+        pipe: b"cold of p",
+        answer: b"[] finished\n",
+    },
+    Case {
+        pipe: b"cold of p,1,p,p,2",
+        answer: b"[1,2] finished\n",
+    },
+    Case {
+        pipe: b"cold fail 3",
+        answer: b"[] failed 3\n",
+    },
+    Case {
+        pipe: b"cold fail 3 p",
+        answer: b"[] failed 3\n",
+    },
+    Case {
+        pipe: b"  cold   of  007   |  add   1  ",
+        answer: b"[8] finished\n",
+    },
+    Case {
+        pipe: b"cold range 7 3",
+        answer: b"[] finished\n",
+    },
+    Case {
+        pipe: b"cold range 18446744073709551613 18446744073709551615",
+        answer: b"[18446744073709551613,18446744073709551614] finished\n",
+    },
+    Case {
+        pipe: b"cold range 0 18446744073709551615",
+        answer: b"too many\n",
+    },
+    Case {
+        pipe: b"cold range 0 10000 | take 1",
+        answer: b"[0] finished\n",
+    },
+    Case {
+        pipe: b"cold range 0 10001 | take 1",
+        answer: b"too many\n",
+    },
+    Case {
+        pipe: b"cold range 0 10001 | take 0",
+        answer: b"too many\n",
+    },
+    Case {
+        pipe: b"cold of 1 | take 0 | twice",
+        answer: b"refused 8\n",
+    },
+    Case {
+        pipe: b"cold range 0 5001 | twice | take 0",
+        answer: b"too many\n",
+    },
+    Case {
+        pipe: b"cold range 0 10000 | done 1 | take 1",
+        answer: b"too many\n",
+    },
+    Case {
+        pipe: b"cold range 0 5000 | twice | drop 9998",
+        answer: b"[4999,4999] finished\n",
+    },
+    Case {
+        pipe: b"cold of 1 | take 4294967295",
+        answer: b"[1] finished\n",
+    },
+    Case {
+        pipe: b"cold of 1,2 | drop 4294967295",
+        answer: b"[] finished\n",
+    },
+    Case {
+        pipe: b"cold of 1,2,3 | drop 1 | take 1",
+        answer: b"[2] finished\n",
+    },
+    Case {
+        pipe: b"cold of 2,1,4,4 | even | add 3",
+        answer: b"[5,7,7] finished\n",
+    },
+    Case {
+        pipe: b"cold of 1,2 | catch 9",
+        answer: b"[1,2] finished\n",
+    },
+    Case {
+        pipe: b"cold fail 3 1 | catch end",
+        answer: b"[1] finished\n",
+    },
+    Case {
+        pipe: b"cold fail 3 1 | done 9",
+        answer: b"[1] failed 3\n",
+    },
+    Case {
+        pipe: b"cold fail 3 1 | catch 8 | done 9",
+        answer: b"[1,8,9] finished\n",
+    },
+    Case {
+        pipe: b"cold fail 3 1,2 | take 2 | catch 9",
+        answer: b"[1,2] finished\n",
+    },
+    Case {
+        pipe: b"cold fail 3 1,2 | take 3",
+        answer: b"[1,2] failed 3\n",
+    },
+    Case {
+        pipe: b"cold of 5,5 | distinct | done 5 | distinct",
+        answer: b"[5] finished\n",
+    },
+];
+
+#[test]
+fn pipes_and_their_answers(rt: HostRuntime) -> Result<(), Fail> {
+    each_is_answered(&rt, ONE_SOURCE)
+}
+
+/// Pipes of several sources.
+const SEVERAL_SOURCES: &[Case] = &[
+    Case {
+        pipe: b"cold of 18446744073709551615 | zip of 2",
+        answer: b"[1] finished\n",
+    },
+    Case {
+        pipe: b"cold of 18446744073709551615,1 | combine of 2",
+        answer: b"[1,3] finished\n",
+    },
+    Case {
+        pipe: b"cold of 18446744073709551615 | concat",
+        answer: b"[18446744073709551615,0] finished\n",
+    },
+    Case {
+        pipe: b"cold of | zip fail 3",
+        answer: b"[] finished\n",
+    },
+    Case {
+        pipe: b"cold fail 4 | zip fail 3",
+        answer: b"[] failed 4\n",
+    },
+    Case {
+        pipe: b"cold fail 4 1 | zip fail 3",
+        answer: b"[] failed 3\n",
+    },
+    Case {
+        pipe: b"cold fail 4 1 | zip of 5",
+        answer: b"[6] failed 4\n",
+    },
+    Case {
+        pipe: b"cold of 1,2 | zip of p,5,p",
+        answer: b"[6] finished\n",
+    },
+    Case {
+        pipe: b"cold of 1 | zip range 0 10000",
+        answer: b"[1] finished\n",
+    },
+    Case {
+        pipe: b"cold of | zip range 0 10001",
+        answer: b"too many\n",
+    },
+    Case {
+        pipe: b"cold of 1 | zip range 0 10001 | take 0",
+        answer: b"too many\n",
+    },
+    Case {
+        pipe: b"cold of 1 | take 0 | zip range 0 10001",
+        answer: b"refused 8\n",
+    },
+    Case {
+        pipe: b"cold of 1 | combine range 0 10001",
+        answer: b"too many\n",
+    },
+    Case {
+        pipe: b"cold of 1,2,3 | combine of 10",
+        answer: b"[11,12,13] finished\n",
+    },
+    Case {
+        pipe: b"cold of 1 | combine of 10,20,30",
+        answer: b"[11,21,31] finished\n",
+    },
+    Case {
+        pipe: b"cold of | combine of 1,2",
+        answer: b"[] finished\n",
+    },
+    Case {
+        pipe: b"cold of 1,2 | combine of",
+        answer: b"[] finished\n",
+    },
+    Case {
+        pipe: b"cold fail 4 | combine of 1,2",
+        answer: b"[] failed 4\n",
+    },
+    Case {
+        pipe: b"cold of 1,2 | combine fail 3",
+        answer: b"[] failed 3\n",
+    },
+    Case {
+        pipe: b"cold of 1,2 | combine fail 3 10",
+        answer: b"[11,12] failed 3\n",
+    },
+    Case {
+        pipe: b"cold fail 4 1 | combine of 10,20",
+        answer: b"[11] failed 4\n",
+    },
+    Case {
+        pipe: b"cold of 7 | zip of 1 | combine of 1 | concat",
+        answer: b"[9,10] finished\n",
+    },
+    Case {
+        pipe: b"cold of | concat",
+        answer: b"[] finished\n",
+    },
+    Case {
+        pipe: b"cold of | concat 7",
+        answer: b"[] finished\n",
+    },
+    Case {
+        pipe: b"cold fail 7 1,2 | concat",
+        answer: b"[1,2,2,3] failed 7\n",
+    },
+    Case {
+        pipe: b"cold fail 7 | concat 8",
+        answer: b"[] failed 7\n",
+    },
+    Case {
+        pipe: b"cold fail 7 1 | concat 8",
+        answer: b"[1] failed 8\n",
+    },
+    Case {
+        pipe: b"cold range 0 5000 | concat | drop 9998",
+        answer: b"[4999,5000] finished\n",
+    },
+    Case {
+        pipe: b"cold range 0 5001 | concat",
+        answer: b"too many\n",
+    },
+    Case {
+        pipe: b"cold range 0 10000 | concat 7",
+        answer: b"[0] failed 7\n",
+    },
+    Case {
+        pipe: b"cold range 0 10001 | concat 7",
+        answer: b"too many\n",
+    },
+];
 
 #[test]
 fn pipes_of_several_sources_and_their_answers(rt: HostRuntime) -> Result<(), Fail> {
-    let cases = [
-        Case {
-            pipe: b"cold of 18446744073709551615 | zip of 2",
-            answer: b"[1] finished\n",
-        },
-        Case {
-            pipe: b"cold of 18446744073709551615,1 | combine of 2",
-            answer: b"[1,3] finished\n",
-        },
-        Case {
-            pipe: b"cold of 18446744073709551615 | concat",
-            answer: b"[18446744073709551615,0] finished\n",
-        },
-        Case {
-            pipe: b"cold of | zip fail 3",
-            answer: b"[] finished\n",
-        },
-        Case {
-            pipe: b"cold fail 4 | zip fail 3",
-            answer: b"[] failed 4\n",
-        },
-        Case {
-            pipe: b"cold fail 4 1 | zip fail 3",
-            answer: b"[] failed 3\n",
-        },
-        Case {
-            pipe: b"cold fail 4 1 | zip of 5",
-            answer: b"[6] failed 4\n",
-        },
-        Case {
-            pipe: b"cold of 1,2 | zip of p,5,p",
-            answer: b"[6] finished\n",
-        },
-        Case {
-            pipe: b"cold of 1 | zip range 0 10000",
-            answer: b"[1] finished\n",
-        },
-        Case {
-            pipe: b"cold of | zip range 0 10001",
-            answer: b"too many\n",
-        },
-        Case {
-            pipe: b"cold of 1 | zip range 0 10001 | take 0",
-            answer: b"too many\n",
-        },
-        Case {
-            pipe: b"cold of 1 | take 0 | zip range 0 10001",
-            answer: b"refused 8\n",
-        },
-        Case {
-            pipe: b"cold of 1 | combine range 0 10001",
-            answer: b"too many\n",
-        },
-        Case {
-            pipe: b"cold of 1,2,3 | combine of 10",
-            answer: b"[11,12,13] finished\n",
-        },
-        Case {
-            pipe: b"cold of 1 | combine of 10,20,30",
-            answer: b"[11,21,31] finished\n",
-        },
-        Case {
-            pipe: b"cold of | combine of 1,2",
-            answer: b"[] finished\n",
-        },
-        Case {
-            pipe: b"cold of 1,2 | combine of",
-            answer: b"[] finished\n",
-        },
-        Case {
-            pipe: b"cold fail 4 | combine of 1,2",
-            answer: b"[] failed 4\n",
-        },
-        Case {
-            pipe: b"cold of 1,2 | combine fail 3",
-            answer: b"[] failed 3\n",
-        },
-        Case {
-            pipe: b"cold of 1,2 | combine fail 3 10",
-            answer: b"[11,12] failed 3\n",
-        },
-        Case {
-            pipe: b"cold fail 4 1 | combine of 10,20",
-            answer: b"[11] failed 4\n",
-        },
-        Case {
-            pipe: b"cold of 7 | zip of 1 | combine of 1 | concat",
-            answer: b"[9,10] finished\n",
-        },
-        Case {
-            pipe: b"cold of | concat",
-            answer: b"[] finished\n",
-        },
-        Case {
-            pipe: b"cold of | concat 7",
-            answer: b"[] finished\n",
-        },
-        Case {
-            pipe: b"cold fail 7 1,2 | concat",
-            answer: b"[1,2,2,3] failed 7\n",
-        },
-        Case {
-            pipe: b"cold fail 7 | concat 8",
-            answer: b"[] failed 7\n",
-        },
-        Case {
-            pipe: b"cold fail 7 1 | concat 8",
-            answer: b"[1] failed 8\n",
-        },
-        Case {
-            pipe: b"cold range 0 5000 | concat | drop 9998",
-            answer: b"[4999,5000] finished\n",
-        },
-        Case {
-            pipe: b"cold range 0 5001 | concat",
-            answer: b"too many\n",
-        },
-        Case {
-            pipe: b"cold range 0 10000 | concat 7",
-            answer: b"[0] failed 7\n",
-        },
-        Case {
-            pipe: b"cold range 0 10001 | concat 7",
-            answer: b"too many\n",
-        },
-    ];
-    for case in &cases {
-        answers(&rt, case.pipe, case.answer)?;
-    }
-    Ok(())
+    each_is_answered(&rt, SEVERAL_SOURCES)
 }
+
+/// Lines that are no pipes.
+const BAD_COMMANDS: &[&[u8]] = &[
+    b"cold",
+    b"cold |",
+    b"cold | of 1",
+    b"cold of |",
+    b"cold of 1 |",
+    b"cold of 1 | | add 2",
+    b"cold of 1 || add 2",
+    b"cold of 1|add 2",
+    b"cold of 1 add 2",
+    b"cold of 1 2",
+    b"cold of 1, 2",
+    b"cold of 1,",
+    b"cold of ,1",
+    b"cold of 1,,2",
+    b"cold of x",
+    b"cold of even",
+    b"cold of 18446744073709551616",
+    b"cold of1",
+    b"cold list 1",
+    b"cold range 0",
+    b"cold range 0 1 2",
+    b"cold range 0 p",
+    b"cold fail",
+    b"cold fail x",
+    b"cold fail 1 x",
+    b"cold fail 1 2 3",
+    b"cold of 1 | add",
+    b"cold of 1 | add p",
+    b"cold of 1 | add 1 2",
+    b"cold of 1 | even 1",
+    b"cold of 1 | twice 1",
+    b"cold of 1 | distinct 1",
+    b"cold of 1 | take",
+    b"cold of 1 | take 4294967296",
+    b"cold range 0 10001 | take 4294967296",
+    b"cold of 1 | take 0 | drop 4294967296",
+    b"cold of 1 | catch",
+    b"cold of 1 | catch end 1",
+    b"cold of 1 | catch fault",
+    b"cold of 1 | catch fault 1 2",
+    b"cold of 1 | catch p",
+    b"cold of 1 | done",
+    b"cold of 1 | of 1",
+    b"cold of 1 | zip",
+    b"cold of 1 | zip 1",
+    b"cold of 1 | zip of 1 2",
+    b"cold of 1 | zip of 1,",
+    b"cold of 1 | zip | of 1",
+    b"cold of 1 | zip cold of 1",
+    b"cold of 1 | zip take 1",
+    b"cold of 1 | zip range 0",
+    b"cold of 1 | zip fail",
+    b"cold of 1 | combine",
+    b"cold of 1 | combine x",
+    b"cold of 1 | combine range 0 1 2",
+    b"cold range 0 10001 | combine fail p",
+    b"cold of 1 | concat x",
+    b"cold of 1 | concat p",
+    b"cold of 1 | concat 1 2",
+    b"cold of 1 | concat of 1",
+    b"cold of 1 | concat 18446744073709551616",
+    b"cold of 1 | take 0 | concat end",
+    b"cold concat",
+];
 
 #[test]
 fn pipes_that_are_bad_commands(rt: HostRuntime) -> Result<(), Fail> {
-    let pipes = [
-        b"cold".as_slice(),
-        b"cold |",
-        b"cold | of 1",
-        b"cold of |",
-        b"cold of 1 |",
-        b"cold of 1 | | add 2",
-        b"cold of 1 || add 2",
-        b"cold of 1|add 2",
-        b"cold of 1 add 2",
-        b"cold of 1 2",
-        b"cold of 1, 2",
-        b"cold of 1,",
-        b"cold of ,1",
-        b"cold of 1,,2",
-        b"cold of x",
-        b"cold of even",
-        b"cold of 18446744073709551616",
-        b"cold of1",
-        b"cold list 1",
-        b"cold range 0",
-        b"cold range 0 1 2",
-        b"cold range 0 p",
-        b"cold fail",
-        b"cold fail x",
-        b"cold fail 1 x",
-        b"cold fail 1 2 3",
-        b"cold of 1 | add",
-        b"cold of 1 | add p",
-        b"cold of 1 | add 1 2",
-        b"cold of 1 | even 1",
-        b"cold of 1 | twice 1",
-        b"cold of 1 | distinct 1",
-        b"cold of 1 | take",
-        b"cold of 1 | take 4294967296",
-        b"cold range 0 10001 | take 4294967296",
-        b"cold of 1 | take 0 | drop 4294967296",
-        b"cold of 1 | catch",
-        b"cold of 1 | catch end 1",
-        b"cold of 1 | catch fault",
-        b"cold of 1 | catch fault 1 2",
-        b"cold of 1 | catch p",
-        b"cold of 1 | done",
-        b"cold of 1 | of 1",
-        b"cold of 1 | zip",
-        b"cold of 1 | zip 1",
-        b"cold of 1 | zip of 1 2",
-        b"cold of 1 | zip of 1,",
-        b"cold of 1 | zip | of 1",
-        b"cold of 1 | zip cold of 1",
-        b"cold of 1 | zip take 1",
-        b"cold of 1 | zip range 0",
-        b"cold of 1 | zip fail",
-        b"cold of 1 | combine",
-        b"cold of 1 | combine x",
-        b"cold of 1 | combine range 0 1 2",
-        b"cold range 0 10001 | combine fail p",
-        b"cold of 1 | concat x",
-        b"cold of 1 | concat p",
-        b"cold of 1 | concat 1 2",
-        b"cold of 1 | concat of 1",
-        b"cold of 1 | concat 18446744073709551616",
-        b"cold of 1 | take 0 | concat end",
-        b"cold concat",
-    ];
-    for pipe in &pipes {
+    for pipe in BAD_COMMANDS {
         answers(&rt, pipe, b"line 1: bad command\n")?;
     }
     Ok(())
