@@ -2,8 +2,9 @@
 //!
 //! A `SharedFlow` is an owner of the flow; `dup` makes another, for another thread. Whoever emits holds an `Emitter` of it,
 //! whoever receives a `Subscription`. Each call takes the lock, makes one call of `shared_core::SharedState`, gives the lock
-//! back, and then wakes those whom the call helped. What is done under the lock stands in `laws`, a function for each call,
-//! with the model's clause for it.
+//! back, and then wakes those whom the call helped. What is done under the lock stands in the module `laws`, a function
+//! for each call, with the model's clause for it. Those functions are this crate's own: each is lent the place where its
+//! subscription or emission slept last, and only who keeps that place can name it.
 //!
 //! # Emitters and subscriptions must be spent
 //! `Emitter` and `Subscription` have no `Drop`. An emitter ends by `close` and a subscription by `cancel`, and code that
@@ -38,7 +39,7 @@
 mod access;
 mod emitter;
 mod flow;
-pub mod laws;
+mod laws;
 mod lock;
 mod receipt;
 mod rule;
@@ -50,6 +51,4 @@ mod wakes;
 pub use emitter::Emitter;
 pub use flow::SharedFlow;
 pub use receipt::Receipt;
-pub use shared::Shared;
-pub use sleepers::Bed;
 pub use subscription::Subscription;

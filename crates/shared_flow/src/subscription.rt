@@ -62,9 +62,7 @@ impl<T: Word> Subscription<T> {
 
     /// Ends the subscription, and gives up what it has pending: Kotlin's `collect`, cancelled. Emissions that wait are then accepted
     /// while there is room.
-    pub fn cancel(self, rt: &impl Wait)
-        ensures { self ≡ self }
-    {
+    pub fn cancel(self, rt: &impl Wait) {
         let Subscription {
             mut access,
             id,
