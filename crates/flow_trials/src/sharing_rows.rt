@@ -5,7 +5,7 @@ use crate::shared_stage::Answer::{Cancelled, Gone, Left, Pending, Removed, Subsc
 use crate::shared_stage::Call::{Cancel, Next, Subscribe};
 use crate::shared_stage::{Answer, Call, Listening};
 use crate::ticks::Tick;
-use crate::tools::{assert_same, broken, listed};
+use crate::tools::{Differences, broken, listed};
 use cold_flow::{Cause, Flow, Refusal, Step, range, scripted};
 use flow_sharing::{Sharing, Started, share_in};
 use futures::test::MockTask;
@@ -115,7 +115,7 @@ const TAKES_32_EVENTS: &Row<'_> = &Row {
 };
 
 /// The end is one of the 32 events.
-const THE_END_IS_AN_EVENT: &Row<'_> = &Row {
+const ENDS_AT_32: &Row<'_> = &Row {
     name: "the end is an event",
     config: REPLAYS_ONE,
     started: Started::Eagerly,
@@ -127,7 +127,7 @@ const THE_END_IS_AN_EVENT: &Row<'_> = &Row {
     rest: &[],
 };
 
-const A_FAILURE_ENDS_SHARING: &Row<'_> = &Row {
+const FAILS: &Row<'_> = &Row {
     name: "of stated_and_shared, the flow that fails",
     config: REPLAYS_ONE,
     started: Started::Eagerly,
@@ -154,6 +154,26 @@ const GOES_ON: &Row<'_> = &Row {
         Line::Poll(1, 1, Tick::On),
         Line::Call(Next, Value(3)),
         Line::Call(Next, Pending),
+        Line::Call(Cancel, Cancelled),
+    ],
+    closed: Gone,
+    rest: &[],
+};
+
+/// The second value waits at two polls, and is asked for at each. It is accepted once the first was received.
+const KEEPS: &Row<'_> = &Row {
+    name: "sharing_keeps_what_waits",
+    config: HOLDS_ONE,
+    started: Started::Lazily,
+    lines: &[
+        Line::Call(Subscribe, Subscribed),
+        Line::Poll(0, 1, Tick::On),
+        Line::Poll(1, 1, Tick::On),
+        Line::Call(Next, Value(1)),
+        Line::Call(Next, Value(2)),
+        Line::Call(Next, Pending),
+        Line::Poll(2, 1, Tick::On),
+        Line::Call(Next, Value(3)),
         Line::Call(Cancel, Cancelled),
     ],
     closed: Gone,
@@ -192,7 +212,7 @@ const STOP_WITHDRAWS: &Row<'_> = &Row {
 };
 
 /// The flow has one number left.
-const A_REFUSAL_ENDS_SHARING: &Row<'_> = &Row {
+const IS_REFUSED: &Row<'_> = &Row {
     name: "a refused emission ends sharing",
     config: Config {
         first: (1 << 62) - 1,
@@ -297,8 +317,9 @@ fn closed_with(withdrawn: Withdrawn<Receipt>) -> Answer {
     }
 }
 
-fn assert_shares<R, F: Flow<Item = u64, Fault = u64>>(
+fn compare_row<R, F: Flow<Item = u64, Fault = u64>>(
     rt: &R,
+    differences: &mut Differences,
     upstream: F,
     row: &Row<'_>,
 ) -> Result<(), Fail>
@@ -317,23 +338,26 @@ where
     let closed = closed_with(sharing.close(rt));
     let rest = stage.answered(rt, row.rest);
     stage.leave(rt);
-    assert_same(rt, row.name, lines, row.lines.len());
-    assert_same(rt, row.name, closed, row.closed);
-    assert_same(rt, row.name, rest, row.rest.len());
-    Ok(())
+    differences.compare(row.name, lines, row.lines.len())?;
+    differences.compare(row.name, closed, row.closed)?;
+    differences.compare(row.name, rest, row.rest.len())
 }
 
 #[test]
 fn flows_are_shared(rt: HostRuntime) -> Result<(), Fail> {
     const STEPS: &[Step<u64, u64>] = &[Step::Value(1), Step::Pending, Step::Value(2)];
     let alloc = rt.alloc();
-    assert_shares(&rt, scripted(STEPS.to_vec(alloc)?), STOPS)?;
-    assert_shares(&rt, listed(alloc, &[1])?, NEVER_EXPIRES)?;
-    assert_shares(&rt, range::<u64>(0, 33), TAKES_32_EVENTS)?;
-    assert_shares(&rt, broken(alloc, &[7; 32], 9)?, THE_END_IS_AN_EVENT)?;
-    assert_shares(&rt, broken(alloc, &[1], 7)?, A_FAILURE_ENDS_SHARING)?;
-    assert_shares(&rt, listed(alloc, &[1, 2, 3])?, GOES_ON)?;
-    assert_shares(&rt, listed(alloc, &[1, 2])?, WITHDRAWN)?;
-    assert_shares(&rt, listed(alloc, &[1, 2])?, STOP_WITHDRAWS)?;
-    assert_shares(&rt, listed(alloc, &[1, 2])?, A_REFUSAL_ENDS_SHARING)
+    let mut all = Differences::none(alloc);
+    compare_row(&rt, &mut all, scripted(STEPS.to_vec(alloc)?), STOPS)?;
+    compare_row(&rt, &mut all, listed(alloc, &[1])?, NEVER_EXPIRES)?;
+    compare_row(&rt, &mut all, range::<u64>(0, 33), TAKES_32_EVENTS)?;
+    compare_row(&rt, &mut all, broken(alloc, &[7; 32], 9)?, ENDS_AT_32)?;
+    compare_row(&rt, &mut all, broken(alloc, &[1], 7)?, FAILS)?;
+    compare_row(&rt, &mut all, listed(alloc, &[1, 2, 3])?, GOES_ON)?;
+    compare_row(&rt, &mut all, listed(alloc, &[1, 2, 3])?, KEEPS)?;
+    compare_row(&rt, &mut all, listed(alloc, &[1, 2])?, WITHDRAWN)?;
+    compare_row(&rt, &mut all, listed(alloc, &[1, 2])?, STOP_WITHDRAWS)?;
+    compare_row(&rt, &mut all, listed(alloc, &[1, 2])?, IS_REFUSED)?;
+    all.assert_none(&rt);
+    Ok(())
 }

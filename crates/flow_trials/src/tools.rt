@@ -1,4 +1,4 @@
-//! Tools of the tests of cold flows and of flows of several sources.
+//! Tools of the tests: functions as values, flows of lists and their polls, and what a table says that didn't come.
 ghost use Rattle.std.specs.Prelude.{◌≡◌, ◌+◌, ◌%◌, ◌^◌};
 
 use cold_flow::{Apply, Caught, Cause, Collected, Event, Listed, Run, failing, of};
@@ -7,6 +7,7 @@ use futures::test::MockTask;
 use std::alloc::{AllocError, Global};
 use std::fmt::Debug;
 use std::process::Abort;
+use std::test::Fail;
 
 /// The sum of two values.
 #[derive(Clone, Copy)]
@@ -58,6 +59,48 @@ pub(crate) fn assert_same<T: PartialEq + Debug + Drop>(
     wanted: T,
 ) {
     assert_eq!(rt; found, wanted, "{name}");
+}
+
+/// What came otherwise than a table says, a line for each. The rows after a wrong one are run all the same.
+#[derive(Drop)]
+pub struct Differences {
+    lines: String,
+}
+
+impl Differences {
+    pub(crate) fn none(alloc: Global) -> Differences {
+        Differences {
+            lines: String::new(alloc),
+        }
+    }
+
+    /// Notes it under this name where what was found isn't what was wanted.
+    pub(crate) fn compare<T: PartialEq + Debug + Drop>(
+        &mut self,
+        name: &str,
+        found: T,
+        wanted: T,
+    ) -> Result<(), Fail> {
+        if found != wanted {
+            write!(self.lines, "\n{name}: {found:?}, and not {wanted:?}")?;
+        }
+        Ok(())
+    }
+
+    /// The same of texts.
+    pub(crate) fn compare_text(
+        &mut self,
+        name: &str,
+        found: &[u8],
+        wanted: &[u8],
+    ) -> Result<(), Fail> {
+        self.compare(name, str::from_utf8(found)?, str::from_utf8(wanted)?)
+    }
+
+    /// Fails with all that was noted, where something was.
+    pub(crate) fn assert_none(&self, rt: &impl Abort) {
+        assert!(rt; self.lines.is_empty(), "{}", self.lines);
+    }
 }
 
 /// Fails where a list isn't of these values, or ended by another cause.

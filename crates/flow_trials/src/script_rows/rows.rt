@@ -124,6 +124,11 @@ pub const ROWS: &[Row] = &[
         answers: "ok ; value 7 ; ok ; value 7 ; on ; value 1 ; ok ; off ; value 7 ; ok ; failed 7 ; [1] ; failed 7 ; ok ; ok ; on ; value 1 ; value 2 ; pending ; on ; value 3",
     },
     Row {
+        name: "sharing_keeps_what_waits",
+        script: "share h 0 1 suspend lazy of 1,2,3 ; sub h a ; tick h 0 ; tick h 1 ; next a ; next a ; tick h 2 ; next a",
+        answers: "ok ; ok ; on ; on ; value 1 ; value 2 ; on ; value 3",
+    },
+    Row {
         name: "share_never_expires",
         script: "share f 1 0 suspend while 0 never of 1 ; sub f a ; tick f 0 ; cancel a ; tick f 5 ; tick f 3 ; cache f ; sub f b ; tick f 4 ; next b ; next b",
         answers: "ok ; ok ; on ; ok ; off ; off ; [1] ; ok ; on ; value 1 ; value 1",
