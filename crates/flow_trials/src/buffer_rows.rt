@@ -194,18 +194,19 @@ fn pump<U: Run<Item = u64, Fault = u64>>(
     task.enter(|cx| feed.pump(rt, cx))
 }
 
-/// Pumps until the end, and says how many values were dropped.
-fn feed_all<R: Wait + RandomSource + AllocGlobal, U: Run<Item = u64, Fault = u64>>(
+/// Pumps until the end, and says how many values were dropped. Its thread takes no memory: a feed that gave up would
+/// leave the drain waiting.
+fn feed_all<R: Wait, U: Run<Item = u64, Fault = u64>>(
     rt: &R,
+    task: &MockTask,
     feed: &mut Feed<U>,
-) -> Option<u64> {
-    let task = MockTask::new(rt).ok()?;
+) -> u64 {
     for _ in rt.forever() {
-        if pump(rt, &task, feed) == Fill::Ended {
+        if pump(rt, task, feed) == Fill::Ended {
             break;
         }
     }
-    Some(feed.dropped_count())
+    feed.dropped_count()
 }
 
 /// What a drain gave until its end.
@@ -254,11 +255,12 @@ fn split_numbers<R: Threads + Wait + RandomSource + AllocGlobal + Sync>(
     bound: u64,
     policy: Policy,
 ) -> Result<(u64, Drained), Fail> {
+    let task = MockTask::new(rt)?;
     let (mut feed, drain) = split(rt.alloc(), range::<u64>(0, bound), 4, policy)?;
     let lent = &mut feed;
-    let (dropped, all) = thread::join(rt, || feed_all(rt, lent), || drain_all(rt, drain));
+    let (dropped, all) = thread::join(rt, || feed_all(rt, &task, lent), || drain_all(rt, drain));
     feed.cancel(rt);
-    Ok((dropped.unwrap_or(0), all))
+    Ok((dropped, all))
 }
 
 /// What a drain gave of the numbers below a bound that were split between two threads. `None` where it may be any number.

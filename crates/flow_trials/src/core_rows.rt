@@ -1,6 +1,6 @@
 //! A shared flow's worked examples on one thread, by its calls, and each call once where all goes well.
 
-use crate::tools::assert_same;
+use crate::tools::{Differences, assert_same};
 use cold_flow::{Policy, Refusal};
 use flow_callers::{received_in_turn, received_once};
 use shared_core::{
@@ -351,13 +351,12 @@ fn caches(flow: &SharedState<u64>, values: &[u64]) -> bool {
 }
 
 // A row's calls, one by one and as a list.
-fn assert_row(rt: &impl Abort, alloc: Global, row: &Row<'_>) -> Result<(), Fail> {
+fn compare_row(differences: &mut Differences, alloc: Global, row: &Row<'_>) -> Result<(), Fail> {
     let replied = replied_by_new(alloc, row)?;
-    assert_same(rt, row.name, replied, (row.exchanges.len(), true));
+    differences.compare(row.name, replied, (row.exchanges.len(), true))?;
     let calls = calls_of(alloc, row.exchanges)?;
     let replies = replies_to(alloc, row.config, &calls)?;
-    assert!(rt; are_replies(&replies, row.exchanges), "{}", row.name);
-    Ok(())
+    differences.compare(row.name, are_replies(&replies, row.exchanges), true)
 }
 
 #[test]
@@ -366,9 +365,11 @@ fn calls_are_replied_to(rt: HostRuntime) -> Result<(), Fail> {
         first: LIMIT + 1,
         ..PLAIN
     };
+    let mut differences = Differences::none(rt.alloc());
     for row in ROWS {
-        assert_row(&rt, rt.alloc(), row)?;
+        compare_row(&mut differences, rt.alloc(), row)?;
     }
+    differences.assert_none(&rt);
     let refused = SharedState::<u64>::new(rt.alloc(), OVER);
     assert!(rt; matches!(refused, Err(Refusal::BadLimit)));
     Ok(())
