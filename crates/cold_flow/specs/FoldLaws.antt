@@ -8,7 +8,7 @@ use Rattle.cold_flow.specs.Poll.{Traces, Within, After}
 use Rattle.cold_flow.specs.Fold.{folded, Folds, FoldsWhole}
 
 module _ {A S : Type 0} (g : S × A → S) where
-  folded-last : (state : S) (values : List A) (v : A) → folded g state (values ++ v ∷ []) ≡ g (folded g state values, v)
+  pub folded-last : (state : S) (values : List A) (v : A) → folded g state (values ++ v ∷ []) ≡ g (folded g state values, v)
   folded-last state [] v = refl
   folded-last state (x ∷ values) v = folded-last (g (state, x)) values v
 

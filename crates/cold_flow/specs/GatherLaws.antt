@@ -3,7 +3,7 @@ use Rattle.std.specs.Prelude.{◌≡◌, List, [], ◌∷◌, ◌++◌, Result, 
 use Rattle.cold_flow.specs.declared.refusal.Refusal.{Refusal}
 use Rattle.cold_flow.specs.declared.ends.collect.Collected.{Collected}
 use Rattle.cold_flow.specs.Laws.{ended-begins}
-use Rattle.std.proofs.Common.{sym, ◌∙◌, ap, append_assoc}
+use Rattle.std.proofs.Common.{sym, ◌∙◌, ap, subst, append_assoc}
 use Rattle.std.proofs.lemmas.List.{append-nil}
 use Rattle.cold_flow.specs.declared.cause.Cause.{Cause}
 use Rattle.cold_flow.specs.Trace.{Trace, so_far, ended_by, led_by}
@@ -22,6 +22,9 @@ module _ {A E : Type 0} where
   pub gathers_end : (values : List A) (rest : Traces A E) (k : Cause E) → rest (ended_by [] k) → Gathered values rest (ended_by values k)
   gathers_end values rest k h =
       record { given = ended_by [] k; came = h; is = ap (λ (xs : List A). ended_by xs k) (sym (append-nil values)) }
+
+  pub gathers_none : (rest : Traces A E) → Within rest (Gathered [] rest)
+  gathers_none rest t h = subst rest (sym h.is) h.came
 
   pub gathers_so_far : (values : List A) (rest : Traces A E) → rest (so_far []) → Gathered values rest (so_far values)
   gathers_so_far values rest h =

@@ -18,3 +18,5 @@ pub mod SiftLaws
 pub mod First
 pub mod Fold
 pub mod FoldLaws
+pub mod Polled
+pub mod PolledLaws

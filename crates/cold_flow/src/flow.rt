@@ -1,6 +1,6 @@
 //! Flows: what can be collected.
 
-ghost use Rattle.std.specs.Prelude.{◌≡◌, List, Bool, false, IsTrue, IfOk, IfErr, None};
+ghost use Rattle.std.specs.Prelude.{◌≡◌, List, Bool, false, IsTrue, IsOk, IfOk, IfErr, None};
 ghost use Rattle.std.specs.Iterator.{Count, endless};
 ghost use Rattle.cold_flow.specs.declared.cause.Cause.TheVariants.{Cancelled};
 ghost use Rattle.cold_flow.specs.declared.refusal.Refusal.TheVariants.{NoMemory};
@@ -32,12 +32,16 @@ pub trait Flow: Drop {
     // No poll of a new run answers pending.
     ghost prompt: { Self → Bool } = { λ _. false };
 
+    // No start is refused.
+    ghost starts: { Self → Bool } = { λ _. false };
+
     /// Starts a run. It is refused with `Refusal::NoMemory` alone, and then nothing was started.
     fn start(&self) -> Result<Self::Running, Refusal>
         ensures gives { IfOk result (λ r. Within (may self.now) (Self.Running.may r)) }
         ensures fresh { IfOk result (λ r. Self.Running.ended r ≡ None) }
         ensures lasts { IfOk result (λ r. IsWithinPolls (polls self.now) (Self.Running.polls r)) }
         ensures prompt { IfOk result (λ r. IsTrue (prompt self.now) → IsTrue (Self.Running.prompt r)) }
+        ensures starts { IsTrue (starts self.now) → IsOk result }
         ensures refused { IfErr result (λ e. e ≡ NoMemory) };
 
     // Only a cancelled run ends by `Cancelled`.
@@ -56,6 +60,8 @@ impl<'a, F: Flow> Flow for &'a F {
     ghost polls = { λ f. F.polls f.now };
 
     ghost prompt = { λ f. F.prompt f.now };
+
+    ghost starts = { λ f. F.starts f.now };
 
     fn start(&self) -> Result<F::Running, Refusal> {
         (**self).start()

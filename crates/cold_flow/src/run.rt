@@ -7,6 +7,7 @@ ghost use Rattle.futures.specs.declared.task.Poll.{Poll};
 ghost use Rattle.futures.specs.declared.task.Poll.TheVariants.{Ready};
 ghost use Rattle.futures.specs.Task.{IsArmed, Keeps};
 ghost use Rattle.cold_flow.specs.declared.cause.Cause.{Cause};
+ghost use Rattle.cold_flow.specs.declared.event.Event.{Event};
 ghost use Rattle.cold_flow.specs.declared.event.Event.TheVariants.{End};
 ghost use Rattle.cold_flow.specs.Trace.{Trace, ◌⊑◌, so_far, ended_by};
 ghost use Rattle.cold_flow.specs.Poll.{Narrows, end_of, after_cancel, Approaches, IsReady};
@@ -43,6 +44,13 @@ pub trait Run: Drop {
     // No poll answers pending.
     ghost prompt: { Self → Bool } = { λ _. false };
 
+    // The run was polled, gave this answer, and then stood so. Who has any run knows this of its polls alone, so its contract can
+    // name the polls that it made. An operator says here of which sources a pending poll waits.
+    ghost polled: { Self → Poll (Event Self.Item Self.Fault) → Self → Type 0 } = { λ _ _ _. Unit {0} };
+
+    // The run was cancelled, and then stood so.
+    ghost cancelled: { Self → Self → Type 0 } = { λ _ _. Unit {0} };
+
     /// The next value, or the end; pending where a source has nothing yet, and the task is woken once there may be more.
     fn poll_next(&mut self, cx: &mut Context<'_>) -> Poll<Event<Self::Item, Self::Fault>>
         ensures narrows { Narrows (may self.old) result (may self.new) }
@@ -51,13 +59,15 @@ pub trait Run: Drop {
         ensures stays { (k : _) → ended self.old ≡ Some k → result ≡ Ready (End k) }
         ensures approaches { Approaches (polls self.old) result (polls self.new) }
         ensures prompt { IsTrue (prompt self.old) → IsReady result × IsTrue (prompt self.new) }
+        ensures polled { polled self.old result self.new }
         ensures armed { OnPending result (IsArmed cx.new) }
         ensures kept { Keeps cx.old cx.new };
 
     /// Ends the run by `Cause::Cancelled`, and each of its sources that has not ended. After an end it changes nothing.
     fn cancel(&mut self)
         ensures ends { ended self.new ≡ Some (after_cancel (ended self.old)) }
-        ensures stops { IsTrue (stopped self.new) };
+        ensures stops { IsTrue (stopped self.new) }
+        ensures cancelled { cancelled self.old self.new };
 
     // Any run may have given nothing yet.
     ghost begins: { (r : Self) → may r (so_far []) };

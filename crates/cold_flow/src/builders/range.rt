@@ -31,6 +31,7 @@ pub fn range<E: Copy>(from: u64, to: u64) -> Numbers<E>
     ensures exact { Fixes (ended_by (range_with_len from (to - from)) Finished) (⟦<Numbers<E> as Flow>⟧.may result) }
     ensures lasts { IsWithinPolls (at_most (to - from)) (⟦<Numbers<E> as Flow>⟧.polls result) }
     ensures prompt { IsTrue (⟦<Numbers<E> as Flow>⟧.prompt result) }
+    ensures starts { IsTrue (⟦<Numbers<E> as Flow>⟧.starts result) }
 {
     Numbers {
         from,
@@ -53,6 +54,8 @@ impl<E: Copy> Flow for Numbers<E> {
     ghost polls = { λ f. at_most (f.to - f.from) };
 
     ghost prompt = { λ _. true };
+
+    ghost starts = { λ _. true };
 
     fn start(&self) -> Result<NumbersRun<E>, Refusal> {
         Ok(NumbersRun {

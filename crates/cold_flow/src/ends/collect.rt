@@ -55,6 +55,7 @@ pub fn collect<R: Run>(alloc: Global, run: R) -> Collecting<R>
 
 impl<R: Run> Collecting<R> {
     ghost use Rattle.cold_flow.specs.Gather.{GathersTo};
+    ghost use Rattle.cold_flow.specs.Polled.{Takes};
 
     /// The values so far, also after want of memory; none once they were handed out.
     pub fn so_far(&self) -> &[R::Item]
@@ -74,6 +75,7 @@ impl<R: Run> Collecting<R> {
     ) -> Poll<Result<Collected<R::Item, R::Fault>, Refusal>>
         ensures gathers { GathersTo self.old.state self.old.values.items (R.may self.old.run) result
             self.new.state self.new.values.items (R.may self.new.run) }
+        ensures takes { Takes R.polled R.cancelled self.old.state self.old.values.items self.old.run result self.new.values.items self.new.run }
         ensures cancelled { self.old.state ≡ Going → self.new.state ≡ Lacking → IsSome (R.ended self.new.run) }
         ensures armed { OnPending result (IsArmed cx.new) }
         ensures kept { Keeps cx.old cx.new }

@@ -4,6 +4,7 @@ ghost use Rattle.std.specs.Prelude.{◌≡◌, Option, None, Result, IsSome};
 ghost use Rattle.futures.specs.Poll.{OnPending};
 ghost use Rattle.futures.specs.Task.{IsArmed, Keeps};
 ghost use Rattle.cold_flow.specs.First.{FirstOf};
+ghost use Rattle.cold_flow.specs.Polled.{TakesOne};
 
 use crate::cause::Cause;
 use crate::event::Event;
@@ -22,6 +23,7 @@ impl<R: Run> First<R> {
     /// The first value, with which the run is cancelled, or the cause that came instead. Every later poll answers the same.
     pub fn poll(&mut self, cx: &mut Context<'_>) -> Poll<Result<R::Item, Cause<R::Fault>>>
         ensures first { FirstOf self.old.answer (R.may self.old.run) result self.new.answer (R.may self.new.run) }
+        ensures takes { TakesOne R.polled R.cancelled self.old.answer self.old.run result self.new.run }
         ensures over { self.old.answer ≡ None → IsSome self.new.answer → IsSome (R.ended self.new.run) }
         ensures armed { OnPending result (IsArmed cx.new) }
         ensures kept { Keeps cx.old cx.new }

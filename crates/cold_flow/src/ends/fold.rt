@@ -4,6 +4,7 @@ ghost use Rattle.std.specs.Prelude.{◌≡◌, Option, None};
 ghost use Rattle.futures.specs.Poll.{OnPending};
 ghost use Rattle.futures.specs.Task.{IsArmed, Keeps};
 ghost use Rattle.cold_flow.specs.Fold.{FoldsTo};
+ghost use Rattle.cold_flow.specs.Polled.{TakesInto};
 
 use crate::apply::Apply;
 use crate::cause::Cause;
@@ -45,6 +46,7 @@ impl<R: Run, S: Copy, G: Apply<(S, R::Item), Out = S>> Folding<R, S, G> {
     pub fn poll(&mut self, cx: &mut Context<'_>) -> Poll<(S, Cause<R::Fault>)>
         ensures folds { FoldsTo (G.gives self.old.function) self.old.cause self.old.state (R.may self.old.run) result
             self.new.cause self.new.state (R.may self.new.run) }
+        ensures takes { TakesInto R.polled (G.gives self.old.function) self.old.cause self.old.state self.old.run result self.new.state self.new.run }
         ensures same { self.new.function ≡ self.old.function }
         ensures armed { OnPending result (IsArmed cx.new) }
         ensures kept { Keeps cx.old cx.new }

@@ -1,6 +1,8 @@
 //! `catch_with`: another end in place of a failure.
 
 ghost use Rattle.std.specs.Prelude.{IsTrue, ◌||◌};
+ghost use Rattle.futures.specs.Poll.{OnPending};
+ghost use Rattle.futures.specs.declared.task.Poll.TheVariants.{Pending};
 ghost use Rattle.cold_flow.specs.Poll.{Through, Makes, MakesExactly, IsWithinPolls};
 ghost use Rattle.cold_flow.specs.Laws.{Through-fixed};
 ghost use Rattle.cold_flow.specs.Finale.{with_finale, catching};
@@ -46,6 +48,7 @@ pub fn catch_with<F: Flow, G: Apply<F::Fault, Out = Caught<F::Item, F::Fault>>>(
     ensures exact { MakesExactly (with_finale (catching (G.gives handler))) (F.may source) (⟦<Catching<F, G> as Flow>⟧.may result) }
     ensures lasts { IsWithinPolls (and_one (F.polls source)) (⟦<Catching<F, G> as Flow>⟧.polls result) }
     ensures prompt { IsTrue (F.prompt source) → IsTrue (⟦<Catching<F, G> as Flow>⟧.prompt result) }
+    ensures starts { IsTrue (F.starts source) → IsTrue (⟦<Catching<F, G> as Flow>⟧.starts result) }
 {
     Catching { source, handler }
 }
@@ -66,6 +69,8 @@ impl<T: Copy, E: Copy, F: Flow<Item = T, Fault = E>, G: Apply<E, Out = Caught<T,
     ghost polls = { λ f. and_one (F.polls f.source) };
 
     ghost prompt = { λ f. F.prompt f.source };
+
+    ghost starts = { λ f. F.starts f.source };
 
     fn start(&self) -> Result<CatchingRun<F::Running, G, E>, Refusal> {
         Ok(CatchingRun {
@@ -105,6 +110,8 @@ impl<T: Copy, E: Copy, S: Run<Item = T, Fault = E>, G: Apply<E, Out = Caught<T, 
     ghost polls = { λ r. polls_left r.closing (S.polls r.source) };
 
     ghost prompt = { λ r. is_prompt r.closing (S.prompt r.source) };
+
+    ghost polled = { λ old answer new. OnPending answer (S.polled old.source Pending new.source) };
 
     fn poll_next(&mut self, cx: &mut Context<'_>) -> Poll<Event<T, E>> {
         if let Some(cause) = self.closing.settle() {

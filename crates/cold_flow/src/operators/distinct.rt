@@ -1,6 +1,6 @@
 //! `distinct`: the values that differ from the one directly before them.
 
-ghost use Rattle.std.specs.Prelude.{Some, None, refl};
+ghost use Rattle.std.specs.Prelude.{Some, None, refl, IsTrue};
 ghost use Rattle.cold_flow.specs.Distinct.{distinct_after, differing};
 ghost use Rattle.cold_flow.specs.Trace.{on_values};
 ghost use Rattle.cold_flow.specs.Poll.{Makes, MakesExactly, IsWithinPolls};
@@ -24,6 +24,7 @@ pub fn distinct<T: Copy + Eq, F: Flow<Item = T>>(source: F) -> Sifted<F, Differi
     ensures gives { Makes (on_values (distinct_after T.eq None)) (F.may source) (⟦<Sifted<F, Differing<T>> as Flow>⟧.may result) }
     ensures exact { MakesExactly (on_values (distinct_after T.eq None)) (F.may source) (⟦<Sifted<F, Differing<T>> as Flow>⟧.may result) }
     ensures lasts { IsWithinPolls (F.polls source) (⟦<Sifted<F, Differing<T>> as Flow>⟧.polls result) }
+    ensures starts { IsTrue (F.starts source) → IsTrue (⟦<Sifted<F, Differing<T>> as Flow>⟧.starts result) }
 {
     Sifted::new(source, Differing { last: None })
 }

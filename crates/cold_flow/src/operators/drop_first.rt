@@ -1,6 +1,6 @@
 //! `drop_first`: all but the first values.
 
-ghost use Rattle.std.specs.Prelude.{◌-◌, drop};
+ghost use Rattle.std.specs.Prelude.{◌-◌, drop, IsTrue};
 ghost use Rattle.cold_flow.specs.Trace.{on_values};
 ghost use Rattle.cold_flow.specs.Poll.{Makes, MakesExactly, IsWithinPolls};
 
@@ -22,6 +22,7 @@ pub fn drop_first<F: Flow>(source: F, count: u32) -> Sifted<F, Skipping>
     ensures gives { Makes (on_values (drop count)) (F.may source) (⟦<Sifted<F, Skipping> as Flow>⟧.may result) }
     ensures exact { MakesExactly (on_values (drop count)) (F.may source) (⟦<Sifted<F, Skipping> as Flow>⟧.may result) }
     ensures lasts { IsWithinPolls (F.polls source) (⟦<Sifted<F, Skipping> as Flow>⟧.polls result) }
+    ensures starts { IsTrue (F.starts source) → IsTrue (⟦<Sifted<F, Skipping> as Flow>⟧.starts result) }
 {
     Sifted::new(source, Skipping { left: count })
 }

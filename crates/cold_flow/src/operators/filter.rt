@@ -1,6 +1,6 @@
 //! `filter`: the values that a test answers true.
 
-ghost use Rattle.std.specs.Prelude.{Some, None, filter as kept_values, if◌then◌else◌, refl};
+ghost use Rattle.std.specs.Prelude.{Some, None, filter as kept_values, if◌then◌else◌, refl, IsTrue};
 ghost use Rattle.cold_flow.specs.Trace.{on_values};
 ghost use Rattle.cold_flow.specs.Poll.{Makes, MakesExactly, IsWithinPolls};
 
@@ -22,6 +22,7 @@ pub fn filter<F: Flow, G: Apply<F::Item, Out = bool>>(source: F, test: G) -> Sif
     ensures gives { Makes (on_values (kept_values (G.gives test))) (F.may source) (⟦<Sifted<F, Testing<G>> as Flow>⟧.may result) }
     ensures exact { MakesExactly (on_values (kept_values (G.gives test))) (F.may source) (⟦<Sifted<F, Testing<G>> as Flow>⟧.may result) }
     ensures lasts { IsWithinPolls (F.polls source) (⟦<Sifted<F, Testing<G>> as Flow>⟧.polls result) }
+    ensures starts { IsTrue (F.starts source) → IsTrue (⟦<Sifted<F, Testing<G>> as Flow>⟧.starts result) }
 {
     Sifted::new(source, Testing { test })
 }

@@ -1,6 +1,8 @@
 //! `map`: a function of each value.
 
 ghost use Rattle.std.specs.Prelude.{IsTrue};
+ghost use Rattle.futures.specs.Poll.{OnPending};
+ghost use Rattle.futures.specs.declared.task.Poll.TheVariants.{Pending};
 ghost use Rattle.cold_flow.specs.Trace.{map_trace};
 ghost use Rattle.cold_flow.specs.Poll.{Through, Makes, MakesExactly, IsWithinPolls};
 ghost use Rattle.cold_flow.specs.Laws.{Through-begins, Through-fixed, map-monotone};
@@ -27,6 +29,7 @@ pub fn map<F: Flow, U: Copy, G: Apply<F::Item, Out = U>>(source: F, function: G)
     ensures exact { MakesExactly (map_trace (G.gives function)) (F.may source) (⟦<Mapped<F, G> as Flow>⟧.may result) }
     ensures lasts { IsWithinPolls (F.polls source) (⟦<Mapped<F, G> as Flow>⟧.polls result) }
     ensures prompt { IsTrue (F.prompt source) → IsTrue (⟦<Mapped<F, G> as Flow>⟧.prompt result) }
+    ensures starts { IsTrue (F.starts source) → IsTrue (⟦<Mapped<F, G> as Flow>⟧.starts result) }
 {
     Mapped { source, function }
 }
@@ -45,6 +48,8 @@ impl<U: Copy, F: Flow, G: Apply<F::Item, Out = U>> Flow for Mapped<F, G> {
     ghost polls = { λ f. F.polls f.source };
 
     ghost prompt = { λ f. F.prompt f.source };
+
+    ghost starts = { λ f. F.starts f.source };
 
     fn start(&self) -> Result<Mapped<F::Running, G>, Refusal> {
         Ok(Mapped {
@@ -70,6 +75,8 @@ impl<U: Copy, S: Run, G: Apply<S::Item, Out = U>> Run for Mapped<S, G> {
     ghost prompt = { λ r. S.prompt r.source };
 
     ghost polls = { λ r. S.polls r.source };
+
+    ghost polled = { λ old answer new. OnPending answer (S.polled old.source Pending new.source) };
 
     fn poll_next(&mut self, cx: &mut Context<'_>) -> Poll<Event<U, S::Fault>> {
         match self.source.poll_next(cx) {

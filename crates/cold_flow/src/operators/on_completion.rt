@@ -1,6 +1,8 @@
 //! `on_completion`: an action at the end.
 
 ghost use Rattle.std.specs.Prelude.{◌≡◌, ◌⊎◌, [], Option, Some, None, IsTrue, ◌||◌};
+ghost use Rattle.futures.specs.Poll.{OnPending};
+ghost use Rattle.futures.specs.declared.task.Poll.TheVariants.{Pending};
 ghost use Rattle.cold_flow.specs.declared.cause.Cause.TheVariants.{Finished, Cancelled};
 ghost use Rattle.cold_flow.specs.Trace.{ended_by};
 ghost use Rattle.cold_flow.specs.Poll.{Through, Makes, MakesExactly, Fixes, IsWithinPolls, after_cancel};
@@ -38,6 +40,7 @@ pub fn on_completion<F: Flow, G: Apply<Cause<F::Fault>, Out = Option<F::Item>>>(
     ensures exact { MakesExactly (with_finale (completing (G.gives action))) (F.may source) (⟦<Completing<F, G> as Flow>⟧.may result) }
     ensures lasts { IsWithinPolls (and_one (F.polls source)) (⟦<Completing<F, G> as Flow>⟧.polls result) }
     ensures prompt { IsTrue (F.prompt source) → IsTrue (⟦<Completing<F, G> as Flow>⟧.prompt result) }
+    ensures starts { IsTrue (F.starts source) → IsTrue (⟦<Completing<F, G> as Flow>⟧.starts result) }
 {
     Completing { source, action }
 }
@@ -58,6 +61,8 @@ impl<T: Copy, E: Copy, F: Flow<Item = T, Fault = E>, G: Apply<Cause<E>, Out = Op
     ghost polls = { λ f. and_one (F.polls f.source) };
 
     ghost prompt = { λ f. F.prompt f.source };
+
+    ghost starts = { λ f. F.starts f.source };
 
     fn start(&self) -> Result<CompletingRun<F::Running, G, E>, Refusal> {
         Ok(CompletingRun {
@@ -127,6 +132,8 @@ impl<T: Copy, E: Copy, S: Run<Item = T, Fault = E>, G: Apply<Cause<E>, Out = Opt
     ghost polls = { λ r. polls_left r.closing (S.polls r.source) };
 
     ghost prompt = { λ r. is_prompt r.closing (S.prompt r.source) };
+
+    ghost polled = { λ old answer new. OnPending answer (S.polled old.source Pending new.source) };
 
     fn poll_next(&mut self, cx: &mut Context<'_>) -> Poll<Event<T, E>> {
         if let Some(cause) = self.closing.settle() {

@@ -1,7 +1,9 @@
 //! What `filter`, `drop_first` and `distinct` have in common: each value of the source passes or is left out.
 
-ghost use Rattle.std.specs.Prelude.{◌≡◌, List, [], ◌∷◌, Option};
+ghost use Rattle.std.specs.Prelude.{◌⊎◌, ◌≡◌, List, [], ◌∷◌, Option, IsTrue};
 ghost use Rattle.std.specs.List.{cons_option};
+ghost use Rattle.futures.specs.Poll.{OnPending};
+ghost use Rattle.cold_flow.specs.Polled.{HasWaited, IsNearer};
 ghost use Rattle.cold_flow.specs.Trace.{on_values, so_far, ended_by};
 ghost use Rattle.std.proofs.Common.{ap};
 ghost use Rattle.cold_flow.specs.Poll.{Through, Makes, MakesExactly, IsWithinPolls};
@@ -50,6 +52,7 @@ impl<F: Flow, M: Sift<F::Item>> Sifted<F, M> {
         ensures gives { Makes (on_values (M.passes sift)) (F.may source) (⟦<Sifted<F, M> as Flow>⟧.may result) }
         ensures exact { MakesExactly (on_values (M.passes sift)) (F.may source) (⟦<Sifted<F, M> as Flow>⟧.may result) }
         ensures lasts { IsWithinPolls (F.polls source) (⟦<Sifted<F, M> as Flow>⟧.polls result) }
+        ensures starts { IsTrue (F.starts source) → IsTrue (⟦<Sifted<F, M> as Flow>⟧.starts result) }
     {
         Sifted { source, sift }
     }
@@ -67,6 +70,8 @@ impl<F: Flow, M: Sift<F::Item>> Flow for Sifted<F, M> {
     ghost may = { λ f. Through (on_values (M.passes f.sift)) (F.may f.source) };
 
     ghost polls = { λ f. F.polls f.source };
+
+    ghost starts = { λ f. F.starts f.source };
 
     fn start(&self) -> Result<Sifted<F::Running, M>, Refusal> {
         Ok(Sifted {
@@ -90,6 +95,9 @@ impl<S: Run, M: Sift<S::Item>> Run for Sifted<S, M> {
     ghost stopped = { λ r. S.stopped r.source };
 
     ghost polls = { λ r. S.polls r.source };
+
+    // Pending only where the source answered so, or 64 of its values gave nothing.
+    ghost polled = { λ old answer new. OnPending answer (HasWaited S.polled new.source ⊎ IsNearer 64 (S.polls old.source) (S.polls new.source)) };
 
     fn poll_next(&mut self, cx: &mut Context<'_>) -> Poll<Event<M::Out, S::Fault>> {
         for _asked in 0..BUDGET {

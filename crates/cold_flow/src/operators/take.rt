@@ -1,6 +1,8 @@
 //! `take`: the first values.
 
 ghost use Rattle.std.specs.Prelude.{◌≡◌, ◌<◌, IfOk, MatchResult, IsTrue, ◌||◌};
+ghost use Rattle.futures.specs.Poll.{OnPending};
+ghost use Rattle.futures.specs.declared.task.Poll.TheVariants.{Pending};
 ghost use Rattle.cold_flow.specs.declared.refusal.Refusal.TheVariants.{NotPositive};
 ghost use Rattle.cold_flow.specs.Trace.{take_trace};
 ghost use Rattle.cold_flow.specs.Poll.{Through, Makes, MakesExactly, IsWithinPolls};
@@ -33,6 +35,7 @@ pub fn take<F: Flow>(source: F, count: u32) -> Result<Taken<F>, Refusal>
     ensures exact { IfOk result (λ f. MakesExactly (take_trace count) (F.may source) (⟦<Taken<F> as Flow>⟧.may f)) }
     ensures lasts { IfOk result (λ f. IsWithinPolls (and_one (F.polls source)) (⟦<Taken<F> as Flow>⟧.polls f)) }
     ensures prompt { IfOk result (λ f. IsTrue (F.prompt source) → IsTrue (⟦<Taken<F> as Flow>⟧.prompt f)) }
+    ensures starts { IfOk result (λ f. IsTrue (F.starts source) → IsTrue (⟦<Taken<F> as Flow>⟧.starts f)) }
     ensures refused { MatchResult result (λ _. 0 < count) (λ e. (e ≡ NotPositive) × (count ≡ 0)) }
 {
     if count == 0 {
@@ -56,6 +59,8 @@ impl<F: Flow> Flow for Taken<F> {
     ghost polls = { λ f. and_one (F.polls f.source) };
 
     ghost prompt = { λ f. F.prompt f.source };
+
+    ghost starts = { λ f. F.starts f.source };
 
     fn start(&self) -> Result<TakenRun<F::Running, F::Fault>, Refusal> {
         Ok(TakenRun {
@@ -96,6 +101,8 @@ impl<E: Copy, S: Run<Fault = E>> Run for TakenRun<S, E> {
     ghost polls = { λ r. polls_left r.closing (S.polls r.source) };
 
     ghost prompt = { λ r. is_prompt r.closing (S.prompt r.source) };
+
+    ghost polled = { λ old answer new. OnPending answer (S.polled old.source Pending new.source) };
 
     fn poll_next(&mut self, cx: &mut Context<'_>) -> Poll<Event<S::Item, E>> {
         if let Some(cause) = self.closing.settle() {

@@ -1,7 +1,9 @@
 //! `transform`: up to four values for each value.
 
-ghost use Rattle.std.specs.Prelude.{◌+◌, ◌*◌, IsTrue, ◌||◌};
+ghost use Rattle.std.specs.Prelude.{◌⊎◌, ◌+◌, ◌*◌, IsTrue, ◌||◌};
 ghost use Rattle.std.specs.Iterator.{count_map};
+ghost use Rattle.futures.specs.Poll.{OnPending};
+ghost use Rattle.cold_flow.specs.Polled.{HasWaited, IsNearer};
 ghost use Rattle.cold_flow.specs.declared.operators.few.Few.TheVariants.{Zero};
 ghost use Rattle.cold_flow.specs.Poll.{Through, Makes, MakesExactly, IsWithinPolls, is_going};
 ghost use Rattle.cold_flow.specs.Few.{few_len, is_zero, held_then, transform_trace};
@@ -34,6 +36,7 @@ pub fn transform<F: Flow, U: Copy, G: Apply<F::Item, Out = Few<U>>>(
     ensures gives { Makes (transform_trace (G.gives function)) (F.may source) (⟦<Transformed<F, G> as Flow>⟧.may result) }
     ensures exact { MakesExactly (transform_trace (G.gives function)) (F.may source) (⟦<Transformed<F, G> as Flow>⟧.may result) }
     ensures lasts { IsWithinPolls (count_map (λ n. 4 * n) (F.polls source)) (⟦<Transformed<F, G> as Flow>⟧.polls result) }
+    ensures starts { IsTrue (F.starts source) → IsTrue (⟦<Transformed<F, G> as Flow>⟧.starts result) }
 {
     Transformed { source, function }
 }
@@ -50,6 +53,8 @@ impl<U: Copy, F: Flow, G: Apply<F::Item, Out = Few<U>>> Flow for Transformed<F, 
     ghost may = { λ f. Through (transform_trace (G.gives f.function)) (F.may f.source) };
 
     ghost polls = { λ f. count_map (λ n. 4 * n) (F.polls f.source) };
+
+    ghost starts = { λ f. F.starts f.source };
 
     fn start(&self) -> Result<TransformedRun<F::Running, G, U>, Refusal> {
         Ok(TransformedRun {
@@ -87,6 +92,9 @@ impl<U: Copy, S: Run, G: Apply<S::Item, Out = Few<U>>> Run for TransformedRun<S,
     ghost stopped = { λ r. S.stopped r.source };
 
     ghost polls = { λ r. count_map (λ n. 4 * n + few_len r.held) (S.polls r.source) };
+
+    // Pending only where the source answered so, or 64 of its values gave nothing.
+    ghost polled = { λ old answer new. OnPending answer (HasWaited S.polled new.source ⊎ IsNearer 64 (S.polls old.source) (S.polls new.source)) };
 
     fn poll_next(&mut self, cx: &mut Context<'_>) -> Poll<Event<U, S::Fault>> {
         if let Some((value, rest)) = self.held.split_first() {

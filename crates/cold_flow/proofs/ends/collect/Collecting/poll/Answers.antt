@@ -1,5 +1,6 @@
 use Rattle.std.proofs.Common.{rules, ◌≡◌, ◌++◌, ◌∷◌, [], refl}
 use Rattle.cold_flow.specs.GatherLaws.{gathers_value, gathers_end, gathers_so_far}
+use Rattle.cold_flow.specs.PolledLaws.{took_none, took_one, took_all, took_broken}
 use Rattle.cold_flow.proofs.ends.collect.Collecting.poll.Goals as goal
 
 pub returns-then-is_err-clause-gathers : goal.returns-then-is_err-clause-gathers
@@ -14,6 +15,26 @@ returns-in-Ready-End-clause-gathers g c =
     rw (c.loop-taken.invariant.before, c.replace-values.ensures.value, c.replace-values.ensures.after)
     (refl, c.new-empty.ensures.items, c.loop-taken.invariant.within _ (gathers_end _ _ _ came))
 
+pub loop-taken-init : goal.loop-taken-init
+loop-taken-init g c = record {
+  before = c.in-Going.is;
+  going = c.in-Going.is;
+  within = λ t h. h;
+  took = took_none _ _ _;
+  kept = search rules;
+}
+
+pub returns-then-is_err-clause-takes : goal.returns-then-is_err-clause-takes
+returns-then-is_err-clause-takes g c =
+    let same : c.push.new.self.items ≡ c.loop-taken.self.values.items = rw (c.push.ensures.items, c.is_err.ensures.negation, c.if-is_err.true) in
+    rw (c.loop-taken.invariant.before, same)
+    (took_broken _ g.R.Run.cancelled _ _ _ _ c.poll_next.new.self c.cancel.new.self _ _ c.loop-taken.invariant.took (rw c.in-Ready-Value.field-0-is at c.in-Ready-Value.ensures.polled) c.cancel.ensures.cancelled)
+
+pub returns-in-Ready-End-clause-takes : goal.returns-in-Ready-End-clause-takes
+returns-in-Ready-End-clause-takes g c =
+    rw (c.loop-taken.invariant.before, c.replace-values.ensures.value)
+    (took_all _ _ _ _ _ _ _ _ c.loop-taken.invariant.took (rw c.in-Ready-End.field-0-is at c.in-Ready-End.ensures.polled))
+
 pub loop-taken-preserved : goal.loop-taken-preserved
 loop-taken-preserved g c =
     let after = rw c.in-Ready-Value.field-0-is at c.in-Ready-Value.ensures.narrows in
@@ -22,6 +43,7 @@ loop-taken-preserved g c =
       before = c.loop-taken.invariant.before;
       going = c.loop-taken.invariant.going;
       within = λ t h. c.loop-taken.invariant.within t (gathers_value _ _ _ _ _ after more t h);
+      took = took_one _ _ _ _ _ _ _ _ _ c.loop-taken.invariant.took (rw c.in-Ready-Value.field-0-is at c.in-Ready-Value.ensures.polled) more;
       kept = search rules;
     }
 

@@ -1,6 +1,7 @@
 use Rattle.std.proofs.Common.{◌≡◌, None}
 use Rattle.futures.specs.Task.{Keeps}
 use Rattle.cold_flow.specs.Fold.{Folds}
+use Rattle.cold_flow.specs.PolledLaws.{TookInto}
 use Rattle.cold_flow.proofs.ends.fold.Folding.poll.Given as goal
 
 abbrev pub invariant-loop-taken : goal.invariant-loop-taken
@@ -9,5 +10,6 @@ invariant-loop-taken g l = record {
   going : l.self.cause ≡ None;
   same : l.self.function ≡ l.initial.self.function;
   folds : Folds (g.G.Apply.gives l.initial.self.function) l.initial.self.state (g.R.Run.may l.initial.self.run) l.self.state (g.R.Run.may l.self.run);
+  took : TookInto g.R.Run.polled (g.G.Apply.gives l.initial.self.function) l.initial.self.state l.initial.self.run l.self.state l.self.run l._taken;
   kept : Keeps l.initial.cx l.cx;
 }
