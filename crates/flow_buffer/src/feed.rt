@@ -1,8 +1,9 @@
 //! The side of a buffer between two threads that puts values in.
 
-ghost use Rattle.std.specs.Prelude.{◌≡◌, ◌≢◌, ◌||◌, Option, Some, None, IsTrue, is_none};
+ghost use Rattle.std.specs.Prelude.{◌≡◌, ◌≢◌, ◌||◌, Option, Some, None, IsTrue, MatchOption, is_none};
 ghost use Rattle.futures.specs.Task.{IsArmed, Keeps};
 ghost use Rattle.cold_flow.specs.Poll.{after_cancel};
+ghost use Rattle.cold_flow.specs.Polled.{WasCancelled};
 ghost use Rattle.flow_buffer.specs.declared.fill.Fill.TheVariants.{Pending};
 ghost use Rattle.flow_buffer.specs.Sides.{saturated, drops};
 ghost use Rattle.flow_buffer.specs.Feed.{Pumps};
@@ -56,7 +57,7 @@ impl<U: Run> Feed<U> {
     /// Cancels the upstream and sends the drain `Cause::Cancelled`, which waits for a place. Where an end was sent
     /// before, it sends nothing: the upstream has ended.
     pub fn cancel(mut self, rt: &impl Wait)
-        ensures { self.inlet.sent ≢ None → IsTrue (U.stopped self.upstream) }
+        ensures source { MatchOption self.inlet.sent (WasCancelled U.cancelled U.stopped self.upstream) (λ _. IsTrue (U.stopped self.upstream)) }
     {
         // What it does is what `close` ensures, and `spend` takes no feed without that.
         self.close(rt);
@@ -65,6 +66,7 @@ impl<U: Run> Feed<U> {
 
     fn close(&mut self, rt: &impl Wait)
         ensures stopped { IsTrue (U.stopped self.new.upstream) }
+        ensures cancels { self.old.inlet.sent ≡ None → U.cancelled self.old.upstream self.new.upstream }
         ensures ended { self.new.inlet ≡ record self.old.inlet { sent = Some (after_cancel self.old.inlet.sent) } }
     {
         if self.inlet.has_ended() {

@@ -1,28 +1,31 @@
 //! The feed's end of the channel.
 
-ghost use Rattle.std.specs.Prelude.{◌≡◌, ◌≢◌, true, false, Option, Some, None, is_some};
+ghost use Rattle.std.specs.Prelude.{◌≡◌, ◌≢◌, ◌+◌, [], true, false, length, map, Option, Some, None, is_some};
 ghost use Rattle.crossbeam_channel.specs.Claims.{view as knows, IsSeatAt};
 ghost use Rattle.crossbeam_channel.specs.Ends.{sends_on, receives_on, ruled_capacity};
-ghost use Rattle.flow_buffer.specs.Channel.{feed_side};
+ghost use Rattle.flow_buffer.specs.Channel.{feed_side, Agree};
 ghost use Rattle.flow_buffer.specs.Sides.{Feeding, may_drop, saturated, drops, Filled};
 
+use crate::drain::Drain;
 use crate::fill::Fill;
+use crate::rule::{Agreeing, Together};
 use crate::steps::{Knowledge, Receiver, Sender, put, send};
 use cold_flow::{Cause, Event, Policy};
 use std::marker::Model;
 use std::sync::Wait;
 
-/// The feed's end of the channel. It must be spent, which asks that an end was sent: so no drain waits in vain.
+/// The feed's end of the channel. It is let go by `spend`, which asks that an end was sent, so that no drain waits in vain, and by
+/// `meet` with the drain itself. No other module reads its fields, so none lets it go otherwise.
 pub struct Inlet<T: Copy, E: Copy> {
-    pub(crate) sender: Sender<T, E>,
+    sender: Sender<T, E>,
     // Takes the oldest value out, where the policy lets a full buffer drop it.
-    pub(crate) receiver: Receiver<T, E>,
-    pub(crate) pass: Knowledge<T, E>,
-    pub(crate) policy: Policy,
+    receiver: Receiver<T, E>,
+    pass: Knowledge<T, E>,
+    policy: Policy,
     // How many values were dropped. It stays at its greatest.
-    pub(crate) dropped: u64,
+    dropped: u64,
     // The end that was sent.
-    pub(crate) sent: Option<Cause<E>>,
+    sent: Option<Cause<E>>,
 }
 
 impl<T: Copy, E: Copy> Model for Inlet<T, E> {
@@ -34,6 +37,28 @@ impl<T: Copy, E: Copy> Model for Inlet<T, E> {
 }
 
 impl<T: Copy, E: Copy> Inlet<T, E> {
+    // The feed's end of a channel that nothing was sent into.
+    pub(crate) fn new(
+        sender: Sender<T, E>,
+        receiver: Receiver<T, E>,
+        pass: Knowledge<T, E>,
+        policy: Policy,
+    ) -> Inlet<T, E>
+        requires ends { receives_on receiver ≡ sends_on sender }
+        requires channel { IsSeatAt (sends_on sender) pass }
+        requires fresh { knows pass ≡ feed_side (may_drop policy) None [] }
+        ensures { result ≡ record { channel = record { table = (sends_on sender).stamps.shared.table_id; key = (sends_on sender).stamps.shared.key }; capacity = ruled_capacity (sends_on sender); policy = policy; produced = []; sent = None } }
+    {
+        Inlet {
+            sender,
+            receiver,
+            pass,
+            policy,
+            dropped: 0,
+            sent: None,
+        }
+    }
+
     // Puts a value in, as the policy says where the channel is full.
     pub(crate) fn fill(&mut self, rt: &impl Wait, value: T) -> Fill
         requires unended { self.old.sent ≡ None }
@@ -87,5 +112,30 @@ impl<T: Copy, E: Copy> Inlet<T, E> {
             dropped: _,
             sent: _,
         } = self;
+    }
+
+    // Lets the channel go with the drain that takes out of it.
+    pub(crate) fn meet(self, drain: Drain<T, E>)
+        requires { drain.channel ≡ self.channel }
+        ensures agree { Agree self.produced self.sent drain.taken drain.end drain.history }
+        ensures all { drain.end ≢ None → length drain.taken + drops self.produced ≡ length self.produced }
+        ensures whole { drain.end ≢ None → drain.lossy ≡ false → map (λ e. e.1) drain.taken ≡ map (λ e. e.1) self.produced }
+    {
+        let Inlet {
+            sender,
+            receiver: _,
+            mut pass,
+            policy: _,
+            dropped: _,
+            sent: _,
+        } = self;
+        let Drain {
+            receiver: _,
+            pass: other,
+            taken: _,
+            end: _,
+        } = drain;
+        sender.absorb::<Together>(&mut pass, other);
+        sender.learn_as::<Agreeing>(&mut pass);
     }
 }

@@ -1,13 +1,12 @@
 //! What both sides of a buffer between two threads know once they meet.
 
 ghost use Rattle.std.specs.Prelude.{◌≡◌, ◌≢◌, ◌+◌, map, false, length, Option, None};
+ghost use Rattle.cold_flow.specs.Polled.{WasCancelled};
 ghost use Rattle.flow_buffer.specs.Channel.{Agree};
 ghost use Rattle.flow_buffer.specs.Sides.{drops};
 
 use crate::drain::Drain;
 use crate::feed::Feed;
-use crate::inlet::Inlet;
-use crate::rule::{Agreeing, Together};
 use cold_flow::Run;
 
 /// Brings a feed and its drain together, once their threads have let them go, and spends both. The upstream is cancelled.
@@ -17,6 +16,7 @@ use cold_flow::Run;
 /// `Policy::Suspend` the taken ones are the produced ones, in order.
 pub fn agree<U: Run>(feed: Feed<U>, drain: Drain<U::Item, U::Fault>)
     requires { drain.channel ≡ feed.inlet.channel }
+    ensures source { WasCancelled U.cancelled U.stopped feed.upstream }
     ensures agree { Agree feed.inlet.produced feed.inlet.sent drain.taken drain.end drain.history }
     ensures all { drain.end ≢ None → length drain.taken + drops feed.inlet.produced ≡ length feed.inlet.produced }
     ensures whole { drain.end ≢ None → drain.lossy ≡ false → map (λ e. e.1) drain.taken ≡ map (λ e. e.1) feed.inlet.produced }
@@ -26,29 +26,5 @@ pub fn agree<U: Run>(feed: Feed<U>, drain: Drain<U::Item, U::Fault>)
         inlet,
     } = feed;
     upstream.cancel();
-    meet(inlet, drain);
-}
-
-fn meet<T: Copy, E: Copy>(inlet: Inlet<T, E>, drain: Drain<T, E>)
-    requires { drain.channel ≡ inlet.channel }
-    ensures agree { Agree inlet.produced inlet.sent drain.taken drain.end drain.history }
-    ensures all { drain.end ≢ None → length drain.taken + drops inlet.produced ≡ length inlet.produced }
-    ensures whole { drain.end ≢ None → drain.lossy ≡ false → map (λ e. e.1) drain.taken ≡ map (λ e. e.1) inlet.produced }
-{
-    let Inlet {
-        sender,
-        receiver: _,
-        mut pass,
-        policy: _,
-        dropped: _,
-        sent: _,
-    } = inlet;
-    let Drain {
-        receiver: _,
-        pass: other,
-        taken: _,
-        end: _,
-    } = drain;
-    sender.absorb::<Together>(&mut pass, other);
-    sender.learn_as::<Agreeing>(&mut pass);
+    inlet.meet(drain);
 }

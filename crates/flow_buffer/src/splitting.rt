@@ -45,14 +45,7 @@ pub fn split<F: Flow>(
         Policy::Suspend => sender.another::<Lossless>(&mut pass),
         Policy::DropOldest | Policy::DropLatest => sender.another::<Lossy>(&mut pass),
     };
-    let inlet = Inlet {
-        sender,
-        receiver: other,
-        pass,
-        policy,
-        dropped: 0,
-        sent: None,
-    };
+    let inlet = Inlet::new(sender, other, pass, policy);
     let drain = Drain {
         receiver,
         pass: knowledge,

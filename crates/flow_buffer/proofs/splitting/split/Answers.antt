@@ -12,8 +12,8 @@ pub another-knowledge-requires-in-DropOldest : goal.another-knowledge-requires-i
 another-knowledge-requires-in-DropOldest g c = record { channel = search rules; rule = cuts_as _ true _ (search rules) }
 
 -- A wrong body makes these false: so answered, it is refused at once.
-pub invariant_of-inlet : goal.invariant_of-inlet
-invariant_of-inlet g c = search rules
+pub new-inlet-requires-clause-fresh : goal.new-inlet-requires-clause-fresh
+new-inlet-requires-clause-fresh g c = search rules
 
 pub returns-clause-drain : goal.returns-clause-drain
 returns-clause-drain g c = search rules
