@@ -1,11 +1,13 @@
 -- The latest values of two sources, at each arrival.
-use Rattle.std.specs.Prelude.{◌≡◌, Bool, true, false, not, IsTrue, List, [], ◌∷◌, Option, Some, None, map}
+use Rattle.std.specs.Prelude.{◌≡◌, ◌⊎◌, Bool, true, false, not, IsTrue, List, [], ◌∷◌, Option, Some, None, map}
 use Rattle.cold_flow.specs.declared.cause.Cause.{Cause}
 use Rattle.cold_flow.specs.declared.cause.Cause.TheVariants.{Finished, Failed, Cancelled, Refused}
 use Rattle.cold_flow.specs.declared.event.Event.{Event}
 use Rattle.cold_flow.specs.declared.event.Event.TheVariants.{Value}
 use Rattle.cold_flow.specs.Trace.{Trace, so_far, ended_by, led_by}
 use Rattle.cold_flow.specs.Poll.{Traces}
+use Rattle.cold_flow.specs.Polled.{HasWaited}
+use Rattle.futures.specs.declared.task.Poll.{Poll}
 use Rattle.flow_merge.specs.declared.flows.turn.Turn.{Turn}
 use Rattle.flow_merge.specs.declared.flows.turn.Turn.TheVariants.{Left, Right}
 
@@ -90,3 +92,18 @@ in_turn g l r (x ∷ xs) e (y ∷ ys) f = with_result g (Some x) r (with_result 
 
 abbrev pub combine_trace : {A B C E : Type 0} → (A × B → C) → Trace A E → Trace B E → Trace C E
 combine_trace g t u = in_turn g None None t.0 t.1 u.0 u.1
+
+module _ {L R A B E : Type 0} (left_polled : L → Poll (Event A E) → L → Type 0) (right_polled : R → Poll (Event B E) → R → Type 0) where
+  -- the side whose turn it was has answered pending, the turn has passed, and the other side stands as it did
+  abbrev pub SideWaited : Turn → Turn → Bool → Bool → L → R → L → R → Type 0
+  SideWaited Left now left_finished right_finished l r l' r' = (left_finished ≡ false) × (now ≡ turn_to Right right_finished) × HasWaited left_polled l' × (r' ≡ r)
+  SideWaited Right now left_finished right_finished l r l' r' = (right_finished ≡ false) × (now ≡ turn_to Left left_finished) × HasWaited right_polled r' × (l' ≡ l)
+
+  -- the side whose turn it is not has answered pending
+  abbrev pub OtherWaited : Turn → L → R → Type 0
+  OtherWaited Left l r = HasWaited right_polled r
+  OtherWaited Right l r = HasWaited left_polled l
+
+  -- each side that has not finished has answered pending
+  abbrev pub BothWaited : Bool → Bool → L → R → Type 0
+  BothWaited left_finished right_finished l r = (IsTrue left_finished ⊎ HasWaited left_polled l) × (IsTrue right_finished ⊎ HasWaited right_polled r)

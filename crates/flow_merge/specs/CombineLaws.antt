@@ -9,9 +9,11 @@ use Rattle.cold_flow.specs.Poll.{Traces, Within, After, Beginnings}
 use Rattle.cold_flow.specs.Laws.{begins-any, led-begins, ended-begins}
 use Rattle.flow_merge.specs.declared.flows.turn.Turn.{Turn}
 use Rattle.flow_merge.specs.declared.flows.turn.Turn.TheVariants.{Left, Right}
+use Rattle.futures.specs.declared.task.Poll.{Poll}
 use Rattle.futures.specs.declared.task.Poll.TheVariants.{Ready}
+use Rattle.cold_flow.specs.Polled.{HasWaited}
 use Rattle.flow_merge.specs.Asking.{Asks}
-use Rattle.flow_merge.specs.Combine.{with_result, result_of, Combines, OrFinished, turn_to, is_open, MayCombine, rest_of_left, rest_of_right, after_end, in_turn, combine_trace}
+use Rattle.flow_merge.specs.Combine.{with_result, result_of, Combines, OrFinished, turn_to, is_open, MayCombine, rest_of_left, rest_of_right, after_end, in_turn, combine_trace, SideWaited, OtherWaited, BothWaited}
 use Rattle.flow_merge.specs.Combine.Combines.{stops, left_gives, right_gives, left_passes, right_passes, finishes, left_fails, right_fails}
 
 -- whatever b allows, a allows: where a side must not answer pending, it must not later on
@@ -364,3 +366,25 @@ module _ {A B C E : Type 0} (g : A × B → C) where
         right_came = c.right_came;
         combines = loosen g true true p q (λ _. h) (λ _. k) _ _ _ _ _ _ c.combines;
       })
+
+module _ {L R A B E : Type 0} (left_polled : L → Poll (Event A E) → L → Type 0) (right_polled : R → Poll (Event B E) → R → Type 0) where
+  -- after a pending answer of one side, where the other has finished or waited before
+  pub both_waited : (turn now : Turn) (left_finished right_finished : Bool) (l l' : L) (r r' : R)
+      → SideWaited left_polled right_polled turn now left_finished right_finished l r l' r'
+      → OtherWaited left_polled right_polled turn l r ⊎ (IsTrue left_finished ⊎ IsTrue right_finished)
+      → BothWaited left_polled right_polled left_finished right_finished l' r'
+  both_waited Left now left_finished right_finished l l' r r' s (inl other) = (inr s.2, inr (subst (HasWaited right_polled) (sym s.3) other))
+  both_waited Left now left_finished right_finished l l' r r' s (inr (inl done)) = absurd (let open_is = s.0 in cc)
+  both_waited Left now left_finished right_finished l l' r r' s (inr (inr done)) = (inr s.2, inl done)
+  both_waited Right now left_finished right_finished l l' r r' s (inl other) = (inr (subst (HasWaited left_polled) (sym s.3) other), inr s.2)
+  both_waited Right now left_finished right_finished l l' r r' s (inr (inl done)) = (inl done, inr s.2)
+  both_waited Right now left_finished right_finished l l' r r' s (inr (inr done)) = absurd (let open_is = s.0 in cc)
+
+  -- where neither side has finished, the turn passed to the other
+  pub other_waited : (turn now : Turn) (left_finished right_finished : Bool) (l l' : L) (r r' : R)
+      → SideWaited left_polled right_polled turn now left_finished right_finished l r l' r' → left_finished ≡ false → right_finished ≡ false
+      → OtherWaited left_polled right_polled now l' r'
+  other_waited Left now left_finished right_finished l l' r r' s left_open right_open =
+      let passed : now ≡ Right = s.1 ∙ ap (turn_to Right) right_open in rw passed s.2
+  other_waited Right now left_finished right_finished l l' r r' s left_open right_open =
+      let passed : now ≡ Left = s.1 ∙ ap (turn_to Left) left_open in rw passed s.2

@@ -1,11 +1,14 @@
 -- Inner sources one after the other.
-use Rattle.std.specs.Prelude.{◌≡◌, List, [], ◌∷◌, ◌++◌, Option, Some, None, ◌⊎◌, map}
+use Rattle.std.specs.Prelude.{◌≡◌, Bool, true, false, List, [], ◌∷◌, ◌++◌, Option, Some, None, ◌⊎◌, map}
 use Rattle.std.specs.List.{AllZip}
 use Rattle.cold_flow.specs.declared.cause.Cause.{Cause}
 use Rattle.cold_flow.specs.declared.cause.Cause.TheVariants.{Finished, Failed, Cancelled, Refused}
 use Rattle.cold_flow.specs.declared.refusal.Refusal.TheVariants.{NoMemory}
 use Rattle.cold_flow.specs.Trace.{Trace, ◌⊑◌, ended_by}
 use Rattle.cold_flow.specs.Poll.{Traces, OrRefused}
+use Rattle.cold_flow.specs.Polled.{HasWaited}
+use Rattle.cold_flow.specs.declared.event.Event.{Event}
+use Rattle.futures.specs.declared.task.Poll.{Poll}
 
 -- t, and then u where t has finished
 abbrev pub followed_by : {B E : Type 0} → Trace B E → Trace B E → Trace B E
@@ -25,18 +28,28 @@ abbrev pub MayStand : {B E R : Type 0} → (R → Traces B E) → Option R → T
 MayStand may None t = t ≡ ended_by [] Finished
 MayStand may (Some r) t = may r t
 
+-- what an inner flow may give, or that its start was refused, unless it cannot be
+abbrev pub OrUnstarted : {B E : Type 0} → Bool → Traces B E → Traces B E
+OrUnstarted true gives t = gives t
+OrUnstarted false gives t = OrRefused gives t
+
 -- What a concatenation may give: the beginnings of the trace that stands and of the inner traces after it, joined in the order in which
 -- the outer gives their values, up to the outer's end. An inner flow gives what it may, or its start is refused.
-pub record MayConcat {A B E R : Type 0} (inner : A → Traces B E) (may : R → Traces B E) (standing : Option R) (outer : Traces A E) (t : Trace B E) : Type 0 where
+pub record MayConcat {A B E R : Type 0} (starts : A → Bool) (inner : A → Traces B E) (may : R → Traces B E) (standing : Option R) (outer : Traces A E) (t : Trace B E) : Type 0 where
   pub of_standing : Trace B E
   pub of_outer : Trace A E
   pub of_inner : List (Trace B E)
   pub standing_came : MayStand may standing of_standing
   pub outer_came : outer of_outer
-  pub inner_came : AllZip (λ x. OrRefused (inner x)) of_outer.0 of_inner
+  pub inner_came : AllZip (λ x. OrUnstarted (starts x) (inner x)) of_outer.0 of_inner
   pub begins : t ⊑ followed_by of_standing (joined of_inner of_outer.1)
 
 -- An end that may be given comes after the inner traces of the outer's values, joined; or it is that a start was refused.
 abbrev pub JoinsOrRefused : {A B E : Type 0} → (A → Trace B E) → Trace A E → Traces B E → Type 0
 JoinsOrRefused {A} {B} {E} whole o may =
     (xs : List B) (k : Cause E) → may (ended_by xs k) → (k ≡ Refused NoMemory) ⊎ (ended_by xs k ≡ joined (map whole o.0) o.1)
+
+-- the run that is asked next has answered pending: the inner one, or the outer where none stands
+abbrev pub StandingWaited : {A B E O R : Type 0} → (O → Poll (Event A E) → O → Type 0) → (R → Poll (Event B E) → R → Type 0) → O → Option R → Type 0
+StandingWaited outer_polled polled outer None = HasWaited outer_polled outer
+StandingWaited outer_polled polled outer (Some r) = HasWaited polled r

@@ -1,12 +1,13 @@
 //! The latest values of two flows.
 
-ghost use Rattle.std.specs.Prelude.{◌≡◌, Option, None, IsSome, IsTrue, ◌&&◌};
+ghost use Rattle.std.specs.Prelude.{◌≡◌, ◌⊎◌, Option, None, IsSome, IsTrue, ◌&&◌};
 ghost use Rattle.std.specs.Iterator.{count_add, count_unless};
 ghost use Rattle.futures.specs.Poll.{OnPending};
 ghost use Rattle.futures.specs.Task.{IsArmed, Keeps};
+ghost use Rattle.cold_flow.specs.Polled.{IsNearer};
 ghost use Rattle.cold_flow.specs.Poll.{Unless, Within, Fixes, IsWithinPolls};
 ghost use Rattle.flow_merge.specs.Asking.{Asks, AsksApproach};
-ghost use Rattle.flow_merge.specs.Combine.{MayCombine, OrFinished, combine_trace, result_of, is_open};
+ghost use Rattle.flow_merge.specs.Combine.{MayCombine, OrFinished, combine_trace, result_of, is_open, SideWaited, BothWaited};
 ghost use Rattle.flow_merge.specs.Counting.{with_end};
 ghost use Rattle.flow_merge.specs.declared.flows.turn.Turn.TheVariants.{Left, Right};
 
@@ -35,6 +36,7 @@ pub fn combine<C: Copy, A: Flow, B: Flow<Fault = A::Fault>, G: Apply<(A::Item, B
     ensures gives { Within (MayCombine (G.gives function) (A.prompt left) (B.prompt right) Left None None (A.may left) (B.may right)) (⟦<Combined<A, B, G> as Flow>⟧.may result) }
     ensures exact { (l : _) (r : _) → IsTrue (A.prompt left) → IsTrue (B.prompt right) → Fixes l (A.may left) → Fixes r (B.may right) → Fixes (combine_trace (G.gives function) l r) (⟦<Combined<A, B, G> as Flow>⟧.may result) }
     ensures lasts { IsWithinPolls (count_add (with_end (A.polls left)) (with_end (B.polls right))) (⟦<Combined<A, B, G> as Flow>⟧.polls result) }
+    ensures starts { IsTrue (A.starts left && B.starts right) → IsTrue (⟦<Combined<A, B, G> as Flow>⟧.starts result) }
 {
     Combined {
         left,
@@ -73,6 +75,8 @@ impl<C: Copy, A: Flow, B: Flow<Fault = A::Fault>, G: Apply<(A::Item, B::Item), O
     ghost may = { λ f. MayCombine (G.gives f.function) (A.prompt f.left) (B.prompt f.right) Left None None (A.may f.left) (B.may f.right) };
 
     ghost polls = { λ f. count_add (with_end (A.polls f.left)) (with_end (B.polls f.right)) };
+
+    ghost starts = { λ f. A.starts f.left && B.starts f.right };
 
     #[tactic(auto, using(crate::specs::CombineLaws::combine_starts))]
     fn start(&self) -> Result<CombinedRun<A::Running, B::Running, G>, Refusal> {
@@ -115,6 +119,9 @@ impl<C: Copy, A: Run, B: Run<Fault = A::Fault>, G: Apply<(A::Item, B::Item), Out
     ghost stopped = { λ r. A.stopped r.left && B.stopped r.right };
 
     ghost polls = { λ r. count_add (count_unless r.left_finished (with_end (A.polls r.left))) (count_unless r.right_finished (with_end (B.polls r.right))) };
+
+    // Pending only where each side that has not finished answered so, or 64 answers gave nothing.
+    ghost polled = { λ old answer new. OnPending answer (BothWaited A.polled B.polled new.left_finished new.right_finished new.left new.right ⊎ IsNearer 64 (count_add (count_unless old.left_finished (with_end (A.polls old.left))) (count_unless old.right_finished (with_end (B.polls old.right)))) (count_add (count_unless new.left_finished (with_end (A.polls new.left))) (count_unless new.right_finished (with_end (B.polls new.right))))) };
 
     fn poll_next(&mut self, cx: &mut Context<'_>) -> Poll<Event<C, A::Fault>> {
         if let Some(cause) = self.ended {
@@ -190,6 +197,7 @@ impl<C: Copy, A: Run, B: Run<Fault = A::Fault>, G: Apply<(A::Item, B::Item), Out
         ensures asked { Asks (MayCombine (G.gives self.old.function) (A.prompt self.old.left) (B.prompt self.old.right) self.old.turn self.old.latest_left self.old.latest_right (OrFinished self.old.left_finished (A.may self.old.left)) (OrFinished self.old.right_finished (B.may self.old.right))) result (MayCombine (G.gives self.new.function) (A.prompt self.new.left) (B.prompt self.new.right) self.new.turn self.new.latest_left self.new.latest_right (OrFinished self.new.left_finished (A.may self.new.left)) (OrFinished self.new.right_finished (B.may self.new.right))) }
         ensures approaches { AsksApproach (count_add (count_unless self.old.left_finished (with_end (A.polls self.old.left))) (count_unless self.old.right_finished (with_end (B.polls self.old.right)))) result (count_add (count_unless self.new.left_finished (with_end (A.polls self.new.left))) (count_unless self.new.right_finished (with_end (B.polls self.new.right)))) }
         ensures going { self.new.ended ≡ None }
+        ensures waits { OnPending result (SideWaited A.polled B.polled self.old.turn self.new.turn self.new.left_finished self.new.right_finished self.old.left self.old.right self.new.left self.new.right) }
         ensures armed { OnPending result (IsArmed cx.new) }
         ensures kept { Keeps cx.old cx.new }
     {
@@ -205,6 +213,7 @@ impl<C: Copy, A: Run, B: Run<Fault = A::Fault>, G: Apply<(A::Item, B::Item), Out
         ensures asked { Asks (MayCombine (G.gives self.old.function) (A.prompt self.old.left) (B.prompt self.old.right) self.old.turn self.old.latest_left self.old.latest_right (OrFinished self.old.left_finished (A.may self.old.left)) (OrFinished self.old.right_finished (B.may self.old.right))) result (MayCombine (G.gives self.new.function) (A.prompt self.new.left) (B.prompt self.new.right) self.new.turn self.new.latest_left self.new.latest_right (OrFinished self.new.left_finished (A.may self.new.left)) (OrFinished self.new.right_finished (B.may self.new.right))) }
         ensures approaches { AsksApproach (count_add (count_unless self.old.left_finished (with_end (A.polls self.old.left))) (count_unless self.old.right_finished (with_end (B.polls self.old.right)))) result (count_add (count_unless self.new.left_finished (with_end (A.polls self.new.left))) (count_unless self.new.right_finished (with_end (B.polls self.new.right)))) }
         ensures going { self.new.ended ≡ None }
+        ensures waits { OnPending result (SideWaited A.polled B.polled self.old.turn self.new.turn self.new.left_finished self.new.right_finished self.old.left self.old.right self.new.left self.new.right) }
         ensures armed { OnPending result (IsArmed cx.new) }
         ensures kept { Keeps cx.old cx.new }
     {
@@ -238,6 +247,7 @@ impl<C: Copy, A: Run, B: Run<Fault = A::Fault>, G: Apply<(A::Item, B::Item), Out
         ensures asked { Asks (MayCombine (G.gives self.old.function) (A.prompt self.old.left) (B.prompt self.old.right) self.old.turn self.old.latest_left self.old.latest_right (OrFinished self.old.left_finished (A.may self.old.left)) (OrFinished self.old.right_finished (B.may self.old.right))) result (MayCombine (G.gives self.new.function) (A.prompt self.new.left) (B.prompt self.new.right) self.new.turn self.new.latest_left self.new.latest_right (OrFinished self.new.left_finished (A.may self.new.left)) (OrFinished self.new.right_finished (B.may self.new.right))) }
         ensures approaches { AsksApproach (count_add (count_unless self.old.left_finished (with_end (A.polls self.old.left))) (count_unless self.old.right_finished (with_end (B.polls self.old.right)))) result (count_add (count_unless self.new.left_finished (with_end (A.polls self.new.left))) (count_unless self.new.right_finished (with_end (B.polls self.new.right)))) }
         ensures going { self.new.ended ≡ None }
+        ensures waits { OnPending result (SideWaited A.polled B.polled self.old.turn self.new.turn self.new.left_finished self.new.right_finished self.old.left self.old.right self.new.left self.new.right) }
         ensures armed { OnPending result (IsArmed cx.new) }
         ensures kept { Keeps cx.old cx.new }
     {

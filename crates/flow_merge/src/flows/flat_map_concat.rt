@@ -1,13 +1,14 @@
 //! Inner flows one after the other.
 
-ghost use Rattle.std.specs.Prelude.{◌≡◌, Option, None, IsSome, IsTrue, ◌&&◌};
+ghost use Rattle.std.specs.Prelude.{◌≡◌, ◌⊎◌, map, Option, None, IsSome, IsTrue, ◌&&◌};
 ghost use Rattle.futures.specs.Poll.{OnPending};
 ghost use Rattle.futures.specs.Task.{IsArmed, Keeps};
+ghost use Rattle.cold_flow.specs.Polled.{IsNearer};
 ghost use Rattle.cold_flow.specs.Poll.{Unless, Within, Fixes, IsWithinPolls};
 ghost use Rattle.std.specs.Iterator.{at_most, count_add};
 ghost use Rattle.flow_merge.specs.Asking.{Asks, AsksApproach, OnEnd, standing_stopped};
 ghost use Rattle.flow_merge.specs.Counting.{IsBoundedBy, rounds, standing_polls};
-ghost use Rattle.flow_merge.specs.Concat.{MayConcat, JoinsOrRefused};
+ghost use Rattle.flow_merge.specs.Concat.{MayConcat, JoinsOrRefused, StandingWaited, joined};
 
 use crate::flows::bound::{Bound, KnownBound, Unbounded};
 use cold_flow::{Apply, BUDGET, Cause, Event, Finite, Flow, Refusal, Run};
@@ -34,11 +35,15 @@ pub fn flat_map_concat<
     F: Flow<Item = B, Fault = E>,
     G: Apply<S::Item, Out = F>,
 >(outer: S, function: G) -> Concatenated<S, F, G, Unbounded>
-    ensures gives { Within (MayConcat (λ x. F.may (G.gives function x)) F.Running.may None (S.may outer)) (⟦<Concatenated<S, F, G, Unbounded> as Flow>⟧.may result) }
+    ensures gives { Within (MayConcat (λ x. F.starts (G.gives function x)) (λ x. F.may (G.gives function x)) F.Running.may None (S.may outer)) (⟦<Concatenated<S, F, G, Unbounded> as Flow>⟧.may result) }
     ensures made { (result.outer ≡ outer) × (result.function ≡ function) }
 
     // What is collected is fixed where no inner start is refused.
     ensures exact { (o : _) (whole : _) → Fixes o (S.may outer) → ((x : _) → Fixes (whole x) (F.may (G.gives function x))) → JoinsOrRefused whole o (⟦<Concatenated<S, F, G, Unbounded> as Flow>⟧.may result) }
+
+    // Where none can be refused, it is fixed whole.
+    ensures fixed { (o : _) (whole : _) → ((x : _) → IsTrue (F.starts (G.gives function x))) → Fixes o (S.may outer) → ((x : _) → Fixes (whole x) (F.may (G.gives function x))) → Fixes (joined (map whole o.0) o.1) (⟦<Concatenated<S, F, G, Unbounded> as Flow>⟧.may result) }
+    ensures starts { IsTrue (S.starts outer) → IsTrue (⟦<Concatenated<S, F, G, Unbounded> as Flow>⟧.starts result) }
 {
     Concatenated {
         outer,
@@ -71,10 +76,11 @@ impl<
     // Asks the inner run that stands, or the outer where none does.
     fn ask(&mut self, cx: &mut Context<'_>) -> Poll<Option<Event<B, E>>>
         requires { self.old.ended ≡ None }
-        ensures asked { Asks (MayConcat (λ x. F.may (G.gives self.old.function x)) F.Running.may self.old.inner (O.may self.old.outer)) result (MayConcat (λ x. F.may (G.gives self.new.function x)) F.Running.may self.new.inner (O.may self.new.outer)) }
+        ensures asked { Asks (MayConcat (λ x. F.starts (G.gives self.old.function x)) (λ x. F.may (G.gives self.old.function x)) F.Running.may self.old.inner (O.may self.old.outer)) result (MayConcat (λ x. F.starts (G.gives self.new.function x)) (λ x. F.may (G.gives self.new.function x)) F.Running.may self.new.inner (O.may self.new.outer)) }
         ensures approaches { AsksApproach (count_add (rounds (O.polls self.old.outer) N.most) (standing_polls F.Running.polls self.old.inner)) result (count_add (rounds (O.polls self.new.outer) N.most) (standing_polls F.Running.polls self.new.inner)) }
         ensures same { (self.new.ended ≡ self.old.ended) × (self.new.function ≡ self.old.function) }
         ensures stops { OnEnd result (IsTrue (standing_stopped F.Running.stopped self.new.inner)) }
+        ensures waits { OnPending result (StandingWaited O.polled F.Running.polled self.new.outer self.new.inner) }
         ensures armed { OnPending result (IsArmed cx.new) }
         ensures kept { Keeps cx.old cx.new }
     {
@@ -121,9 +127,11 @@ impl<
 
     type Running = ConcatenatedRun<S::Running, F, G, E, N>;
 
-    ghost may = { λ f. MayConcat (λ x. F.may (G.gives f.function x)) F.Running.may None (S.may f.outer) };
+    ghost may = { λ f. MayConcat (λ x. F.starts (G.gives f.function x)) (λ x. F.may (G.gives f.function x)) F.Running.may None (S.may f.outer) };
 
     ghost polls = { λ f. count_add (rounds (S.polls f.outer) N.most) (at_most 0) };
+
+    ghost starts = { λ f. S.starts f.outer };
 
     fn start(&self) -> Result<ConcatenatedRun<S::Running, F, G, E, N>, Refusal> {
         Ok(ConcatenatedRun {
@@ -135,7 +143,7 @@ impl<
         })
     }
 
-    ghost uncancelled = { λ f. concat_uncancelled _ (λ x. F.uncancelled (G.gives f.function x)) F.Running.may (S.may f.outer) (S.uncancelled f.outer) };
+    ghost uncancelled = { λ f. concat_uncancelled _ (λ x. F.uncancelled (G.gives f.function x)) (λ x. F.starts (G.gives f.function x)) F.Running.may (S.may f.outer) (S.uncancelled f.outer) };
 }
 
 impl<
@@ -153,13 +161,16 @@ impl<
 
     type Fault = E;
 
-    ghost may = { λ r. Unless r.ended (MayConcat (λ x. F.may (G.gives r.function x)) F.Running.may r.inner (O.may r.outer)) };
+    ghost may = { λ r. Unless r.ended (MayConcat (λ x. F.starts (G.gives r.function x)) (λ x. F.may (G.gives r.function x)) F.Running.may r.inner (O.may r.outer)) };
 
     ghost ended = { λ r. r.ended };
 
     ghost stopped = { λ r. O.stopped r.outer && standing_stopped F.Running.stopped r.inner };
 
     ghost polls = { λ r. count_add (rounds (O.polls r.outer) N.most) (standing_polls F.Running.polls r.inner) };
+
+    // Pending only where the run that is to be asked answered so, or 64 answers gave nothing.
+    ghost polled = { λ old answer new. OnPending answer (StandingWaited O.polled F.Running.polled new.outer new.inner ⊎ IsNearer 64 (count_add (rounds (O.polls old.outer) N.most) (standing_polls F.Running.polls old.inner)) (count_add (rounds (O.polls new.outer) N.most) (standing_polls F.Running.polls new.inner))) };
 
     fn poll_next(&mut self, cx: &mut Context<'_>) -> Poll<Event<B, E>> {
         if let Some(cause) = self.ended {
@@ -190,7 +201,7 @@ impl<
         }
     }
 
-    ghost begins = { λ r. Unless-begins r.ended _ (concat_begins _ _ r.inner _ F.Running.begins (O.begins r.outer)) };
+    ghost begins = { λ r. Unless-begins r.ended _ (concat_begins _ _ _ r.inner _ F.Running.begins (O.begins r.outer)) };
 
     ghost over = { λ r. Unless-over r.ended _ };
 }
@@ -224,6 +235,7 @@ impl<
         requires { (x : _) → IsWithinPolls N.most (F.polls (G.gives self.function x)) }
         ensures gives { Within (⟦<Concatenated<S, F, G, Unbounded> as Flow>⟧.may self) (⟦<Concatenated<S, F, G, N> as Flow>⟧.may result) }
         ensures lasts { IsWithinPolls (count_add (rounds (S.polls self.outer) N.most) (at_most 0)) (⟦<Concatenated<S, F, G, N> as Flow>⟧.polls result) }
+        ensures starts { IsTrue (S.starts self.outer) → IsTrue (⟦<Concatenated<S, F, G, N> as Flow>⟧.starts result) }
     {
         Concatenated {
             outer: self.outer,

@@ -43,6 +43,7 @@ pub fn flat_map_merge<
     G: Apply<S::Item, Out = F>,
 >(alloc: Global, outer: S, function: G, limit: u32) -> Result<Merged<S, G>, Refusal>
     ensures gives { IfOk result (λ f. Within (MayMerge limit (λ x. F.may (G.gives function x)) F.Running.may [] (S.may outer)) (⟦<Merged<S, G> as Flow>⟧.may f)) }
+    ensures starts { IfOk result (λ f. IsTrue (S.starts outer) → IsTrue (⟦<Merged<S, G> as Flow>⟧.starts f)) }
     ensures not_positive { (result ≡ Err NotPositive) ↔ (limit ≡ 0) }
     ensures too_many { (result ≡ Err TooManyWorkers) ↔ (MAX_WORKERS < limit) }
     ensures accepted { 0 < limit → limit ≤ MAX_WORKERS → IsOk result }
@@ -94,6 +95,8 @@ impl<
     type Running = MergedRun<S::Running, F, G, E>;
 
     ghost may = { λ f. MayMerge f.limit (λ x. F.may (G.gives f.function x)) F.Running.may [] (S.may f.outer) };
+
+    ghost starts = { λ f. S.starts f.outer };
 
     #[tactic(auto, using(crate::specs::MergeLaws::merge_outer_waits))]
     fn start(&self) -> Result<MergedRun<S::Running, F, G, E>, Refusal> {

@@ -1,7 +1,9 @@
 //! Pairs of the values of two flows.
 
-ghost use Rattle.std.specs.Prelude.{◌≡◌, Option, None, IsSome, IsTrue, is_some, ◌&&◌, ◌||◌};
+ghost use Rattle.std.specs.Prelude.{◌≡◌, Option, None, IsSome, IsTrue, is_some, MatchOption, ◌&&◌, ◌||◌};
 ghost use Rattle.std.specs.Iterator.{count_add};
+ghost use Rattle.futures.specs.Poll.{OnPending};
+ghost use Rattle.futures.specs.declared.task.Poll.TheVariants.{Pending};
 ghost use Rattle.cold_flow.specs.Poll.{Unless, Within, Fixes, IsWithinPolls};
 ghost use Rattle.flow_merge.specs.Zip.{MayZip, zip_trace};
 
@@ -30,6 +32,7 @@ pub fn zip<C: Copy, A: Flow, B: Flow<Fault = A::Fault>, G: Apply<(A::Item, B::It
     ensures exact { (l : _) (r : _) → Fixes l (A.may left) → Fixes r (B.may right) → Fixes (zip_trace (G.gives function) l r) (⟦<Zipped<A, B, G> as Flow>⟧.may result) }
     ensures lasts { IsWithinPolls (count_add (A.polls left) (B.polls right)) (⟦<Zipped<A, B, G> as Flow>⟧.polls result) }
     ensures prompt { IsTrue (A.prompt left && B.prompt right) → IsTrue (⟦<Zipped<A, B, G> as Flow>⟧.prompt result) }
+    ensures starts { IsTrue (A.starts left && B.starts right) → IsTrue (⟦<Zipped<A, B, G> as Flow>⟧.starts result) }
 {
     Zipped {
         left,
@@ -65,6 +68,8 @@ impl<C: Copy, A: Flow, B: Flow<Fault = A::Fault>, G: Apply<(A::Item, B::Item), O
     ghost polls = { λ f. count_add (A.polls f.left) (B.polls f.right) };
 
     ghost prompt = { λ f. A.prompt f.left && B.prompt f.right };
+
+    ghost starts = { λ f. A.starts f.left && B.starts f.right };
 
     #[tactic(auto, using(crate::specs::ZipLaws::zip_left_waits, crate::specs::ZipLaws::zip_right_waits))]
     fn start(&self) -> Result<ZippedRun<A::Running, B::Running, G>, Refusal> {
@@ -105,6 +110,9 @@ impl<C: Copy, A: Run, B: Run<Fault = A::Fault>, G: Apply<(A::Item, B::Item), Out
     ghost prompt = { λ r. is_some r.ended || (A.prompt r.left && B.prompt r.right) };
 
     ghost polls = { λ r. count_add (A.polls r.left) (B.polls r.right) };
+
+    // Pending only where the side that is to be asked answered so: the left while no value of it is held, then the right.
+    ghost polled = { λ old answer new. OnPending answer (MatchOption new.held (A.polled old.left Pending new.left) (λ _. B.polled old.right Pending new.right)) };
 
     fn poll_next(&mut self, cx: &mut Context<'_>) -> Poll<Event<C, A::Fault>> {
         if let Some(cause) = self.ended {

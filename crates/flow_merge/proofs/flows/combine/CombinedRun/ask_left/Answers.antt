@@ -34,6 +34,7 @@ returns-in_default g c =
       asked = rw (c.requires.turn, going) (combine_left_fails _ _ _ _ _ c.args.self.now.right_finished _ (g.B.Run.may c.args.self.now.right) _ (g.met.B.Run.begins _) came c.in_default.not-Finished);
       approaches = tt;
       going = search rules;
+      waits = tt;
       armed = tt;
       kept = search rules;
     }

@@ -34,6 +34,7 @@ returns-in_default g c =
       asked = rw (c.requires.turn, going) (combine_right_fails _ _ _ _ _ c.args.self.now.left_finished (g.A.Run.may c.args.self.now.left) _ _ (g.met.A.Run.begins _) came c.in_default.not-Finished);
       approaches = tt;
       going = search rules;
+      waits = tt;
       armed = tt;
       kept = search rules;
     }

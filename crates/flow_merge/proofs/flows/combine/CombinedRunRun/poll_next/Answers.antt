@@ -1,5 +1,6 @@
 use Rattle.std.proofs.Common.{rules}
 use Rattle.flow_merge.specs.Counting.{after_question, after_wait}
+use Rattle.flow_merge.specs.CombineLaws.{other_waited}
 use Rattle.flow_merge.proofs.flows.combine.CombinedRunRun.poll_next.Goals as goal
 
 pub returns-in-Ready-Some-Value-clause-narrows : goal.returns-in-Ready-Some-Value-clause-narrows
@@ -21,6 +22,7 @@ turns-preserved-in-Ready-None g c =
       going = c.in-Ready-None.ensures.going;
       within = λ t h. c.turns.invariant.within t (asked t h);
       approaches = λ h. after_question _ _ _ _ (c.turns.invariant.approaches h) fewer;
+      waited = λ h. absurd (cc);
       kept = search rules;
     }
 
@@ -30,11 +32,14 @@ returns-then-waited-clause-narrows g c =
 
 pub turns-preserved : goal.turns-preserved
 turns-preserved g c =
+    let was = c.turns.self in
+    let now = c.ask.new.self in
     record {
       begun = c.turns.invariant.begun;
       going = c.in-Pending.ensures.going;
       within = λ t h. c.turns.invariant.within t (c.in-Pending.ensures.asked t h);
       approaches = λ h. after_wait _ _ _ _ (c.turns.invariant.approaches h) c.in-Pending.ensures.approaches;
+      waited = λ h. other_waited g.A.Run.polled g.B.Run.polled was.turn now.turn now.left_finished now.right_finished was.left now.left was.right now.right c.in-Pending.ensures.waits c.if-self.false c.if-self-2.false;
       kept = search rules;
     }
 

@@ -1,8 +1,8 @@
-use Rattle.std.proofs.Common.{◌≡◌, ◌+◌, ◌-◌, ◌*◌, ◌≤◌, None, if◌then◌else◌}
+use Rattle.std.proofs.Common.{◌≡◌, ◌+◌, ◌-◌, ◌*◌, ◌≤◌, None, IsTrue, if◌then◌else◌}
 use Rattle.std.specs.Iterator.{IsFinite, size, count_add, count_unless}
 use Rattle.futures.specs.Task.{Keeps}
 use Rattle.cold_flow.specs.Poll.{Within}
-use Rattle.flow_merge.specs.Combine.{MayCombine, OrFinished}
+use Rattle.flow_merge.specs.Combine.{MayCombine, OrFinished, OtherWaited}
 use Rattle.flow_merge.specs.Counting.{with_end}
 use Rattle.flow_merge.proofs.flows.combine.CombinedRunRun.poll_next.Given as goal
 
@@ -15,6 +15,7 @@ invariant-turns g l = record {
   approaches : IsFinite (count_add (count_unless l.initial.self.left_finished (with_end (g.A.Run.polls l.initial.self.left))) (count_unless l.initial.self.right_finished (with_end (g.B.Run.polls l.initial.self.right))))
       → IsFinite (count_add (count_unless l.self.left_finished (with_end (g.A.Run.polls l.self.left))) (count_unless l.self.right_finished (with_end (g.B.Run.polls l.self.right))))
       × (size (count_add (count_unless l.self.left_finished (with_end (g.A.Run.polls l.self.left))) (count_unless l.self.right_finished (with_end (g.B.Run.polls l.self.right)))) + l.unanswered ≤ size (count_add (count_unless l.initial.self.left_finished (with_end (g.A.Run.polls l.initial.self.left))) (count_unless l.initial.self.right_finished (with_end (g.B.Run.polls l.initial.self.right)))));
+  waited : IsTrue l.waited → OtherWaited g.A.Run.polled g.B.Run.polled l.self.turn l.self.left l.self.right;
   kept : Keeps l.initial.cx l.cx;
 }
 
