@@ -3,7 +3,7 @@
 ghost use Rattle.std.specs.Prelude.{◌≡◌, ◌<◌, ◌||◌, ◌==◌, List, [], length, Option, Some, None, IsTrue, IsSome, is_none};
 ghost use Rattle.futures.specs.Poll.{OnPending};
 ghost use Rattle.futures.specs.Task.{IsArmed, Keeps};
-ghost use Rattle.futures.specs.declared.task.Poll.TheVariants.{Ready};
+ghost use Rattle.futures.specs.declared.task.Poll.TheVariants.{Ready, Pending as Waiting};
 ghost use Rattle.cold_flow.specs.declared.event.Event.TheVariants.{End};
 ghost use Rattle.cold_flow.specs.Poll.{Narrows, Within, end_of, after_cancel, Approaches, IsReady};
 ghost use Rattle.flow_buffer.specs.declared.fill.Fill.TheVariants.{Pending};
@@ -40,6 +40,7 @@ impl<S: Run> Buffered<S> {
     pub fn poll_fill(&mut self, cx: &mut Context<'_>) -> Fill
         ensures fills { Fills S.may self.old.source self.old.store result self.new.source self.new.store }
         ensures narrows { Within (StoreGives self.old.store (S.may self.old.source)) (StoreGives self.new.store (S.may self.new.source)) }
+        ensures waits { result ≡ Pending → S.polled self.old.source Waiting self.new.source }
         ensures armed { result ≡ Pending → IsArmed cx.new }
         ensures kept { Keeps cx.old cx.new }
     {
@@ -91,6 +92,9 @@ impl<S: Run> Run for Buffered<S> {
 
     ghost prompt = { λ r. S.prompt r.source };
 
+    // Pending only where the source answered so.
+    ghost polled = { λ old answer new. OnPending answer (S.polled old.source Waiting new.source) };
+
     /// Gives the oldest held value without asking the source. Where none is held, it fills once and gives the value or the
     /// end that came; the end comes once none is held.
     fn poll_next(&mut self, cx: &mut Context<'_>) -> Poll<Event<S::Item, S::Fault>>
@@ -101,6 +105,7 @@ impl<S: Run> Run for Buffered<S> {
         ensures stays { (k : _) → given self.old.store.ending ≡ Some k → result ≡ Ready (End k) }
         ensures approaches { Approaches (store_polls self.old.store (S.polls self.old.source)) result (store_polls self.new.store (S.polls self.new.source)) }
         ensures prompt { IsTrue (S.prompt self.old.source) → IsReady result × IsTrue (S.prompt self.new.source) }
+        ensures polled { OnPending result (S.polled self.old.source Waiting self.new.source) }
         ensures armed { OnPending result (IsArmed cx.new) }
         ensures kept { Keeps cx.old cx.new }
     {

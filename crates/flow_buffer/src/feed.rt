@@ -2,6 +2,7 @@
 
 ghost use Rattle.std.specs.Prelude.{◌≡◌, ◌≢◌, ◌||◌, Option, Some, None, IsTrue, MatchOption, is_none};
 ghost use Rattle.futures.specs.Task.{IsArmed, Keeps};
+ghost use Rattle.futures.specs.declared.task.Poll.TheVariants.{Pending as Waiting};
 ghost use Rattle.cold_flow.specs.Poll.{after_cancel};
 ghost use Rattle.cold_flow.specs.Polled.{WasCancelled};
 ghost use Rattle.flow_buffer.specs.declared.fill.Fill.TheVariants.{Pending};
@@ -31,6 +32,7 @@ impl<U: Run> Feed<U> {
     /// `Fill::Overwrote` and `Fill::Dropped` come only where the buffer was full at a moment of the call.
     pub fn pump(&mut self, rt: &impl Wait, cx: &mut Context<'_>) -> Fill
         ensures pumps { Pumps U.may self.old.upstream self.old.inlet result self.new.upstream self.new.inlet }
+        ensures waits { result ≡ Pending → U.polled self.old.upstream Waiting self.new.upstream }
         ensures armed { result ≡ Pending → IsArmed cx.new }
         ensures kept { Keeps cx.old cx.new }
     {

@@ -47,7 +47,13 @@ impl<T: Copy, E: Copy> Inlet<T, E> {
         requires ends { receives_on receiver ≡ sends_on sender }
         requires channel { IsSeatAt (sends_on sender) pass }
         requires fresh { knows pass ≡ feed_side (may_drop policy) None [] }
-        ensures { result ≡ record { channel = record { table = (sends_on sender).stamps.shared.table_id; key = (sends_on sender).stamps.shared.key }; capacity = ruled_capacity (sends_on sender); policy = policy; produced = []; sent = None } }
+        ensures { result ≡ record {
+          channel = record { table = (sends_on sender).stamps.shared.table_id; key = (sends_on sender).stamps.shared.key };
+          capacity = ruled_capacity (sends_on sender);
+          policy = policy;
+          produced = [];
+          sent = None;
+        } }
     {
         Inlet {
             sender,

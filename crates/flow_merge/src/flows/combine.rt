@@ -121,7 +121,9 @@ impl<C: Copy, A: Run, B: Run<Fault = A::Fault>, G: Apply<(A::Item, B::Item), Out
     ghost polls = { λ r. count_add (count_unless r.left_finished (with_end (A.polls r.left))) (count_unless r.right_finished (with_end (B.polls r.right))) };
 
     // Pending only where each side that has not finished answered so, or 64 answers gave nothing.
-    ghost polled = { λ old answer new. OnPending answer (BothWaited A.polled B.polled new.left_finished new.right_finished new.left new.right ⊎ IsNearer 64 (count_add (count_unless old.left_finished (with_end (A.polls old.left))) (count_unless old.right_finished (with_end (B.polls old.right)))) (count_add (count_unless new.left_finished (with_end (A.polls new.left))) (count_unless new.right_finished (with_end (B.polls new.right))))) };
+    ghost polled = { λ old answer new. OnPending answer (BothWaited A.polled B.polled new.left_finished new.right_finished new.left new.right
+        ⊎ IsNearer 64 (count_add (count_unless old.left_finished (with_end (A.polls old.left))) (count_unless old.right_finished (with_end (B.polls old.right))))
+        (count_add (count_unless new.left_finished (with_end (A.polls new.left))) (count_unless new.right_finished (with_end (B.polls new.right))))) };
 
     fn poll_next(&mut self, cx: &mut Context<'_>) -> Poll<Event<C, A::Fault>> {
         if let Some(cause) = self.ended {
@@ -197,7 +199,8 @@ impl<C: Copy, A: Run, B: Run<Fault = A::Fault>, G: Apply<(A::Item, B::Item), Out
         ensures asked { Asks (MayCombine (G.gives self.old.function) (A.prompt self.old.left) (B.prompt self.old.right) self.old.turn self.old.latest_left self.old.latest_right (OrFinished self.old.left_finished (A.may self.old.left)) (OrFinished self.old.right_finished (B.may self.old.right))) result (MayCombine (G.gives self.new.function) (A.prompt self.new.left) (B.prompt self.new.right) self.new.turn self.new.latest_left self.new.latest_right (OrFinished self.new.left_finished (A.may self.new.left)) (OrFinished self.new.right_finished (B.may self.new.right))) }
         ensures approaches { AsksApproach (count_add (count_unless self.old.left_finished (with_end (A.polls self.old.left))) (count_unless self.old.right_finished (with_end (B.polls self.old.right)))) result (count_add (count_unless self.new.left_finished (with_end (A.polls self.new.left))) (count_unless self.new.right_finished (with_end (B.polls self.new.right)))) }
         ensures going { self.new.ended ≡ None }
-        ensures waits { OnPending result (SideWaited A.polled B.polled self.old.turn self.new.turn self.new.left_finished self.new.right_finished self.old.left self.old.right self.new.left self.new.right) }
+        ensures waits { OnPending result (SideWaited A.polled B.polled self.old.turn self.new.turn self.new.left_finished self.new.right_finished
+            self.old.left self.old.right self.new.left self.new.right) }
         ensures armed { OnPending result (IsArmed cx.new) }
         ensures kept { Keeps cx.old cx.new }
     {
@@ -213,7 +216,8 @@ impl<C: Copy, A: Run, B: Run<Fault = A::Fault>, G: Apply<(A::Item, B::Item), Out
         ensures asked { Asks (MayCombine (G.gives self.old.function) (A.prompt self.old.left) (B.prompt self.old.right) self.old.turn self.old.latest_left self.old.latest_right (OrFinished self.old.left_finished (A.may self.old.left)) (OrFinished self.old.right_finished (B.may self.old.right))) result (MayCombine (G.gives self.new.function) (A.prompt self.new.left) (B.prompt self.new.right) self.new.turn self.new.latest_left self.new.latest_right (OrFinished self.new.left_finished (A.may self.new.left)) (OrFinished self.new.right_finished (B.may self.new.right))) }
         ensures approaches { AsksApproach (count_add (count_unless self.old.left_finished (with_end (A.polls self.old.left))) (count_unless self.old.right_finished (with_end (B.polls self.old.right)))) result (count_add (count_unless self.new.left_finished (with_end (A.polls self.new.left))) (count_unless self.new.right_finished (with_end (B.polls self.new.right)))) }
         ensures going { self.new.ended ≡ None }
-        ensures waits { OnPending result (SideWaited A.polled B.polled self.old.turn self.new.turn self.new.left_finished self.new.right_finished self.old.left self.old.right self.new.left self.new.right) }
+        ensures waits { OnPending result (SideWaited A.polled B.polled self.old.turn self.new.turn self.new.left_finished self.new.right_finished
+            self.old.left self.old.right self.new.left self.new.right) }
         ensures armed { OnPending result (IsArmed cx.new) }
         ensures kept { Keeps cx.old cx.new }
     {
@@ -247,7 +251,8 @@ impl<C: Copy, A: Run, B: Run<Fault = A::Fault>, G: Apply<(A::Item, B::Item), Out
         ensures asked { Asks (MayCombine (G.gives self.old.function) (A.prompt self.old.left) (B.prompt self.old.right) self.old.turn self.old.latest_left self.old.latest_right (OrFinished self.old.left_finished (A.may self.old.left)) (OrFinished self.old.right_finished (B.may self.old.right))) result (MayCombine (G.gives self.new.function) (A.prompt self.new.left) (B.prompt self.new.right) self.new.turn self.new.latest_left self.new.latest_right (OrFinished self.new.left_finished (A.may self.new.left)) (OrFinished self.new.right_finished (B.may self.new.right))) }
         ensures approaches { AsksApproach (count_add (count_unless self.old.left_finished (with_end (A.polls self.old.left))) (count_unless self.old.right_finished (with_end (B.polls self.old.right)))) result (count_add (count_unless self.new.left_finished (with_end (A.polls self.new.left))) (count_unless self.new.right_finished (with_end (B.polls self.new.right)))) }
         ensures going { self.new.ended ≡ None }
-        ensures waits { OnPending result (SideWaited A.polled B.polled self.old.turn self.new.turn self.new.left_finished self.new.right_finished self.old.left self.old.right self.new.left self.new.right) }
+        ensures waits { OnPending result (SideWaited A.polled B.polled self.old.turn self.new.turn self.new.left_finished self.new.right_finished
+            self.old.left self.old.right self.new.left self.new.right) }
         ensures armed { OnPending result (IsArmed cx.new) }
         ensures kept { Keeps cx.old cx.new }
     {

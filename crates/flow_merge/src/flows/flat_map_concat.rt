@@ -35,14 +35,16 @@ pub fn flat_map_concat<
     F: Flow<Item = B, Fault = E>,
     G: Apply<S::Item, Out = F>,
 >(outer: S, function: G) -> Concatenated<S, F, G, Unbounded>
-    ensures gives { Within (MayConcat (λ x. F.starts (G.gives function x)) (λ x. F.may (G.gives function x)) F.Running.may None (S.may outer)) (⟦<Concatenated<S, F, G, Unbounded> as Flow>⟧.may result) }
+    ensures gives { Within (MayConcat (λ x. F.starts (G.gives function x)) (λ x. F.may (G.gives function x)) F.Running.may None (S.may outer))
+        (⟦<Concatenated<S, F, G, Unbounded> as Flow>⟧.may result) }
     ensures made { (result.outer ≡ outer) × (result.function ≡ function) }
 
     // What is collected is fixed where no inner start is refused.
     ensures exact { (o : _) (whole : _) → Fixes o (S.may outer) → ((x : _) → Fixes (whole x) (F.may (G.gives function x))) → JoinsOrRefused whole o (⟦<Concatenated<S, F, G, Unbounded> as Flow>⟧.may result) }
 
     // Where none can be refused, it is fixed whole.
-    ensures fixed { (o : _) (whole : _) → ((x : _) → IsTrue (F.starts (G.gives function x))) → Fixes o (S.may outer) → ((x : _) → Fixes (whole x) (F.may (G.gives function x))) → Fixes (joined (map whole o.0) o.1) (⟦<Concatenated<S, F, G, Unbounded> as Flow>⟧.may result) }
+    ensures fixed { (o : _) (whole : _) → ((x : _) → IsTrue (F.starts (G.gives function x))) → Fixes o (S.may outer)
+        → ((x : _) → Fixes (whole x) (F.may (G.gives function x))) → Fixes (joined (map whole o.0) o.1) (⟦<Concatenated<S, F, G, Unbounded> as Flow>⟧.may result) }
     ensures starts { IsTrue (S.starts outer) → IsTrue (⟦<Concatenated<S, F, G, Unbounded> as Flow>⟧.starts result) }
 {
     Concatenated {
@@ -76,7 +78,8 @@ impl<
     // Asks the inner run that stands, or the outer where none does.
     fn ask(&mut self, cx: &mut Context<'_>) -> Poll<Option<Event<B, E>>>
         requires { self.old.ended ≡ None }
-        ensures asked { Asks (MayConcat (λ x. F.starts (G.gives self.old.function x)) (λ x. F.may (G.gives self.old.function x)) F.Running.may self.old.inner (O.may self.old.outer)) result (MayConcat (λ x. F.starts (G.gives self.new.function x)) (λ x. F.may (G.gives self.new.function x)) F.Running.may self.new.inner (O.may self.new.outer)) }
+        ensures asked { Asks (MayConcat (λ x. F.starts (G.gives self.old.function x)) (λ x. F.may (G.gives self.old.function x)) F.Running.may self.old.inner (O.may self.old.outer)) result
+            (MayConcat (λ x. F.starts (G.gives self.new.function x)) (λ x. F.may (G.gives self.new.function x)) F.Running.may self.new.inner (O.may self.new.outer)) }
         ensures approaches { AsksApproach (count_add (rounds (O.polls self.old.outer) N.most) (standing_polls F.Running.polls self.old.inner)) result (count_add (rounds (O.polls self.new.outer) N.most) (standing_polls F.Running.polls self.new.inner)) }
         ensures same { (self.new.ended ≡ self.old.ended) × (self.new.function ≡ self.old.function) }
         ensures stops { OnEnd result (IsTrue (standing_stopped F.Running.stopped self.new.inner)) }
@@ -143,7 +146,8 @@ impl<
         })
     }
 
-    ghost uncancelled = { λ f. concat_uncancelled _ (λ x. F.uncancelled (G.gives f.function x)) (λ x. F.starts (G.gives f.function x)) F.Running.may (S.may f.outer) (S.uncancelled f.outer) };
+    ghost uncancelled = { λ f. concat_uncancelled _ (λ x. F.uncancelled (G.gives f.function x)) (λ x. F.starts (G.gives f.function x)) F.Running.may
+        (S.may f.outer) (S.uncancelled f.outer) };
 }
 
 impl<
@@ -161,7 +165,8 @@ impl<
 
     type Fault = E;
 
-    ghost may = { λ r. Unless r.ended (MayConcat (λ x. F.starts (G.gives r.function x)) (λ x. F.may (G.gives r.function x)) F.Running.may r.inner (O.may r.outer)) };
+    ghost may = { λ r. Unless r.ended (MayConcat (λ x. F.starts (G.gives r.function x)) (λ x. F.may (G.gives r.function x)) F.Running.may
+        r.inner (O.may r.outer)) };
 
     ghost ended = { λ r. r.ended };
 
@@ -170,7 +175,9 @@ impl<
     ghost polls = { λ r. count_add (rounds (O.polls r.outer) N.most) (standing_polls F.Running.polls r.inner) };
 
     // Pending only where the run that is to be asked answered so, or 64 answers gave nothing.
-    ghost polled = { λ old answer new. OnPending answer (StandingWaited O.polled F.Running.polled new.outer new.inner ⊎ IsNearer 64 (count_add (rounds (O.polls old.outer) N.most) (standing_polls F.Running.polls old.inner)) (count_add (rounds (O.polls new.outer) N.most) (standing_polls F.Running.polls new.inner))) };
+    ghost polled = { λ old answer new. OnPending answer (StandingWaited O.polled F.Running.polled new.outer new.inner
+        ⊎ IsNearer 64 (count_add (rounds (O.polls old.outer) N.most) (standing_polls F.Running.polls old.inner))
+        (count_add (rounds (O.polls new.outer) N.most) (standing_polls F.Running.polls new.inner))) };
 
     fn poll_next(&mut self, cx: &mut Context<'_>) -> Poll<Event<B, E>> {
         if let Some(cause) = self.ended {

@@ -112,7 +112,8 @@ impl<C: Copy, A: Run, B: Run<Fault = A::Fault>, G: Apply<(A::Item, B::Item), Out
     ghost polls = { λ r. count_add (A.polls r.left) (B.polls r.right) };
 
     // Pending only where the side that is to be asked answered so: the left while no value of it is held, then the right.
-    ghost polled = { λ old answer new. OnPending answer (MatchOption new.held (A.polled old.left Pending new.left) (λ _. B.polled old.right Pending new.right)) };
+    ghost polled = { λ old answer new. OnPending answer (MatchOption new.held
+        (A.polled old.left Pending new.left) (λ _. B.polled old.right Pending new.right)) };
 
     fn poll_next(&mut self, cx: &mut Context<'_>) -> Poll<Event<C, A::Fault>> {
         if let Some(cause) = self.ended {
