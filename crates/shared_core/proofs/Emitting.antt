@@ -17,7 +17,7 @@ use Rattle.shared_core.specs.Accepting.{IsSound, with_accepted, without_oldest_o
 use Rattle.shared_core.proofs.Sound.{sound-lose_oldest}
 use Rattle.shared_core.proofs.Numbered.{numbered-push, count_numbered}
 use Rattle.shared_core.proofs.Settling.{waiting_numbered}
-use Rattle.shared_core.proofs.Ordering.{pushing_places}
+use Rattle.shared_core.proofs.Fates.{pushing_places}
 use Rattle.shared_core.proofs.Steps.{live_count-seen, shown_after, shown_sound}
 use Rattle.shared_core.proofs.Accepted.{seen-accept, seen-lose_oldest, has_room-seen}
 

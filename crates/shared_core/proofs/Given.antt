@@ -9,7 +9,7 @@ use Rattle.std.proofs.lemmas.List.Elements.{filter_map-append}
 use Rattle.std.proofs.lemmas.Option.{none-some, same_Some, some_pair_parts}
 use Rattle.std.specs.List.{cons_option}
 use Rattle.shared_core.specs.declared.answers.Next.TheVariants as next
-use Rattle.shared_core.specs.Flow.{State, Subscription, empty, receive, settle, change, contains, received_next, lost_next, lose_first, pending, pending_values, values, values_at, number}
+use Rattle.shared_core.specs.Flow.{State, Subscription, empty, accept, lose_oldest, receive, settle, change, contains, received_next, lost_next, lose_first, pending, pending_values, values, values_at, number}
 use Rattle.shared_core.specs.Calls.{Call, trying, starting, polling, withdrawing, subscribing, receiving, cancelling, resetting, counting, Reply, to_try, to_start, to_poll, to_withdraw, to_subscribe, to_receive, to_cancel, to_reset, to_count, step, replies, after, next_value, next_at, next_of, live_one, live_at, if_live}
 use Rattle.shared_core.specs.Story.{IsTold, told_count, given_to, ReceivedLaw}
 use Rattle.shared_core.proofs.Lists.{range_bounds, contains-Interleaves}
@@ -92,20 +92,25 @@ module _ {T : Type 0} where
       ∙ values_at-longer (values M.accepted) (v ∷ []) s.received (λ i within.
       let below = received_within (length M.accepted) s told i within in omega (arith, length-map M.accepted (λ (e : ℕ × T). e.1)))
 
+  keeps_accepted : (emitter : ℕ) (v : T) (M : State T) → Keeps M (accept emitter v M)
+  keeps_accepted emitter v M sound = (sound-accept emitter v M sound, refl, λ k. got_accepted emitter v M k (slice_get M.subscriptions k) refl sound)
+
   keeps-quiet : OverQuiet Keeps
   keeps-quiet = record {
     same = λ M sound. (sound, refl, λ k. refl);
     then = λ first second sound. let mid = first sound in let last = second mid.0 in (last.0, last.1 ∙ mid.1, λ k. last.2 k ∙ mid.2 k);
-    accepts = λ emitter v M sound. (sound-accept emitter v M sound, refl, λ k. got_accepted emitter v M k (slice_get M.subscriptions k) refl sound);
-    loses = λ M sound. (
-      sound-lose_oldest M sound,
-      refl,
-      λ k.
-          got_mapped M.accepted _ (λ s. cond-received _ s (lost_next (length M.accepted) s) (lose_first-received s (pending (length M.accepted) s))) k M.subscriptions,
-    );
+    accepts = λ emitter v M _ sound. keeps_accepted emitter v M sound;
+    pushes = λ emitter v M _ sound.
+        let lost = sound-lose_oldest M sound in
+        let accepted = keeps_accepted emitter v (lose_oldest M) lost in (
+          accepted.0,
+          refl,
+          λ k.
+              accepted.2 k
+              ∙ got_mapped M.accepted _ (λ s. cond-received _ s (lost_next (length M.accepted) s) (lose_first-received s (pending (length M.accepted) s))) k M.subscriptions,
+        );
     opens = λ M sound. (sound-open M sound, refl, λ k. got_pushed M.accepted _ refl k M.subscriptions);
     closes = λ n M sound. (sound-close n M sound, refl, λ k. got_changed M.accepted n (λ s. record s { live = false }) (λ s. refl) k M.subscriptions);
-    resets = λ M sound. (sound-reset M sound, refl, λ k. refl);
     tickets = λ M tickets sound. (sound-tickets M tickets sound, refl, λ k. refl);
   }
 
@@ -240,7 +245,7 @@ module _ {T : Type 0} where
   gives subscribing M sound = gives_quiet subscribing tt M sound
   gives (receiving m) M sound = gives_next_at m M (live_one M m) sound refl
   gives (cancelling m) M sound = gives_quiet (cancelling m) tt M sound
-  gives resetting M sound = gives_quiet resetting tt M sound
+  gives resetting M sound = (sound-reset M sound, refl, λ k. sym (append-nil (got M k)))
   gives counting M sound = gives_quiet counting tt M sound
 
   pub given_append : (n : ℕ) (call : Call T) (reply : Reply T) (calls : List (Call T)) (rs : List (Reply T)) → given_to n (call ∷ calls) (reply ∷ rs) ≡ given_to n (call ∷ []) (reply ∷ []) ++ given_to n calls rs

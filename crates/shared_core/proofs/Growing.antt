@@ -3,7 +3,7 @@ use Rattle.std.proofs.Common.{◌≡◌, ℕ, zero, suc, ◌-◌, Bool, true, fa
 use Rattle.std.proofs.lemmas.List.{append-nil, map-append, drop-append-le}
 use Rattle.std.proofs.lemmas.Option.{none-some, same_Some}
 use Rattle.std.proofs.Math.ListN.{length-map}
-use Rattle.shared_core.specs.Flow.{State, Subscription, empty, open_next, change, receive_first, lose_first, received_next, lost_next, pending, capacity, values}
+use Rattle.shared_core.specs.Flow.{State, Subscription, empty, accept, lose_oldest, open_next, change, receive_first, lose_first, received_next, lost_next, pending, capacity, values}
 use Rattle.shared_core.specs.Calls.{Call, after}
 use Rattle.shared_core.specs.Story.{BeginsWith, GoesOn, Grows, BeginsWithCache, GrowthLaw, CacheLaw}
 use Rattle.shared_core.proofs.Pending.{pending-closed}
@@ -85,10 +85,10 @@ last_pushed [] new = refl
 last_pushed (x ∷ xs) new = last_pushed xs new
 
 module _ {T : Type 0} where
-  grows_same : (M : State T) → Grows M M
+  pub grows_same : (M : State T) → Grows M M
   grows_same M = record { accepted = begins_same M.accepted; subscriptions = λ k s gets. (s, gets, on_same s) }
 
-  grows_then : {M N K : State T} → Grows M N → Grows N K → Grows M K
+  pub grows_then : {M N K : State T} → Grows M N → Grows N K → Grows M K
   grows_then {M = M} {N = N} {K = K} first second = record {
     accepted = begins_then M.accepted N.accepted K.accepted first.accepted second.accepted;
     subscriptions = λ k s gets.
@@ -97,36 +97,47 @@ module _ {T : Type 0} where
         (last.0, last.1, on_then s mid.0 last.0 mid.2 last.2);
   }
 
-  grows-events : OverEvents {T = T} Grows
+  pub grows_accept : (emitter : ℕ) (v : T) (M : State T) → Grows M (accept emitter v M)
+  grows_accept emitter v M = record { accepted = ((emitter, v) ∷ [], refl); subscriptions = λ k s gets. (s, gets, on_same s) }
+
+  grows_lose_oldest : (M : State T) → Grows M (lose_oldest M)
+  grows_lose_oldest M = record {
+    accepted = begins_same M.accepted;
+    subscriptions = all_mapped _ (λ s. on_cond (s.live && (length (pending (length M.accepted) s) == capacity M.parameters)) s (lost_next (length M.accepted) s)
+        (on_lose_first s (pending (length M.accepted) s) (pending-closed (length M.accepted) s))) M.subscriptions;
+  }
+
+  pub grows_lose : (k : ℕ) (M : State T) → Grows M (record M { subscriptions = change k (lost_next (length M.accepted)) M.subscriptions })
+  grows_lose k M = record {
+    accepted = begins_same M.accepted;
+    subscriptions = all_changed k (lost_next (length M.accepted)) (λ s. on_lose_first s (pending (length M.accepted) s) (pending-closed (length M.accepted) s)) M.subscriptions;
+  }
+
+  pub grows-events : OverEvents {T = T} Grows
   grows-events = record {
     quiet = record {
       same = grows_same;
       then = λ first second. grows_then first second;
-      accepts = λ emitter v M. record { accepted = ((emitter, v) ∷ [], refl); subscriptions = λ k s gets. (s, gets, on_same s) };
-      loses = λ M. record {
-        accepted = begins_same M.accepted;
-        subscriptions = all_mapped _ (λ s. on_cond (s.live && (length (pending (length M.accepted) s) == capacity M.parameters)) s (lost_next (length M.accepted) s)
-            (on_lose_first s (pending (length M.accepted) s) (pending-closed (length M.accepted) s))) M.subscriptions;
-      };
+      accepts = λ emitter v M _. grows_accept emitter v M;
+      pushes = λ emitter v M _. grows_then (grows_lose_oldest M) (grows_accept emitter v (lose_oldest M));
       opens = λ M. record { accepted = begins_same M.accepted; subscriptions = all_pushed M.subscriptions _ };
       closes = λ k M. record { accepted = begins_same M.accepted; subscriptions = all_changed k (λ s. record s { live = false }) on_close M.subscriptions };
-      resets = λ M. record { accepted = begins_same M.accepted; subscriptions = λ k s gets. (s, gets, on_same s) };
       tickets = λ M tickets. record { accepted = begins_same M.accepted; subscriptions = λ k s gets. (s, gets, on_same s) };
     };
+    resets = λ M. record { accepted = begins_same M.accepted; subscriptions = λ k s gets. (s, gets, on_same s) };
     receives = λ k M. record {
       accepted = begins_same M.accepted;
       subscriptions = all_changed k (received_next (length M.accepted)) (λ s. on_receive_first s (pending (length M.accepted) s) (pending-closed (length M.accepted) s)) M.subscriptions;
     };
   }
 
-  begins_with_cache : (M : State T) (later : List (Call T)) → IsSound M → BeginsWithCache M (after later (open_next M))
-  begins_with_cache M later sound =
+  -- a subscription that is opened begins with the cache, in any state that grows from there
+  pub begins_with_cache : (M N : State T) → IsSound M → Grows (open_next M) N → BeginsWithCache M N
+  begins_with_cache M N sound grown =
       let start = length M.accepted - M.cached in
       let opened : Subscription = record { start = start; received = []; lost = []; live = true } in
-      let grown = after_over grows-events later (open_next M) in
       let on = grown.subscriptions (length M.subscriptions) opened (last_pushed M.subscriptions opened) in
-      let all = grown.accepted in
-      let N = after later (open_next M) in (
+      let all = grown.accepted in (
         on.0,
         on.1,
         (
@@ -142,4 +153,6 @@ pub growth_law : (T : Type 0) → GrowthLaw T
 growth_law T M calls = after_over grows-events calls M
 
 pub cache_law : (T : Type 0) → CacheLaw T
-cache_law T p calls later = begins_with_cache (after calls (empty p)) later (sound-after calls (empty p) (sound-empty p))
+cache_law T p calls later =
+    let M = after calls (empty p) in
+    begins_with_cache M (after later (open_next M)) (sound-after calls (empty p) (sound-empty p)) (after_over grows-events later (open_next M))

@@ -1,3 +1,7 @@
+pub mod Continuing
+pub mod Bounded
+pub mod Caching
+pub mod Fates
 pub mod Emissions
 pub mod Moments
 pub mod Closing

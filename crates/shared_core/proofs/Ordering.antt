@@ -5,20 +5,8 @@ use Rattle.std.proofs.lemmas.Option.{same_Some}
 use Rattle.std.specs.List.{filter, list_any, list_all}
 use Rattle.shared_core.specs.Flow.{State, Standing, waits, stands, gone, does_wait, Overflow, suspend, drop_oldest, drop_latest, Subscription, change, has_room, pending, places, capacity, live_count, waiting_count}
 use Rattle.shared_core.specs.Calls.{Fate, enters, pushes_in, handed_over, held_up, fate, without_room}
-use Rattle.shared_core.proofs.Pending.{pending-closed}
+use Rattle.shared_core.proofs.Fates.{alone_room}
 use Rattle.shared_core.proofs.Queueing.{kept_from}
-
--- where nobody is live there is room
-room_alone : (p total : ℕ) (subscriptions : List Subscription) → 0 < p → length (filter (λ s. s.live) subscriptions) ≡ 0 → list_all (λ s. ltb (length (pending total s)) p) subscriptions ≡ true
-room_alone p total [] some none = refl
-room_alone p total (s ∷ rest) some none =
-    elim s.live as (λ b. s.live ≡ b → length (cond b (s ∷ filter (λ s. s.live) rest) (filter (λ s. s.live) rest)) ≡ 0 → (ltb (length (pending total s)) p && list_all (λ s. ltb (length (pending total s)) p) rest) ≡ true) [
-      | true ↦ λ _ h. absurd (omega (arith, h))
-      | false ↦ λ closed h.
-          ap (λ (ps : List ℕ). ltb (length ps) p && list_all (λ s. ltb (length (pending total s)) p) rest) (pending-closed total s closed)
-          ∙ ap (λ b. b && list_all (λ s. ltb (length (pending total s)) p) rest) (lt-ltb 0 p some)
-          ∙ room_alone p total rest some h
-    ] refl none
 
 without_room-cases : (o : Overflow) (f : Fate) → without_room o ≡ f → (f ≢ enters) × (f ≡ pushes_in → o ≡ drop_oldest) × (f ≢ handed_over) × (f ≡ held_up → o ≡ suspend)
 without_room-cases suspend f is = ((λ h. cc), (λ h. absurd (cc)), (λ h. cc), (λ h. refl))
@@ -37,10 +25,6 @@ module _ {T : Type 0} where
         | true ↦ λ some. absurd (let no = queued.held some in cc)
         | false ↦ λ _. refl
       ] refl
-
-  alone_room : (M : State T) → live_count M ≡ 0 → has_room M ≡ true
-  unfolding live_count has_room
-  alone_room M none = room_alone (places M.parameters) (length M.accepted) M.subscriptions (omega arith) none
 
   -- what a fate says of the state
   record FateSays (M : State T) (f : Fate) : Type 0 where
@@ -90,10 +74,6 @@ module _ {T : Type 0} where
               ] refl
         ] refl
       ] refl
-
-  -- only in a flow with places is an emission pushed in
-  pub pushing_places : (M : State T) → fate M ≡ pushes_in → capacity M.parameters ≢ 0
-  pushing_places M is = ((fate_says M).pushing is).0
 
   -- an emission enters where none waits
   pub none_entering : (M : State T) → IsQueued M → fate M ≡ enters → list_any does_wait M.tickets ≡ false

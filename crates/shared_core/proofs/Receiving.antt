@@ -100,7 +100,7 @@ All-lowered P f [] each = All-nil P
 All-lowered P f (i ∷ ns) each =
     All-cons P (f i) (map f ns) (each i (ap (λ b. b || contains ns i) (eq-eqb i i refl))) (All-lowered P f ns (λ j has. each j (ap (λ b. eqb j i || b) has ∙ or-true (eqb j i))))
 
-drop-drop : {X : Type 0} (a b : ℕ) (xs : List X) → drop b (drop a xs) ≡ drop (a + b) xs
+pub drop-drop : {X : Type 0} (a b : ℕ) (xs : List X) → drop b (drop a xs) ≡ drop (a + b) xs
 drop-drop zero b xs = let same : b ≡ 0 + b = omega arith in ap (λ n. drop n xs) same
 drop-drop (suc a) zero [] = let same : suc a + 0 ≡ suc a = omega arith in sym (ap (λ n. drop n []) same)
 drop-drop (suc a) (suc b) [] = let same : suc a + suc b ≡ suc (a + suc b) = omega arith in sym (ap (λ n. drop n []) same)
@@ -122,7 +122,7 @@ module _ {T : Type 0} where
   shown_closed accepted n s rest closed = ap (λ b. cond b ((n, pending_values accepted s) ∷ live_from accepted (n + 1) rest) (live_from accepted (n + 1) rest)) closed
 
   -- a live subscription is among those that contracts see
-  shown_at : (accepted : List (ℕ × T)) (n : ℕ) (subscriptions : List Subscription) (k : ℕ) (s : Subscription) → slice_get subscriptions k ≡ Some s → s.live ≡ true
+  pub shown_at : (accepted : List (ℕ × T)) (n : ℕ) (subscriptions : List Subscription) (k : ℕ) (s : Subscription) → slice_get subscriptions k ≡ Some s → s.live ≡ true
       → (at : ℕ) × (slice_get (live_from accepted n subscriptions) at ≡ Some (n + k, pending_values accepted s))
   shown_at accepted n [] k s gets live = absurd (none-some _ gets)
   shown_at accepted n (x ∷ rest) zero s gets live =
@@ -141,18 +141,18 @@ module _ {T : Type 0} where
       ] refl
 
   -- and of each that they see, the subscription
-  record IsShown (accepted : List (ℕ × T)) (n : ℕ) (subscriptions : List Subscription) (m : ℕ) (waits : List T) : Type 0 where
-    k : ℕ
-    s : Subscription
-    gets : slice_get subscriptions k ≡ Some s
-    lives : s.live ≡ true
-    numbered : m ≡ n + k
-    shows : waits ≡ pending_values accepted s
+  pub record IsShown (accepted : List (ℕ × T)) (n : ℕ) (subscriptions : List Subscription) (m : ℕ) (waits : List T) : Type 0 where
+    pub k : ℕ
+    pub s : Subscription
+    pub gets : slice_get subscriptions k ≡ Some s
+    pub lives : s.live ≡ true
+    pub numbered : m ≡ n + k
+    pub shows : waits ≡ pending_values accepted s
 
   one_further : (accepted : List (ℕ × T)) (n : ℕ) (x : Subscription) (rest : List Subscription) (m : ℕ) (waits : List T) → IsShown accepted (n + 1) rest m waits → IsShown accepted n (x ∷ rest) m waits
   one_further accepted n x rest m waits e = record { k = suc e.k; s = e.s; gets = e.gets; lives = e.lives; numbered = omega (arith, e.numbered); shows = e.shows }
 
-  shown_one : (accepted : List (ℕ × T)) (n : ℕ) (subscriptions : List Subscription) (at m : ℕ) (waits : List T) → slice_get (live_from accepted n subscriptions) at ≡ Some (m, waits) → IsShown accepted n subscriptions m waits
+  pub shown_one : (accepted : List (ℕ × T)) (n : ℕ) (subscriptions : List Subscription) (at m : ℕ) (waits : List T) → slice_get (live_from accepted n subscriptions) at ≡ Some (m, waits) → IsShown accepted n subscriptions m waits
   shown_one accepted n [] at m waits found = absurd (none-some _ found)
   shown_one accepted n (x ∷ rest) at m waits found =
       elim x.live as (λ b. x.live ≡ b → IsShown accepted n (x ∷ rest) m waits) [
@@ -403,7 +403,24 @@ module _ {T : Type 0} (p : Parameters) (calls : List (Call T)) where
 pub each_live_was_opened : (T : Type 0) → OfEveryRun T EachLiveWasOpened
 each_live_was_opened T p calls n pending has = was_opened p calls n pending has
 
+-- a run up to a moment is a run, of which all this holds
 pub nothing_after_cancellation : (T : Type 0) → OfEveryRun T NothingAfterCancellation
 nothing_after_cancellation T p calls n end =
     let more = nothing_more T p calls n end in
-    record { was_live = was_live p calls n end; has_what_it_had = more.1; closed = more.0 }
+    let lived = was_live p calls n end in
+    let is = until_is p calls end in
+    let opening : Opening (until end) n =
+    subst (λ (run : Run T). Opening run n) (sym is) (was_opened p end.before n lived.0 (subst (λ (run : Run T). Contains run.seen.live (n, lived.0)) is lived.1)) in
+    let before : EachReceivesCacheThenLater (until end) = subst EachReceivesCacheThenLater (sym is) (each_receives_cache_then_later T p end.before) in
+    let would = before n opening lived.0 lived.1 in
+    record {
+      was_live = lived;
+      was_opened = opening;
+      would_have_received = would;
+      begins_what_it_would_have_received = (
+        lived.0,
+        sym would.received_then_pending_is_cache_then_later ∙ ap (λ xs. xs ++ lived.0) (sym more.1),
+      );
+      has_what_it_had = more.1;
+      closed = more.0;
+    }

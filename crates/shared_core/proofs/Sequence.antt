@@ -39,7 +39,7 @@ module _ {T : Type 0} where
     queued : IsQueued answer.1
     same : answer.1.parameters ≡ M.parameters
 
-  calm_queued : (N : State T) → list_any does_wait N.tickets ≡ false → IsQueued N
+  pub calm_queued : (N : State T) → list_any does_wait N.tickets ≡ false → IsQueued N
   calm_queued N none = record { held = λ some. absurd (cc); suspends = λ some. absurd (cc) }
 
   room_tickets : (M : State T) (ts : List (Standing T)) → has_room (record M { tickets = ts }) ≡ has_room M
@@ -254,6 +254,10 @@ module _ {T : Type 0} where
   }
   order-call counting M queued q unnamed = record { order = keeps_order M queued q; queued = queued; same = refl }
 
+  pub queued-after : (calls : List (Call T)) (M : State T) → IsQueued M → IsQueued (after calls M)
+  queued-after [] M queued = queued
+  queued-after (call ∷ calls) M queued = queued-after calls (step call M).1 (order-call call M queued (λ _. false) (λ k t gets calm. refl)).queued
+
   -- ---- tickets that don't wait
 
   settled_push : (ts : List (Standing T)) (new : Standing T) → Settled ts (ts ++ new ∷ [])
@@ -439,14 +443,14 @@ module _ {T : Type 0} where
     quiet = record {
       same = λ M. refl;
       then = λ first second. second ∙ first;
-      accepts = λ emitter v M. refl;
-      loses = λ M. refl;
+      accepts = λ emitter v M _. refl;
+      pushes = λ emitter v M _. refl;
       opens = λ M. refl;
       closes = λ k M. refl;
-      resets = λ M. refl;
       tickets = λ M tickets. refl;
     };
     receives = λ k M. refl;
+    resets = λ M. refl;
   }
 
 pub order_law : (T : Type 0) → OrderLaw T

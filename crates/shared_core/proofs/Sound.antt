@@ -86,14 +86,14 @@ module _ {T : Type 0} where
     quiet = record {
       same = λ M sound. sound;
       then = λ first second sound. second (first sound);
-      accepts = sound-accept;
-      loses = sound-lose_oldest;
+      accepts = λ emitter v M _ sound. sound-accept emitter v M sound;
+      pushes = λ emitter v M _ sound. sound-accept emitter v (lose_oldest M) (sound-lose_oldest M sound);
       opens = sound-open;
       closes = sound-close;
-      resets = sound-reset;
       tickets = sound-tickets;
     };
     receives = sound-receive;
+    resets = sound-reset;
   }
 
   pub sound-after : (calls : List (Call T)) (M : State T) → IsSound M → IsSound (after calls M)

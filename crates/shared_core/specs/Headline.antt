@@ -1,14 +1,14 @@
 -- What each subscription receives in every run of calls on a new flow, told by the calls, the replies to them, and what
 -- contracts see.
-use Rattle.std.specs.Prelude.{◌≡◌, ◌≢◌, ℕ, ◌+◌, ◌-◌, ◌<◌, ◌≤◌, ◌⊎◌, true, List, [], ◌∷◌, ◌++◌, length, take, drop, Option, None, Some, Ok, IsSome, slice_get}
-use Rattle.std.specs.List.{filter_map, range_with_len, Contains, All}
+use Rattle.std.specs.Prelude.{◌≡◌, ◌≢◌, ℕ, ◌+◌, ◌-◌, ◌<◌, ◌≤◌, ◌⊎◌, Bool, true, false, List, [], ◌∷◌, ◌++◌, length, take, drop, Option, None, Some, Ok, IsSome, slice_get}
+use Rattle.std.specs.List.{filter_map, list_any, range_with_len, Contains, All}
 use Rattle.shared_core.specs.declared.answers.Tried.TheVariants as tried
 use Rattle.shared_core.specs.declared.answers.Begun.TheVariants as begun
 use Rattle.shared_core.specs.declared.answers.Next.TheVariants.{Closed}
-use Rattle.shared_core.specs.Flow.{Parameters, drop_oldest, capacity, empty, values, values_at}
-use Rattle.shared_core.specs.Calls.{Call, trying, starting, subscribing, receiving, cancelling, Reply, to_try, to_start, to_subscribe, to_receive, to_cancel, replies, after}
+use Rattle.shared_core.specs.Flow.{Parameters, suspend, drop_oldest, capacity, places, empty, values, values_at}
+use Rattle.shared_core.specs.Calls.{Call, trying, starting, subscribing, receiving, cancelling, resetting, Reply, to_try, to_start, to_subscribe, to_receive, to_cancel, to_reset, replies, after}
 use Rattle.shared_core.specs.Shown.{Seen, seen_of}
-use Rattle.shared_core.specs.Story.{Interleaves, given_to, emitted, if_waiting, by_emitter}
+use Rattle.shared_core.specs.Story.{Interleaves, BeginsWith, given_to, emitted, if_waiting, by_emitter}
 
 -- the calls made on a new flow, the replies to them, and what contracts see afterwards
 pub record Run (T : Type 0) : Type 0 where
@@ -123,9 +123,14 @@ abbrev pub IsClosedFrom : {T : Type 0} → ℕ → ℕ → Run T → Type 0
 IsClosedFrom from n run =
     (index : ℕ) → from ≤ index → slice_get run.calls index ≡ Some (receiving n) → slice_get run.replies index ≡ Some (to_receive Closed)
 
--- Until it was cancelled a subscription was live. It has what it received before, and each later `next` is `Closed`.
+-- Until it was cancelled a subscription was live. It has what it received before, which begins what it would have received,
+-- and each later `next` is `Closed`.
 pub record ReceivesNoMore {T : Type 0} (run : Run T) (n : ℕ) (end : Cancellation run n) : Type 0 where
   pub was_live : (pending : List T) × Contains (until end).seen.live (n, pending)
+  pub was_opened : Opening (until end) n
+  -- what was pending at the cancellation is given up
+  pub would_have_received : ReceivesCacheThenLater (until end) n was_opened was_live.0
+  pub begins_what_it_would_have_received : BeginsWith (received n run) (values_at (cache_then_later (until was_opened) (until end)) would_have_received.kept)
   pub has_what_it_had : received n run ≡ received n (until end)
   pub closed : IsClosedFrom (length end.before) n run
 
@@ -138,6 +143,36 @@ NothingWithoutOpening run =
     (n : ℕ) → (n < run.seen.parameters.first) ⊎ (run.seen.parameters.first + run.seen.subscriptions ≤ n)
     → IsClosedFrom 0 n run × (received n run ≡ [])
 
+-- ---- room
+
+-- a live subscription has no more pending than it has places
+abbrev pub AtMostItsPlacesPending : {T : Type 0} → Run T → Type 0
+AtMostItsPlacesPending {T} run = (n : ℕ) (pending : List T) → Contains run.seen.live (n, pending) → length pending ≤ places run.seen.parameters
+
+-- While an emission waits some subscription has all its places taken; and none waits where the policy drops.
+pub record WaitsForRoom {T : Type 0} (run : Run T) : Type 0 where
+  pub all_places_taken : (n : ℕ) × (pending : List T) × Contains run.seen.live (n, pending) × (length pending ≡ places run.seen.parameters)
+  pub waits_for_places : (capacity run.seen.parameters ≡ 0) ⊎ (run.seen.parameters.overflow ≡ suspend)
+
+abbrev pub NoneWaitsBesideRoom : {T : Type 0} → Run T → Type 0
+NoneWaitsBesideRoom run = waiting run ≢ [] → WaitsForRoom run
+
+-- ---- the replay cache
+
+-- the last n values, or all where there are fewer
+abbrev pub latest : {X : Type 0} → ℕ → List X → List X
+latest n xs = drop (length xs - n) xs
+
+abbrev pub is_reset : {T : Type 0} → Call T → Bool
+is_reset resetting = true
+is_reset _ = false
+
+-- The replay cache has the latest values that were accepted since it was last reset, as many as it may hold.
+pub record CachesTheLatest {T : Type 0} (run : Run T) : Type 0 where
+  pub never_reset : list_any is_reset run.calls ≡ false → run.seen.cache ≡ latest run.seen.parameters.replay (values (accepted run))
+  pub since_last_reset : (reset : Moment run resetting to_reset) → list_any is_reset reset.later ≡ false
+      → run.seen.cache ≡ latest run.seen.parameters.replay (drop (length (accepted (until reset))) (values (accepted run)))
+
 -- ---- the whole
 
 pub record Headline {T : Type 0} (run : Run T) : Type 0 where
@@ -148,6 +183,9 @@ pub record Headline {T : Type 0} (run : Run T) : Type 0 where
   pub live_until_cancelled : LiveUntilCancelled run
   pub nothing_after_cancellation : NothingAfterCancellation run
   pub nothing_without_opening : NothingWithoutOpening run
+  pub at_most_its_places_pending : AtMostItsPlacesPending run
+  pub none_waits_beside_room : NoneWaitsBesideRoom run
+  pub caches_the_latest : CachesTheLatest run
 
 -- what holds of every run
 abbrev pub OfEveryRun : (T : Type 0) → (Run T → Type 0) → Type 0

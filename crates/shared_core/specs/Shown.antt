@@ -1,5 +1,6 @@
 -- What contracts see of a shared flow, and which states of the model a program's state shows.
-use Rattle.std.specs.Prelude.{◌≡◌, ℕ, Bool, ◌+◌, if◌then◌else◌, List, [], ◌∷◌, length}
+use Rattle.std.specs.Prelude.{◌≡◌, ℕ, Bool, false, ◌+◌, ◌⊎◌, ◌==◌, if◌then◌else◌, List, [], ◌∷◌, length}
+use Rattle.std.specs.List.{Contains, list_any}
 use Rattle.shared_core.specs.Flow.{Parameters, State, Standing, is_out, Subscription, pending_values, cache, empty, number}
 use Rattle.shared_core.specs.Calls.{Call, after}
 
@@ -40,6 +41,12 @@ seen_of M = record {
   tickets = length M.tickets;
   out = out_from M.parameters.first M.tickets;
 }
+
+-- the live subscription with this number has so many values pending; 0 where none has the number
+abbrev pub CountsPending : {T : Type 0} → ℕ → List (ℕ × List T) → ℕ → Type 0
+CountsPending {T} n live count =
+    ((pending : List T) × Contains live (n, pending) × (count ≡ length pending))
+    ⊎ ((list_any (λ entry. entry.0 == n) live ≡ false) × (count ≡ 0))
 
 -- M is what some list of calls left of the empty state
 abbrev pub IsReached : {T : Type 0} → State T → Type 0

@@ -1,6 +1,6 @@
 //! What each subscription receives.
 
-ghost use Rattle.shared_core.specs.Headline.{OfEveryRun, EachReceivesCacheThenLater, EachEmitterInItsOwnOrder, NumbersCountWhatWasAccepted, EachLiveWasOpened, LiveUntilCancelled, NothingAfterCancellation, NothingWithoutOpening};
+ghost use Rattle.shared_core.specs.Headline.{OfEveryRun, EachReceivesCacheThenLater, EachEmitterInItsOwnOrder, NumbersCountWhatWasAccepted, EachLiveWasOpened, LiveUntilCancelled, NothingAfterCancellation, NothingWithoutOpening, AtMostItsPlacesPending, NoneWaitsBesideRoom, CachesTheLatest};
 
 /// For every list of calls on a new flow, what a subscription received, then what is pending for it, is the replay cache at
 /// its start followed by all later accepted emissions, in order and once, each emitter's in its own order, less just the
@@ -9,6 +9,9 @@ ghost use Rattle.shared_core.specs.Headline.{OfEveryRun, EachReceivesCacheThenLa
 /// Received are the values in the replies to `next`. Accepted are the emissions in the order of the calls that began them,
 /// without those that were refused, full or dropped, or were removed while they waited, and without those that still wait.
 /// Of a cancelled subscription this holds as it was at the cancellation; its pending values are given up.
+///
+/// A live subscription has no more pending than it has places, an emission waits only while some subscription has all of them
+/// taken, and the replay cache has the latest values that were accepted since it was last reset.
 ///
 /// Not claimed: that any call is made.
 pub fn each_subscription_receives_cache_then_later<T: Copy>()
@@ -19,4 +22,7 @@ pub fn each_subscription_receives_cache_then_later<T: Copy>()
     ensures live_until_cancelled { OfEveryRun T LiveUntilCancelled }
     ensures nothing_after_cancellation { OfEveryRun T NothingAfterCancellation }
     ensures nothing_without_opening { OfEveryRun T NothingWithoutOpening }
+    ensures at_most_its_places_pending { OfEveryRun T AtMostItsPlacesPending }
+    ensures none_waits_beside_room { OfEveryRun T NoneWaitsBesideRoom }
+    ensures caches_the_latest { OfEveryRun T CachesTheLatest }
 {}

@@ -26,7 +26,8 @@ impl<T: Copy> SharedState<T> {
     /// A value of Kotlin's `replayCache`, by its index from the oldest one on.
     pub fn replay_at(&self, index: u64) -> T
         requires { index < length self.now.cache }
-        ensures { Reads (λ M. slice_get (cache M) index) self.now (Some result) }
+        ensures value { slice_get self.now.cache index ≡ Some result }
+        ensures shows { Reads (λ M. slice_get (cache M) index) self.now (Some result) }
     {
         self.ring.replay_at(index as usize)
     }

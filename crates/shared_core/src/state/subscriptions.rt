@@ -3,7 +3,7 @@
 ghost use Rattle.std.specs.Prelude.{◌≡◌, length};
 ghost use Rattle.shared_core.specs.Flow.{live_count};
 ghost use Rattle.shared_core.specs.Calls as calls;
-ghost use Rattle.shared_core.specs.Shown.{Follows, Reads};
+ghost use Rattle.shared_core.specs.Shown.{Follows, Reads, CountsPending};
 
 use crate::answers::Next;
 use crate::config::NUMBER_LIMIT;
@@ -63,7 +63,8 @@ impl<T: Copy> SharedState<T> {
 
     /// How many values the subscription has pending, and 0 where it isn't live.
     pub fn pending(&self, id: SubId) -> u64
-        ensures { Reads (calls.pending_count id.0) self.now result }
+        ensures count { CountsPending id.0 self.now.live result }
+        ensures shows { Reads (calls.pending_count id.0) self.now result }
     {
         match self.ring.place_of(id.0) {
             None => 0,
@@ -73,7 +74,8 @@ impl<T: Copy> SharedState<T> {
 
     /// How many subscriptions are live: Kotlin's `subscriptionCount`, as a plain number.
     pub fn subscription_count(&self) -> u32
-        ensures { Reads live_count self.now result }
+        ensures count { result ≡ length self.now.live }
+        ensures shows { Reads live_count self.now result }
     {
         self.ring.live_len() as u32
     }

@@ -1,21 +1,35 @@
-use Rattle.std.proofs.Common.{eqb, ◌≡◌, ℕ, List, ap, sym, subst, ◌∙◌, slice_get}
+use Rattle.std.proofs.Common.{eqb, ◌≡◌, ℕ, List, Some, inl, inr, refl, ap, sym, subst, ◌∙◌, slice_get}
 use Rattle.std.proofs.lemmas.Option.{same_Some, slice_get_within}
 use Rattle.std.specs.List.{list_any}
 use Rattle.shared_core.specs.Calls.{pending_count}
 use Rattle.shared_core.specs.Shown.{Seen, Reads}
+use Rattle.shared_core.proofs.Receiving.{contains_at}
 use Rattle.shared_core.proofs.Bodies.{pending_reads-closed, pending_reads}
 use Rattle.shared_core.proofs.state.SharedState.pending.Goals as goal
 
-pub returns-in-None : goal.returns-in-None
-returns-in-None g c =
+pub returns-in-None-clause-count : goal.returns-in-None-clause-count
+returns-in-None-clause-count g c =
+    inr (ap (λ (seen : Seen _). list_any (λ e. eqb e.0 c.args.id.0) seen.live) (sym c.self.view_is) ∙ c.in-None.ensures.none, refl)
+
+pub returns-in-None-clause-shows : goal.returns-in-None-clause-shows
+returns-in-None-clause-shows g c =
     pending_reads-closed c.args.self.now c.args.id.0
     (ap (λ (seen : Seen _). list_any (λ e. eqb e.0 c.args.id.0) seen.live) (sym c.self.view_is) ∙ c.in-None.ensures.none)
 
 pub pending_at-requires : goal.pending_at-requires
 pending_at-requires g c = let found = c.in-Some.ensures.found in slice_get_within c.self.inside.ring.live c.in-Some.at found.0 found.1
 
-pub returns-in-Some : goal.returns-in-Some
-returns-in-Some g c =
+pub returns-in-Some-clause-count : goal.returns-in-Some-clause-count
+returns-in-Some-clause-count g c =
+    let now = c.args.self.now in
+    let found = c.in-Some.ensures.found in
+    let read = c.pending_at.ensures in
+    let number : read.0.0 ≡ c.args.id.0 = ap (λ (e : ℕ × List _). e.0) (same_Some read.0 found.0 (sym read.1 ∙ found.1)) ∙ found.2 in
+    let there = ap (λ (seen : Seen _). slice_get seen.live c.in-Some.at) (sym c.self.view_is) ∙ read.1 ∙ ap (λ n. Some (n, read.0.1)) number in
+    inl (read.0.1, contains_at now.live c.in-Some.at (c.args.id.0, read.0.1) there, read.2)
+
+pub returns-in-Some-clause-shows : goal.returns-in-Some-clause-shows
+returns-in-Some-clause-shows g c =
     let now = c.args.self.now in
     let found = c.in-Some.ensures.found in
     let read = c.pending_at.ensures in
