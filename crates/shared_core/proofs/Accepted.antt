@@ -4,7 +4,7 @@ use Rattle.std.proofs.Math.ListN.{length-map}
 use Rattle.std.proofs.lemmas.List.{map-append, drop-drop}
 use Rattle.std.proofs.lemmas.Bool.{eqb-true, lt-ltb, le-ltb, cases_lt}
 use Rattle.std.specs.List.{AllByRecursion, list_all, range_with_len}
-use Rattle.shared_core.specs.Flow.{State, Subscription, accept, lose_oldest, contains, pending, pending_values, values, cache, number, capacity, places, has_room, lost_next}
+use Rattle.shared_core.specs.Flow.{cache_start, State, Subscription, accept, lose_oldest, contains, pending, pending_values, values, cache, number, capacity, places, has_room, lost_next}
 use Rattle.shared_core.specs.Calls.{is_done}
 use Rattle.shared_core.specs.Shown.{live_from, seen_of}
 use Rattle.shared_core.specs.Accepting.{IsSound, with_accepted, without_oldest_of, room_in, finished_in}
@@ -61,14 +61,14 @@ module _ {T : Type 0} where
   cache-accepted : (emitter : ℕ) (v : T) (M : State T) → IsSound M → cache (accept emitter v M) ≡ drop ((length (cache M) + 1) - M.parameters.replay) (cache M ++ v ∷ [])
   cache-accepted emitter v M sound =
       let all = values M.accepted in
-      let start = length M.accepted - M.cached in
-      let count : length (cache M) ≡ M.cached = omega (arith, length-drop start all, length-values M.accepted, sound.cached) in
+      let start = cache_start M in
+      let count : length (cache M) ≡ length M.accepted - start = length-drop start all ∙ ap (λ n. n - start) (length-values M.accepted) in
       let more : length (M.accepted ++ (emitter, v) ∷ []) ≡ length M.accepted + 1 = length-append M.accepted ((emitter, v) ∷ []) in
-      let from : length (M.accepted ++ (emitter, v) ∷ []) - min M.parameters.replay (M.cached + 1) ≡ start + ((length (cache M) + 1) - M.parameters.replay) = omega (arith, more, count, sound.cached) in
+      let from : cache_start (accept emitter v M) ≡ start + ((length (cache M) + 1) - M.parameters.replay) = omega (arith, more, count, sound.reset) in
       ap (λ i. drop i (values (M.accepted ++ (emitter, v) ∷ []))) from
       ∙ ap (drop (start + ((length (cache M) + 1) - M.parameters.replay))) (map-append (λ (e : ℕ × T). e.1) M.accepted ((emitter, v) ∷ []))
       ∙ sym (drop-drop ((length (cache M) + 1) - M.parameters.replay) start (all ++ v ∷ []))
-      ∙ ap (drop ((length (cache M) + 1) - M.parameters.replay)) (drop-append start all (v ∷ []) (omega (arith, length-values M.accepted)))
+      ∙ ap (drop ((length (cache M) + 1) - M.parameters.replay)) (drop-append start all (v ∷ []) (omega (arith, sound.reset, length-values M.accepted)))
 
   pub seen-accept : (emitter : ℕ) (v : T) (M : State T) → IsSound M → seen_of (accept emitter v M) ≡ with_accepted v (seen_of M)
   unfolding seen_of

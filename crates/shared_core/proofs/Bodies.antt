@@ -2,6 +2,7 @@
 use Rattle.std.proofs.Common.{◌≡◌, ◌≢◌, Result, Ok, Err, ℕ, ◌+◌, ◌-◌, Bool, true, false, eqb, List, [], ◌∷◌, ◌++◌, length, drop, map, set, Some, None, slice_get, refl, sym, ap, ◌∙◌, subst, add-zero, arith}
 use Rattle.std.specs.List.{list_any, remove}
 use Rattle.std.proofs.Math.ListN.{length-map, drop_of_length-le}
+use Rattle.std.proofs.Math.Seq.{drop-nil}
 use Rattle.cold_flow.specs.declared.refusal.Refusal.{Refusal}
 use Rattle.cold_flow.specs.declared.refusal.Refusal.TheVariants.{Spent, SubscribersFull}
 use Rattle.shared_core.specs.declared.ids.SubId.{SubId}
@@ -12,7 +13,7 @@ use Rattle.shared_core.specs.declared.tickets.Held.{Held}
 use Rattle.shared_core.specs.declared.tickets.Accepted.{Accepted}
 use Rattle.shared_core.specs.declared.tickets.Waiting.{Waiting}
 use Rattle.shared_core.specs.Kept.{shown_accepted, shown_waiting}
-use Rattle.shared_core.specs.Flow.{State, Parameters, empty, number_limit, values, cache, live_count}
+use Rattle.shared_core.specs.Flow.{cache_start, State, Parameters, empty, number_limit, values, cache, live_count}
 use Rattle.shared_core.specs.Calls.{Call, step, next_value, receiving, pending_count, cancel, cancelling, subscribe, subscribing, reset, resetting}
 use Rattle.shared_core.specs.Shown.{Seen, seen_of, Shows, Follows, Reads, Leaves}
 use Rattle.shared_core.specs.Accepting.{Settles}
@@ -122,14 +123,15 @@ shows_empty {T = T} p ring us ws no_values no_accepted no_waiting =
           ap (λ (r : Ringed T). record start { next_number = r.next_number; cache = r.cache; live = r.live; out = map shown_accepted us ++ map shown_waiting ws }) no_values
           ∙ ap (λ xs. record start { out = map shown_accepted xs ++ map shown_waiting ws }) no_accepted
           ∙ ap (λ xs. record start { out = map shown_waiting xs }) no_waiting
-          ∙ ap (λ n. record start { next_number = n }) (sym (add-zero p.first));
+          ∙ ap (λ n. record start { next_number = n }) (sym (add-zero p.first))
+          ∙ ap (λ xs. record (seen_of (empty {T = T} p)) { cache = xs }) (sym (drop-nil (cache_start (empty {T = T} p))));
     }
 
 module _ {T : Type 0} (old : Seen T) where
   pub reset_leaves : Leaves reset old (record old { cache = [] })
   unfolding seen_of
   reset_leaves M shows =
-      let none : drop (length M.accepted - 0) (values M.accepted) ≡ [] =
+      let none : cache (reset M) ≡ [] =
       drop_of_length-le (values M.accepted) (omega (arith, length-map M.accepted (λ (e : ℕ × T). e.1))) in
       shown_after resetting _ shows
       (ap (λ (seen : Seen T). record seen { cache = [] }) shows.same ∙ ap (λ xs. record (seen_of M) { cache = xs }) (sym none))

@@ -3,7 +3,7 @@ use Rattle.std.proofs.Common.{◌≡◌, ◌≢◌, ℕ, zero, suc, ◌+◌, ◌
 use Rattle.std.proofs.Math.ListN.{length-map}
 use Rattle.std.proofs.lemmas.Bool.{eqb-true, eqb-false, ltb-true, ltb-false, cases_lt}
 use Rattle.std.specs.List.{AllByRecursion, Contains, filter_map, list_all, list_any}
-use Rattle.shared_core.specs.Flow.{Parameters, State, Subscription, Standing, waits, stands, gone, does_wait, empty, accept, receive, lose_oldest, open_next, close_at, has_room, pending, pending_values, places, capacity, received_next, lost_next, values}
+use Rattle.shared_core.specs.Flow.{cache_start, Parameters, State, Subscription, Standing, waits, stands, gone, does_wait, empty, accept, receive, lose_oldest, open_next, close_at, has_room, pending, pending_values, places, capacity, received_next, lost_next, values}
 use Rattle.shared_core.specs.Calls.{Call, after, reset}
 use Rattle.shared_core.specs.Shown.{seen_of, live_from}
 use Rattle.shared_core.specs.Story.{IsTold, if_waiting}
@@ -83,10 +83,10 @@ fits-closed most total s fits = record {
   at_most = omega (arith, none_pending total (record s { live = false }) refl);
 }
 
-fits-opened : (most total cached : ℕ) → cached ≤ most → Fits most total (record { start = total - cached; received = []; lost = []; live = true })
-fits-opened most total cached within =
-    let told = IsTold-opened total (total - cached) (omega arith) in
-    record { told = told; at_most = omega (arith, length-pending total (record { start = total - cached; received = []; lost = []; live = true }) told refl, within) }
+fits-opened : (most total start : ℕ) → start ≤ total → total - start ≤ most → Fits most total (record { start = start; received = []; lost = []; live = true })
+fits-opened most total start low within =
+    let told = IsTold-opened total start low in
+    record { told = told; at_most = omega (arith, length-pending total (record { start = start; received = []; lost = []; live = true }) told refl, within) }
 
 -- ---- all of them
 
@@ -114,15 +114,15 @@ full_one most total (s ∷ xs) full =
     ] refl full
 
 module _ {T : Type 0} where
-  -- each subscription fits, and no more is cached than may be
+  -- each subscription fits, and the cache was reset at some moment before
   pub record IsBounded (M : State T) : Type 0 where
-    pub cached : M.cached ≤ M.parameters.replay
+    pub reset : M.reset_at ≤ length M.accepted
     pub each : AllByRecursion (Fits (places M.parameters) (length M.accepted)) M.subscriptions
 
-  one_accepted : (M N : State T) → N.parameters ≡ M.parameters → N.cached ≤ N.parameters.replay → length N.accepted ≡ length M.accepted + 1
+  one_accepted : (M N : State T) → N.parameters ≡ M.parameters → N.reset_at ≤ length M.accepted → length N.accepted ≡ length M.accepted + 1
       → AllByRecursion (Has (places M.parameters) (length M.accepted)) N.subscriptions → IsBounded N
-  one_accepted M N same cached longer each = record {
-    cached = cached;
+  one_accepted M N same reset longer each = record {
+    reset = omega (arith, reset, longer);
     each =
         subst (λ n. AllByRecursion (Fits (places N.parameters) n) N.subscriptions) (sym longer)
         (subst (λ p. AllByRecursion (Fits (places p) (length M.accepted + 1)) N.subscriptions) (sym same)
@@ -132,7 +132,7 @@ module _ {T : Type 0} where
   bounded-accept : (emitter : ℕ) (v : T) (M : State T) → has_room M ≡ true → IsBounded M → IsBounded (accept emitter v M)
   unfolding has_room
   bounded-accept emitter v M room bounded =
-      one_accepted M (accept emitter v M) refl (omega arith) (length-append M.accepted ((emitter, v) ∷ [])) (has_each (places M.parameters) (length M.accepted) M.subscriptions bounded.each room)
+      one_accepted M (accept emitter v M) refl bounded.reset (length-append M.accepted ((emitter, v) ∷ [])) (has_each (places M.parameters) (length M.accepted) M.subscriptions bounded.each room)
 
   bounded-push : (emitter : ℕ) (v : T) (M : State T) → capacity M.parameters ≢ 0 → IsBounded M → IsBounded (accept emitter v (lose_oldest M))
   bounded-push emitter v M some bounded =
@@ -140,7 +140,7 @@ module _ {T : Type 0} where
       let total = length M.accepted in
       let same : places M.parameters ≡ all = omega (arith, some) in
       let lost = lost_each all total M.subscriptions some (subst (λ n. AllByRecursion (Fits n total) M.subscriptions) same bounded.each) in
-      one_accepted M (accept emitter v (lose_oldest M)) refl (omega arith) (length-append M.accepted ((emitter, v) ∷ []))
+      one_accepted M (accept emitter v (lose_oldest M)) refl bounded.reset (length-append M.accepted ((emitter, v) ∷ []))
       (subst (λ n. AllByRecursion (Has n total) (lose_oldest M).subscriptions) (sym same) lost)
 
   bounded-events : OverEvents {T = T} (λ M N. IsBounded M → IsBounded N)
@@ -151,24 +151,24 @@ module _ {T : Type 0} where
       accepts = bounded-accept;
       pushes = bounded-push;
       opens = λ M bounded. record {
-        cached = bounded.cached;
-        each = all_pushed (Fits (places M.parameters) (length M.accepted)) M.subscriptions _ bounded.each (fits-opened (places M.parameters) (length M.accepted) M.cached (omega (arith, bounded.cached)));
+        reset = bounded.reset;
+        each = all_pushed (Fits (places M.parameters) (length M.accepted)) M.subscriptions _ bounded.each (fits-opened (places M.parameters) (length M.accepted) (cache_start M) (omega (arith, bounded.reset)) (omega arith));
       };
       closes = λ k M bounded. record {
-        cached = bounded.cached;
+        reset = bounded.reset;
         each = all_changed (Fits (places M.parameters) (length M.accepted)) (λ s. record s { live = false }) (fits-closed (places M.parameters) (length M.accepted)) k M.subscriptions bounded.each;
       };
-      tickets = λ M tickets bounded. record { cached = bounded.cached; each = bounded.each };
+      tickets = λ M tickets bounded. record { reset = bounded.reset; each = bounded.each };
     };
     receives = λ k M bounded. record {
-      cached = bounded.cached;
+      reset = bounded.reset;
       each = all_changed (Fits (places M.parameters) (length M.accepted)) (received_next (length M.accepted)) (fits-received (places M.parameters) (length M.accepted)) k M.subscriptions bounded.each;
     };
-    resets = λ M bounded. record { cached = omega arith; each = bounded.each };
+    resets = λ M bounded. record { reset = omega arith; each = bounded.each };
   }
 
   pub bounded-after : (p : Parameters) (calls : List (Call T)) → IsBounded (after calls (empty p))
-  bounded-after p calls = after_over bounded-events calls (empty p) (record { cached = omega arith; each = tt })
+  bounded-after p calls = after_over bounded-events calls (empty p) (record { reset = omega arith; each = tt })
 
   -- as many values are pending as indexes
   length-pending_values : (accepted : List (ℕ × T)) (s : Subscription) → IsTold (length accepted) s → s.live ≡ true → length (pending_values accepted s) ≡ length (pending (length accepted) s)

@@ -1,8 +1,8 @@
 -- The replay cache has the latest values that were accepted since it was last reset.
-use Rattle.std.proofs.Common.{◌≡◌, ℕ, ◌+◌, ◌-◌, ◌≤◌, min, false, List, [], ◌∷◌, ◌++◌, length, drop, refl, sym, ap, ◌∙◌, subst, arith, length-append, length-drop}
+use Rattle.std.proofs.Common.{◌≡◌, ℕ, ◌+◌, ◌-◌, ◌≤◌, false, List, [], ◌∷◌, ◌++◌, length, drop, refl, sym, ap, ◌∙◌, subst, arith, length-append, length-drop}
 use Rattle.std.proofs.Math.ListN.{length-map}
 use Rattle.std.specs.List.{list_any}
-use Rattle.shared_core.specs.Flow.{Parameters, State, empty, accept, lose_oldest, values, cache}
+use Rattle.shared_core.specs.Flow.{Parameters, State, empty, accept, lose_oldest, values, cache, cache_start}
 use Rattle.shared_core.specs.Calls.{Call, resetting, reset, step, to_reset, after}
 use Rattle.shared_core.specs.Shown.{seen_of}
 use Rattle.shared_core.specs.Headline.{run_of, Moment, until, accepted, latest, is_reset, CachesTheLatest, OfEveryRun}
@@ -13,62 +13,42 @@ use Rattle.shared_core.proofs.Sequence.{fixed_parameters}
 use Rattle.shared_core.proofs.Walks.{OverQuiet, after_calm, after_over}
 
 module _ {T : Type 0} where
-  -- From M to N nothing was reset: what was accepted in between is cached too, as far as the cache goes.
-  record CachesOn (M N : State T) : Type 0 where
+  -- from M to N nothing was reset, and no acceptance was taken back
+  record ResetAsBefore (M N : State T) : Type 0 where
     same : N.parameters ≡ M.parameters
     more : length M.accepted ≤ length N.accepted
-    cached : M.cached ≤ M.parameters.replay → N.cached ≡ min M.parameters.replay (M.cached + (length N.accepted - length M.accepted))
+    reset : N.reset_at ≡ M.reset_at
 
-  caches_same : (M N : State T) → N.parameters ≡ M.parameters → N.accepted ≡ M.accepted → N.cached ≡ M.cached → CachesOn M N
-  caches_same M N same accepted cached = record {
-    same = same;
-    more = omega (arith, ap length accepted);
-    cached = λ within. omega (arith, ap length accepted, cached, within);
-  }
-
-  caches_one : (M N : State T) → N.parameters ≡ M.parameters → length N.accepted ≡ length M.accepted + 1 → N.cached ≡ min M.parameters.replay (M.cached + 1) → CachesOn M N
-  caches_one M N same longer cached = record {
-    same = same;
-    more = omega (arith, longer);
-    cached = λ within. let one : length N.accepted - length M.accepted ≡ 1 = omega (arith, longer) in cached ∙ ap (λ n. min M.parameters.replay (M.cached + n)) (sym one);
-  }
-
-  caches_then : {M N K : State T} → CachesOn M N → CachesOn N K → CachesOn M K
-  caches_then {M = M} {N = N} {K = K} first second = record {
+  reset_then : {M N K : State T} → ResetAsBefore M N → ResetAsBefore N K → ResetAsBefore M K
+  reset_then {M = M} {N = N} {K = K} first second = record {
     same = second.same ∙ first.same;
     more = omega (arith, first.more, second.more);
-    cached = λ within.
-        let replay : N.parameters.replay ≡ M.parameters.replay = ap (λ q. q.replay) first.same in
-        let one = first.cached within in
-        let mid : N.cached ≤ N.parameters.replay = omega (arith, one, replay) in
-        let two = second.cached mid in
-        omega (arith, one, two, replay, first.more, second.more);
+    reset = second.reset ∙ first.reset;
   }
 
-  caches-quiet : OverQuiet CachesOn
-  caches-quiet = record {
-    same = λ M. caches_same M M refl refl refl;
-    then = λ first second. caches_then first second;
-    accepts = λ emitter v M _. caches_one M (accept emitter v M) refl (length-append M.accepted ((emitter, v) ∷ [])) refl;
-    pushes = λ emitter v M _. caches_one M (accept emitter v (lose_oldest M)) refl (length-append M.accepted ((emitter, v) ∷ [])) refl;
-    opens = λ M. caches_same M _ refl refl refl;
-    closes = λ k M. caches_same M _ refl refl refl;
-    tickets = λ M tickets. caches_same M _ refl refl refl;
+  as_before : OverQuiet ResetAsBefore
+  as_before = record {
+    same = λ M. record { same = refl; more = omega arith; reset = refl };
+    then = λ first second. reset_then first second;
+    accepts = λ emitter v M _. record { same = refl; more = omega (arith, length-append M.accepted ((emitter, v) ∷ [])); reset = refl };
+    pushes = λ emitter v M _. record { same = refl; more = omega (arith, length-append M.accepted ((emitter, v) ∷ [])); reset = refl };
+    opens = λ M. record { same = refl; more = omega arith; reset = refl };
+    closes = λ k M. record { same = refl; more = omega arith; reset = refl };
+    tickets = λ M tickets. record { same = refl; more = omega arith; reset = refl };
   }
 
-  -- calls none of which resets, on a state whose cache is empty
-  caches_since : (calls : List (Call T)) (M : State T) → list_any is_reset calls ≡ false → M.cached ≡ 0
+  -- calls none of which resets, on a state that was reset last of all
+  caches_since : (calls : List (Call T)) (M : State T) → list_any is_reset calls ≡ false → M.reset_at ≡ length M.accepted
       → let N = after calls M in cache N ≡ latest M.parameters.replay (drop (length M.accepted) (values N.accepted))
-  caches_since calls M calm none =
+  caches_since calls M calm now =
       let N = after calls M in
       let all = values N.accepted in
-      let on = after_calm caches-quiet (λ k M. caches_same M _ refl refl refl) calls calm M in
-      let total : length all ≡ length N.accepted = length-map N.accepted (λ (e : ℕ × T). e.1) in
+      let on = after_calm as_before (λ k M. record { same = refl; more = omega arith; reset = refl }) calls calm M in
       let since : length (drop (length M.accepted) all) ≡ length N.accepted - length M.accepted =
-      length-drop (length M.accepted) all ∙ ap (λ m. m - length M.accepted) total in
-      let kept = on.cached (omega (arith, none)) in
-      let same : length N.accepted - N.cached ≡ length M.accepted + (length (drop (length M.accepted) all) - M.parameters.replay) =
-      omega (arith, since, kept, none, on.more) in
+      length-drop (length M.accepted) all ∙ ap (λ m. m - length M.accepted) (length-map N.accepted (λ (e : ℕ × T). e.1)) in
+      let replay : N.parameters.replay ≡ M.parameters.replay = ap (λ q. q.replay) on.same in
+      let same : cache_start N ≡ length M.accepted + (length (drop (length M.accepted) all) - M.parameters.replay) =
+      omega (arith, since, replay, now, on.reset, on.more) in
       ap (λ n. drop n all) same ∙ sym (drop-drop (length M.accepted) (length (drop (length M.accepted) all) - M.parameters.replay) all)
 
 module _ {T : Type 0} (p : Parameters) (calls : List (Call T)) where

@@ -3,7 +3,7 @@ use Rattle.std.proofs.Common.{◌≡◌, ℕ, zero, suc, ◌-◌, Bool, true, fa
 use Rattle.std.proofs.lemmas.List.{append-nil, map-append, drop-append-le}
 use Rattle.std.proofs.lemmas.Option.{none-some, same_Some}
 use Rattle.std.proofs.Math.ListN.{length-map}
-use Rattle.shared_core.specs.Flow.{State, Subscription, empty, accept, lose_oldest, open_next, change, receive_first, lose_first, received_next, lost_next, pending, capacity, values}
+use Rattle.shared_core.specs.Flow.{cache_start, State, Subscription, empty, accept, lose_oldest, open_next, change, receive_first, lose_first, received_next, lost_next, pending, capacity, values}
 use Rattle.shared_core.specs.Calls.{Call, after}
 use Rattle.shared_core.specs.Story.{BeginsWith, GoesOn, Grows, BeginsWithCache, GrowthLaw, CacheLaw}
 use Rattle.shared_core.proofs.Pending.{pending-closed}
@@ -134,7 +134,7 @@ module _ {T : Type 0} where
   -- a subscription that is opened begins with the cache, in any state that grows from there
   pub begins_with_cache : (M N : State T) → IsSound M → Grows (open_next M) N → BeginsWithCache M N
   begins_with_cache M N sound grown =
-      let start = length M.accepted - M.cached in
+      let start = cache_start M in
       let opened : Subscription = record { start = start; received = []; lost = []; live = true } in
       let on = grown.subscriptions (length M.subscriptions) opened (last_pushed M.subscriptions opened) in
       let all = grown.accepted in (
@@ -145,7 +145,7 @@ module _ {T : Type 0} where
           all.1,
           ap (λ i. drop i (values N.accepted)) on.2.start ∙ ap (λ xs. drop start (values xs)) all.1
               ∙ ap (drop start) (map-append (λ (e : ℕ × T). e.1) M.accepted all.0)
-              ∙ drop-append-le start (values M.accepted) (values all.0) (omega (arith, length-map M.accepted (λ (e : ℕ × T). e.1))),
+              ∙ drop-append-le start (values M.accepted) (values all.0) (omega (arith, sound.reset, length-map M.accepted (λ (e : ℕ × T). e.1))),
         ),
       )
 

@@ -15,7 +15,7 @@ module _ {T : Type 0} where
   sound-occur (receives k) M sound = sound-receive k M sound
   sound-occur (loses k) M sound = record {
     told = all_changed (IsTold (length M.accepted)) (lost_next (length M.accepted)) (IsTold-lost_next (length M.accepted)) k M.subscriptions sound.told;
-    cached = sound.cached;
+    reset = sound.reset;
   }
   sound-occur opens M sound = sound-open M sound
   sound-occur (closes k) M sound = sound-close k M sound

@@ -11,7 +11,7 @@ use Rattle.std.specs.List.{Contains, All, cons_option, range_with_len}
 use Rattle.cold_flow.specs.declared.refusal.Refusal.{Refusal}
 use Rattle.cold_flow.specs.declared.refusal.Refusal.TheVariants.{Spent, SubscribersFull}
 use Rattle.shared_core.specs.declared.ids.SubId.{SubId}
-use Rattle.shared_core.specs.Flow.{Parameters, State, Subscription, empty, contains, pending, pending_values, values, values_at, cache, open_next, live_count, number, number_limit, capacity, drop_oldest}
+use Rattle.shared_core.specs.Flow.{cache_start, Parameters, State, Subscription, empty, contains, pending, pending_values, values, values_at, cache, open_next, live_count, number, number_limit, capacity, drop_oldest}
 use Rattle.shared_core.specs.Calls.{Call, subscribing, subscribe, Reply, to_subscribe, step, replies, after, cancelling, to_cancel}
 use Rattle.shared_core.specs.Shown.{seen_of, live_from, Seen}
 use Rattle.shared_core.specs.Story.{Interleaves, none, left, right, IsTold, told_count, BeginsWith, GoesOn, Grows, given_to}
@@ -200,7 +200,7 @@ module _ {T : Type 0} where
     opened = opened_as M n (answered p calls opening)
 
     abbrev new : Subscription
-    new = record { start = length M.accepted - M.cached; received = []; lost = []; live = true }
+    new = record { start = cache_start M; received = []; lost = []; live = true }
 
     new_there : slice_get (open_next M).subscriptions k ≡ Some new
     new_there = slice_get-seam M.subscriptions new []
@@ -224,7 +224,8 @@ module _ {T : Type 0} where
     story_at later all is begins =
         let before : accepted (until opening) ≡ M.accepted = ap accepted (until_is p calls opening) ∙ accepted_is p opening.before in
         let parts : values all ≡ values M.accepted ++ values begins.0 = ap values begins.1 ∙ map-append (λ (e : ℕ × T). e.1) M.accepted begins.0 in
-        let within : new.start ≤ length (values M.accepted) = omega (arith, length-map M.accepted (λ (e : ℕ × T). e.1)) in
+        let sound = sound-after opening.before (empty {T = T} p) (sound-empty p) in
+        let within : new.start ≤ length (values M.accepted) = omega (arith, sound.reset, length-map M.accepted (λ (e : ℕ × T). e.1)) in
         ap (λ (r : Run T). r.seen.cache ++ drop (length (accepted (until opening))) (values (accepted later))) (until_is p calls opening)
         ∙ ap (λ xs. cache M ++ drop (length xs) (values (accepted later))) before
         ∙ ap (λ xs. cache M ++ drop (length M.accepted) (values xs)) is

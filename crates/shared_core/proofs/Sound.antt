@@ -1,7 +1,7 @@
 -- What holds of every state that some list of calls leaves.
 use Rattle.std.proofs.Common.{◌≡◌, ℕ, zero, suc, ◌+◌, ◌-◌, Bool, true, false, cond, ◌&&◌, ◌==◌, List, [], ◌∷◌, ◌++◌, length, map, Some, slice_get, subst, arith, length-append}
 use Rattle.std.specs.List.{AllByRecursion}
-use Rattle.shared_core.specs.Flow.{State, Subscription, Standing, Parameters, empty, accept, receive, lose_oldest, open_next, close_at, change, received_next, lost_next, pending, capacity}
+use Rattle.shared_core.specs.Flow.{cache_start, State, Subscription, Standing, Parameters, empty, accept, receive, lose_oldest, open_next, close_at, change, received_next, lost_next, pending, capacity}
 use Rattle.shared_core.specs.Calls.{reset, Call, after}
 use Rattle.shared_core.specs.Story.{IsTold}
 use Rattle.shared_core.specs.Accepting.{IsSound}
@@ -40,46 +40,46 @@ told-cond false total s told = told
 
 module _ {T : Type 0} where
   pub sound-empty : (p : Parameters) → IsSound {T = T} (empty p)
-  sound-empty p = record { told = tt; cached = omega arith }
+  sound-empty p = record { told = tt; reset = omega arith }
 
   pub sound-accept : (emitter : ℕ) (v : T) (M : State T) → IsSound M → IsSound (accept emitter v M)
   sound-accept emitter v M sound =
       let longer : length (M.accepted ++ (emitter, v) ∷ []) ≡ length M.accepted + 1 = length-append M.accepted ((emitter, v) ∷ []) in
       record {
         told = all_weaker (IsTold (length M.accepted)) (IsTold (length (M.accepted ++ (emitter, v) ∷ []))) (λ s. IsTold-later (length M.accepted) _ s (omega (arith, longer))) M.subscriptions sound.told;
-        cached = omega (arith, longer, sound.cached);
+        reset = omega (arith, longer, sound.reset);
       }
 
   pub sound-receive : (k : ℕ) (M : State T) → IsSound M → IsSound (receive k M)
   sound-receive k M sound = record {
     told = all_changed (IsTold (length M.accepted)) (received_next (length M.accepted)) (IsTold-received_next (length M.accepted)) k M.subscriptions sound.told;
-    cached = sound.cached;
+    reset = sound.reset;
   }
 
   pub sound-lose_oldest : (M : State T) → IsSound M → IsSound (lose_oldest M)
   sound-lose_oldest M sound = record {
     told = all_mapped (IsTold (length M.accepted)) _ (λ s told. told-cond (s.live && (length (pending (length M.accepted) s) == capacity M.parameters)) (length M.accepted) s told) M.subscriptions sound.told;
-    cached = sound.cached;
+    reset = sound.reset;
   }
 
   pub sound-open : (M : State T) → IsSound M → IsSound (open_next M)
   sound-open M sound = record {
-    told = all_pushed (IsTold (length M.accepted)) M.subscriptions _ sound.told (IsTold-opened (length M.accepted) (length M.accepted - M.cached) (omega arith));
-    cached = sound.cached;
+    told = all_pushed (IsTold (length M.accepted)) M.subscriptions _ sound.told (IsTold-opened (length M.accepted) (cache_start M) (omega (arith, sound.reset)));
+    reset = sound.reset;
   }
 
   pub sound-close : (k : ℕ) (M : State T) → IsSound M → IsSound (close_at k M)
   sound-close k M sound = record {
     told = all_changed (IsTold (length M.accepted)) (λ s. record s { live = false }) (λ s told. record { together = told.together; within = told.within }) k M.subscriptions sound.told;
-    cached = sound.cached;
+    reset = sound.reset;
   }
 
   -- tickets are no part of it
   pub sound-tickets : (M : State T) (tickets : List (Standing T)) → IsSound M → IsSound (record M { tickets = tickets })
-  sound-tickets M tickets sound = record { told = sound.told; cached = sound.cached }
+  sound-tickets M tickets sound = record { told = sound.told; reset = sound.reset }
 
   pub sound-reset : (M : State T) → IsSound M → IsSound (reset M)
-  sound-reset M sound = record { told = sound.told; cached = omega arith }
+  sound-reset M sound = record { told = sound.told; reset = omega arith }
 
   sound-events : OverEvents {T = T} (λ M N. IsSound M → IsSound N)
   sound-events = record {

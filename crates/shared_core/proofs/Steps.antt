@@ -7,7 +7,7 @@ use Rattle.cold_flow.specs.declared.refusal.Refusal.{Refusal}
 use Rattle.cold_flow.specs.declared.refusal.Refusal.TheVariants.{Spent, SubscribersFull}
 use Rattle.shared_core.specs.declared.ids.SubId.{SubId}
 use Rattle.shared_core.specs.declared.answers.Next.TheVariants as next
-use Rattle.shared_core.specs.Flow.{State, Subscription, empty, receive, close_at, open_next, settle, change, received_next, pending, pending_values, values, index, number_limit, cache, live_count}
+use Rattle.shared_core.specs.Flow.{cache_start, State, Subscription, empty, receive, close_at, open_next, settle, change, received_next, pending, pending_values, values, index, number_limit, cache, live_count}
 use Rattle.shared_core.specs.Calls.{Call, step, after, next_value, next_at, next_of, live_one, live_at, if_live, pending_count, pending_count_at, cancel, cancel_at, subscribe}
 use Rattle.shared_core.specs.Shown.{Seen, live_from, seen_of, Shows}
 use Rattle.shared_core.specs.Story.{IsTold}
@@ -204,10 +204,10 @@ module _ {T : Type 0} where
   subscribe-made M sound unspent space =
       let no = ne_eqb (M.parameters.first + length M.subscriptions) number_limit unspent in
       let below = ne_eqb (live_count M) M.parameters.subscribers (λ full. space (sym (live_count-seen M) ∙ full)) in
-      let start = length M.accepted - M.cached in
+      let start = cache_start M in
       let opened : Subscription = record { start = start; received = []; lost = []; live = true } in
       let holds : pending_values M.accepted opened ≡ cache M =
-      pending_values-live M.accepted opened (IsTold-opened (length M.accepted) start (omega arith)) refl
+      pending_values-live M.accepted opened (IsTold-opened (length M.accepted) start (omega (arith, sound.reset))) refl
       ∙ ap (λ i. drop i (values M.accepted)) (omega arith) in
       let lives = numbered-push lives (pending_values M.accepted) M.parameters.first M.subscriptions opened refl
       ∙ ap (λ ps. live_from M.accepted M.parameters.first M.subscriptions ++ (M.parameters.first + length M.subscriptions, ps) ∷ []) holds in

@@ -60,7 +60,7 @@ finished_in i seen =
 pub record IsSound {T : Type 0} (M : State T) : Type 0 where
   -- each subscription's received and lost indexes run on from its start
   pub told : AllByRecursion (IsTold (length M.accepted)) M.subscriptions
-  pub cached : M.cached ≤ length M.accepted
+  pub reset : M.reset_at ≤ length M.accepted
 
 -- whatever the old state shows, the new one shows it settled
 abbrev pub Settles : {T : Type 0} → Seen T → Seen T → Type 0

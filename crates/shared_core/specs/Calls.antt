@@ -173,7 +173,7 @@ unfoldable pub pending_count : {T : Type 0} → ℕ → State T → ℕ
 pending_count n M = pending_count_at (live_one M n) M
 
 abbrev pub reset : {T : Type 0} → State T → State T
-reset M = record M { cached = 0 }
+reset M = record M { reset_at = length M.accepted }
 
 -- ---- lists of calls
 
