@@ -1,9 +1,9 @@
 //! What a subscription receives, of a program's calls and the replies that it got.
 
-ghost use Rattle.std.specs.Prelude.{◌≡◌, [], IfOk, IfSome, IfNone, IsOkUnless};
-ghost use Rattle.shared_core.specs.Kept.{making_refusal};
+ghost use Rattle.std.specs.Prelude.{◌≡◌, [], IfOk, IfSome, IfNone, IsOkUnless, OnErr};
+ghost use Rattle.shared_core.specs.Kept.{making_refusal, parameters_of};
 ghost use Rattle.shared_core.specs.Headline.{Headline};
-ghost use Rattle.shared_core.specs.Made.{run_made};
+ghost use Rattle.shared_core.specs.Made.{run_made, IsRunOf};
 
 use cold_flow::Refusal;
 use shared_core::{Call, Config, Reply, SharedState, each_subscription_receives_cache_then_later};
@@ -12,7 +12,8 @@ use std::alloc::Global;
 /// Makes the calls on a new flow, and gives the flow with the replies.
 ///
 /// What each subscription received by these replies, then what is pending for it in the flow, is the replay cache at its
-/// start followed by all later accepted emissions, in order and once, less just the values its policy dropped.
+/// start followed by all later accepted emissions, in order and once, less just the values its policy dropped. A refusal
+/// leaves no replies.
 pub fn run_new_flow<T: Copy>(
     alloc: Global,
     config: Config,
@@ -22,6 +23,8 @@ pub fn run_new_flow<T: Copy>(
     requires { replies.old.items ≡ [] }
     ensures refused { IfSome (making_refusal config) (λ refusal. result ≡ Err refusal) }
     ensures made { IfNone (making_refusal config) (IsOkUnless result Refusal.NoMemory) }
+    ensures err { OnErr result (replies.new.items ≡ replies.old.items) }
+    ensures run { IfOk result (λ flow. IsRunOf (parameters_of config) (run_made calls.now replies.new.items flow)) }
     ensures headline { IfOk result (λ flow. Headline (run_made calls.now replies.new.items flow)) }
 {
     each_subscription_receives_cache_then_later::<T>();

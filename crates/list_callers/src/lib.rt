@@ -4,6 +4,8 @@
 
 mod buffer_calling;
 mod headline_caller;
+mod taking_caller;
 
 pub use buffer_calling::{buffered_list, conflated_list};
 pub use headline_caller::run_new_flow;
+pub use taking_caller::{Taken, emit_and_take};

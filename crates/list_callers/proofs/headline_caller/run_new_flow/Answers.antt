@@ -27,6 +27,12 @@ returns-in_err-run-clause-made g c = whatever (making_refusal c.args.config) _ (
 pub returns-clause-refused : goal.returns-clause-refused
 returns-clause-refused g c = refuses (making_refusal c.args.config) c.in_ok-flow.flow _ c.in_ok-flow.ensures.refused
 
+pub returns-clause-run : goal.returns-clause-run
+returns-clause-run g c =
+    let calls = c.args.calls.now in
+    let runs = subst (λ before. Runs calls c.in_ok-flow.flow before c.run.new.out.items c.run.new.self) c.requires c.in_ok-run.ensures.ok in
+    made_is (parameters_of c.args.config) calls c.run.new.out.items c.in_ok-flow.flow c.run.new.self c.in_ok-flow.ensures.shows runs
+
 pub returns-clause-headline : goal.returns-clause-headline
 returns-clause-headline g c =
     let p = parameters_of c.args.config in
@@ -42,4 +48,7 @@ returns-clause-headline g c =
       live_until_cancelled = law.live_until_cancelled p (map call_of calls);
       nothing_after_cancellation = law.nothing_after_cancellation p (map call_of calls);
       nothing_without_opening = law.nothing_without_opening p (map call_of calls);
+      at_most_its_places_pending = law.at_most_its_places_pending p (map call_of calls);
+      none_waits_beside_room = law.none_waits_beside_room p (map call_of calls);
+      caches_the_latest = law.caches_the_latest p (map call_of calls);
     }

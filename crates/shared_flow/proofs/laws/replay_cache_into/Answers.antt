@@ -23,7 +23,7 @@ loop-index-preserved g c =
     let values = c.args.shared.now.flow.cache in
     let same : values ≡ c.shared.inside.flow.cache = ap (λ (s : Guarded _). s.flow.cache) (sym c.shared.view_is) in
     let at : slice_get values c.loop-index.index ≡ Some c.replay_at.result =
-    ap (λ xs. slice_get xs c.loop-index.index) (same ∙ cache_shown c.shared.inside.flow is.0 is.1) ∙ sym (c.replay_at.ensures is.0 is.1) in
+    ap (λ xs. slice_get xs c.loop-index.index) (same ∙ cache_shown c.shared.inside.flow is.0 is.1) ∙ sym (c.replay_at.ensures.shows is.0 is.1) in
     record {
       added = c.push_reserved.ensures.items ∙ ap (λ ys. ys ++ c.replay_at.result ∷ []) c.loop-index.invariant.added
           ∙ copied c.args.out.now.items values c.loop-index.index c.replay_at.result at;

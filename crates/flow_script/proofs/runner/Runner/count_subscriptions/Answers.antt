@@ -11,4 +11,4 @@ returns-in_err-flow c = λ world p.
 pub returns : goal.returns
 returns c = λ world p.
     on_flow_read (λ flow. Number (live_count flow)) c.args.self.now world c.args.index c.deref.result.now c.in_ok-flow.flow.now _ p c.deref.ensures.value c.in_ok-flow.ensures.lookup.3.0 c.in_ok-flow.ensures.lookup.1
-    (λ M shown. ap (λ n. Number n) (c.from.ensures ∙ c.subscription_count.ensures M shown))
+    (λ M shown. ap (λ n. Number n) (c.from.ensures ∙ c.subscription_count.ensures.shows M shown))

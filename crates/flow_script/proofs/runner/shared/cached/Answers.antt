@@ -8,7 +8,7 @@ push_reserved-requires c = omega (arith, c.loop-index.values.ok.0, c.loop-index.
 
 pub loop-index-preserved : goal.loop-index-preserved
 loop-index-preserved c = record {
-  front = λ M shown. rw (c.push_reserved.ensures.items, c.loop-index.invariant.front M shown) (sym (take_more (cache M) c.loop-index.index c.replay_at.result (sym (c.replay_at.ensures M shown))));
+  front = λ M shown. rw (c.push_reserved.ensures.items, c.loop-index.invariant.front M shown) (sym (take_more (cache M) c.loop-index.index c.replay_at.result (sym (c.replay_at.ensures.shows M shown))));
   filled = rw c.push_reserved.ensures.items (one_longer c.loop-index.values.items c.replay_at.result c.loop-index.index c.loop-index.invariant.filled);
   room = rw c.push_reserved.ensures.capacity c.loop-index.invariant.room;
 }
