@@ -8,4 +8,4 @@ mod taking_caller;
 
 pub use buffer_calling::{buffered_list, conflated_list};
 pub use headline_caller::run_new_flow;
-pub use taking_caller::{Taken, emit_and_take};
+pub use taking_caller::{Taken, offer_and_take};

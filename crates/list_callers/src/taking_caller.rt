@@ -1,8 +1,8 @@
 //! A program that goes by the answers of its calls, and what its subscription received.
 
-ghost use Rattle.std.specs.Prelude.{◌≡◌, IfOk, OnOk};
+ghost use Rattle.std.specs.Prelude.{IfOk, OnOk};
 ghost use Rattle.shared_core.specs.Kept.{parameters_of};
-ghost use Rattle.list_callers.specs.Taking.{GoesOnTaking, TookByTheHeadline};
+ghost use Rattle.list_callers.specs.Taking.{OffersNone, OffersOneMore, TookByTheHeadline};
 
 use cold_flow::Refusal;
 use shared_core::{Config, Next, SharedState, SubId, Tried};
@@ -22,7 +22,7 @@ fn take_one<T: Copy>(
     subscription: SubId,
     taken: &mut Vec<T>,
 ) -> Result<bool, Refusal>
-    ensures { OnOk result (GoesOnTaking subscription.0 flow.old taken.old.items flow.new taken.new.items) }
+    ensures { OnOk result (OffersNone subscription.0 flow.old taken.old.items flow.new taken.new.items) }
 {
     match flow.next(subscription) {
         Next::Value(value) => {
@@ -33,41 +33,40 @@ fn take_one<T: Copy>(
     }
 }
 
-/// Emits a value. Where there is no room the subscription takes one first.
-fn emit_or_take<T: Copy>(
+/// Offers a value. Where there is no room for it the subscription takes one, and the value is passed over.
+fn offer<T: Copy>(
     flow: &mut SharedState<T>,
     subscription: SubId,
     value: T,
     taken: &mut Vec<T>,
 ) -> Result<(), Refusal>
-    ensures { OnOk result (GoesOnTaking subscription.0 flow.old taken.old.items flow.new taken.new.items) }
+    ensures { OnOk result (OffersOneMore subscription.0 value flow.old taken.old.items flow.new taken.new.items) }
 {
     match flow.try_emit(0, value)? {
         Tried::Accepted(_) | Tried::Dropped => Ok(()),
         Tried::Full => {
             let _took = take_one(flow, subscription, taken)?;
-            let _tried = flow.try_emit(0, value)?;
             Ok(())
         }
     }
 }
 
-/// Emits the values to a subscription of a new flow, which takes one wherever there is no room for the next.
+/// Offers the values to a subscription of a new flow, which takes one wherever there is no room for the next.
 ///
-/// What it took, then what is pending for it in the flow, is all that was accepted, in order and once, less just the values
-/// its policy dropped: the headline holds of the replies to these calls.
-pub fn emit_and_take<T: Copy>(
+/// What it took, then what is pending for it in the flow, is all that was accepted of them, in order and once, less just the
+/// values its policy dropped: the headline holds of the replies to these calls.
+pub fn offer_and_take<T: Copy>(
     alloc: Global,
     config: Config,
     values: &[T],
 ) -> Result<Taken<T>, Refusal>
-    ensures { IfOk result (λ it. TookByTheHeadline (parameters_of config) it.subscription.0 it.flow it.values.items) }
+    ensures { IfOk result (λ it. TookByTheHeadline (parameters_of config) it.subscription.0 it.flow values.now it.values.items) }
 {
     let mut flow = SharedState::new(alloc, config)?;
     let subscription = flow.subscribe()?;
     let mut taken = Vec::new(alloc);
     for value in values {
-        emit_or_take(&mut flow, subscription, *value, &mut taken)?;
+        offer(&mut flow, subscription, *value, &mut taken)?;
     }
     Ok(Taken {
         flow,
