@@ -53,8 +53,8 @@ fn offer<T: Copy>(
 
 /// Offers the values to a subscription of a new flow, which takes one wherever there is no room for the next.
 ///
-/// What it took, then what is pending for it in the flow, is all that was accepted of them, in order and once, less just the
-/// values its policy dropped: the headline holds of the replies to these calls.
+/// What it took, then what is pending for it in the flow, is all that was accepted of them, in order and once, less just
+/// the values its policy dropped: the headline holds of the replies to these calls.
 pub fn offer_and_take<T: Copy>(
     alloc: Global,
     config: Config,

@@ -1,5 +1,5 @@
 -- From what a call does to the places to what it does to the flow.
-use Rattle.std.proofs.Common.{◌≡◌, ◌≢◌, Result, Ok, Err, ℕ, ◌+◌, ◌-◌, Bool, true, false, eqb, List, [], ◌∷◌, ◌++◌, length, drop, map, set, Some, None, slice_get, refl, sym, ap, ◌∙◌, subst, add-zero, arith}
+use Rattle.std.proofs.Common.{◌≡◌, ◌≢◌, Result, Ok, Err, ℕ, ◌+◌, Bool, true, false, eqb, List, [], ◌∷◌, ◌++◌, length, drop, map, set, Some, None, slice_get, refl, sym, ap, ◌∙◌, subst, add-zero, arith}
 use Rattle.std.specs.List.{list_any, remove}
 use Rattle.std.proofs.Math.ListN.{length-map, drop_of_length-le}
 use Rattle.std.proofs.Math.Seq.{drop-nil}

@@ -1,17 +1,17 @@
 -- No subscription has more pending than it has places, and an emission waits only where some subscription has all of them taken.
-use Rattle.std.proofs.Common.{◌≡◌, ◌≢◌, ℕ, zero, suc, ◌+◌, ◌-◌, ◌<◌, ◌≤◌, ⊎_elim, Bool, true, false, cond, ◌&&◌, ◌==◌, eqb, ltb, List, [], ◌∷◌, ◌++◌, length, map, Some, slice_get, refl, sym, ap, ◌∙◌, subst, arith, length-append, length-drop}
+use Rattle.std.proofs.Common.{◌≡◌, ◌≢◌, ℕ, suc, ◌+◌, ◌-◌, ◌<◌, ◌≤◌, ⊎_elim, true, false, cond, ◌&&◌, ◌==◌, ltb, List, [], ◌∷◌, ◌++◌, length, map, Some, slice_get, refl, sym, ap, ◌∙◌, subst, arith, length-append, length-drop}
 use Rattle.std.proofs.Math.ListN.{length-map}
 use Rattle.std.proofs.lemmas.Bool.{eqb-true, eqb-false, ltb-true, ltb-false, cases_lt}
-use Rattle.std.specs.List.{AllByRecursion, Contains, filter_map, list_all, list_any}
-use Rattle.shared_core.specs.Flow.{cache_start, Parameters, State, Subscription, Standing, waits, stands, gone, does_wait, empty, accept, receive, lose_oldest, open_next, close_at, has_room, pending, pending_values, places, capacity, received_next, lost_next, values}
+use Rattle.std.specs.List.{AllByRecursion, filter_map, list_all, list_any}
+use Rattle.shared_core.specs.Flow.{cache_start, Parameters, State, Subscription, Standing, waits, stands, gone, does_wait, empty, accept, lose_oldest, has_room, pending, pending_values, places, capacity, received_next, lost_next, values}
 use Rattle.shared_core.specs.Calls.{Call, after, reset}
 use Rattle.shared_core.specs.Shown.{seen_of, live_from}
 use Rattle.shared_core.specs.Story.{IsTold, if_waiting}
-use Rattle.shared_core.specs.Headline.{run_of, waiting, OfEveryRun, AtMostItsPlacesPending, WaitsForRoom, NoneWaitsBesideRoom}
+use Rattle.shared_core.specs.Headline.{OfEveryRun, AtMostItsPlacesPending, NoneWaitsBesideRoom}
 use Rattle.shared_core.proofs.Emissions.{waiting_is}
 use Rattle.shared_core.proofs.Pending.{position, length-pending, pending-closed, pending-live, none_left, pending_values-live, received_next-some, received_next-none, lost_next-some, IsTold-received, IsTold-received_next, IsTold-lost, IsTold-later, IsTold-opened}
 use Rattle.shared_core.proofs.Receiving.{at_contains, contains_at, shown_at, shown_one}
-use Rattle.shared_core.proofs.Sequence.{fixed_parameters, calm_queued, queued-after}
+use Rattle.shared_core.proofs.Sequence.{calm_queued, queued-after}
 use Rattle.shared_core.proofs.Sound.{all_at, all_changed, all_pushed, all_weaker}
 use Rattle.shared_core.proofs.Walks.{OverEvents, after_over}
 

@@ -1,9 +1,9 @@
 -- The replay cache has the latest values that were accepted since it was last reset.
-use Rattle.std.proofs.Common.{◌≡◌, ℕ, ◌+◌, ◌-◌, ◌≤◌, false, List, [], ◌∷◌, ◌++◌, length, drop, refl, sym, ap, ◌∙◌, subst, arith, length-append, length-drop}
+use Rattle.std.proofs.Common.{◌≡◌, ℕ, ◌+◌, ◌-◌, ◌≤◌, false, List, [], ◌∷◌, length, drop, refl, sym, ap, ◌∙◌, subst, arith, length-append, length-drop}
 use Rattle.std.proofs.Math.ListN.{length-map}
 use Rattle.std.specs.List.{list_any}
-use Rattle.shared_core.specs.Flow.{Parameters, State, empty, accept, lose_oldest, values, cache, cache_start}
-use Rattle.shared_core.specs.Calls.{Call, resetting, reset, step, to_reset, after}
+use Rattle.shared_core.specs.Flow.{Parameters, State, empty, values, cache, cache_start}
+use Rattle.shared_core.specs.Calls.{Call, resetting, reset, to_reset, after}
 use Rattle.shared_core.specs.Shown.{seen_of}
 use Rattle.shared_core.specs.Headline.{run_of, Moment, until, accepted, latest, is_reset, CachesTheLatest, OfEveryRun}
 use Rattle.shared_core.proofs.Emissions.{accepted_is}

@@ -1,10 +1,10 @@
 -- What was accepted stays, and each subscription goes on from where it was.
-use Rattle.std.proofs.Common.{◌≡◌, ℕ, zero, suc, ◌-◌, Bool, true, false, cond, ◌&&◌, ◌==◌, List, [], ◌∷◌, ◌++◌, length, drop, map, Some, slice_get, refl, sym, ap, ◌∙◌, subst, arith, append_assoc}
+use Rattle.std.proofs.Common.{◌≡◌, ℕ, zero, suc, Bool, true, false, cond, ◌&&◌, ◌==◌, List, [], ◌∷◌, ◌++◌, length, drop, map, Some, slice_get, refl, sym, ap, ◌∙◌, subst, arith, append_assoc}
 use Rattle.std.proofs.lemmas.List.{append-nil, map-append, drop-append-le}
 use Rattle.std.proofs.lemmas.Option.{none-some, same_Some}
 use Rattle.std.proofs.Math.ListN.{length-map}
 use Rattle.shared_core.specs.Flow.{cache_start, State, Subscription, empty, accept, lose_oldest, open_next, change, receive_first, lose_first, received_next, lost_next, pending, capacity, values}
-use Rattle.shared_core.specs.Calls.{Call, after}
+use Rattle.shared_core.specs.Calls.{after}
 use Rattle.shared_core.specs.Story.{BeginsWith, GoesOn, Grows, BeginsWithCache, GrowthLaw, CacheLaw}
 use Rattle.shared_core.proofs.Pending.{pending-closed}
 use Rattle.shared_core.specs.Accepting.{IsSound}

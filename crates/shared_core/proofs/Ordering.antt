@@ -1,9 +1,9 @@
 -- Each call keeps the order of emissions.
-use Rattle.std.proofs.Common.{◌≡◌, ◌≢◌, ℕ, zero, suc, ◌+◌, ◌<◌, Bool, true, false, cond, ◌||◌, ◌&&◌, ◌⊎◌, inl, inr, ⊎_elim, eqb, ltb, List, [], ◌∷◌, ◌++◌, length, Some, slice_get, refl, sym, ap, ◌∙◌, arith}
-use Rattle.std.proofs.lemmas.Bool.{eq-eqb, eqb-true, eqb-false, ne_eqb, lt-ltb}
+use Rattle.std.proofs.Common.{◌≡◌, ◌≢◌, ℕ, zero, suc, ◌+◌, ◌<◌, Bool, true, false, cond, ◌||◌, ◌⊎◌, inl, inr, ⊎_elim, eqb, List, [], ◌∷◌, ◌++◌, length, Some, slice_get, refl, sym, ap, ◌∙◌, arith}
+use Rattle.std.proofs.lemmas.Bool.{eq-eqb, eqb-true, eqb-false, ne_eqb}
 use Rattle.std.proofs.lemmas.Option.{same_Some}
-use Rattle.std.specs.List.{filter, list_any, list_all}
-use Rattle.shared_core.specs.Flow.{State, Standing, waits, stands, gone, does_wait, Overflow, suspend, drop_oldest, drop_latest, Subscription, change, has_room, pending, places, capacity, live_count, waiting_count}
+use Rattle.std.specs.List.{filter, list_any}
+use Rattle.shared_core.specs.Flow.{State, Standing, waits, stands, gone, does_wait, Overflow, suspend, drop_oldest, drop_latest, change, has_room, capacity, live_count, waiting_count}
 use Rattle.shared_core.specs.Calls.{Fate, enters, pushes_in, handed_over, held_up, fate, without_room}
 use Rattle.shared_core.proofs.Fates.{alone_room}
 use Rattle.shared_core.proofs.Queueing.{kept_from}

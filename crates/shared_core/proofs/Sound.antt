@@ -1,5 +1,5 @@
 -- What holds of every state that some list of calls leaves.
-use Rattle.std.proofs.Common.{◌≡◌, ℕ, zero, suc, ◌+◌, ◌-◌, Bool, true, false, cond, ◌&&◌, ◌==◌, List, [], ◌∷◌, ◌++◌, length, map, Some, slice_get, subst, arith, length-append}
+use Rattle.std.proofs.Common.{◌≡◌, ℕ, zero, suc, ◌+◌, Bool, true, false, cond, ◌&&◌, ◌==◌, List, [], ◌∷◌, ◌++◌, length, map, Some, slice_get, subst, arith, length-append}
 use Rattle.std.specs.List.{AllByRecursion}
 use Rattle.shared_core.specs.Flow.{cache_start, State, Subscription, Standing, Parameters, empty, accept, receive, lose_oldest, open_next, close_at, change, received_next, lost_next, pending, capacity}
 use Rattle.shared_core.specs.Calls.{reset, Call, after}

@@ -1,7 +1,7 @@
 //! Kotlin's shared flow on one thread, with every call proved against a model of its documentation.
 //!
 //! `SharedState` is the flow. Its page has a picture of the state, and says what a slow subscription meets.
-//! `each_subscription_has_its_story` says what holds over any list of calls. The model is read first in `specs/Flow.antt` and
+//! `each_subscription_receives_cache_then_later` says what holds over any list of calls. The model is read first in `specs/Flow.antt` and
 //! `specs/Calls.antt`.
 #![tactic(auto)]
 

@@ -57,9 +57,10 @@ use std::marker::Model;
 
 /// A shared flow on one thread: Kotlin's `MutableSharedFlow`. It never completes.
 ///
-/// Contracts see it as the last state of a model: the list of all accepted emissions, and for each subscription what it
-/// received and what it lost. Each call answers what the model answers, and leaves a state that shows the model after it.
-/// They don't see which emitter an accepted emission came from.
+/// Contracts see its parameters, the next number, the replay cache, each live subscription with what it has pending, how
+/// many subscriptions and tickets were given, and the tickets that are out. They see neither which emissions were accepted
+/// nor what was received or lost: the states of the model have these, and each shows as such a picture. A call answers what
+/// the model answers, whichever state it is that shows so, and leaves a flow that shows the model after the call.
 #[derive(Drop)]
 pub struct SharedState<T: Copy> {
     config: Config,
