@@ -8,6 +8,8 @@ mod buffer_rows;
 #[cfg(test)]
 mod cold_rows;
 #[cfg(test)]
+mod core_limits;
+#[cfg(test)]
 mod core_rows;
 #[cfg(test)]
 mod list_body;
