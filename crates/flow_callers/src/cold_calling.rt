@@ -72,6 +72,8 @@ impl Flow for Countdown {
 
     ghost prompt = { λ _. true };
 
+    ghost starts = { λ _. true };
+
     fn start(&self) -> Result<CountdownRun, Refusal> {
         Ok(CountdownRun {
             left: self.from,

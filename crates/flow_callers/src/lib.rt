@@ -3,6 +3,7 @@
 
 mod cold_calling;
 mod core_calling;
+mod lane_calling;
 mod merge_calling;
 mod shared_calling;
 mod sharing_calling;
@@ -11,6 +12,7 @@ mod strategy_calling;
 
 pub use cold_calling::{Countdown, CountdownRun, chain, mapped_list, taken_down};
 pub use core_calling::{received_in_turn, received_once};
+pub use lane_calling::{drained, emitted_and_taken, taken_from_the_cache};
 pub use merge_calling::{joined_list, zipped_lists};
 pub use shared_calling::{emitted, finished, passed_on, received};
 pub use sharing_calling::first_poll;

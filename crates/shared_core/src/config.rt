@@ -32,8 +32,9 @@ pub struct Config {
 }
 
 impl Config {
-    /// Why no flow can be made so, where it can't; want of memory apart.
-    pub(crate) fn refusal(&self) -> Option<Refusal>
+    /// Why no flow can be made so, where it can't: `TooLarge`, `PolicyNeedsBuffer` or `BadLimit`, the first that applies.
+    /// Want of memory apart.
+    pub fn refusal(&self) -> Option<Refusal>
         ensures { result ≡ making_refusal self.now }
     {
         if self.replay > PLACES_LIMIT || self.extra > PLACES_LIMIT - self.replay {

@@ -1,0 +1,50 @@
+-- The words of a lane keep apart. What the proofs know of the places of words is here alone.
+use Rattle.std.proofs.Common.{◌≡◌, ◌≢◌, ℕ, ◌%◌, ◌<◌, List, replicate, get_or, set, sym, ap, ◌∙◌, arith, mod-lt, get_or-set_other}
+use Rattle.std.proofs.lemmas.List.{get_or-replicate}
+use Rattle.lane_steps.specs.declared.view.Shape.{Shape}
+use Rattle.lane_steps.specs.Layout.{tail_word, cursor_word, cell_word, width}
+
+pub cursor_is_no_tail : (p : ℕ) → tail_word ≢ cursor_word p
+unfolding cursor_word
+cursor_is_no_tail p e = omega arith
+
+pub cursors_differ : (p q : ℕ) → cursor_word p ≡ cursor_word q → p ≡ q
+unfolding cursor_word
+cursors_differ p q e = omega arith
+
+module _ (key : Shape) where
+  pub cell_is_no_tail : (n : ℕ) → tail_word ≢ cell_word key n
+  unfolding cell_word
+  cell_is_no_tail n e = omega arith
+
+  pub cell_is_no_cursor : (p n : ℕ) → p < key.places → cell_word key n ≢ cursor_word p
+  unfolding cell_word cursor_word
+  cell_is_no_cursor p n inside e = omega arith
+
+  pub cells_differ : (m n : ℕ) → cell_word key m ≡ cell_word key n → m % key.cells ≡ n % key.cells
+  unfolding cell_word
+  cells_differ m n e = omega arith
+
+  pub tail_within : tail_word < width key
+  unfolding width
+  tail_within = omega arith
+
+  pub cursor_within : (p : ℕ) → p < key.places → 0 < key.cells → cursor_word p < width key
+  unfolding cursor_word width
+  cursor_within p inside cells = omega arith
+
+  pub cell_within : (n : ℕ) → 0 < key.cells → cell_word key n < width key
+  unfolding cell_word width
+  cell_within n cells = let h : n % key.cells < key.cells = mod-lt n cells in omega arith
+
+  -- an index that is a cursor's, or a cell's, lies in the table
+  pub cursor_inside : (words i p : ℕ) → words ≡ width key → i ≡ cursor_word p → p < key.places → 0 < key.cells → i < words
+  cursor_inside words i p wide is inside cells = let h = cursor_within p inside cells in omega arith
+
+  pub cell_inside : (words i n : ℕ) → words ≡ width key → i ≡ cell_word key n → 0 < key.cells → i < words
+  cell_inside words i n wide is cells = let h = cell_within n cells in omega arith
+
+  -- the cursors of words that were all alike before the tail was set
+  pub cursors_alike : (ws : List ℕ) (x first : ℕ) → ws ≡ replicate (width key) x → 0 < key.cells → (p : ℕ) → p < key.places → get_or (set ws tail_word first) (cursor_word p) 0 ≡ x
+  cursors_alike ws x first alike cells p inside = get_or-set_other ws tail_word (cursor_word p) first 0 (λ e. cursor_is_no_tail p (sym e))
+      ∙ (ap (λ l. get_or l (cursor_word p) 0) alike ∙ get_or-replicate (width key) (cursor_word p) x 0 (cursor_within p inside cells))

@@ -1,0 +1,320 @@
+-- The sequencer's steps keep the law.
+use Rattle.std.proofs.Common.{◌≡◌, ◌≢◌, ℕ, suc, ◌+◌, ◌<◌, ◌≤◌, eqb, cond, Bool, true, false, List, [], ◌∷◌, ◌++◌, length, replicate, get_or, set, sym, refl, ap, ◌∙◌, subst, ⊎_elim, arith, length-append, length-set, append_assoc, eq-eqb, ne_eqb, get_or-set_other, get_or-set_same}
+use mathlib.Core.Logic.{dite}
+use mathlib.Core.Option.{some, none}
+use native.Mathlib.Decide.{ℕ_discrete}
+use lib.ListN.{get_elem?}
+use prog.Atomic.{either}
+use Rattle.atomic_table.specs.Table.{State, Me, step, keeps, stepped, Allows}
+use Rattle.atomic_table.proofs.Lists.{at_set, at_longer, one_turn}
+use Rattle.lane_steps.specs.declared.view.Shape.{Shape}
+use Rattle.lane_steps.specs.declared.view.Known.{Known}
+use Rattle.lane_steps.specs.declared.view.Sequencing.{Sequencing}
+use Rattle.lane_steps.specs.declared.view.Reading.{Reading}
+use Rattle.lane_steps.specs.declared.view.View.{View}
+use Rattle.lane_steps.specs.Layout.{cursor_word, cell_word}
+use Rattle.lane_steps.specs.Law.{Entry, closed, Begins, Place, cursor, lost, PlaceOk, KnownOk, SequencerOk, ReaderOk, SeatOk, Law, shut_place}
+use Rattle.lane_steps.specs.Steps.{next_number, known_of, known_at, known_past, known_from, with_known, Standing, surveyed, filled, accepted, dropped, opened}
+use Rattle.lane_steps.proofs.Apart.{cursor_is_no_tail, cursors_differ, cell_is_no_tail, cell_is_no_cursor, cells_differ, tail_within, cell_within}
+use Rattle.lane_steps.proofs.Lists.{which, not_both, within, index_there, at_end, begins_self, one_more, lost_one}
+use Rattle.lane_steps.proofs.Frames.{put, put_here, put_else, seats_stay, begins_more, unmoved, place_step}
+
+module _ (key : Shape) where
+  -- the sequencer knows k of the place p, which may have changed, and of the others what it did
+  pub learns : (flying : Bool) (entry : Entry) (place place' : ℕ → Place) (sequencer j p : ℕ) (k : Known) (q : Sequencing) → SequencerOk key flying entry place sequencer j q → KnownOk k (place' p)
+      → ((x : ℕ) → x ≢ p → place' x ≡ place x) → SequencerOk key flying entry place' sequencer j (with_known p k q)
+  learns flying entry place place' sequencer j p k q ok now same = record {
+    seat = ok.seat;
+    in_flight = ok.in_flight;
+    entry_is = ok.entry_is;
+    count = length-set q.places p k ∙ ok.count;
+    knows = λ x c e. ⊎_elim (λ (t : (x ≡ p) × (k ≡ c)). subst (λ (z : ℕ × Known). KnownOk z.1 (place' z.0)) (λ i. (sym t.0 i, t.1 i)) now)
+        (λ (t : (x ≢ p) × (get_elem? q.places x ≡ some c)). subst (KnownOk c) (sym (same x t.0)) (ok.knows x c t.1)) (at_set q.places p x k c e);
+  }
+
+  -- what the sequencer knows after it found the cursor at n
+  found : (flying : Bool) (tail n : ℕ) (k : Known) (pl : Place) → tail ≤ 4611686018427387904 → PlaceOk key flying tail pl n → KnownOk k pl
+      → KnownOk (known_at n k) pl × (n ≢ closed → (k.is_open ≡ true) × (k.floor ≤ n) × (n ≡ cursor pl) × (pl.is_open ≡ true))
+  found flying tail n k pl small ok knows = dite (ℕ_discrete n closed)
+      (λ shut. let closed_place : pl.is_open ≡ false = ⊎_elim (λ o. let a = ok.stands o in let b = ok.behind o in absurd (omega arith)) (λ c. c) (which pl.is_open) in (
+        subst (λ (b : Bool). KnownOk (cond b (record k { is_open = false }) (record k { floor = n })) pl) (sym (eq-eqb n closed shut))
+            record { shut = λ _. closed_place; start = λ e. not_both false e refl; floor = λ e. not_both false e refl; lost = λ e. not_both false e refl; unread = λ e. not_both false e refl },
+        λ other. absurd (other shut),
+      ))
+      (λ other. let live : pl.is_open ≡ true = ⊎_elim (λ o. o) (λ c. absurd (other (ok.shut c))) (which pl.is_open) in
+      let known : k.is_open ≡ true = ⊎_elim (λ o. o) (λ c. not_both pl.is_open live (knows.shut c)) (which k.is_open) in let stands = ok.stands live in let floor = knows.floor known in (
+        subst (λ (b : Bool). KnownOk (cond b (record k { is_open = false }) (record k { floor = n })) pl) (sym (ne_eqb n closed other))
+            record { shut = knows.shut; start = knows.start; floor = λ _. omega arith; lost = knows.lost; unread = knows.unread },
+        λ _. (known, omega arith, stands, live),
+      ))
+
+  -- a reader whose place lost its next value
+  after_loss : (log : List Entry) (j : ℕ) (r : Reading) (pl : Place) → ReaderOk key log j r pl → ReaderOk key log j r (record pl { story = pl.story ++ false ∷ [] })
+  after_loss log j r pl ok = let longer : length (pl.story ++ false ∷ []) ≡ length pl.story + 1 = length-append pl.story (false ∷ []) in record {
+    inside = ok.inside;
+    live = ok.live;
+    handed = ok.handed;
+    seat = ok.seat;
+    start = ok.start;
+    story = (suc ok.story.0, ap (λ (l : List Bool). l ++ false ∷ []) ok.story.1 ∙ (append_assoc r.story (replicate ok.story.0 false) (false ∷ []) ∙ ap (λ (l : List Bool). r.story ++ l) (one_more ok.story.0 false)));
+    picked = λ p. let h = (ok.picked p).0 in (omega arith, λ e. absurd (omega arith));
+  }
+
+  module _ {S : Type 0} where
+    surveys_here : (slots id p : ℕ) (me : Me S View) → me.0.sequencing.active ≡ true → p < key.places → Allows (Law key) slots id me (cursor_word p) (λ n. n) (surveyed (step slots (cursor_word p) 0 0 none) me)
+    surveys_here slots id p me act inside s r deep at small = let v : View = me.0 in let q : Sequencing = v.sequencing in let n : ℕ = get_or s.words (cursor_word p) 0 in let ok = r.each_seat id v at in let own = ok.sequencing act in
+        let k : Known = known_of q p in let count = own.2.count in let there_k = index_there q.places p shut_place (omega arith) in let all = r.each_place p inside in let pl : Place = r.place p in
+        let tail : ℕ = key.first + length r.log in let f = found r.flying tail n k pl r.bounded all (own.2.knows p k there_k) in
+        let w : View = record v { told = []; loads = v.loads ++ (cursor_word p, n) ∷ []; sequencing = with_known p (known_at n k) q } in
+        let same : next_number v ≡ tail = (λ i. (own.0 i).first + length (own.1 i)) in (
+          w,
+          keeps,
+          tt,
+          unmoved key s r (cursor_word p) id w record {
+            seen = ok.seen;
+            told = (r.log, refl);
+            sequencing = λ _. (own.0, own.1, learns r.flying r.entry r.place r.place r.sequencer id p (known_at n k) q own.2 f.0 (λ _ _. refl));
+            reading = ok.reading;
+          },
+          (
+            refl,
+            λ p' e. let is : p ≡ p' = cursors_differ p p' e in (
+              ap (λ (z : ℕ). let u : View = record v { told = []; loads = v.loads ++ (cursor_word z, n) ∷ []; sequencing = with_known z (known_at n (known_of q z)) q } in u) is,
+              subst (λ (l : List Entry). Begins l v.told) (sym own.1) ok.told,
+              subst (λ (z : ℕ). Standing v z n) is (λ other. let g = f.1 other in let b = all.behind g.3 in let c = all.near g.3 in let cells : v.shape.cells ≡ key.cells = ap (λ (z : Shape). z.cells) own.0 in (g.0, g.1, omega arith, omega arith)),
+            ),
+          ),
+        )
+
+    pub fills : (slots id i e x : ℕ) (me : Me S View) → me.0.sequencing.active ≡ true → i ≡ cell_word key (next_number me.0)
+        → ((p : ℕ) (k : Known) → get_elem? me.0.sequencing.places p ≡ some k → k.is_open ≡ true → next_number me.0 < k.floor + key.cells)
+        → Allows (Law key) slots id me i (λ _. x) (λ _. filled e (step slots i x 0 none) me x)
+    fills slots id i e x me act word room s r deep at small = let v : View = me.0 in let q : Sequencing = v.sequencing in let ok = r.each_seat id v at in let own = ok.sequencing act in let tail : ℕ = key.first + length r.log in
+        let same : next_number v ≡ tail = (λ c. (own.0 c).first + length (own.1 c)) in let cell : i ≡ cell_word key tail = word ∙ ap (λ (z : ℕ). cell_word key z) same in
+        let w : View = record v { sequencing = record q { flying = true; entry = (e, x) } } in let wide = r.wide in let in_ring = cell_within key tail r.some_cell in (
+          w,
+          keeps,
+          tt,
+          (let law : Law key (let t : State S View = stepped s i x id me.1 w keeps in t) = record {
+            log = r.log;
+            flying = true;
+            entry = (e, x);
+            sequencer = r.sequencer;
+            place = r.place;
+            wide = length-set s.words i x ∙ r.wide;
+            some_cell = r.some_cell;
+            bounded = r.bounded;
+            tail = get_or-set_other s.words i 0 x 0 (λ h. cell_is_no_tail key tail (h ∙ cell)) ∙ r.tail;
+            each_cell = λ j f y here near clear. let c = clear refl in let short = within r.log j (f, y) here in
+                get_or-set_other s.words i (cell_word key (key.first + j)) x 0
+                (λ h. let one = one_turn (key.first + j) tail key.cells (omega arith) (omega arith) (cells_differ key (key.first + j) tail (h ∙ cell)) in omega arith)
+                ∙ r.each_cell j f y here near (λ _. c);
+            in_flight = λ _. ap (λ (z : ℕ). get_or (set s.words i x) z 0) (sym cell) ∙ get_or-set_same s.words i x 0 (omega arith);
+            each_place = λ p l. let all = r.each_place p l in let pl : Place = r.place p in let k : Known = known_of q p in let count = own.2.count in let there_k = index_there q.places p shut_place (omega arith) in let knows = own.2.knows p k there_k in
+                subst (PlaceOk key true tail pl) (sym (get_or-set_other s.words i (cursor_word p) x 0 (λ h. cell_is_no_cursor key p tail l (sym cell ∙ sym h)))) record {
+                  shut = all.shut;
+                  stands = all.stands;
+                  after_first = all.after_first;
+                  behind = all.behind;
+                  near = all.near;
+                  clear = λ o _. let known : k.is_open ≡ true = ⊎_elim (λ a. a) (λ c. not_both pl.is_open o (knows.shut c)) (which k.is_open) in let floor = knows.floor known in let free = room p k there_k known in omega arith;
+                  unread = all.unread;
+                  all_received = all.all_received;
+                };
+            each_seat = seats_stay (SeatOk key r.log true (e, x) r.place r.sequencer) s.views id w
+                record { seen = ok.seen; told = ok.told; sequencing = λ _. (own.0, own.1, record { seat = own.2.seat; in_flight = refl; entry_is = refl; count = own.2.count; knows = own.2.knows }); reading = ok.reading }
+                (λ j u other here. let o = r.each_seat j u here in record { seen = o.seen; told = o.told; sequencing = λ a. absurd (other ((o.sequencing a).2.seat ∙ sym own.2.seat)); reading = o.reading });
+          } in law),
+          (refl, refl),
+        )
+
+    pub accepts : (slots id new : ℕ) (me : Me S View) → me.0.sequencing.active ≡ true → me.0.sequencing.flying ≡ true → new ≡ next_number me.0 + 1 → new ≤ 4611686018427387904
+        → Allows (Law key) slots id me 0 (λ _. new) (λ _. accepted (step slots 0 new 0 none) me new)
+    accepts slots id new me act flight next low s r deep at small = let v : View = me.0 in let q : Sequencing = v.sequencing in let ok = r.each_seat id v at in let own = ok.sequencing act in let tail : ℕ = key.first + length r.log in
+        let same : next_number v ≡ tail = (λ c. (own.0 c).first + length (own.1 c)) in let flies : r.flying ≡ true = sym own.2.in_flight ∙ flight in let n : ℕ = length r.log in
+        let w : View = record v { seen = v.seen ++ q.entry ∷ []; sequencing = record q { flying = false } } in let log' : List Entry = r.log ++ r.entry ∷ [] in
+        let longer : length log' ≡ n + 1 = length-append r.log (r.entry ∷ []) in let more : key.first + length log' ≡ tail + 1 = omega arith in let pos = r.some_cell in
+        let grows : (j : ℕ) (rd : Reading) (pl : Place) → ReaderOk key r.log j rd pl → ReaderOk key log' j rd pl = λ j rd pl o. record {
+          inside = o.inside;
+          live = o.live;
+          handed = o.handed;
+          seat = o.seat;
+          start = o.start;
+          story = o.story;
+          picked = λ a. let h = o.picked a in (h.0, λ b. let has = h.1 b in (has.0, has.1, has.2, at_longer r.log (r.entry ∷ []) has.0 (has.1, rd.word) has.3));
+        } in let wide = r.wide in let in_table = tail_within key in (
+          w,
+          keeps,
+          tt,
+          (let law : Law key (let t : State S View = stepped s 0 new id me.1 w keeps in t) = record {
+            log = log';
+            flying = false;
+            entry = r.entry;
+            sequencer = r.sequencer;
+            place = r.place;
+            wide = length-set s.words 0 new ∙ r.wide;
+            some_cell = r.some_cell;
+            bounded = omega arith;
+            tail = get_or-set_same s.words 0 new 0 (omega arith) ∙ omega arith;
+            each_cell = λ j f y here near _. let cell : ℕ = cell_word key (key.first + j) in get_or-set_other s.words 0 cell new 0 (λ h. cell_is_no_tail key (key.first + j) (sym h)) ∙
+                ⊎_elim (λ (old : get_elem? r.log j ≡ some (f, y)). let b : length log' ≤ j + key.cells = near in r.each_cell j f y old (omega arith) (λ _. omega arith))
+                (λ (t : (j ≡ n) × (r.entry ≡ (f, y))). ap (λ (z : ℕ). get_or s.words (cell_word key (key.first + z)) 0) t.0 ∙ (r.in_flight flies ∙ ap (λ (z : Entry). z.1) t.1)) (at_end r.log r.entry (f, y) j here);
+            in_flight = λ h. not_both false h refl;
+            each_place = λ p l. let all = r.each_place p l in let pl : Place = r.place p in
+                subst (PlaceOk key false (key.first + length log') pl) (sym (get_or-set_other s.words 0 (cursor_word p) new 0 (λ h. cursor_is_no_tail p (sym h)))) record {
+                  shut = all.shut;
+                  stands = all.stands;
+                  after_first = all.after_first;
+                  behind = λ o. let b = all.behind o in omega arith;
+                  near = λ o. let c = all.clear o flies in omega arith;
+                  clear = λ _ h. not_both false h refl;
+                  unread = all.unread;
+                  all_received = all.all_received;
+                };
+            each_seat = seats_stay (SeatOk key log' false r.entry r.place r.sequencer) s.views id w
+                record {
+                  seen = subst (λ (z : List Entry). Begins log' z) (λ c. sym own.1 c ++ sym own.2.entry_is c ∷ []) (begins_self log');
+                  told = begins_more r.log v.told (r.entry ∷ []) ok.told;
+                  sequencing = λ _. (own.0, (λ c. own.1 c ++ own.2.entry_is c ∷ []), record { seat = own.2.seat; in_flight = refl; entry_is = own.2.entry_is; count = own.2.count; knows = own.2.knows });
+                  reading = λ a. let o = ok.reading a in (o.0, grows id v.reading (r.place v.reading.place) o.1);
+                }
+                (λ j u other here. let o = r.each_seat j u here in record {
+                  seen = begins_more r.log u.seen (r.entry ∷ []) o.seen;
+                  told = begins_more r.log u.told (r.entry ∷ []) o.told;
+                  sequencing = λ a. absurd (other ((o.sequencing a).2.seat ∙ sym own.2.seat));
+                  reading = λ a. let x = o.reading a in (x.0, grows j u.reading (r.place u.reading.place) x.1);
+                });
+          } in law),
+          (refl, refl),
+        )
+
+    drops_here : (slots id p old new : ℕ) (me : Me S View) → me.0.sequencing.active ≡ true → p < key.places → key.drops ≡ true → new ≡ old + 1 → old + key.cells ≡ next_number me.0
+        → Allows (Law key) slots id me (cursor_word p) (λ n. either (eqb n old) new n) (dropped (step slots (cursor_word p) old new none) me)
+    drops_here slots id p old new me act inside dropping next full s r deep at small = let v : View = me.0 in let q : Sequencing = v.sequencing in let n : ℕ = get_or s.words (cursor_word p) 0 in let ok = r.each_seat id v at in let own = ok.sequencing act in
+        let k : Known = known_of q p in let count = own.2.count in let there_k = index_there q.places p shut_place (omega arith) in let all = r.each_place p inside in let pl : Place = r.place p in
+        let tail : ℕ = key.first + length r.log in let knows = own.2.knows p k there_k in let f = found r.flying tail n k pl r.bounded all knows in let low = r.bounded in let pos = r.some_cell in
+        let same : next_number v ≡ tail = (λ i. (own.0 i).first + length (own.1 i)) in
+        dite (ℕ_discrete n old)
+        (λ hit. let not_closed : n ≢ closed = λ e. omega arith in let g = f.1 not_closed in let live = g.3 in let stands = g.2 in let pl' : Place = record pl { story = pl.story ++ false ∷ [] } in
+        let longer : length pl'.story ≡ length pl.story + 1 = length-append pl.story (false ∷ []) in let k' : Known = known_past n k in let w : View = record v { sequencing = with_known p k' q } in let near = all.near live in
+        let knows' : KnownOk k' (put r.place p pl' p) = subst (KnownOk k') (sym (put_here r.place p pl')) record {
+          shut = knows.shut;
+          start = knows.start;
+          floor = λ _. omega arith;
+          lost = λ o. ap (λ (l : List ℕ). l ++ n ∷ []) (knows.lost o) ∙ (ap (λ (z : ℕ). lost pl.start pl.story ++ z ∷ []) stands ∙ sym (lost_one pl.start pl.story));
+          unread = knows.unread;
+        } in
+        let others : (j : ℕ) (rd : Reading) → ReaderOk key r.log j rd (r.place rd.place) → ReaderOk key r.log j rd (put r.place p pl' rd.place) = λ j rd o. dite (ℕ_discrete rd.place p)
+        (λ e. subst (ReaderOk key r.log j rd) (sym (put_here r.place p pl') ∙ ap (put r.place p pl') (sym e)) (after_loss r.log j rd pl (subst (λ (z : ℕ). ReaderOk key r.log j rd (r.place z)) e o)))
+        (λ ne. subst (ReaderOk key r.log j rd) (sym (put_else r.place p pl' rd.place ne)) o) in (
+          w,
+          keeps,
+          tt,
+          subst (λ (b : Bool). Law key (let t : State S View = stepped s (cursor_word p) (either b new n) id me.1 w keeps in t)) (sym (eq-eqb n old hit))
+              (place_step key s r p new id pl' w inside
+              record {
+                shut = λ o. not_both pl.is_open live o;
+                stands = λ _. (omega arith);
+                after_first = all.after_first;
+                behind = λ _. (omega arith);
+                near = λ _. (omega arith);
+                clear = λ o fl. let h = all.clear o fl in omega arith;
+                unread = λ u. let a = all.unread u in (suc a.0, ap (λ (l : List Bool). l ++ false ∷ []) a.1 ∙ one_more a.0 false);
+                all_received = λ d. not_both key.drops dropping d;
+              }
+              record {
+                seen = ok.seen;
+                told = ok.told;
+                sequencing = λ _. (own.0, own.1, learns r.flying r.entry r.place (put r.place p pl') r.sequencer id p k' q own.2 knows' (λ x ne. put_else r.place p pl' x ne));
+                reading = λ a. let o = ok.reading a in (o.0, others id v.reading o.1);
+              }
+              (λ j u other here. let o = r.each_seat j u here in record {
+                seen = o.seen;
+                told = o.told;
+                sequencing = λ a. absurd (other ((o.sequencing a).2.seat ∙ sym own.2.seat));
+                reading = λ a. let x = o.reading a in (x.0, others j u.reading x.1);
+              })),
+          (
+            refl,
+            λ p' e. let is : p ≡ p' = cursors_differ p p' e in (
+              (λ _. (ap (λ (z : ℕ). let u : View = record v { sequencing = with_known z (known_past n (known_of q z)) q } in u) is, ap (λ (z : ℕ). (known_of q z).is_open) (sym is) ∙ g.0)),
+              λ miss. absurd (miss hit),
+            ),
+          ),
+        ))
+        (λ miss. let w : View = record v { sequencing = with_known p (known_at n k) q } in (
+          w,
+          keeps,
+          tt,
+          subst (λ (b : Bool). Law key (let t : State S View = stepped s (cursor_word p) (either b new n) id me.1 w keeps in t)) (sym (ne_eqb n old miss)) (unmoved key s r (cursor_word p) id w record {
+            seen = ok.seen;
+            told = ok.told;
+            sequencing = λ _. (own.0, own.1, learns r.flying r.entry r.place r.place r.sequencer id p (known_at n k) q own.2 f.0 (λ _ _. refl));
+            reading = ok.reading;
+          }),
+          (
+            refl,
+            λ p' e. let is : p ≡ p' = cursors_differ p p' e in (
+              (λ hit. absurd (miss hit)),
+              λ _. (
+                ap (λ (z : ℕ). let u : View = record v { sequencing = with_known z (known_at n (known_of q z)) q } in u) is,
+                subst (λ (z : ℕ). Standing v z n) is (λ other. let g = f.1 other in let b = all.behind g.3 in let c = all.near g.3 in let cells : v.shape.cells ≡ key.cells = ap (λ (z : Shape). z.cells) own.0 in (g.0, g.1, omega arith, omega arith)),
+              ),
+            ),
+          ),
+        ))
+
+    -- no reader has a place that is closed
+    none_reads : (s : State S View) (r : Law key s) (p : ℕ) (pl' : Place) → (r.place p).is_open ≡ false → (j : ℕ) (rd : Reading) → ReaderOk key r.log j rd (r.place rd.place) → ReaderOk key r.log j rd (put r.place p pl' rd.place)
+    none_reads s r p pl' shut j rd o = dite (ℕ_discrete rd.place p) (λ e. not_both (r.place rd.place).is_open o.live (ap (λ (z : ℕ). (r.place z).is_open) e ∙ shut))
+        (λ ne. subst (ReaderOk key r.log j rd) (sym (put_else r.place p pl' rd.place ne)) o)
+
+    opens_here : (slots id p start : ℕ) (me : Me S View) → me.0.sequencing.active ≡ true → p < key.places → (known_of me.0.sequencing p).is_open ≡ false → me.0.sequencing.flying ≡ false → key.first ≤ start → start ≤ next_number me.0
+        → next_number me.0 ≤ start + key.cells → Allows (Law key) slots id me (cursor_word p) (λ _. start) (λ _. opened (step slots (cursor_word p) start 0 none) me start)
+    opens_here slots id p start me act inside shut grounded from_first below near s r deep at small = let v : View = me.0 in let q : Sequencing = v.sequencing in let ok = r.each_seat id v at in let own = ok.sequencing act in
+        let k : Known = known_of q p in let count = own.2.count in let there_k = index_there q.places p shut_place (omega arith) in let tail : ℕ = key.first + length r.log in let knows = own.2.knows p k there_k in
+        let closed_place = knows.shut shut in let same : next_number v ≡ tail = (λ i. (own.0 i).first + length (own.1 i)) in let pl' : Place = record { is_open = true; unread = true; holder = id; start = start; story = [] } in
+        let k' : Known = known_from start in let w : View = record v { sequencing = with_known p k' q } in
+        let knows' : KnownOk k' (put r.place p pl' p) = subst (KnownOk k') (sym (put_here r.place p pl')) record { shut = λ e. not_both true refl e; start = λ _. refl; floor = λ _. omega arith; lost = λ _. refl; unread = λ _ _. (refl, refl) } in (
+          w,
+          keeps,
+          tt,
+          place_step key s r p start id pl' w inside
+              record {
+                shut = λ e. not_both true refl e;
+                stands = λ _. omega arith;
+                after_first = from_first;
+                behind = λ _. omega arith;
+                near = λ _. omega arith;
+                clear = λ _ fl. not_both r.flying fl (sym own.2.in_flight ∙ grounded);
+                unread = λ _. (0, refl);
+                all_received = λ _. (0, refl);
+              }
+              record {
+                seen = ok.seen;
+                told = ok.told;
+                sequencing = λ _. (own.0, own.1, learns r.flying r.entry r.place (put r.place p pl') r.sequencer id p k' q own.2 knows' (λ x ne. put_else r.place p pl' x ne));
+                reading = λ a. let o = ok.reading a in (o.0, none_reads s r p pl' closed_place id v.reading o.1);
+              }
+              (λ j u other here. let o = r.each_seat j u here in record {
+                seen = o.seen;
+                told = o.told;
+                sequencing = λ a. absurd (other ((o.sequencing a).2.seat ∙ sym own.2.seat));
+                reading = λ a. let x = o.reading a in (x.0, none_reads s r p pl' closed_place j u.reading x.1);
+              }),
+          (refl, λ p' e. let is : p ≡ p' = cursors_differ p p' e in ap (λ (z : ℕ). let u : View = record v { sequencing = with_known z k' q } in u) is),
+        )
+
+    -- the same where the index is known by an equation
+    pub surveys : (slots id i p : ℕ) (me : Me S View) → i ≡ cursor_word p → me.0.sequencing.active ≡ true → p < key.places → Allows (Law key) slots id me i (λ n. n) (surveyed (step slots i 0 0 none) me)
+    surveys slots id i p me is act inside = subst (λ (z : ℕ). Allows (Law key) slots id me z (λ n. n) (surveyed (step slots z 0 0 none) me)) (sym is) (surveys_here slots id p me act inside)
+
+    pub drops : (slots id i p old new : ℕ) (me : Me S View) → i ≡ cursor_word p → me.0.sequencing.active ≡ true → p < key.places → key.drops ≡ true → new ≡ old + 1 → old + key.cells ≡ next_number me.0
+        → Allows (Law key) slots id me i (λ n. either (eqb n old) new n) (dropped (step slots i old new none) me)
+    drops slots id i p old new me is act inside dropping next full =
+        subst (λ (z : ℕ). Allows (Law key) slots id me z (λ n. either (eqb n old) new n) (dropped (step slots z old new none) me)) (sym is) (drops_here slots id p old new me act inside dropping next full)
+
+    pub opens : (slots id i p start : ℕ) (me : Me S View) → i ≡ cursor_word p → me.0.sequencing.active ≡ true → p < key.places → (known_of me.0.sequencing p).is_open ≡ false → me.0.sequencing.flying ≡ false → key.first ≤ start
+        → start ≤ next_number me.0 → next_number me.0 ≤ start + key.cells → Allows (Law key) slots id me i (λ _. start) (λ _. opened (step slots i start 0 none) me start)
+    opens slots id i p start me is act inside shut grounded from_first below near =
+        subst (λ (z : ℕ). Allows (Law key) slots id me z (λ _. start) (λ _. opened (step slots z start 0 none) me start)) (sym is) (opens_here slots id p start me act inside shut grounded from_first below near)

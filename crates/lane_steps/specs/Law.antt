@@ -1,0 +1,128 @@
+-- What holds of the lane's words and of all views, between any two steps.
+use Rattle.std.specs.Prelude.{◌≡◌, ℕ, suc, ◌+◌, ◌<◌, ◌≤◌, List, [], ◌∷◌, ◌++◌, length, replicate, slice_index, Bool, true, false}
+use mathlib.Core.Option.{some}
+use lib.ListN.{get_elem?}
+use Rattle.atomic_table.specs.Table.{State}
+use Rattle.lane_steps.specs.Layout.{tail_word, cursor_word, cell_word, width}
+use Rattle.lane_steps.specs.declared.view.Shape.{Shape}
+use Rattle.lane_steps.specs.declared.view.Known.{Known}
+use Rattle.lane_steps.specs.declared.view.Sequencing.{Sequencing}
+use Rattle.lane_steps.specs.declared.view.Reading.{Reading}
+use Rattle.lane_steps.specs.declared.view.View.{View}
+
+-- an emitter and a word
+abbrev pub Entry : Type 0
+Entry = ℕ × ℕ
+
+-- the word of a closed cursor
+abbrev pub closed : ℕ
+closed = 18446744073709551615
+
+-- the list begins with these
+abbrev pub Begins : {A : Type 0} → List A → List A → Type 0
+Begins {A} xs start = (more : List A) × (xs ≡ start ++ more)
+
+-- the emission with the number n had the word x, where the first of the log has the number f
+abbrev pub HasWord : ℕ → List Entry → ℕ → ℕ → Type 0
+HasWord f log n x = (i : ℕ) × (e : ℕ) × (n ≡ f + i) × (get_elem? log i ≡ some (e, x))
+
+-- A place since it was opened last: for each number from the start on, whether it was received or lost
+pub record Place : Type 0 where
+  pub is_open : Bool
+  pub unread : Bool
+  pub holder : ℕ
+  pub start : ℕ
+  pub story : List Bool
+
+abbrev pub cursor : Place → ℕ
+cursor pl = pl.start + length pl.story
+
+-- the numbers from n on that were received, and those that were lost
+abbrev pub received : ℕ → List Bool → List ℕ
+received n [] = []
+received n (true ∷ bs) = n ∷ received (suc n) bs
+received n (false ∷ bs) = received (suc n) bs
+
+abbrev pub lost : ℕ → List Bool → List ℕ
+lost n [] = []
+lost n (true ∷ bs) = lost (suc n) bs
+lost n (false ∷ bs) = n ∷ lost (suc n) bs
+
+-- a place, whose cursor is the word w
+pub record PlaceOk (key : Shape) (flying : Bool) (tail : ℕ) (pl : Place) (w : ℕ) : Type 0 where
+  pub shut : pl.is_open ≡ false → w ≡ closed
+  pub stands : pl.is_open ≡ true → w ≡ cursor pl
+  pub after_first : key.first ≤ pl.start
+  pub behind : pl.is_open ≡ true → cursor pl ≤ tail
+  pub near : pl.is_open ≡ true → tail ≤ cursor pl + key.cells
+  -- the cell in flight is one that no open cursor has still to read
+  pub clear : pl.is_open ≡ true → flying ≡ true → tail < cursor pl + key.cells
+  pub unread : pl.unread ≡ true → (k : ℕ) × (pl.story ≡ replicate k false)
+  pub all_received : key.drops ≡ false → (k : ℕ) × (pl.story ≡ replicate k true)
+
+-- what the sequencer knows of a place
+pub record KnownOk (k : Known) (pl : Place) : Type 0 where
+  pub shut : k.is_open ≡ false → pl.is_open ≡ false
+  pub start : k.is_open ≡ true → k.start ≡ pl.start
+  pub floor : k.is_open ≡ true → k.floor ≤ cursor pl
+  pub lost : k.is_open ≡ true → k.lost ≡ lost pl.start pl.story
+  pub unread : k.is_open ≡ true → k.unread ≡ true → (pl.unread ≡ true) × (pl.is_open ≡ true)
+
+pub record SequencerOk (key : Shape) (flying : Bool) (entry : Entry) (place : ℕ → Place) (sequencer j : ℕ) (q : Sequencing) : Type 0 where
+  pub seat : j ≡ sequencer
+  pub in_flight : q.flying ≡ flying
+  pub entry_is : q.entry ≡ entry
+  pub count : length q.places ≡ key.places
+  pub knows : (p : ℕ) (k : Known) → get_elem? q.places p ≡ some k → KnownOk k (place p)
+
+pub record ReaderOk (key : Shape) (log : List Entry) (j : ℕ) (r : Reading) (pl : Place) : Type 0 where
+  pub inside : r.place < key.places
+  pub live : pl.is_open ≡ true
+  pub handed : pl.unread ≡ false
+  pub seat : pl.holder ≡ j
+  pub start : pl.start ≡ r.start
+  -- what came since is lost
+  pub story : (k : ℕ) × (pl.story ≡ r.story ++ replicate k false)
+  pub picked : r.picked ≡ true → (r.number ≤ cursor pl) × (r.number ≡ cursor pl → HasWord key.first log r.number r.word)
+
+pub record SeatOk (key : Shape) (log : List Entry) (flying : Bool) (entry : Entry) (place : ℕ → Place) (sequencer j : ℕ) (v : View) : Type 0 where
+  pub seen : Begins log v.seen
+  pub told : Begins log v.told
+  pub sequencing : v.sequencing.active ≡ true → (v.shape ≡ key) × (v.seen ≡ log) × SequencerOk key flying entry place sequencer j v.sequencing
+  pub reading : v.reading.active ≡ true → (v.shape ≡ key) × ReaderOk key log j v.reading (place v.reading.place)
+
+pub record Law {S : Type 0} (key : Shape) (s : State S View) : Type 0 where
+  -- all accepted emissions
+  pub log : List Entry
+  -- the cell of the next number holds the entry already
+  pub flying : Bool
+  pub entry : Entry
+  pub sequencer : ℕ
+  pub place : ℕ → Place
+  pub wide : length s.words ≡ width key
+  pub some_cell : 0 < key.cells
+  pub bounded : key.first + length log ≤ 4611686018427387904
+  pub tail : slice_index s.words tail_word ≡ key.first + length log
+  pub each_cell : (i : ℕ) (e x : ℕ) → get_elem? log i ≡ some (e, x) → length log ≤ i + key.cells → (flying ≡ true → length log < i + key.cells)
+      → slice_index s.words (cell_word key (key.first + i)) ≡ x
+  pub in_flight : flying ≡ true → slice_index s.words (cell_word key (key.first + length log)) ≡ entry.1
+  pub each_place : (p : ℕ) → p < key.places → PlaceOk key flying (key.first + length log) (place p) (slice_index s.words (cursor_word p))
+  pub each_seat : (j : ℕ) (v : View) → get_elem? s.views j ≡ some v → SeatOk key log flying entry place sequencer j v
+
+-- what a place is known as, that nobody opened
+abbrev pub shut_place : Known
+shut_place = record { is_open = false; unread = false; start = 0; floor = 0; lost = [] }
+
+-- no cell in flight, and all places closed
+abbrev pub no_sequencing : Sequencing
+no_sequencing = record { active = false; flying = false; entry = (0, 0); places = [] }
+
+abbrev pub no_reading : Reading
+no_reading = record { active = false; place = 0; start = 0; story = []; picked = false; number = 0; word = 0 }
+
+abbrev pub opening_view : Shape → View
+opening_view key = record { shape = key; seen = []; told = []; loads = []; sequencing = record no_sequencing { active = true; places = replicate key.places shut_place }; reading = no_reading }
+
+-- what a lane can be made with
+abbrev pub IsShape : Shape → Type 0
+IsShape key = (0 < key.cells) × (key.cells ≤ 65536) × (key.places ≤ 1024) × (key.first ≤ 4611686018427387904)

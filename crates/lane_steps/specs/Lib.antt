@@ -1,0 +1,5 @@
+pub mod Law
+pub mod Layout
+pub mod Promises
+pub mod Seats
+pub mod Steps

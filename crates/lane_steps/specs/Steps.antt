@@ -1,0 +1,178 @@
+-- What each step does to the view of the seat that makes it, and what it tells.
+use Rattle.std.specs.Prelude.{◌≡◌, ◌≢◌, ℕ, suc, ◌+◌, ◌-◌, ◌<◌, ◌≤◌, List, [], ◌∷◌, ◌++◌, length, replicate, take, cond, eqb, slice_index_or, slice_set, true, false}
+use mathlib.Core.Option.{some}
+use lib.ListN.{get_elem?}
+use Rattle.atomic_table.specs.Table.{Me, Step}
+use Rattle.lane_steps.specs.declared.view.Shape.{Shape}
+use Rattle.lane_steps.specs.declared.view.Known.{Known}
+use Rattle.lane_steps.specs.declared.view.Sequencing.{Sequencing}
+use Rattle.lane_steps.specs.declared.view.Reading.{Reading}
+use Rattle.lane_steps.specs.declared.view.View.{View}
+use Rattle.lane_steps.specs.Layout.{tail_word, cursor_word}
+use Rattle.lane_steps.specs.Law.{Entry, closed, Begins, HasWord, lost, shut_place, no_sequencing, no_reading}
+
+-- the number of the next value for this reader, as it has seen it
+abbrev pub position : Reading → ℕ
+position r = r.start + length r.story
+
+-- the number of the next emission
+abbrev pub next_number : View → ℕ
+next_number v = v.shape.first + length v.seen
+
+abbrev pub load_noted : ℕ → ℕ → View → View
+load_noted i n v = record v { loads = v.loads ++ (i, n) ∷ [] }
+
+-- the reader got the value at its position
+abbrev pub got : Reading → Reading
+got r = record r { story = r.story ++ true ∷ []; picked = false }
+
+-- the reader found its cursor at n
+abbrev pub found_at : ℕ → Reading → Reading
+found_at n r = record r { story = r.story ++ replicate (n - position r) false; picked = false }
+
+abbrev pub picked_up : ℕ → Reading → Reading
+picked_up x r = record r { picked = true; number = position r; word = x }
+
+abbrev pub ended : Reading → Reading
+ended r = record r { active = false; picked = false }
+
+abbrev pub known_of : Sequencing → ℕ → Known
+known_of q p = slice_index_or q.places p shut_place
+
+abbrev pub with_known : ℕ → Known → Sequencing → Sequencing
+with_known p k q = record q { places = slice_set q.places p k }
+
+-- the sequencer found the cursor at n
+abbrev pub known_at : ℕ → Known → Known
+known_at n k = cond (eqb n closed) (record k { is_open = false }) (record k { floor = n })
+
+-- the sequencer moved the cursor past n
+abbrev pub known_past : ℕ → Known → Known
+known_past n k = record k { floor = suc n; lost = k.lost ++ n ∷ [] }
+
+abbrev pub known_from : ℕ → Known
+known_from n = record { is_open = true; unread = true; start = n; floor = n; lost = [] }
+
+-- a load of the tail
+abbrev pub Noticed : View → ℕ → View → Type 0
+Noticed v n v' = (v' ≡ record v { seen = v'.seen; told = []; loads = v.loads ++ (tail_word, n) ∷ [] }) × Begins v'.seen v.seen × Begins v'.seen v.told × (n ≡ next_number v') × (position v.reading ≤ n)
+
+-- the reader's load of the cell of its position, the word i
+abbrev pub Picked : ℕ → View → ℕ → View → Type 0
+Picked i v n v' = v' ≡ record v { loads = v.loads ++ (i, n) ∷ []; reading = picked_up n v.reading }
+
+-- the reader's exchange at the position old
+abbrev pub Took : ℕ → View → ℕ → View → Type 0
+Took old v n v' = (n ≡ old → (v' ≡ record v { reading = got v.reading }) × HasWord v.shape.first v.seen v.reading.number v.reading.word)
+    × (n ≢ old → (v' ≡ record v { reading = found_at n v.reading }) × (position v.reading < n) × (v.shape.drops ≡ true))
+
+-- the reader's load of its cursor
+abbrev pub Looked : ℕ → View → ℕ → View → Type 0
+Looked i v n v' = (v' ≡ record v { loads = v.loads ++ (i, n) ∷ []; reading = found_at n v.reading }) × (position v.reading ≤ n) × (v.shape.drops ≡ false → n ≡ position v.reading)
+
+-- the reader closes its cursor
+abbrev pub HasQuit : View → View → Type 0
+HasQuit v v' = v' ≡ record v { reading = ended v.reading }
+
+-- what a cursor found at n says of the place p, to the sequencer
+abbrev pub Standing : View → ℕ → ℕ → Type 0
+Standing v p n = n ≢ closed → ((known_of v.sequencing p).is_open ≡ true) × ((known_of v.sequencing p).floor ≤ n) × (n ≤ next_number v) × (next_number v ≤ n + v.shape.cells)
+
+-- the sequencer's load of the cursor of the place p
+abbrev pub Surveyed : ℕ → View → ℕ → View → Type 0
+Surveyed p v n v' = (v' ≡ record v { told = []; loads = v.loads ++ (cursor_word p, n) ∷ []; sequencing = with_known p (known_at n (known_of v.sequencing p)) v.sequencing }) × Begins v.seen v.told × Standing v p n
+
+-- each place that may be open has read the cell of the next number
+abbrev pub IsRoomy : ℕ → View → Type 0
+IsRoomy cells v = (p : ℕ) (k : Known) → get_elem? v.sequencing.places p ≡ some k → k.is_open ≡ true → next_number v < k.floor + cells
+
+-- the store of x in a cell, for the emitter e
+abbrev pub Filled : ℕ → ℕ → View → View → Type 0
+Filled e x v v' = v' ≡ record v { sequencing = record v.sequencing { flying = true; entry = (e, x) } }
+
+-- the store of the tail
+abbrev pub Accepted : View → View → Type 0
+Accepted v v' = v' ≡ record v { seen = v.seen ++ v.sequencing.entry ∷ []; sequencing = record v.sequencing { flying = false } }
+
+-- the sequencer's exchange of the cursor of the place p, at old
+abbrev pub Dropped : ℕ → ℕ → View → ℕ → View → Type 0
+Dropped p old v n v' = (n ≡ old → (v' ≡ record v { sequencing = with_known p (known_past n (known_of v.sequencing p)) v.sequencing }) × ((known_of v.sequencing p).is_open ≡ true))
+    × (n ≢ old → (v' ≡ record v { sequencing = with_known p (known_at n (known_of v.sequencing p)) v.sequencing }) × Standing v p n)
+
+-- the store that opens the place p at the number n
+abbrev pub Opened : ℕ → ℕ → View → View → Type 0
+Opened p n v v' = v' ≡ record v { sequencing = with_known p (known_from n) v.sequencing }
+
+-- a load of the reader's cursor, by a seat that is the sequencer's and the reader's
+abbrev pub Met : ℕ → View → ℕ → View → Type 0
+Met i v n v' =
+    (v' ≡ record v { told = []; loads = v.loads ++ (i, n) ∷ []; reading = found_at n v.reading; sequencing = with_known v.reading.place (record (known_of v.sequencing v.reading.place) { floor = n }) v.sequencing })
+    × Begins v.seen v.told × ((known_of v.sequencing v.reading.place).lost ≡ lost v.reading.start (found_at n v.reading).story)
+    × (position (found_at n v.reading) ≡ n) × (position v.reading ≤ n) × (n ≤ next_number v) × (v.shape.drops ≡ false → n ≡ position v.reading)
+
+-- the same as a table's step tells it
+module _ {S : Type 0} where
+  abbrev pub noticed : Step S → Me S View → ℕ → Me S View → Type 0
+  noticed st m n m' = (m'.1 ≡ m.1) × Noticed m.0 n m'.0
+
+  abbrev pub picked : Step S → Me S View → ℕ → Me S View → Type 0
+  picked st m n m' = (m'.1 ≡ m.1) × Picked st.word m.0 n m'.0
+
+  abbrev pub took : Step S → Me S View → ℕ → Me S View → Type 0
+  took st m n m' = (m'.1 ≡ m.1) × Took st.first m.0 n m'.0
+
+  abbrev pub looked : Step S → Me S View → ℕ → Me S View → Type 0
+  looked st m n m' = (m'.1 ≡ m.1) × Looked st.word m.0 n m'.0
+
+  abbrev pub quit : Step S → Me S View → ℕ → Me S View → Type 0
+  quit st m n m' = (m'.1 ≡ m.1) × HasQuit m.0 m'.0
+
+  abbrev pub surveyed : Step S → Me S View → ℕ → Me S View → Type 0
+  surveyed st m n m' = (m'.1 ≡ m.1) × ((p : ℕ) → st.word ≡ cursor_word p → Surveyed p m.0 n m'.0)
+
+  abbrev pub filled : ℕ → Step S → Me S View → ℕ → Me S View → Type 0
+  filled e st m n m' = (m'.1 ≡ m.1) × Filled e st.first m.0 m'.0
+
+  abbrev pub accepted : Step S → Me S View → ℕ → Me S View → Type 0
+  accepted st m n m' = (m'.1 ≡ m.1) × Accepted m.0 m'.0
+
+  abbrev pub dropped : Step S → Me S View → ℕ → Me S View → Type 0
+  dropped st m n m' = (m'.1 ≡ m.1) × ((p : ℕ) → st.word ≡ cursor_word p → Dropped p st.first m.0 n m'.0)
+
+  abbrev pub opened : Step S → Me S View → ℕ → Me S View → Type 0
+  opened st m n m' = (m'.1 ≡ m.1) × ((p : ℕ) → st.word ≡ cursor_word p → Opened p st.first m.0 m'.0)
+
+  abbrev pub met : Step S → Me S View → ℕ → Me S View → Type 0
+  met st m n m' = (m'.1 ≡ m.1) × Met st.word m.0 n m'.0
+
+-- a seat that knows these entries alone
+abbrev pub witness : Shape → List Entry → View
+witness key log = record { shape = key; seen = log; told = []; loads = []; sequencing = no_sequencing; reading = no_reading }
+
+-- the reader of the place p is handed out
+abbrev pub handed_out : ℕ → View → View
+handed_out p v = record v { sequencing = with_known p (record (known_of v.sequencing p) { unread = false }) v.sequencing }
+
+abbrev pub new_reader : ℕ → View → View
+new_reader p v = record (witness v.shape v.seen) { reading = record no_reading { active = true; place = p; start = (known_of v.sequencing p).start } }
+
+-- a receipt for the first n entries
+abbrev pub receipt_of : ℕ → View → View
+receipt_of n v = witness v.shape (take n v.seen)
+
+-- the reader's part leaves a seat
+abbrev pub without_reader : View → View
+without_reader v = record v { reading = no_reading }
+
+abbrev pub only_reader : View → View
+only_reader v = record v { sequencing = no_sequencing }
+
+-- a seat takes in what another knows, and the reader's part of another
+abbrev pub telling : View → View → View
+telling v w = record v { told = w.seen }
+
+abbrev pub joined : View → View → View
+joined v w = record v { told = w.seen; reading = w.reading }
+
+abbrev pub spent : View
+spent = witness (record { first = 0; places = 0; cells = 0; drops = false }) []

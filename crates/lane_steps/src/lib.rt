@@ -1,0 +1,43 @@
+//! The words of a lane, the law that holds of them between any two steps, and one function for each kind of step.
+//!
+//! Only `shared_lane` stands on this crate: its sequencer and its readers are made of these steps. Read `specs/Law.antt`
+//! first, then `specs/Steps.antt`.
+//!
+//! # The words
+//! ```text
+//!            tail        cursors, one for each subscriber place       cells: value n lies in cell n % cells
+//!          +------+    +------+------+-------+------+    +------+------+------+------+------+------+
+//!          |  42  |    |  40  |  42  | CLOSED |  37 |    |  36  |  37  |  38  |  39  |  40  |  41  |
+//!          +------+    +------+------+-------+------+    +------+------+------+------+------+------+
+//!             |           |      |               |           :      ^                           |
+//!    the next emission    |      nothing is      the slowest :      this reader's next value    the last accepted
+//!    gets number 42       |      pending         reader      :
+//!                         two values are pending             the cell in flight: it takes value 42 next, which is
+//!                                                            allowed since no open cursor stands at 36 any more
+//! ```
+//!
+//! # Who may write what
+//! | Word | Sequencer | Reader of the place |
+//! |---|---|---|
+//! | tail | stores: an emission is accepted | |
+//! | cell | stores, before the tail | |
+//! | cursor | stores, to open a closed one; exchanges, to drop a value | exchanges, to receive; stores, to close |
+//!
+//! Each function makes one atomic step, and its contract says what that did to the [`View`] of the seat that made it.
+#![tactic(auto)]
+
+mod layout;
+mod plays;
+mod promises;
+mod reader;
+mod rule;
+mod seats;
+mod sequencer;
+mod view;
+mod words;
+
+pub use layout::DISTANCE;
+pub use promises::unread_values_stay;
+pub use rule::{LaneRule, Place};
+pub use view::{Known, Reading, Sequencing, Shape, View};
+pub use words::{CLOSED, Words};

@@ -1,0 +1,66 @@
+//! The steps of a reader.
+ghost use Rattle.std.specs.Prelude.{◌≡◌, ◌+◌, ◌%◌, ◌<◌, true};
+ghost use Rattle.lane_steps.specs.Layout.{cursor_word, cell_word};
+ghost use Rattle.lane_steps.specs.Seats.{IsSeatOf, IsSameSeat};
+ghost use Rattle.lane_steps.specs.Steps.{position, next_number, Noticed, Picked, Took, Looked, HasQuit};
+
+use crate::layout::{cell_at, cursor_at};
+use crate::plays::{Look, Notice, Pick, Quit, Take};
+use crate::rule::Place;
+use crate::words::{CLOSED, Words};
+use std::alloc::Allocator;
+
+impl<A: Allocator> Words<A> {
+    /// Loads the tail.
+    pub fn load_tail(&self, seat: &mut Place) -> u64
+        requires seat { IsSeatOf self.now seat.old × (seat.old.me.0.reading.active ≡ true) }
+        ensures seat { IsSameSeat seat.old seat.new }
+        ensures view { Noticed seat.old.me.0 result seat.new.me.0 }
+    {
+        self.table.shared.load::<Notice>(seat, 0)
+    }
+
+    /// Loads the cell of the reader's position `at`.
+    pub fn load_cell(&self, seat: &mut Place, at: u64) -> u64
+        requires seat { IsSeatOf self.now seat.old × (seat.old.me.0.reading.active ≡ true) }
+        requires position { (at ≡ position seat.old.me.0.reading) × (at < next_number seat.old.me.0) }
+        ensures seat { IsSameSeat seat.old seat.new }
+        ensures view { Picked (cell_word self.now.shape at) seat.old.me.0 result seat.new.me.0 }
+    {
+        let cell = cell_at(&self.shape, at);
+        self.table.shared.load::<Pick>(seat, cell)
+    }
+
+    /// Moves the reader's cursor from `at` up by one, where it still stands there, and returns what it found.
+    pub fn receive(&self, seat: &mut Place, place: usize, at: u64) -> u64
+        requires seat { IsSeatOf self.now seat.old × (seat.old.me.0.reading.active ≡ true) × (seat.old.me.0.reading.place ≡ place) × (place < self.now.shape.places) }
+        requires position { (at ≡ position seat.old.me.0.reading) × (at < next_number seat.old.me.0) × (at < 18446744073709551615) }
+        requires picked { (seat.old.me.0.reading.picked ≡ true) × (seat.old.me.0.reading.number ≡ at) }
+        ensures seat { IsSameSeat seat.old seat.new }
+        ensures view { Took at seat.old.me.0 result seat.new.me.0 }
+    {
+        self.table
+            .shared
+            .compare_exchange::<Take>(seat, cursor_at(place), at, at + 1)
+    }
+
+    /// Loads the reader's cursor.
+    pub fn load_own(&self, seat: &mut Place, place: usize) -> u64
+        requires seat { IsSeatOf self.now seat.old × (seat.old.me.0.reading.active ≡ true) × (seat.old.me.0.reading.place ≡ place) × (place < self.now.shape.places) }
+        ensures seat { IsSameSeat seat.old seat.new }
+        ensures view { Looked (cursor_word place) seat.old.me.0 result seat.new.me.0 }
+    {
+        self.table.shared.load::<Look>(seat, cursor_at(place))
+    }
+
+    /// Closes the reader's cursor.
+    pub fn quit(&self, seat: &mut Place, place: usize)
+        requires seat { IsSeatOf self.now seat.old × (seat.old.me.0.reading.active ≡ true) × (seat.old.me.0.reading.place ≡ place) × (place < self.now.shape.places) }
+        ensures seat { IsSameSeat seat.old seat.new }
+        ensures view { HasQuit seat.old.me.0 seat.new.me.0 }
+    {
+        self.table
+            .shared
+            .store::<Quit>(seat, cursor_at(place), CLOSED);
+    }
+}

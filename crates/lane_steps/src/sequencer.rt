@@ -1,0 +1,91 @@
+//! The steps of the sequencer.
+ghost use Rattle.std.specs.Prelude.{◌≡◌, ℕ, ◌+◌, ◌%◌, ◌<◌, ◌≤◌, true, false};
+ghost use mathlib.Core.Option.{some};
+ghost use lib.ListN.{get_elem?};
+ghost use Rattle.lane_steps.specs.Layout.{cursor_word};
+ghost use Rattle.lane_steps.specs.Seats.{IsSeatOf, IsSameSeat};
+ghost use Rattle.lane_steps.specs.Steps.{next_number, known_of, IsRoomy, Surveyed, Filled, Accepted, Dropped, Opened, Met};
+
+use crate::layout::{cell_at, cursor_at};
+use crate::plays::{Accept, Fill, Lose, Meet, Open, Survey, Told};
+use crate::rule::Place;
+use crate::words::Words;
+use std::alloc::Allocator;
+use std::marker::Brand;
+
+impl<A: Allocator> Words<A> {
+    /// Loads the cursor of a place.
+    pub fn load_cursor(&self, seat: &mut Place, place: usize) -> u64
+        requires seat { IsSeatOf self.now seat.old × (seat.old.me.0.sequencing.active ≡ true) × (place < self.now.shape.places) }
+        ensures seat { IsSameSeat seat.old seat.new }
+        ensures view { Surveyed place seat.old.me.0 result seat.new.me.0 }
+    {
+        self.table.shared.load::<Survey>(seat, cursor_at(place))
+    }
+
+    fn fill<E: Told>(&self, seat: &mut Place, tail: u64, emitter: u32, word: u64)
+        requires told { E.number ≡ emitter }
+        requires seat { IsSeatOf self.now seat.old × (seat.old.me.0.sequencing.active ≡ true) × (tail ≡ next_number seat.old.me.0) }
+        requires room { IsRoomy self.now.shape.cells seat.old.me.0 }
+        ensures seat { IsSameSeat seat.old seat.new }
+        ensures view { Filled emitter word seat.old.me.0 seat.new.me.0 }
+    {
+        let _emitter = emitter;
+        let cell = cell_at(&self.shape, tail);
+        self.table.shared.store::<Fill<E>>(seat, cell, word);
+    }
+
+    /// Stores the word of the next emission in its cell.
+    pub fn store_cell(&self, seat: &mut Place, tail: u64, emitter: u32, word: u64)
+        requires seat { IsSeatOf self.now seat.old × (seat.old.me.0.sequencing.active ≡ true) × (tail ≡ next_number seat.old.me.0) }
+        requires room { IsRoomy self.now.shape.cells seat.old.me.0 }
+        ensures seat { IsSameSeat seat.old seat.new }
+        ensures view { Filled emitter word seat.old.me.0 seat.new.me.0 }
+    {
+        self.fill::<Brand>(seat, tail, emitter, word);
+    }
+
+    /// Stores the tail, and so accepts the emission in flight.
+    pub fn store_tail(&self, seat: &mut Place, tail: u64)
+        requires seat { IsSeatOf self.now seat.old × (seat.old.me.0.sequencing.active ≡ true) × (seat.old.me.0.sequencing.flying ≡ true) }
+        requires tail { (tail ≡ next_number seat.old.me.0 + 1) × (tail ≤ 4611686018427387904) }
+        ensures seat { IsSameSeat seat.old seat.new }
+        ensures view { Accepted seat.old.me.0 seat.new.me.0 }
+    {
+        self.table.shared.store::<Accept>(seat, 0, tail);
+    }
+
+    /// Moves the cursor of a place from `at` up by one, where it still stands there, and returns what it found.
+    pub fn lose(&self, seat: &mut Place, place: usize, at: u64) -> u64
+        requires seat { IsSeatOf self.now seat.old × (seat.old.me.0.sequencing.active ≡ true) × (place < self.now.shape.places) }
+        requires full { (self.now.shape.drops ≡ true) × (at + self.now.shape.cells ≡ next_number seat.old.me.0) × (at < 18446744073709551615) }
+        ensures seat { IsSameSeat seat.old seat.new }
+        ensures view { Dropped place at seat.old.me.0 result seat.new.me.0 }
+    {
+        self.table
+            .shared
+            .compare_exchange::<Lose>(seat, cursor_at(place), at, at + 1)
+    }
+
+    /// Opens the cursor of a closed place at `start`.
+    pub fn open(&self, seat: &mut Place, place: usize, start: u64)
+        requires seat { IsSeatOf self.now seat.old × (seat.old.me.0.sequencing.active ≡ true) × (place < self.now.shape.places) }
+        requires closed { ((known_of seat.old.me.0.sequencing place).is_open ≡ false) × (seat.old.me.0.sequencing.flying ≡ false) }
+        requires start { (self.now.shape.first ≤ start) × (start ≤ next_number seat.old.me.0) × (next_number seat.old.me.0 ≤ start + self.now.shape.cells) }
+        ensures seat { IsSameSeat seat.old seat.new }
+        ensures view { Opened place start seat.old.me.0 seat.new.me.0 }
+    {
+        self.table
+            .shared
+            .store::<Open>(seat, cursor_at(place), start);
+    }
+
+    /// Loads the cursor of the reader that the seat has taken in.
+    pub fn meet_cursor(&self, seat: &mut Place, place: usize) -> u64
+        requires seat { IsSeatOf self.now seat.old × (seat.old.me.0.sequencing.active ≡ true) × (seat.old.me.0.reading.active ≡ true) × (seat.old.me.0.reading.place ≡ place) × (place < self.now.shape.places) }
+        ensures seat { IsSameSeat seat.old seat.new }
+        ensures view { Met (cursor_word place) seat.old.me.0 result seat.new.me.0 }
+    {
+        self.table.shared.load::<Meet>(seat, cursor_at(place))
+    }
+}

@@ -1,0 +1,9 @@
+pub mod Accepting
+pub mod Lives
+pub mod Outstanding
+pub mod Policies
+pub mod Rounds
+pub mod Settling
+pub mod Sameness
+pub mod Soundness
+pub mod Stories

@@ -1,0 +1,17 @@
+-- It stays the same sequencer.
+use Rattle.std.proofs.Common.{ap, ◌∙◌}
+use Rattle.shared_lane.specs.Views.{SequencerSeen}
+use Rattle.shared_lane.specs.Sequencers.{IsSameSequencer, OnlyLoaded}
+
+pub same_loaded : (q t : SequencerSeen) → OnlyLoaded q t → IsSameSequencer q t
+same_loaded q t only = let e = only.0 in (
+  ap (λ (z : SequencerSeen). z.table) e,
+  only.1,
+  ap (λ (z : SequencerSeen). z.policy) e,
+  ap (λ (z : SequencerSeen). z.capacity) e,
+  ap (λ (z : SequencerSeen). z.replay) e,
+  ap (λ (z : SequencerSeen). z.emits) e,
+)
+
+pub same_twice : (q m t : SequencerSeen) → IsSameSequencer q m → IsSameSequencer m t → IsSameSequencer q t
+same_twice q m t a b = (b.0 ∙ a.0, b.1 ∙ a.1, b.2 ∙ a.2, b.3 ∙ a.3, b.4 ∙ a.4, b.5 ∙ a.5)

@@ -1,0 +1,79 @@
+-- What is true of every sequencer stays true.
+use Rattle.std.proofs.Common.{◌≡◌, ℕ, suc, ◌+◌, ◌≤◌, ◌<◌, true, false, List, [], ◌∷◌, ◌++◌, length, map, take, drop, sym, refl, ap, ◌∙◌, subst, arith, length-append}
+use Rattle.std.proofs.lemmas.Grind.{common_steps}
+use Rattle.std.proofs.lemmas.List.{map-append, length-take, length-drop}
+use Rattle.circular_buffer.specs.Buffer.{keep_last}
+use Rattle.lane_steps.specs.declared.view.Shape.{Shape}
+use Rattle.lane_steps.specs.declared.view.View.{View}
+use Rattle.lane_steps.specs.Law.{Entry}
+use Rattle.lane_steps.specs.Steps.{next_number}
+use Rattle.shared_lane.specs.Caches.{word_of, IsLastOf, AreAccepted}
+use Rattle.shared_lane.specs.Views.{SequencerSeen}
+use Rattle.shared_lane.specs.Kept.{IsSound}
+use Rattle.shared_lane.specs.Polls.{given_back}
+use Rattle.shared_lane.specs.Sequencers.{next, accepted_on}
+use Rattle.shared_lane.proofs.Outstanding.{stand_on, stand_without}
+
+cached_on : (r : ℕ) (log : List Entry) (e : Entry) (ws : List ℕ) → IsLastOf log ws → IsLastOf (log ++ e ∷ []) (keep_last r (ws ++ e.1 ∷ []))
+cached_on r log e ws latest =
+    let words : map word_of (log ++ e ∷ []) ≡ map word_of log ++ e.1 ∷ [] = map-append word_of log (e ∷ []) in
+    subst (λ l. keep_last (length (keep_last r (ws ++ e.1 ∷ []))) l ≡ keep_last r (ws ++ e.1 ∷ [])) (sym words) (grind (arith, common_steps))
+
+pub sound_accepted : (q : SequencerSeen) (e : Entry) → IsSound q → next q + length q.waiting < 4611686018427387904 → IsSound (accepted_on e q)
+sound_accepted q e was below = let longer : length (q.view.seen ++ e ∷ []) ≡ length q.view.seen + 1 = length-append q.view.seen (e ∷ []) in record {
+  active = was.active;
+  no_flight = refl;
+  each_place_known = was.each_place_known;
+  some_place = was.some_place;
+  cells = was.cells;
+  drops = was.drops;
+  replay = was.replay;
+  few_tickets = was.few_tickets;
+  few_emits = was.few_emits;
+  numbers = omega arith;
+  tickets = was.tickets;
+  subscriptions = was.subscriptions;
+  waits = was.waits;
+  stands = stand_on q.view.shape.first q.view.seen (e ∷ []) q.standing was.stands;
+  cached = cached_on q.replay q.view.seen e q.cache was.cached;
+}
+
+pub sound_given_back : (i : ℕ) (q : SequencerSeen) → IsSound q → IsSound (given_back i q)
+sound_given_back i q was = let a = length-take i q.standing in let b = length-drop (suc i) q.standing in let c = length-append (take i q.standing) (drop (suc i) q.standing) in record {
+  active = was.active;
+  no_flight = was.no_flight;
+  each_place_known = was.each_place_known;
+  some_place = was.some_place;
+  cells = was.cells;
+  drops = was.drops;
+  replay = was.replay;
+  few_tickets = let few = was.few_tickets in omega arith;
+  few_emits = was.few_emits;
+  numbers = was.numbers;
+  tickets = was.tickets;
+  subscriptions = was.subscriptions;
+  waits = was.waits;
+  stands = stand_without q.view.shape.first q.view.seen q.standing i was.stands;
+  cached = was.cached;
+}
+
+-- it has loaded cursors, and may have let a reader in
+pub sound_seeing : (q : SequencerSeen) (v : View) (subscription : ℕ) → IsSound q → v.shape ≡ q.view.shape → v.seen ≡ q.view.seen → v.sequencing.active ≡ true → v.sequencing.flying ≡ false
+    → length v.sequencing.places ≡ length q.view.sequencing.places → subscription ≤ 4611686018427387904 → IsSound (record q { view = v; subscription = subscription })
+sound_seeing q v subscription was shape log active flying places few = record {
+  active = active;
+  no_flight = flying;
+  each_place_known = places ∙ was.each_place_known ∙ ap (λ (z : Shape). z.places) (sym shape);
+  some_place = subst (λ (z : Shape). 0 < z.places) (sym shape) was.some_place;
+  cells = ap (λ (z : Shape). z.cells) shape ∙ was.cells;
+  drops = ap (λ (z : Shape). z.drops) shape ∙ was.drops;
+  replay = was.replay;
+  few_tickets = was.few_tickets;
+  few_emits = was.few_emits;
+  numbers = let e : next_number v ≡ next_number q.view = (λ i. (shape i).first + length (log i)) in let n = was.numbers in omega arith;
+  tickets = was.tickets;
+  subscriptions = few;
+  waits = was.waits;
+  stands = subst (λ (z : ℕ × List Entry). AreAccepted z.0 z.1 q.standing) (λ i. ((sym shape i).first, sym log i)) was.stands;
+  cached = subst (λ l. IsLastOf l q.cache) (sym log) was.cached;
+}

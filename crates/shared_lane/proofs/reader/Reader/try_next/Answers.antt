@@ -1,0 +1,82 @@
+use Rattle.std.proofs.Common.{rules, arith, ◌≡◌, ℕ, ◌+◌, ◌-◌, ◌<◌, ◌≤◌, List, [], ◌∷◌, ◌++◌, length, replicate, Bool, true, false, refl, sym, ap, ◌∙◌, subst, Fits, w64}
+use Rattle.lane_steps.specs.declared.view.View.{View}
+use Rattle.lane_steps.specs.declared.view.Reading.{Reading}
+use Rattle.lane_steps.specs.declared.view.Shape.{Shape}
+use Rattle.lane_steps.specs.Law.{Entry, HasWord, received}
+use Rattle.lane_steps.specs.Steps.{position, got, found_at, picked_up}
+use Rattle.shared_lane.proofs.Stories.{position_found, found_twice, received_none, received_one, each_once}
+use Rattle.shared_lane.proofs.reader.Reader.try_next.Goals as goal
+
+pub invariant_of-self : goal.invariant_of-self
+invariant_of-self g c = let s = c.self.inside in let inv = c.self.invariant in let r : Reading = s.seat.me.0.reading in let n : ℕ = c.load_own-at.result in let own = c.load_own-at.ensures in let tail = c.load_tail-tail.ensures in
+    let e = ap (λ (v : View). v.reading) tail.view.0 ∙ ap (λ (v : View). v.reading) own.view.0 in let shape = ap (λ (v : View). v.shape) tail.view.0 ∙ ap (λ (v : View). v.shape) own.view.0 in record {
+      active = ap (λ (x : Reading). x.active) e ∙ inv.active;
+      holds_no_slot = tail.seat.2 ∙ own.seat.2 ∙ inv.holds_no_slot;
+      place_is = ap (λ (x : Reading). x.place) e ∙ inv.place_is;
+      inside = subst (λ (z : Shape). s.place < z.places) (sym shape) inv.inside;
+      start_is = ap (λ (x : Reading). x.start) e ∙ inv.start_is;
+      at_is = sym (ap position e ∙ position_found n r own.view.1);
+      taken_is = inv.taken_is ∙ sym (ap (λ (x : Reading). length (received s.start x.story)) e ∙ received_none s.start (n - position r) r.story);
+    }
+
+pub invariant_of-self-then-found-at : goal.invariant_of-self-then-found-at
+invariant_of-self-then-found-at g c = let s = c.self.inside in let inv = c.self.invariant in let r : Reading = s.seat.me.0.reading in let n : ℕ = c.load_own-at.result in let own = c.load_own-at.ensures in let tail = c.load_tail-tail.ensures in
+    let cell = c.load_cell-word.ensures in let got' = c.receive-found.ensures in let m : ℕ = c.receive-found.result in let miss = got'.view.1 c.if-found-at.true in
+    let e2 = ap (λ (v : View). v.reading) tail.view.0 ∙ ap (λ (v : View). v.reading) own.view.0 in let e3 = ap (λ (v : View). v.reading) cell.view ∙ ap (picked_up c.load_cell-word.result) e2 in
+    let e4 = ap (λ (v : View). v.reading) miss.0 ∙ ap (found_at m) e3 in let pos = position_found n r own.view.1 in let p : ℕ = position r in let le = own.view.1 in
+    let above : n < m = subst (λ (z : ℕ). z < m) (ap position e3 ∙ pos) miss.1 in
+    let shape = ap (λ (v : View). v.shape) miss.0 ∙ ap (λ (v : View). v.shape) cell.view ∙ ap (λ (v : View). v.shape) tail.view.0 ∙ ap (λ (v : View). v.shape) own.view.0 in
+    let story = ap (λ (x : Reading). x.story) e4 ∙ (ap (λ (z : ℕ). (r.story ++ replicate (n - p) false) ++ replicate (m - z) false) pos ∙ found_twice p n m r.story le (omega arith)) in record {
+      active = ap (λ (x : Reading). x.active) e4 ∙ inv.active;
+      holds_no_slot = got'.seat.2 ∙ cell.seat.2 ∙ tail.seat.2 ∙ own.seat.2 ∙ inv.holds_no_slot;
+      place_is = ap (λ (x : Reading). x.place) e4 ∙ inv.place_is;
+      inside = subst (λ (z : Shape). s.place < z.places) (sym shape) inv.inside;
+      start_is = ap (λ (x : Reading). x.start) e4 ∙ inv.start_is;
+      at_is = sym (ap position e4 ∙ position_found m (picked_up c.load_cell-word.result (found_at n r)) (subst (λ (z : ℕ). z ≤ m) (sym pos) (omega arith)));
+      taken_is = inv.taken_is ∙ sym (ap (λ (l : List Bool). length (received s.start l)) story ∙ received_none s.start (m - p) r.story);
+    }
+
+pub returns-then-found-at-clause-taken : goal.returns-then-found-at-clause-taken
+returns-then-found-at-clause-taken g c = rw (← c.self.view_is) (let s = c.self.inside in let inv = c.self.invariant in let r : Reading = s.seat.me.0.reading in let n : ℕ = c.load_own-at.result in let own = c.load_own-at.ensures in let tail = c.load_tail-tail.ensures in
+    let cell = c.load_cell-word.ensures in let got' = c.receive-found.ensures in let m : ℕ = c.receive-found.result in let miss = got'.view.1 c.if-found-at.true in
+    let e2 = ap (λ (v : View). v.reading) tail.view.0 ∙ ap (λ (v : View). v.reading) own.view.0 in let e3 = ap (λ (v : View). v.reading) cell.view ∙ ap (picked_up c.load_cell-word.result) e2 in
+    let e4 = ap (λ (v : View). v.reading) miss.0 ∙ ap (found_at m) e3 in let pos = position_found n r own.view.1 in let p : ℕ = position r in let le = own.view.1 in
+    let above : n < m = subst (λ (z : ℕ). z < m) (ap position e3 ∙ pos) miss.1 in
+    let shape = ap (λ (v : View). v.shape) cell.view ∙ ap (λ (v : View). v.shape) tail.view.0 ∙ ap (λ (v : View). v.shape) own.view.0 in
+    let story = ap (λ (x : Reading). x.story) e4 ∙ (ap (λ (z : ℕ). (r.story ++ replicate (n - p) false) ++ replicate (m - z) false) pos ∙ found_twice p n m r.story le (omega arith)) in
+    (m, omega arith, ap (λ (z : Shape). z.drops) (sym shape) ∙ miss.2, story))
+
+pub overflow_add-self-2 : goal.overflow_add-self-2
+overflow_add-self-2 g c = let s = c.self.inside in let inv = c.self.invariant in let r : Reading = s.seat.me.0.reading in let n : ℕ = c.load_own-at.result in let once = each_once s.start r.story in let own = c.load_own-at.ensures.view in let counted = inv.taken_is in
+    let here : position c.load_own-at.new.seat.me.0.reading ≡ n = ap (λ (v : View). position v.reading) own.0 ∙ position_found n r own.1 in let le = c.load_tail-tail.ensures.view.4 in let ne = c.if-tail-at.false in
+    let small : Fits w64 c.load_tail-tail.result = search rules in let few = own.1 in record { fits = let h = small.fits in omega arith }
+
+pub invariant_of-self-2 : goal.invariant_of-self-2
+invariant_of-self-2 g c = let s = c.self.inside in let inv = c.self.invariant in let r : Reading = s.seat.me.0.reading in let n : ℕ = c.load_own-at.result in let own = c.load_own-at.ensures in let tail = c.load_tail-tail.ensures in
+    let cell = c.load_cell-word.ensures in let got' = c.receive-found.ensures in let hit = got'.view.0 c.if-found-at.false in
+    let e2 = ap (λ (v : View). v.reading) tail.view.0 ∙ ap (λ (v : View). v.reading) own.view.0 in let e3 = ap (λ (v : View). v.reading) cell.view ∙ ap (picked_up c.load_cell-word.result) e2 in
+    let e4 = ap (λ (v : View). v.reading) hit.0 ∙ ap got e3 in let pos = position_found n r own.view.1 in let p : ℕ = position r in
+    let shape = ap (λ (v : View). v.shape) hit.0 ∙ ap (λ (v : View). v.shape) cell.view ∙ ap (λ (v : View). v.shape) tail.view.0 ∙ ap (λ (v : View). v.shape) own.view.0 in
+    let bs : List Bool = r.story ++ replicate (n - p) false in let longer : length (bs ++ true ∷ []) ≡ length bs + 1 = Rattle.std.proofs.Common.length-append bs (true ∷ []) in
+    let there : position (got (found_at n r)) ≡ n + 1 = omega arith in record {
+      active = ap (λ (x : Reading). x.active) e4 ∙ inv.active;
+      holds_no_slot = got'.seat.2 ∙ cell.seat.2 ∙ tail.seat.2 ∙ own.seat.2 ∙ inv.holds_no_slot;
+      place_is = ap (λ (x : Reading). x.place) e4 ∙ inv.place_is;
+      inside = subst (λ (z : Shape). s.place < z.places) (sym shape) inv.inside;
+      start_is = ap (λ (x : Reading). x.start) e4 ∙ inv.start_is;
+      at_is = sym (ap position e4 ∙ there);
+      taken_is = ap (λ (z : ℕ). z + 1) (inv.taken_is ∙ sym (received_none s.start (n - p) r.story)) ∙ sym (ap (λ (x : Reading). length (received s.start x.story)) e4 ∙ received_one s.start bs);
+    }
+
+pub returns-clause-taken : goal.returns-clause-taken
+returns-clause-taken g c = rw (← c.self.view_is) (let s = c.self.inside in let inv = c.self.invariant in let r : Reading = s.seat.me.0.reading in let n : ℕ = c.load_own-at.result in let own = c.load_own-at.ensures in let tail = c.load_tail-tail.ensures in
+    let cell = c.load_cell-word.ensures in let got' = c.receive-found.ensures in let hit = got'.view.0 c.if-found-at.false in
+    let e2 = ap (λ (v : View). v.reading) tail.view.0 ∙ ap (λ (v : View). v.reading) own.view.0 in let e3 = ap (λ (v : View). v.reading) cell.view ∙ ap (picked_up c.load_cell-word.result) e2 in
+    let e4 = ap (λ (v : View). v.reading) hit.0 ∙ ap got e3 in let pos = position_found n r own.view.1 in
+    let shape = ap (λ (v : View). v.shape) cell.view ∙ ap (λ (v : View). v.shape) tail.view.0 ∙ ap (λ (v : View). v.shape) own.view.0 in (
+      n,
+      own.view.1,
+      own.view.2,
+      ap (λ (x : Reading). x.story) e4,
+      subst (λ (z : Shape × List Entry × ℕ × ℕ). HasWord z.0.first z.1 z.2 z.3) (λ i. (shape i, sym (ap (λ (v : View). v.seen) hit.0) i, (ap (λ (x : Reading). x.number) e3 ∙ pos) i, ap (λ (x : Reading). x.word) e3 i)) hit.1,
+    ))

@@ -1,0 +1,35 @@
+use Rattle.std.proofs.Common.{◌≡◌, ◌<◌, false, ◌++◌, ◌∷◌, [], ◌∙◌, ap, subst, sym, ◌+◌, arith, length, length-append}
+use Rattle.lane_steps.specs.declared.view.View.{View}
+use Rattle.lane_steps.specs.Steps.{next_number}
+use Rattle.shared_lane.specs.Views.{SequencerSeen, sequencer_of}
+use Rattle.shared_lane.specs.Kept.{IsSound}
+use Rattle.shared_lane.specs.Sequencers.{next, accepted_on}
+use Rattle.shared_lane.proofs.Soundness.{sound_accepted}
+use Rattle.shared_lane.proofs.sequencer.Sequencer.accept.Goals as goal
+
+pub invariant_of-self : goal.invariant_of-self
+invariant_of-self g c = let s = c.self.inside in let inv = c.self.invariant in let q : SequencerSeen = sequencer_of s.seat s.policy s.capacity s.cache.capacity s.emits s.cache.items s.waiting.items s.standing.items s.ticket s.subscription in
+    let table = c.store_tail.ensures.seat.0 ∙ c.store_cell.ensures.seat.0 in let kept = c.push_back.ensures.items in
+    let view = c.store_tail.ensures.view ∙ ap (λ (v : View). let u : View = record v { seen = v.seen ++ v.sequencing.entry ∷ []; sequencing = record v.sequencing { flying = false } } in u) c.store_cell.ensures.view in
+    let now : SequencerSeen = sequencer_of c.store_tail.new.seat s.policy s.capacity c.push_back.new.self.capacity s.emits c.push_back.new.self.items s.waiting.items s.standing.items s.ticket s.subscription in
+    let is : now ≡ accepted_on (c.args.emitter, c.args.word) q = (λ i. record {
+      table = table i;
+      view = view i;
+      policy = s.policy;
+      capacity = s.capacity;
+      replay = (kept i).capacity;
+      emits = s.emits;
+      cache = (kept i).items;
+      waiting = s.waiting.items;
+      standing = s.standing.items;
+      ticket = s.ticket;
+      subscription = s.subscription;
+    }) in
+    let below = subst (λ (z : SequencerSeen). next z + length z.waiting < 4611686018427387904) (sym c.self.view_is) c.requires.number in
+    let longer = length-append s.seat.me.0.seen ((c.args.emitter, c.args.word) ∷ []) in let after = ap next_number view in let before = inv.tail_is in record {
+      sound = subst IsSound (sym is) (sound_accepted q (c.args.emitter, c.args.word) inv.sound below);
+      holds_no_slot = c.store_tail.ensures.seat.2 ∙ c.store_cell.ensures.seat.2 ∙ inv.holds_no_slot;
+      tail_is = omega arith;
+      room_to_wait = inv.room_to_wait;
+      room_to_stand = inv.room_to_stand;
+    }

@@ -1,0 +1,18 @@
+use Rattle.std.proofs.Common.{ℕ, ap, ◌∙◌, ◌<◌, subst}
+use Rattle.shared_lane.specs.Views.{SequencerSeen}
+use Rattle.shared_lane.proofs.Sameness.{same_loaded, same_twice}
+use Rattle.shared_lane.proofs.Settling.{settled_more, rounded_later, still_waits}
+use Rattle.shared_lane.proofs.sequencer.Sequencer.scan.Goals as goal
+
+pub settle_one-requires-clause-waits : goal.settle_one-requires-clause-waits
+settle_one-requires-clause-waits g c = let before = c.loop-settled.invariant in let count = c.waiting_count-most.ensures.count in
+    still_waits c.loop-settled.settled c.args.self.now c.loop-settled.self c.find_room.new.self before.2 c.find_room.ensures.only (subst (λ (z : ℕ). c.loop-settled.settled < z) count c.loop-settled-test.true)
+
+pub loop-settled-preserved : goal.loop-settled-preserved
+loop-settled-preserved g c = let before = c.loop-settled.invariant in let found = c.find_room.ensures.only in let one = c.settle_one.ensures in let q = c.args.self.now in let t = c.loop-settled.self in let t' = c.find_room.new.self in let u = c.settle_one.new.self in (
+  (one.same.0.0 ∙ ap (λ (z : SequencerSeen). z.table) found.0 ∙ before.0.0, one.same.0.1 ∙ found.1 ∙ before.0.1),
+  same_twice q t u before.1 (same_twice t t' u (same_loaded t t' found) one.same.0),
+  settled_more c.loop-settled.settled q t t' u before.2 found.2 (ap (λ (z : SequencerSeen). z.cache) found.0)
+      (ap (λ (z : SequencerSeen). z.waiting) found.0, ap (λ (z : SequencerSeen). z.standing) found.0, ap (λ (z : SequencerSeen). z.ticket) found.0) (ap (λ (z : SequencerSeen). z.subscription) found.0) (found.1 ∙ before.1.1)
+      (ap (λ (z : SequencerSeen). z.replay) found.0 ∙ before.1.4) (rounded_later t.policy _ t _ t'.view c.find_room.ensures.round) one.settled,
+)

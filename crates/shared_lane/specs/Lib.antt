@@ -1,0 +1,9 @@
+pub mod Caches
+pub mod Kept
+pub mod Places
+pub mod Polls
+pub mod Readers
+pub mod Sequencers
+pub mod Surveys
+pub mod Views
+pub mod Headline

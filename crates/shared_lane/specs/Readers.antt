@@ -1,0 +1,47 @@
+-- What a reader has seen, and what it takes.
+use Rattle.std.specs.Prelude.{◌≡◌, ℕ, ◌+◌, ◌-◌, ◌<◌, ◌≤◌, List, [], ◌∷◌, ◌++◌, length, replicate, Bool, true, false}
+use Rattle.lane_steps.specs.Layout.{tail_word, cursor_word}
+use Rattle.lane_steps.specs.Law.{Begins, HasWord, received, lost}
+use Rattle.shared_lane.specs.Views.{LaneSeen, ReaderSeen, ReceiptSeen}
+use Rattle.shared_lane.specs.declared.reader.Taken.{Taken}
+use Rattle.shared_lane.specs.declared.reader.Taken.TheVariants.{Value, Nothing, Overtaken}
+
+-- it is a reader of this lane
+abbrev pub IsReaderOf : LaneSeen → ReaderSeen → Type 0
+IsReaderOf lane r = (r.table ≡ lane.table) × (r.shape ≡ lane.shape)
+
+abbrev pub IsReceiptOf : LaneSeen → ReceiptSeen → Type 0
+IsReceiptOf lane receipt = receipt.table ≡ lane.table
+
+-- the number of the next value
+abbrev pub at : ReaderSeen → ℕ
+at r = r.start + length r.story
+
+abbrev pub received_count : ReaderSeen → ℕ
+received_count r = length (received r.start r.story)
+
+abbrev pub lost_count : ReaderSeen → ℕ
+lost_count r = length (lost r.start r.story)
+
+-- it is the same reader, which has seen no less
+abbrev pub IsSameReader : ReaderSeen → ReaderSeen → Type 0
+IsSameReader r t = (t.start ≡ r.start) × (t.place ≡ r.place) × (t.shape ≡ r.shape) × Begins t.seen r.seen × (t.table ≡ r.table)
+
+-- the story, as far as the number n, which lost what came since
+abbrev pub story_to : ℕ → ReaderSeen → List Bool
+story_to n r = r.story ++ replicate (n - at r) false
+
+-- nothing can be lost, where the policy drops nothing
+abbrev pub IsKept : ℕ → ReaderSeen → Type 0
+IsKept n r = r.shape.drops ≡ false → n ≡ at r
+
+-- the reader's position is n, and what lay between was lost
+abbrev pub WentTo : ℕ → ReaderSeen → ReaderSeen → Type 0
+WentTo n r t = (at r ≤ n) × IsKept n r × (t.story ≡ story_to n r)
+
+-- what an attempt to take the next value did
+abbrev pub TookNext : ReaderSeen → Taken ℕ → ReaderSeen → Type 0
+TookNext r (Value w) t = (n : ℕ) × (at r ≤ n) × IsKept n r × (t.story ≡ story_to n r ++ true ∷ []) × HasWord r.shape.first t.seen n w
+-- the tail that was loaded last is the position
+TookNext r Nothing t = (n : ℕ) × WentTo n r t × (n ≡ r.shape.first + length t.seen) × (t.loads ≡ r.loads ++ (cursor_word r.place, n) ∷ (tail_word, n) ∷ [])
+TookNext r Overtaken t = (n : ℕ) × (at r < n) × (r.shape.drops ≡ true) × (t.story ≡ story_to n r)

@@ -1,0 +1,160 @@
+-- What a call of the sequencer does.
+use Rattle.std.specs.Prelude.{◌≡◌, ◌≢◌, ◌⊎◌, ℕ, suc, map, take, drop, ◌+◌, ◌<◌, ◌≤◌, List, [], ◌∷◌, ◌++◌, length, not, max, Bool, true, false}
+use Rattle.circular_buffer.specs.Buffer.{keep_last}
+use Rattle.lane_steps.specs.declared.view.Shape.{Shape}
+use Rattle.lane_steps.specs.declared.view.View.{View}
+use Rattle.lane_steps.specs.Law.{Begins, Entry}
+use Rattle.lane_steps.specs.Steps.{next_number}
+use Rattle.cold_flow.specs.declared.policy.Policy.{Policy}
+use Rattle.cold_flow.specs.declared.policy.Policy.TheVariants.{Suspend, DropOldest, DropLatest}
+use Rattle.shared_core.specs.declared.config.Config.{Config}
+use Rattle.cold_flow.specs.declared.refusal.Refusal.{Refusal}
+use Rattle.cold_flow.specs.declared.refusal.Refusal.TheVariants.{Spent, EmitsFull}
+use Rattle.shared_core.specs.declared.answers.Begun.{Begun}
+use Rattle.shared_core.specs.declared.answers.Begun.TheVariants as begun
+use Rattle.shared_core.specs.declared.answers.Tried.{Tried}
+use Rattle.shared_core.specs.declared.answers.Tried.TheVariants.{Accepted, Dropped, Full}
+use Rattle.shared_core.specs.declared.ids.Ticket.{Ticket}
+use Rattle.shared_lane.specs.Caches.{drops_values}
+use Rattle.shared_lane.specs.Views.{LaneSeen, SequencerSeen}
+use Rattle.shared_lane.specs.declared.tickets.Waiting.{Waiting}
+use Rattle.shared_lane.specs.declared.tickets.Standing.{Standing}
+use Rattle.shared_lane.specs.Surveys.{Round, FoundAt, Cleared, Behind}
+
+-- what the lane of a flow with this config is made with
+abbrev pub shape_of : Config → Shape
+shape_of config = record { first = config.first; places = config.subscribers; cells = max (config.replay + config.extra) 1; drops = drops_values config.policy }
+
+abbrev pub entry_of : Waiting → Entry
+entry_of w = (w.emitter, w.word)
+
+-- these stand from the number n on
+abbrev pub stood : ℕ → List Waiting → List Standing
+stood n [] = []
+stood n (w ∷ ws) = record { ticket = w.ticket; emitter = w.emitter; number = n } ∷ stood (suc n) ws
+
+-- the cache, after these were accepted
+abbrev pub cached : ℕ → List ℕ → List Waiting → List ℕ
+cached r ws [] = ws
+cached r ws (e ∷ es) = cached r (keep_last r (ws ++ e.word ∷ [])) es
+
+-- it is the sequencer of this lane
+abbrev pub IsSequencerOf : LaneSeen → SequencerSeen → Type 0
+IsSequencerOf lane q = (q.table ≡ lane.table) × (q.view.shape ≡ lane.shape)
+
+-- all accepted emissions
+abbrev pub seen : SequencerSeen → List Entry
+seen q = q.view.seen
+
+-- the number of the next one
+abbrev pub next : SequencerSeen → ℕ
+next q = next_number q.view
+
+abbrev pub IsSameTickets : SequencerSeen → SequencerSeen → Type 0
+IsSameTickets q t = (t.waiting ≡ q.waiting) × (t.standing ≡ q.standing) × (t.ticket ≡ q.ticket)
+
+-- it is the same sequencer, of the same flow
+abbrev pub IsSameSequencer : SequencerSeen → SequencerSeen → Type 0
+IsSameSequencer q t = (t.table ≡ q.table) × (t.view.shape ≡ q.view.shape) × (t.policy ≡ q.policy) × (t.capacity ≡ q.capacity) × (t.replay ≡ q.replay) × (t.emits ≡ q.emits)
+
+-- nothing changed but what it has loaded, and what it knows of the places by that
+abbrev pub OnlyLoaded : SequencerSeen → SequencerSeen → Type 0
+OnlyLoaded q t = (t ≡ record q { view = t.view }) × (t.view.shape ≡ q.view.shape) × (t.view.seen ≡ q.view.seen)
+
+-- one round over the cursors, which found room or not
+abbrev pub RoundedBy : Policy → ℕ → SequencerSeen → Bool → View → Type 0
+RoundedBy DropOldest lag q room v = (room ≡ true) × ((ns : List ℕ) × (length ns ≡ q.view.shape.places) × Round (Cleared (next q) q.view.shape.cells) q.view ns v)
+RoundedBy Suspend lag q room v = (ns : List ℕ) × (length ns ≡ q.view.shape.places) × Round FoundAt q.view ns v × Behind (next q) lag ns (not room)
+RoundedBy DropLatest lag q room v = (ns : List ℕ) × (length ns ≡ q.view.shape.places) × Round FoundAt q.view ns v × Behind (next q) lag ns (not room)
+
+abbrev pub Rounded : ℕ → SequencerSeen → Bool → SequencerSeen → Type 0
+Rounded lag q room t = RoundedBy q.policy lag q room t.view
+
+-- the first k waiting emissions were accepted, in their order
+pub record Settled (k : ℕ) (q t : SequencerSeen) : Type 0 where
+  pub few : k ≤ length q.waiting
+  pub accepted : seen t ≡ seen q ++ map entry_of (take k q.waiting)
+  pub waiting_is : t.waiting ≡ drop k q.waiting
+  pub standing_is : t.standing ≡ q.standing ++ stood (next q) (take k q.waiting)
+  pub ticket : t.ticket ≡ q.ticket
+  pub subscription : t.subscription ≡ q.subscription
+  pub cache_is : t.cache ≡ cached q.replay q.cache (take k q.waiting)
+  pub later : Begins t.view.loads q.view.loads
+  -- where nothing waited nothing was done
+  pub quiet : q.waiting ≡ [] → t ≡ q
+
+-- since q, a round over the cursors found one that stood as far behind as there are cells
+abbrev pub IsStuck : SequencerSeen → SequencerSeen → Type 0
+IsStuck q t = (v : View) × (ns : List ℕ) × Begins v.loads q.view.loads × (length ns ≡ t.view.shape.places) × Round FoundAt v ns t.view × Behind (next t) t.view.shape.cells ns true
+
+-- the call first accepted waiting emissions, as many as it could, and `then` says what it did after that
+abbrev pub AfterScan : SequencerSeen → (SequencerSeen → Type 0) → Type 0
+AfterScan q then = (m : SequencerSeen) × (k : ℕ) × IsSameSequencer q m × Settled k q m × (m.waiting ≢ [] → IsStuck q m) × then m
+
+-- the emission was accepted, after a round over the cursors that found room
+abbrev pub AcceptedOn : SequencerSeen → Entry → ℕ → SequencerSeen → Type 0
+AcceptedOn q e n t = (q.waiting ≡ []) × (n ≡ next q) × (seen t ≡ seen q ++ e ∷ []) × (t.cache ≡ keep_last q.replay (q.cache ++ e.1 ∷ [])) × IsSameTickets q t × (t.subscription ≡ q.subscription)
+    × ((v : View) × RoundedBy q.policy q.capacity q true v × (t.view.loads ≡ v.loads) × (t.view.sequencing.places ≡ v.sequencing.places))
+
+-- the emission is the last of those accepted, and in the cache
+abbrev pub accepted_on : Entry → SequencerSeen → SequencerSeen
+accepted_on e q = record q {
+  view = record q.view { seen = q.view.seen ++ e ∷ []; sequencing = record q.view.sequencing { flying = false; entry = e } };
+  cache = keep_last q.replay (q.cache ++ e.1 ∷ []);
+}
+
+-- an accepted emission's ticket is out
+abbrev pub stood_on : ℕ → ℕ → ℕ → SequencerSeen → SequencerSeen
+stood_on ticket emitter number q = record q { standing = q.standing ++ record { ticket = ticket; emitter = emitter; number = number } ∷ [] }
+
+-- an attempt to emit: what is answered, by cursors that were loaded in the call
+abbrev pub TriedOn : SequencerSeen → Entry → Tried ℕ → SequencerSeen → Type 0
+TriedOn q e (Accepted n) t = AcceptedOn q e n t
+TriedOn q e Dropped t = (q.policy ≡ DropLatest) × OnlyLoaded q t × Rounded q.capacity q false t
+TriedOn q e Full t = (q.policy ≡ Suspend) × (((q.waiting ≢ []) × (t ≡ q)) ⊎ (OnlyLoaded q t × Rounded q.capacity q false t))
+
+-- a number is left for one more emission, and for one more ticket
+abbrev pub HasNumber : SequencerSeen → Type 0
+HasNumber q = next q + length q.waiting < 4611686018427387904
+
+abbrev pub HasTicketNumber : SequencerSeen → Type 0
+HasTicketNumber q = q.ticket < 4611686018427387904
+
+-- fewer tickets are out than may be
+abbrev pub HasFreeTicket : SequencerSeen → Type 0
+HasFreeTicket q = length q.waiting + length q.standing < q.emits
+
+abbrev pub RefusedTry : SequencerSeen → Refusal → SequencerSeen → Type 0
+RefusedTry q e t = (e ≡ Spent) × (next q + length q.waiting ≡ 4611686018427387904) × (t ≡ q)
+
+-- the emission waits, with the next ticket, behind those that wait already
+abbrev pub waited : Entry → SequencerSeen → SequencerSeen
+waited e q = record q { waiting = q.waiting ++ record { ticket = q.ticket; emitter = e.0; word = e.1 } ∷ []; ticket = q.ticket + 1 }
+
+-- the emission was accepted, and its ticket stands at its number
+abbrev pub HasStood : SequencerSeen → Entry → SequencerSeen → Type 0
+HasStood q e t = (t.ticket ≡ q.ticket + 1) × (t.waiting ≡ q.waiting) × (t.standing ≡ q.standing ++ record { ticket = q.ticket; emitter = e.0; number = next q } ∷ [])
+    × (seen t ≡ seen q ++ e ∷ []) × (t.cache ≡ keep_last q.replay (q.cache ++ e.1 ∷ [])) × (t.subscription ≡ q.subscription)
+
+-- some cursor was open, as the call loaded them where there is no buffer
+abbrev pub IsWatched : SequencerSeen → Type 0
+IsWatched q = (v : View) × RoundedBy Suspend 0 q false v
+
+-- the start of an emission
+abbrev pub BegunOn : SequencerSeen → Entry → Begun ℕ Ticket → SequencerSeen → Type 0
+BegunOn q e (begun.Accepted n) t = AcceptedOn q e n t
+BegunOn q e begun.Dropped t = (q.policy ≡ DropLatest) × OnlyLoaded q t × Rounded q.capacity q false t
+-- where the value is in its cell already, some cursor was open; else the emission waits behind a cursor or another emission
+BegunOn q e (begun.Waiting ticket) t = (q.policy ≡ Suspend) × (ticket.0 ≡ q.ticket) × HasFreeTicket q
+    × (((q.waiting ≡ []) × (q.capacity ≡ 0) × HasStood q e t × IsWatched q)
+    ⊎ ((t ≡ record (waited e q) { view = t.view }) × (seen t ≡ seen q) × ((q.waiting ≢ []) ⊎ IsStuck q t)))
+
+abbrev pub RefusedStart : SequencerSeen → Refusal → SequencerSeen → Type 0
+RefusedStart q Spent t = ((next q + length q.waiting ≡ 4611686018427387904) ⊎ (q.ticket ≡ 4611686018427387904)) × (t ≡ q)
+RefusedStart q EmitsFull t = HasNumber q × HasTicketNumber q × (length q.waiting + length q.standing ≡ q.emits) × (((q.waiting ≢ []) × (t ≡ q)) ⊎ (OnlyLoaded q t × Rounded q.capacity q false t))
+RefusedStart _ _ _ = ⊥
+
+-- nothing was accepted, and no place was opened
+abbrev pub IsFresh : Config → SequencerSeen → Type 0
+IsFresh config q = (seen q ≡ []) × (q.cache ≡ []) × (q.view.shape ≡ shape_of config) × (q.policy ≡ config.policy) × (q.capacity ≡ config.replay + config.extra) × (q.replay ≡ config.replay) × (q.emits ≡ config.emits)
+    × (q.waiting ≡ []) × (q.standing ≡ []) × (q.ticket ≡ config.first) × (q.subscription ≡ config.first)

@@ -1,0 +1,67 @@
+-- One round over the cursors.
+use Rattle.std.specs.Prelude.{◌≡◌, ◌≢◌, ◌⊎◌, ℕ, suc, ◌+◌, ◌<◌, ◌≤◌, List, [], ◌∷◌, ◌++◌, length, cond, eqb, slice_index, Bool, true, false}
+use Rattle.lane_steps.specs.declared.view.Known.{Known}
+use Rattle.lane_steps.specs.declared.view.View.{View}
+use Rattle.lane_steps.specs.Layout.{cursor_word}
+use Rattle.lane_steps.specs.Law.{closed}
+use Rattle.lane_steps.specs.Steps.{next_number, known_of, known_at, known_past}
+
+-- the loads of the cursors from the place p on, which found these
+abbrev pub cursor_loads : ℕ → List ℕ → List (ℕ × ℕ)
+cursor_loads p [] = []
+cursor_loads p (n ∷ ns) = (cursor_word p, n) ∷ cursor_loads (suc p) ns
+
+abbrev pub open_count : List ℕ → ℕ
+open_count [] = 0
+open_count (n ∷ ns) = cond (eqb n closed) (open_count ns) (suc (open_count ns))
+
+-- the sequencer goes on with what it knows of the places alone
+pub record OnlyPlaces (v v' : View) : Type 0 where
+  pub shape : v'.shape ≡ v.shape
+  pub seen : v'.seen ≡ v.seen
+  pub reading : v'.reading ≡ v.reading
+  pub active : v'.sequencing.active ≡ v.sequencing.active
+  pub flying : v'.sequencing.flying ≡ v.sequencing.flying
+  pub count : length v'.sequencing.places ≡ length v.sequencing.places
+
+-- the cursor of the place p was loaded and found at n, and E is what that did to what the sequencer knows of the place
+pub record Visit (E : ℕ → Known → Known → Type 0) (v : View) (p n : ℕ) (v' : View) : Type 0 where
+  pub only : OnlyPlaces v v'
+  pub loads : v'.loads ≡ v.loads ++ (cursor_word p, n) ∷ []
+  pub below : n ≢ closed → n ≤ next_number v
+  pub here : E n (known_of v.sequencing p) (known_of v'.sequencing p)
+  pub rest : (x : ℕ) → x ≢ p → known_of v'.sequencing x ≡ known_of v.sequencing x
+
+-- the cursors were loaded in order, each once, and found at ns
+pub record Round (E : ℕ → Known → Known → Type 0) (v : View) (ns : List ℕ) (v' : View) : Type 0 where
+  pub only : OnlyPlaces v v'
+  pub loads : v'.loads ≡ v.loads ++ cursor_loads 0 ns
+  pub below : (p : ℕ) → p < length ns → slice_index ns p ≢ closed → slice_index ns p ≤ next_number v
+  pub each : (p : ℕ) → p < length ns → E (slice_index ns p) (known_of v.sequencing p) (known_of v'.sequencing p)
+  pub rest : (p : ℕ) → length ns ≤ p → known_of v'.sequencing p ≡ known_of v.sequencing p
+
+-- the cursor was left where it was found
+abbrev pub FoundAt : ℕ → Known → Known → Type 0
+FoundAt n k k' = k' ≡ known_at n k
+
+-- the cursor was moved past n, or had moved on its own
+abbrev pub PushedFrom : ℕ → Known → Known → Type 0
+PushedFrom n k k' = (k' ≡ known_past n (known_at n k)) ⊎ ((m : ℕ) × (m ≢ n) × (m ≢ closed → n < m) × (k' ≡ known_at m (known_at n k)))
+
+-- a cursor that stood `cells` behind the tail was moved by one, if it still stood there, and no other was
+pub record Cleared (tail cells n : ℕ) (k k' : Known) : Type 0 where
+  pub kept : (n ≡ closed) ⊎ (tail < n + cells) → FoundAt n k k'
+  pub pushed : n ≢ closed → n + cells ≤ tail → (n + cells ≡ tail) × PushedFrom n k k'
+
+-- whether some cursor was open, and stood `lag` or more behind the tail
+pub record Behind (tail lag : ℕ) (ns : List ℕ) (flag : Bool) : Type 0 where
+  pub some : flag ≡ true → (p : ℕ) × (p < length ns) × (slice_index ns p ≢ closed) × (slice_index ns p + lag ≤ tail)
+  pub none : flag ≡ false → (p : ℕ) → p < length ns → slice_index ns p ≢ closed → tail < slice_index ns p + lag
+
+-- every cursor was loaded, and found open
+abbrev pub FoundAllOpen : ℕ → View → View → Type 0
+FoundAllOpen places v v' = (ns : List ℕ) × (length ns ≡ places) × Round FoundAt v ns v' × ((p : ℕ) → p < length ns → slice_index ns p ≢ closed)
+
+-- the cursor of the place p was the first that was found closed
+abbrev pub FoundClosed : ℕ → View → View → Type 0
+FoundClosed p v v' = (ns : List ℕ) × (length ns ≡ p) × Round FoundAt v (ns ++ closed ∷ []) v' × ((x : ℕ) → x < length ns → slice_index ns x ≢ closed) × ((known_of v'.sequencing p).is_open ≡ false)

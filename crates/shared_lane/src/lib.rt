@@ -1,0 +1,69 @@
+//! A shared flow on atomic words: one sequencer accepts emissions, and any number of readers take them, each on its own
+//! thread, without a lock.
+//!
+//! # A lane
+//! [`Lane::new`] gives the lane and its [`Sequencer`]. The lane is shared by reference; the sequencer is the one party that
+//! accepts emissions, keeps the replay cache, and lets readers in. A [`Reader`] takes every accepted value from its start on,
+//! once, in order. Its start is the oldest value of the replay cache, as it was when it was let in
+//! ([`admit`](Sequencer::admit)).
+//!
+//! # The picture
+//! ```text
+//!          oldest value that is kept          the cell in flight: stored, not yet accepted
+//!             |                                  |
+//!   cells   [ 36 | 37 | 38 | 39 | 40 | 41 ]    [ 42 ]
+//!                  ^         \_________/ ^        ^
+//!                  |          replay     |        tail: the next emission's number
+//!   cursors     slowest        cache   fastest
+//!               reader                 reader
+//! ```
+//! An emission is one pass over the cursors, one store of its value and one store of the tail. A receipt is a load of the
+//! reader's cursor, a load of the tail, a load of the value and one exchange of the cursor. Nothing else, and nothing
+//! allocates after making.
+//!
+//! # What a slow reader meets
+//! The cells are as many as `replay + extra`, at least one. Where an open cursor stands that far behind the tail there is no
+//! room: under `Suspend` a try is `Full` and an emission waits, with a ticket, until a [`scan`](Sequencer::scan) (which each
+//! try and each start makes first) finds room; under `DropLatest` the new value is dropped; under `DropOldest` the sequencer
+//! moves that cursor past its oldest value, and the reader, where it was just about to take it, answers
+//! [`Overtaken`](Taken::Overtaken).
+//!
+//! # What a closed reader loses
+//! [`close`](Reader::close) uses the reader up: what was pending is given up, its place can be used again, and it holds
+//! nobody back.
+//!
+//! # Who knows what
+//! A reader has seen the accepted emissions as they were at its last load of the tail. A [`Receipt`] carries what was
+//! accepted up to one emission to another thread: a reader that is [told](Reader::told) it has seen that emission. [`meet`]
+//! is for one thread that has both ends: the counts are exact then.
+//!
+//! # An example
+//! ```
+//! let (lane, mut sequencer) = Lane::new(alloc, config)?;
+//! let mut reader = sequencer.admit(&lane)?;
+//! sequencer.try_emit(&lane, 0, 7)?;
+//! let taken = reader.try_next(&lane);        // Taken::Value(7)
+//! reader.close(&lane);
+//! ```
+//!
+//! # What is not claimed
+//! That an emission which waits is ever let in, that a reader ever finds what another thread emitted, an order between
+//! parties that never met, fairness, wakes: nobody sleeps here.
+#![tactic(auto)]
+
+mod headline;
+mod lane;
+mod meeting;
+mod reader;
+mod receipt;
+mod sequencer;
+mod survey;
+mod tickets;
+
+pub use headline::each_reader_receives_cache_then_later;
+pub use lane::Lane;
+pub use meeting::{Met, meet};
+pub use reader::{Reader, Taken};
+pub use receipt::Receipt;
+pub use sequencer::Sequencer;
+pub use tickets::{Standing, Waiting};

@@ -1,0 +1,105 @@
+//! What a reader does.
+ghost use Rattle.std.specs.Prelude.{◌≡◌, ◌+◌, ◌<◌, [], length, true};
+ghost use Rattle.lane_steps.specs.Law.{Begins};
+ghost use Rattle.shared_lane.specs.Views.{reader_of};
+ghost use Rattle.shared_lane.specs.Kept.{IsReading};
+ghost use Rattle.shared_lane.specs.Readers.{IsReaderOf, IsReceiptOf, IsSameReader, TookNext, at, received_count, lost_count};
+
+use super::{Reader, Taken};
+use crate::lane::Lane;
+use crate::receipt::Receipt;
+use lane_steps::Place;
+use std::alloc::Allocator;
+
+impl Reader {
+    pub(crate) fn at_start(seat: Place, place: usize, start: u64) -> Reader
+        requires { IsReading seat place start start 0 }
+        ensures { result ≡ reader_of seat }
+    {
+        Reader {
+            seat,
+            place,
+            start,
+            at: start,
+            taken: 0,
+        }
+    }
+
+    /// Takes the next value, by two loads, a load of the value and one exchange; without a lock.
+    ///
+    /// `Nothing` where the tail that it loaded is its position: no accepted emission that it has seen, or was
+    /// [told](Reader::told), lies at or past it. `Overtaken` only on a lane that drops the oldest values. Kotlin has no
+    /// such call: there `collect` suspends where this answers `Nothing`.
+    pub fn try_next<A: Allocator>(&mut self, lane: &Lane<A>) -> Taken<u64>
+        requires { IsReaderOf lane.now self.old }
+        ensures same { IsReaderOf lane.now self.new × IsSameReader self.old self.new }
+        ensures taken { TookNext self.old result self.new }
+    {
+        let words = lane.words();
+        let at = words.load_own(&mut self.seat, self.place);
+        self.at = at;
+        let tail = words.load_tail(&mut self.seat);
+        if tail == at {
+            return Taken::Nothing;
+        }
+        let word = words.load_cell(&mut self.seat, at);
+        let found = words.receive(&mut self.seat, self.place, at);
+        if found != at {
+            self.at = found;
+            return Taken::Overtaken;
+        }
+        self.at = at + 1;
+        self.taken += 1;
+        Taken::Value(word)
+    }
+
+    /// The reader hears of an accepted emission, by a load of the tail: from then on it has seen all that the receipt
+    /// holds. Its position stays.
+    pub fn told<A: Allocator>(&mut self, lane: &Lane<A>, receipt: &mut Receipt)
+        requires { IsReaderOf lane.now self.old × IsReceiptOf lane.now receipt.old }
+        ensures same { IsReaderOf lane.now self.new × IsSameReader self.old self.new × (self.new.story ≡ self.old.story) }
+        ensures receipt { receipt.new ≡ receipt.old }
+        ensures told { Begins self.new.seen receipt.old.seen }
+    {
+        let words = lane.words();
+        let copy = receipt.copied(lane);
+        words.hear(&mut self.seat, copy);
+        words.load_tail(&mut self.seat);
+    }
+
+    /// The number at which it began: that of the oldest value of the replay cache, as it was then.
+    pub fn start(&self) -> u64
+        ensures { result ≡ self.now.start }
+    {
+        self.start
+    }
+
+    /// How many values it received.
+    pub fn received(&self) -> u64
+        ensures { result ≡ received_count self.now }
+    {
+        self.taken
+    }
+
+    /// How many values were dropped for it, as far as it has seen.
+    pub fn dropped(&self) -> u64
+        ensures lost { result ≡ lost_count self.now }
+        ensures sum { self.now.start + received_count self.now + result ≡ at self.now }
+    {
+        self.at - self.start - self.taken
+    }
+
+    /// Closes its cursor, so that its place can be used again and holds nobody back. What was pending is given up.
+    pub fn close<A: Allocator>(self, lane: &Lane<A>)
+        requires { IsReaderOf lane.now self }
+    {
+        let Reader {
+            mut seat,
+            place,
+            start: _,
+            at: _,
+            taken: _,
+        } = self;
+        lane.words().quit(&mut seat, place);
+    }
+}

@@ -1,0 +1,77 @@
+//! Subscriber places and receipts.
+ghost use Rattle.std.specs.Prelude.{◌≡◌, ◌+◌, ◌-◌, take, IfOk, IfErr};
+ghost use Rattle.lane_steps.specs.Law.{Begins};
+ghost use Rattle.shared_lane.specs.Readers.{IsReceiptOf};
+ghost use Rattle.shared_lane.specs.Sequencers.{IsSequencerOf, OnlyLoaded, seen};
+ghost use Rattle.shared_lane.specs.Places.{LetIn, NotLetIn, Counted, IsAccepted, LosesNothing};
+
+use super::Sequencer;
+use super::state::LIMIT;
+use crate::lane::Lane;
+use crate::reader::Reader;
+use crate::receipt::Receipt;
+use crate::survey::{find_closed, load_cursors};
+use cold_flow::Refusal;
+use std::alloc::Allocator;
+
+impl<A: Allocator> Sequencer<A> {
+    /// How many readers there are: the open cursors, as this call loads them. Kotlin's `subscriptionCount`, as a plain number.
+    pub fn live<B: Allocator>(&mut self, lane: &Lane<B>) -> u32
+        requires { IsSequencerOf lane.now self.old }
+        ensures only { OnlyLoaded self.old self.new }
+        ensures count { Counted self.old result self.new }
+    {
+        load_cursors(lane.words(), &mut self.seat, self.tail, 0).open
+    }
+
+    /// Lets a reader in, at a place whose cursor this call found closed. It begins at the oldest value of the replay cache,
+    /// and goes on with every later accepted one: what Kotlin's `collect` begins with.
+    ///
+    /// Refused: `Spent` where the numbers of subscriptions are used up, then `SubscribersFull` where every cursor was loaded
+    /// and found open.
+    pub fn admit<B: Allocator>(&mut self, lane: &Lane<B>) -> Result<Reader, Refusal>
+        requires { IsSequencerOf lane.now self.old }
+        ensures ok { IfOk result (λ r. LetIn lane.now self.old r self.new) }
+        ensures err { IfErr result (λ e. NotLetIn self.old e self.new) }
+    {
+        if self.subscription == LIMIT {
+            return Err(Refusal::Spent);
+        }
+        let words = lane.words();
+        let Some(place) = find_closed(words, &mut self.seat) else {
+            return Err(Refusal::SubscribersFull);
+        };
+        let start = self.tail - self.cache.len() as u64;
+        words.open(&mut self.seat, place, start);
+        let seat = words.hand_out(&mut self.seat, place);
+        self.subscription += 1;
+        Ok(Reader::at_start(seat, place, start))
+    }
+
+    /// A receipt for an emission that was accepted. It takes no memory.
+    pub fn receipt<B: Allocator>(&mut self, lane: &Lane<B>, emitter: u32, number: u64) -> Receipt
+        requires { IsSequencerOf lane.now self.old × IsAccepted self.old emitter number }
+        ensures same { self.new ≡ self.old }
+        ensures receipt { IsReceiptOf lane.now result × (result.emitter ≡ emitter) × (result.number ≡ number) }
+        ensures seen { result.seen ≡ take (number + 1 - self.old.view.shape.first) (seen self.old) }
+    {
+        let own = &mut self.seat;
+        let words = lane.words();
+        let seat = words.copy_seen(own, number + 1 - words.shape.first);
+        Receipt::of(seat, emitter, number)
+    }
+
+    /// The sequencer hears of an accepted emission: the receipt holds the beginning of what it accepted.
+    pub fn told<B: Allocator>(&mut self, lane: &Lane<B>, receipt: &mut Receipt)
+        requires { IsSequencerOf lane.now self.old × IsReceiptOf lane.now receipt.old }
+        ensures only { OnlyLoaded self.old self.new }
+        ensures kept { LosesNothing self.old self.new }
+        ensures receipt { receipt.new ≡ receipt.old }
+        ensures told { Begins (seen self.new) receipt.old.seen }
+    {
+        let words = lane.words();
+        let copy = receipt.copied(lane);
+        words.hear(&mut self.seat, copy);
+        words.load_cursor(&mut self.seat, 0);
+    }
+}

@@ -1,0 +1,123 @@
+//! Emissions whose tickets are out: they are polled and withdrawn.
+ghost use Rattle.std.specs.Prelude.{◌≡◌, ◌<◌, ◌+◌, ℕ, List, length, slice_get, Some, MatchOption, IfSome, IfNone};
+ghost use Rattle.shared_lane.specs.declared.tickets.Standing.{Standing};
+ghost use Rattle.shared_lane.specs.Sequencers.{IsSequencerOf, IsSameSequencer, OnlyLoaded, seen};
+ghost use Rattle.shared_lane.specs.Polls.{given_back, withdrawn_from, Loaded, PolledOn, WithdrawnFrom, HasTicket, NoneStands, NoneWaits, WaitsWith, IsNotOut, IsOutFor};
+ghost use Rattle.shared_lane.specs.declared.tickets.Waiting.{Waiting};
+ghost use Rattle.shared_lane.specs.Places.{IsAccepted};
+ghost use Rattle.shared_lane.specs.Surveys.{Behind};
+
+use super::Sequencer;
+use crate::lane::Lane;
+use crate::survey::load_cursors;
+use crate::tickets::{Standing, Waiting, find_standing, find_waiting};
+use shared_core::{Emit, Ticket, Withdrawn};
+use std::alloc::Allocator;
+
+impl<A: Allocator> Sequencer<A> {
+    // Where the accepted emission with a ticket stands.
+    fn standing_with(&self, ticket: u64) -> Option<usize>
+        ensures { MatchOption result (NoneStands self.now.standing ticket) (λ i. (i < length self.now.standing) × ((s : Standing) × HasTicket self.now ticket i s)) }
+    {
+        find_standing(self.standing.as_slice(), ticket)
+    }
+
+    // Where the emission with a ticket waits.
+    fn waiting_with(&self, ticket: u64) -> Option<usize>
+        ensures { MatchOption result (NoneWaits self.now.waiting ticket) (λ i. (i < length self.now.waiting) × ((w : Waiting) × WaitsWith self.now ticket i w)) }
+    {
+        find_waiting(self.waiting.as_slice(), ticket)
+    }
+
+    // Takes back the ticket of an accepted emission, and returns its number.
+    fn take_back(&mut self, index: usize) -> u64
+        requires { index < length self.old.standing }
+        ensures left { self.new ≡ given_back index self.old }
+        ensures number { (s : Standing) → slice_get self.old.standing index ≡ Some s → (result ≡ s.number) × IsAccepted self.new s.emitter result }
+    {
+        self.standing.remove(index).number
+    }
+
+    // An emission waits no more, and isn't accepted.
+    fn withdraw(&mut self, index: usize)
+        requires { index < length self.old.waiting }
+        ensures { self.new ≡ withdrawn_from index self.old }
+    {
+        self.waiting.remove(index);
+    }
+
+    // The number of the accepted emission at an index of those whose tickets are out, and whose it is.
+    fn standing_at(&self, index: usize) -> Standing
+        requires { index < length self.now.standing }
+        ensures { slice_get self.now.standing index ≡ Some result }
+    {
+        self.standing[index]
+    }
+
+    fn waiting_at(&self, index: usize) -> Waiting
+        requires { index < length self.now.waiting }
+        ensures { slice_get self.now.waiting index ≡ Some result }
+    {
+        self.waiting[index]
+    }
+
+    // Whether an open cursor, as this call loads it, stands at a number or before it.
+    fn is_unread<B: Allocator>(&mut self, lane: &Lane<B>, number: u64) -> bool
+        requires { IsSequencerOf lane.now self.old }
+        ensures only { OnlyLoaded self.old self.new }
+        ensures round { (ns : List ℕ) × Loaded self.old ns self.new × Behind number 0 ns result }
+    {
+        load_cursors(lane.words(), &mut self.seat, number, 0).behind
+    }
+
+    /// Says whether an emission is done, and takes back the ticket of one that is: what Kotlin's `emit` waits for.
+    ///
+    /// Where there are places an accepted emission is done; where there are none, once every cursor, as this call loads it,
+    /// is closed or above its number. It lets nothing in: [`scan`](Sequencer::scan) does.
+    pub fn poll_emit<B: Allocator>(&mut self, lane: &Lane<B>, ticket: Ticket) -> Emit
+        requires { IsSequencerOf lane.now self.old }
+        ensures same { IsSequencerOf lane.now self.new × IsSameSequencer self.old self.new }
+        ensures polled { PolledOn self.old ticket.0 result self.new }
+    {
+        let Some(index) = self.standing_with(ticket.0) else {
+            if self.waiting_with(ticket.0).is_some() {
+                return Emit::Waiting;
+            }
+            return Emit::Gone;
+        };
+        if self.capacity() > 0 {
+            return Emit::Done(self.take_back(index));
+        }
+        let number = self.standing_at(index).number;
+        if self.is_unread(lane, number) {
+            return Emit::Waiting;
+        }
+        Emit::Done(self.take_back(index))
+    }
+
+    /// Takes back a ticket: what cancelling the caller of Kotlin's `emit` does. An emission that waits is withdrawn and was
+    /// never accepted; one that was accepted stays with the readers.
+    pub fn cancel_emit<B: Allocator>(&mut self, _lane: &Lane<B>, ticket: Ticket) -> Withdrawn<u64>
+        ensures { WithdrawnFrom self.old ticket.0 result self.new }
+    {
+        if let Some(index) = self.standing_with(ticket.0) {
+            return Withdrawn::Left(self.take_back(index));
+        }
+        if let Some(index) = self.waiting_with(ticket.0) {
+            self.withdraw(index);
+            return Withdrawn::Removed;
+        }
+        Withdrawn::Gone
+    }
+
+    /// Whose emission a ticket is for, where it is out.
+    pub fn emitter_of(&self, ticket: Ticket) -> Option<u32>
+        ensures { MatchOption result (IsNotOut self.now ticket.0) (IsOutFor self.now ticket.0) }
+    {
+        if let Some(index) = self.standing_with(ticket.0) {
+            return Some(self.standing_at(index).emitter);
+        }
+        let index = self.waiting_with(ticket.0)?;
+        Some(self.waiting_at(index).emitter)
+    }
+}

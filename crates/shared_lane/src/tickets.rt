@@ -1,0 +1,55 @@
+//! Emissions whose tickets are out: those that wait, and those that were accepted.
+ghost use Rattle.std.specs.Prelude.{◌≡◌, ◌≢◌, ◌<◌, ℕ, length, slice_get, Some, MatchOption};
+ghost use Rattle.shared_lane.specs.Polls.{IsFirst, NoneStands, NoneWaits};
+ghost use Rattle.shared_lane.specs.declared.tickets.Waiting.{Waiting};
+ghost use Rattle.shared_lane.specs.declared.tickets.Standing.{Standing};
+
+/// An emission that waits for room.
+#[derive(Clone, Copy, Drop)]
+pub struct Waiting {
+    /// The number of its ticket.
+    pub ticket: u64,
+    /// Whose it is.
+    pub emitter: u32,
+    /// The value's word.
+    pub word: u64,
+}
+
+/// An accepted emission whose ticket is out.
+#[derive(Clone, Copy, Drop)]
+pub struct Standing {
+    /// The number of its ticket.
+    pub ticket: u64,
+    /// Whose it is.
+    pub emitter: u32,
+    /// Its own number among the accepted ones.
+    pub number: u64,
+}
+
+/// The index of the first with a ticket.
+pub(crate) fn find_standing(list: &[Standing], ticket: u64) -> Option<usize>
+    ensures { MatchOption result (NoneStands list.now ticket) (λ i. (i < length list.now) × ((s : Standing) × (slice_get list.now i ≡ Some s) × (s.ticket ≡ ticket) × IsFirst list.now ticket i)) }
+{
+    let mut i = 0;
+    while i < list.len() {
+        if list[i].ticket == ticket {
+            return Some(i);
+        }
+        i += 1;
+    }
+    None
+}
+
+/// The index of the first with a ticket.
+pub(crate) fn find_waiting(list: &[Waiting], ticket: u64) -> Option<usize>
+    ensures { MatchOption result (NoneWaits list.now ticket) (λ i. (i < length list.now) × ((w : Waiting) × (slice_get list.now i ≡ Some w) × (w.ticket ≡ ticket))) }
+{
+    let mut i = 0;
+    while i < list.len() {
+        if list[i].ticket == ticket {
+            return Some(i);
+        }
+        i += 1;
+    }
+    None
+}
