@@ -1,7 +1,7 @@
 //! What a measurement gave, and how it is written.
 
 ghost use Rattle.std.specs.Prelude.{◌≡◌, ◌↔◌, IsOk, IfOk, IfErr, Some};
-ghost use Rattle.bench_figures.specs.Lines.{part_name, line_of};
+ghost use Rattle.bench_figures.specs.Lines.{part_name, unit_name, line_of};
 
 use crate::wrong_total::WrongTotal;
 use std::fmt;
@@ -13,6 +13,8 @@ pub enum Part {
     Core,
     /// A shared flow for threads.
     Shared,
+    /// A sequencer and its readers, without a lock.
+    Lane,
     /// A state flow.
     State,
     /// A buffer between two threads.
@@ -30,10 +32,31 @@ impl fmt::Display for Part {
         match self {
             Part::Core => write!(f, "core"),
             Part::Shared => write!(f, "shared"),
+            Part::Lane => write!(f, "lane"),
             Part::State => write!(f, "state"),
             Part::Buffer => write!(f, "buffer"),
             Part::Cold => write!(f, "cold"),
             Part::Runner => write!(f, "runner"),
+        }
+    }
+}
+
+/// What a figure is counted in. Its `Display` is what a line has.
+#[derive(Clone, Copy, Debug, PartialEq, Eq)]
+pub enum Unit {
+    /// Nanoseconds for an operation.
+    Nanoseconds,
+    /// Millions of operations in a second.
+    MillionsASecond,
+}
+
+impl fmt::Display for Unit {
+    ghost output = { λ unit. Some (unit_name unit) };
+
+    fn fmt<W: fmt::Write>(&self, f: &mut fmt::Formatter<W>) -> fmt::Result {
+        match self {
+            Unit::Nanoseconds => write!(f, "ns"),
+            Unit::MillionsASecond => write!(f, "M/s"),
         }
     }
 }
@@ -47,6 +70,7 @@ pub struct Figure {
     pub scenario: &'static str,
     /// What was counted, as `receipt`.
     pub name: &'static str,
+    pub unit: Unit,
     pub operations: u64,
     pub nanoseconds: u64,
     /// What arrived, by its sum or its last value.
@@ -61,13 +85,14 @@ impl fmt::Display for Figure {
             part,
             scenario,
             name,
+            unit,
             operations,
             nanoseconds,
             ..
         } = *self;
         write!(
             f,
-            "raw\thillgauze-{part}\t{scenario}\t{name}\tns\t{operations}\t{nanoseconds}"
+            "raw\thillgauze-{part}\t{scenario}\t{name}\t{unit}\t{operations}\t{nanoseconds}"
         )
     }
 }

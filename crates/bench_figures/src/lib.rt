@@ -2,9 +2,11 @@
 #![tactic(auto)]
 
 mod figure;
+mod share;
 mod size;
 mod wrong_total;
 
-pub use figure::{Figure, Part};
+pub use figure::{Figure, Part, Unit};
+pub use share::Share;
 pub use size::Size;
 pub use wrong_total::WrongTotal;

@@ -6,7 +6,7 @@ use crate::elapsed::nanoseconds_since;
 use crate::fault::Fault;
 use crate::report::report;
 use crate::sums::sum_to;
-use bench_figures::{Figure, Part, Size};
+use bench_figures::{Figure, Part, Size, Unit};
 use cold_flow::{Apply, Cause, Flow, Folding, Run, filter, fold, map, range};
 use flow_merge::zip;
 use futures::task::{Doorbell, Poll, Solo};
@@ -94,6 +94,7 @@ where
         part: Part::Cold,
         scenario,
         name: "element",
+        unit: Unit::Nanoseconds,
         operations: elements,
         nanoseconds,
         total,

@@ -4,7 +4,7 @@ use crate::elapsed::nanoseconds_since;
 use crate::fault::Fault;
 use crate::report::report;
 use crate::sums::sum_to;
-use bench_figures::{Figure, Part, Size};
+use bench_figures::{Figure, Part, Size, Unit};
 use cold_flow::Policy;
 use shared_core::{Config, Next, SharedState, SubId, Tried};
 use std::alloc::{AllocGlobal, Global};
@@ -52,6 +52,7 @@ fn receipts<R: Clock + AllocGlobal>(
         part: Part::Core,
         scenario,
         name: "receipt",
+        unit: Unit::Nanoseconds,
         operations: values.wrapping_mul(u64::from(subscriptions)),
         nanoseconds,
         total,

@@ -2,7 +2,8 @@
 
 use crate::fault::Fault;
 use crate::{
-    chains, core_receipts, script_lines, shared_receipts, split_values, state_alone, state_threads,
+    chains, core_receipts, lane_fan_out, lane_lossy, lane_receipts, script_lines, shared_receipts,
+    split_values, state_alone, state_threads,
 };
 use bench_figures::Size;
 use std::alloc::AllocGlobal;
@@ -14,8 +15,12 @@ use std::thread::Threads;
 /// A scenario: a name that the command line may have, for some measurements.
 #[derive(Clone, Copy, Debug, PartialEq, Eq)]
 pub enum Scenario {
-    /// `S1`: receipts of a shared flow on one thread, by the core and by the flow for threads.
+    /// `S1`: receipts of a shared flow on one thread, by the core, by the flow for threads and by a lane.
     Receipts,
+    /// `S2`: a lane between threads that loses no value.
+    FanOut,
+    /// `S3`: a lane between threads that drops the oldest values.
+    Lossy,
     /// `S4`: a state flow, alone and between threads.
     State,
     /// `S5`: a buffer between two threads.
@@ -28,11 +33,13 @@ pub enum Scenario {
 
 impl Scenario {
     /// The names, as a command line has them.
-    pub const NAMES: [&'static str; 5] = ["S1", "S4", "S5", "S6", "S8"];
+    pub const NAMES: [&'static str; 7] = ["S1", "S2", "S3", "S4", "S5", "S6", "S8"];
 
     /// Every scenario.
-    pub const ALL: [Scenario; 5] = [
+    pub const ALL: [Scenario; 7] = [
         Scenario::Receipts,
+        Scenario::FanOut,
+        Scenario::Lossy,
         Scenario::State,
         Scenario::Split,
         Scenario::Chains,
@@ -43,6 +50,8 @@ impl Scenario {
     pub(crate) fn of(name: &str) -> Option<Scenario> {
         match name {
             "S1" => Some(Scenario::Receipts),
+            "S2" => Some(Scenario::FanOut),
+            "S3" => Some(Scenario::Lossy),
             "S4" => Some(Scenario::State),
             "S5" => Some(Scenario::Split),
             "S6" => Some(Scenario::Chains),
@@ -59,8 +68,11 @@ impl Scenario {
         match self {
             Scenario::Receipts => {
                 core_receipts::measure(rt, size)?;
-                shared_receipts::measure(rt, size)
+                shared_receipts::measure(rt, size)?;
+                lane_receipts::measure(rt, size)
             }
+            Scenario::FanOut => lane_fan_out::measure(rt, size),
+            Scenario::Lossy => lane_lossy::measure(rt, size),
             Scenario::State => {
                 state_alone::measure(rt, size)?;
                 state_threads::measure(rt, size)

@@ -3,7 +3,7 @@
 use crate::elapsed::nanoseconds_since;
 use crate::fault::Fault;
 use crate::report::report;
-use bench_figures::{Figure, Part, Size};
+use bench_figures::{Figure, Part, Size, Unit};
 use flow_script::{Engine, run_script};
 use std::alloc::{AllocGlobal, Global};
 use std::fmt::Write as _;
@@ -50,6 +50,7 @@ where
         part: Part::Runner,
         scenario: "S8",
         name: "line",
+        unit: Unit::Nanoseconds,
         operations: script.lines,
         nanoseconds,
         total: if is_right { script.lines } else { 0 },

@@ -6,7 +6,7 @@ use crate::elapsed::nanoseconds_since;
 use crate::fault::Fault;
 use crate::report::report;
 use crate::sums::sum_to;
-use bench_figures::{Figure, Part, Size};
+use bench_figures::{Figure, Part, Size, Unit};
 use cold_flow::Policy;
 use futures::task::{Context, Doorbell, Poll, Solo};
 use shared_core::{Config, Tried};
@@ -64,6 +64,7 @@ where
         part: Part::Shared,
         scenario,
         name: "receipt",
+        unit: Unit::Nanoseconds,
         operations: values.wrapping_mul(u64::from(subscriptions)),
         nanoseconds,
         total,

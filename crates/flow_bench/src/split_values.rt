@@ -3,7 +3,7 @@
 use crate::elapsed::nanoseconds_since;
 use crate::fault::Fault;
 use crate::report::report;
-use bench_figures::{Figure, Part, Size};
+use bench_figures::{Figure, Part, Size, Unit};
 use cold_flow::{Event, Policy, Run, range};
 use flow_buffer::{Drain, Feed, Fill, split};
 use futures::task::{Doorbell, Solo};
@@ -46,6 +46,7 @@ where
         part: Part::Buffer,
         scenario,
         name: "value",
+        unit: Unit::Nanoseconds,
         operations: values,
         nanoseconds,
         total,

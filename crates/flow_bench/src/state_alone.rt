@@ -4,7 +4,7 @@ use crate::elapsed::nanoseconds_since;
 use crate::fault::Fault;
 use crate::report::report;
 use crate::sums::sum_to;
-use bench_figures::{Figure, Part, Size};
+use bench_figures::{Figure, Part, Size, Unit};
 use cold_flow::Refusal;
 use state_flow::{Collector, StateFlow, StateSeat};
 use std::alloc::{AllocGlobal, Global};
@@ -34,6 +34,7 @@ fn figure_of(name: &'static str, operations: u64, nanoseconds: u64, total: u64) 
         part: Part::State,
         scenario: SCENARIO,
         name,
+        unit: Unit::Nanoseconds,
         operations,
         nanoseconds,
         total,

@@ -4,7 +4,7 @@ use crate::elapsed::nanoseconds_since;
 use crate::fault::Fault;
 use crate::report::report;
 use crate::state_alone::set_up_to;
-use bench_figures::{Figure, Part, Size};
+use bench_figures::{Figure, Part, Size, Unit};
 use state_flow::{StateFlow, StateSeat};
 use std::alloc::AllocGlobal;
 use std::rt::Clock;
@@ -101,6 +101,7 @@ fn figure_of(scenario: &'static str, name: &'static str, work: Work) -> Figure {
         part: Part::State,
         scenario,
         name,
+        unit: Unit::Nanoseconds,
         operations: work.operations,
         nanoseconds: work.nanoseconds,
         total: work.last,

@@ -1,0 +1,62 @@
+//! A share of what was sent, and how it is written.
+
+ghost use Rattle.std.specs.Prelude.{◌≡◌, ◌↔◌, IsOk, IfOk, IfErr, Some};
+ghost use Rattle.bench_figures.specs.Lines.{share_line_of};
+
+use crate::figure::Part;
+use crate::wrong_total::WrongTotal;
+use std::fmt;
+
+/// Which share of what was sent came. Its `Display` is a line of columns, parted by tabs: the part, the scenario, the
+/// figure, the unit, the percent twice (as the best and the median of one repeat), and how much was sent.
+#[derive(Clone, Copy, Debug)]
+pub struct Share {
+    pub part: Part,
+    /// The scenario in full, as `S3-n2`.
+    pub scenario: &'static str,
+    /// What was counted, as `kept`.
+    pub name: &'static str,
+    /// Tenths of a percent.
+    pub tenths: u64,
+    /// How much was sent.
+    pub sent: u64,
+    /// What arrived, with what didn't.
+    pub total: u64,
+}
+
+impl fmt::Display for Share {
+    ghost output = { λ share. Some (share_line_of share) };
+
+    fn fmt<W: fmt::Write>(&self, f: &mut fmt::Formatter<W>) -> fmt::Result {
+        let Share {
+            part,
+            scenario,
+            name,
+            sent,
+            ..
+        } = *self;
+        let whole = self.tenths / 10;
+        let tenth = self.tenths % 10;
+        write!(
+            f,
+            "hillgauze-{part}\t{scenario}\t{name}\t%\t{whole}.{tenth}\t{whole}.{tenth}\t{sent}"
+        )
+    }
+}
+
+impl Share {
+    /// Refused where what arrived and what didn't isn't what was sent, with the scenario's name.
+    pub fn checked(self, wanted: u64) -> Result<Share, WrongTotal>
+        ensures right { IsOk result ↔ (self.total ≡ wanted) }
+        ensures same { IfOk result (λ share. share ≡ self) }
+        ensures told { IfErr result (λ wrong. wrong.scenario ≡ self.scenario) }
+    {
+        if self.total == wanted {
+            Ok(self)
+        } else {
+            Err(WrongTotal {
+                scenario: self.scenario,
+            })
+        }
+    }
+}

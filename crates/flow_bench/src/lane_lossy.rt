@@ -1,0 +1,212 @@
+//! A lane between threads, where the oldest values are dropped: one emits without pause, and one, two or four others
+//! take what is left.
+
+use crate::elapsed::nanoseconds_since;
+use crate::fault::Fault;
+use crate::lane_ends::{LaneReader, LaneSequencer, close_all};
+use crate::pause::Pause;
+use crate::report::{report, report_share};
+use bench_figures::{Figure, Part, Share, Size, Unit};
+use cold_flow::Policy;
+use shared_core::{Config, Tried};
+use shared_lane::{Lane, Taken};
+use std::alloc::AllocGlobal;
+use std::rt::Clock;
+use std::sync::Wait;
+use std::sync::atomic::{AtomicBool, Ordering};
+use std::thread::{Threads, for_each_mut, join_mut};
+use std::time::Instant;
+
+/// How many values are emitted.
+const VALUES: u64 = 2_000_000;
+
+/// What was counted in one run.
+#[derive(Clone, Copy)]
+struct Counts {
+    emitted: u64,
+    received: u64,
+    /// What was received in rising order, and what was dropped.
+    accounted: u64,
+    /// Of the emissions alone.
+    emission: u64,
+    /// Until the last reader had ended.
+    nanoseconds: u64,
+}
+
+/// Makes the measurement with 1, 2 and 4 readers.
+pub(crate) fn measure<R>(rt: &R, size: Size) -> Result<(), Fault>
+where
+    R: Clock + Print + AllocGlobal + Threads + Wait + Sync,
+{
+    for (scenario, readers) in [("S3-n1", 1), ("S3-n2", 2), ("S3-n4", 4)] {
+        losses(rt, scenario, readers, size)?;
+    }
+    Ok(())
+}
+
+/// Reports what the emissions cost, what was received, and which share that was.
+fn losses<R>(rt: &R, scenario: &'static str, readers: u32, size: Size) -> Result<(), Fault>
+where
+    R: Clock + Print + AllocGlobal + Threads + Wait + Sync,
+{
+    let values = size.of(VALUES);
+    let sent = values.wrapping_mul(u64::from(readers));
+    let counts = measured(rt, readers, values)?;
+    report(rt, emissions(scenario, counts).checked(values)?, size)?;
+    report(rt, receipts(scenario, counts).checked(sent)?, size)?;
+    report_share(rt, kept(scenario, counts, sent).checked(sent)?, size)
+}
+
+fn emissions(scenario: &'static str, counts: Counts) -> Figure {
+    Figure {
+        part: Part::Lane,
+        scenario,
+        name: "emission",
+        unit: Unit::Nanoseconds,
+        operations: counts.emitted,
+        nanoseconds: counts.emission,
+        total: counts.emitted,
+    }
+}
+
+fn receipts(scenario: &'static str, counts: Counts) -> Figure {
+    Figure {
+        part: Part::Lane,
+        scenario,
+        name: "receipts",
+        unit: Unit::MillionsASecond,
+        operations: counts.received,
+        nanoseconds: counts.nanoseconds,
+        total: counts.accounted,
+    }
+}
+
+fn kept(scenario: &'static str, counts: Counts, sent: u64) -> Share {
+    let tenths = counts.received.wrapping_mul(1000).checked_div(sent);
+    Share {
+        part: Part::Lane,
+        scenario,
+        name: "kept",
+        tenths: tenths.unwrap_or(0),
+        sent,
+        total: counts.accounted,
+    }
+}
+
+/// Counts a run of a new lane with so many readers.
+fn measured<R>(rt: &R, count: u32, values: u64) -> Result<Counts, Fault>
+where
+    R: Clock + AllocGlobal + Threads + Wait + Sync,
+{
+    let config = Config {
+        replay: 0,
+        extra: 1024,
+        policy: Policy::DropOldest,
+        subscribers: count,
+        emits: 1,
+        first: 0,
+    };
+    let (lane, sequencer) = Lane::new(rt.alloc(), config)?;
+    // Not beside the sequencer, which each emission changes.
+    let lane = Box::new(rt.alloc(), lane)?;
+    let places = Vec::with_capacity(rt.alloc(), count as usize)?;
+    let mut sequencer = LaneSequencer::of(&lane, sequencer);
+    let mut readers = sequencer.admit_all(places, count);
+    let counts = run(rt, &mut sequencer, &mut readers, values);
+    close_all(readers);
+    counts
+}
+
+/// Emits while the readers take, and counts.
+fn run<R>(
+    rt: &R,
+    sequencer: &mut LaneSequencer<'_>,
+    readers: &mut Vec<LaneReader<'_>>,
+    values: u64,
+) -> Result<Counts, Fault>
+where
+    R: Clock + Threads + Wait + Sync,
+{
+    let over = AtomicBool::new(false);
+    let start = Instant::now(rt)?;
+    let (emission, ()) = join_mut(
+        rt,
+        &mut || feed(rt, sequencer, values, &over),
+        &mut || drain_all(rt, readers, &over),
+    );
+    let nanoseconds = nanoseconds_since(rt, start)?;
+    let mut counts = Counts {
+        emitted: sequencer.next_number(),
+        received: 0,
+        accounted: 0,
+        emission: emission?,
+        nanoseconds,
+    };
+    for reader in readers.iter() {
+        counts.received = counts.received.wrapping_add(reader.received());
+        let accounted = reader.in_order.wrapping_add(reader.dropped());
+        counts.accounted = counts.accounted.wrapping_add(accounted);
+    }
+    Ok(counts)
+}
+
+/// Emits the numbers from 1 to `values`, and then says that it is over. Gives the nanoseconds of it.
+fn feed(
+    rt: &impl Clock,
+    sequencer: &mut LaneSequencer<'_>,
+    values: u64,
+    over: &AtomicBool,
+) -> Result<u64, Fault> {
+    let start = Instant::now(rt);
+    emit_all(sequencer, values);
+    over.store(true, Ordering::SeqCst);
+    nanoseconds_since(rt, start?)
+}
+
+#[inline(never)]
+fn emit_all(sequencer: &mut LaneSequencer<'_>, values: u64) {
+    let mut last: u64 = 0;
+    for _ in 0..values {
+        if let Ok(Tried::Accepted(_)) = sequencer.try_emit(last.wrapping_add(1)) {
+            last = last.wrapping_add(1);
+        }
+    }
+}
+
+/// Each reader takes values in a thread of its own.
+fn drain_all<R>(rt: &R, readers: &mut Vec<LaneReader<'_>>, over: &AtomicBool)
+where
+    R: Threads + Wait + Sync,
+{
+    let threads = readers.len().max(1);
+    for_each_mut(
+        rt,
+        readers.as_mut_slice(),
+        threads,
+        &|_, reader: &mut LaneReader<'_>| reader.in_order = drain(rt, reader, over),
+    );
+}
+
+/// Takes values until nothing is left once the emissions are over, and gives their number, if they rose.
+#[inline(never)]
+fn drain(rt: &impl Wait, reader: &mut LaneReader<'_>, over: &AtomicBool) -> u64 {
+    let mut last: u64 = 0;
+    let mut taken: u64 = 0;
+    let mut rising = true;
+    let mut pause = Pause::new();
+    for _ in rt.forever() {
+        let is_over = over.load(Ordering::SeqCst);
+        match reader.try_next() {
+            Taken::Value(value) => {
+                rising = rising && last < value;
+                last = value;
+                taken = taken.wrapping_add(1);
+                pause = Pause::new();
+            }
+            Taken::Nothing if is_over => break,
+            Taken::Nothing => pause.wait(),
+            Taken::Overtaken => {}
+        }
+    }
+    if rising { taken } else { 0 }
+}
