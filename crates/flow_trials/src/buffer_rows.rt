@@ -1,6 +1,6 @@
 //! Buffers, in one task and between two threads.
 
-use crate::tools::{assert_same, broken, listed};
+use crate::tools::{Differences, broken, listed};
 use cold_flow::{Cause, Event, Flow, Policy, Refusal, Run, Step, range, scripted};
 use flow_buffer::{Buffer, Buffered, Drain, Feed, Fill, agree, buffer, conflate, split};
 use futures::task::{Context, Poll};
@@ -63,22 +63,17 @@ fn answered<R: Run<Item = u64, Fault = u64>>(
     lines.len()
 }
 
-fn assert_answered<F: Flow<Item = u64, Fault = u64>>(
-    rt: &impl Abort,
+fn compare_row<F: Flow<Item = u64, Fault = u64>>(
+    differences: &mut Differences,
     task: &MockTask,
     flow: Buffer<F>,
     row: &Row<'_>,
-) -> Result<(), Refusal> {
+) -> Result<(), Fail> {
     let mut buffered = flow.start()?;
-    assert_same(
-        rt,
-        row.name,
-        answered(task, &mut buffered, row.lines),
-        row.lines.len(),
-    );
-    assert_same(rt, row.name, buffered.taken_count(), row.taken);
-    assert_same(rt, row.name, buffered.dropped_count(), row.dropped);
-    Ok(())
+    let lines = answered(task, &mut buffered, row.lines);
+    differences.compare(row.name, lines, row.lines.len())?;
+    differences.compare(row.name, buffered.taken_count(), row.taken)?;
+    differences.compare(row.name, buffered.dropped_count(), row.dropped)
 }
 
 const DROPS_THE_OLDEST: &Row<'_> = &Row {
@@ -159,12 +154,6 @@ const CANCELLED: &Row<'_> = &Row {
 
 #[test]
 fn buffers_in_one_task(rt: HostRuntime) -> Result<(), Fail> {
-    let task = MockTask::new(&rt)?;
-    assert_buffers(&rt, rt.alloc(), &task)?;
-    Ok(())
-}
-
-fn assert_buffers(rt: &impl Abort, alloc: Global, task: &MockTask) -> Result<(), Refusal> {
     const STEPS: &[Step<u64, u64>] = &[
         Step::Value(1),
         Step::Value(2),
@@ -172,17 +161,22 @@ fn assert_buffers(rt: &impl Abort, alloc: Global, task: &MockTask) -> Result<(),
         Step::Pending,
         Step::Value(4),
     ];
+    let alloc = rt.alloc();
+    let task = MockTask::new(&rt)?;
+    let mut all = Differences::none(alloc);
     let steps = scripted(STEPS.to_vec(alloc)?);
     let oldest = buffer(alloc, steps, 2, Policy::DropOldest)?;
-    assert_answered(rt, task, oldest, DROPS_THE_OLDEST)?;
+    compare_row(&mut all, &task, oldest, DROPS_THE_OLDEST)?;
     let waiting = buffer(alloc, broken(alloc, &[1, 2], 6)?, 1, Policy::Suspend)?;
-    assert_answered(rt, task, waiting, WAITS)?;
+    compare_row(&mut all, &task, waiting, WAITS)?;
     let numbers = buffer(alloc, range::<u64>(0, 9), 2, Policy::DropOldest)?;
-    assert_answered(rt, task, numbers, CANCELLED)?;
+    compare_row(&mut all, &task, numbers, CANCELLED)?;
     let latest = buffer(alloc, listed(alloc, &[1, 2, 3])?, 1, Policy::DropLatest)?;
-    assert_answered(rt, task, latest, DROPS_THE_LATEST)?;
+    compare_row(&mut all, &task, latest, DROPS_THE_LATEST)?;
     let newest = conflate(alloc, listed(alloc, &[1, 2, 3])?);
-    assert_answered(rt, task, newest, KEEPS_THE_LATEST)
+    compare_row(&mut all, &task, newest, KEEPS_THE_LATEST)?;
+    all.assert_none(&rt);
+    Ok(())
 }
 
 /// Pumps once.
@@ -264,7 +258,8 @@ fn split_numbers<R: Threads + Wait + RandomSource + AllocGlobal + Sync>(
 }
 
 /// What a drain gave of the numbers below a bound that were split between two threads. `None` where it may be any number.
-struct Split {
+struct Split<'a> {
+    name: &'a str,
     bound: u64,
     policy: Policy,
     first: Option<u64>,
@@ -272,9 +267,9 @@ struct Split {
     dropped: Option<u64>,
 }
 
-/// Under each policy: nothing is dropped, the last value is kept, the first one is.
-const SPLITS: &[Split] = &[
+const SPLITS: &[Split<'_>] = &[
     Split {
+        name: "a split that waits drops nothing",
         bound: 1000,
         policy: Policy::Suspend,
         first: Some(0),
@@ -282,6 +277,7 @@ const SPLITS: &[Split] = &[
         dropped: Some(0),
     },
     Split {
+        name: "a split that drops the oldest keeps the last value",
         bound: 1000,
         policy: Policy::DropOldest,
         first: None,
@@ -289,6 +285,7 @@ const SPLITS: &[Split] = &[
         dropped: None,
     },
     Split {
+        name: "a split that drops the latest keeps the first value",
         bound: 100000,
         policy: Policy::DropLatest,
         first: Some(0),
@@ -297,25 +294,34 @@ const SPLITS: &[Split] = &[
     },
 ];
 
-/// Is it the number that is wanted, where one is?
-fn fits(wanted: Option<u64>, number: u64) -> bool {
+/// The number, where a certain one is wanted.
+fn told(wanted: Option<u64>, number: u64) -> Option<u64> {
     match wanted {
-        Some(wanted) => wanted == number,
-        None => true,
+        Some(_) => Some(number),
+        None => None,
     }
+}
+
+fn compare_split<R: Threads + Wait + RandomSource + AllocGlobal + Sync>(
+    rt: &R,
+    differences: &mut Differences,
+    row: &Split<'_>,
+) -> Result<(), Fail> {
+    let (dropped, all) = split_numbers(rt, row.bound, row.policy)?;
+    let whole = (all.rising, all.end, all.count.saturating_add(dropped));
+    differences.compare(row.name, whole, (true, Some(Cause::Finished), row.bound))?;
+    differences.compare(row.name, told(row.dropped, dropped), row.dropped)?;
+    differences.compare(row.name, told(row.first, all.first), row.first)?;
+    differences.compare(row.name, told(row.last, all.last), row.last)
 }
 
 #[test]
 fn splits_between_two_threads(rt: HostRuntime) -> Result<(), Fail> {
+    let mut differences = Differences::none(rt.alloc());
     for row in SPLITS {
-        let (dropped, all) = split_numbers(&rt, row.bound, row.policy)?;
-        assert!(rt; all.rising);
-        assert_eq!(rt; all.end, Some(Cause::Finished));
-        assert_eq!(rt; all.count.saturating_add(dropped), row.bound);
-        assert!(rt; fits(row.dropped, dropped), "dropped {dropped}");
-        assert!(rt; fits(row.first, all.first), "first {}", all.first);
-        assert!(rt; fits(row.last, all.last), "last {}", all.last);
+        compare_split(&rt, &mut differences, row)?;
     }
+    differences.assert_none(&rt);
     Ok(())
 }
 
@@ -393,6 +399,47 @@ const FULL_DROPS_THE_LATEST: &Turns<'_> = &Turns {
     taken: 1,
 };
 
+/// A buffer that was full once drops nothing more while it has room.
+const REFILLED_AFTER_THE_OLDEST: &Turns<'_> = &Turns {
+    name: "a refilled split drops nothing, the oldest dropped before",
+    turns: &[
+        Turn::Pump(Fill::Took),
+        Turn::Pump(Fill::Took),
+        Turn::Pump(Fill::Overwrote),
+        Turn::Next(Event::Value(1)),
+        Turn::Pump(Fill::Took),
+        Turn::Next(Event::Value(2)),
+        Turn::Next(Event::Value(3)),
+        Turn::Pump(Fill::Took),
+        Turn::Next(Event::Value(4)),
+        Turn::Pump(Fill::Ended),
+        Turn::Next(END),
+    ],
+    rest: &[END],
+    dropped: 1,
+    taken: 4,
+};
+
+const REFILLED_AFTER_THE_LATEST: &Turns<'_> = &Turns {
+    name: "a refilled split drops nothing, the latest dropped before",
+    turns: &[
+        Turn::Pump(Fill::Took),
+        Turn::Pump(Fill::Took),
+        Turn::Pump(Fill::Dropped),
+        Turn::Next(Event::Value(0)),
+        Turn::Pump(Fill::Took),
+        Turn::Next(Event::Value(1)),
+        Turn::Next(Event::Value(3)),
+        Turn::Pump(Fill::Took),
+        Turn::Next(Event::Value(4)),
+        Turn::Pump(Fill::Ended),
+        Turn::Next(END),
+    ],
+    rest: &[END],
+    dropped: 1,
+    taken: 4,
+};
+
 /// How many turns, from the first on, were answered as they say.
 fn taken_turns<U: Run<Item = u64, Fault = u64>>(
     rt: &impl Wait,
@@ -413,22 +460,23 @@ fn taken_turns<U: Run<Item = u64, Fault = u64>>(
     turns.len()
 }
 
-fn assert_turns<R: Wait + Abort, U: Run<Item = u64, Fault = u64>>(
-    rt: &R,
+fn compare_turns<U: Run<Item = u64, Fault = u64>>(
+    rt: &impl Wait,
+    differences: &mut Differences,
     task: &MockTask,
-    mut feed: Feed<U>,
-    mut drain: Drain<u64, u64>,
+    sides: (Feed<U>, Drain<u64, u64>),
     row: &Turns<'_>,
-) {
+) -> Result<(), Fail> {
+    let (mut feed, mut drain) = sides;
     let count = taken_turns(rt, task, &mut feed, &mut drain, row.turns);
     let dropped = feed.dropped_count();
     feed.cancel(rt);
-    assert_same(rt, row.name, count, row.turns.len());
-    assert_same(rt, row.name, dropped, row.dropped);
+    differences.compare(row.name, count, row.turns.len())?;
+    differences.compare(row.name, dropped, row.dropped)?;
     for event in row.rest {
-        assert_same(rt, row.name, drain.next(rt), *event);
+        differences.compare(row.name, drain.next(rt), *event)?;
     }
-    assert_same(rt, row.name, drain.taken_count(), row.taken);
+    differences.compare(row.name, drain.taken_count(), row.taken)
 }
 
 #[test]
@@ -436,11 +484,13 @@ fn turns_of_a_split(rt: HostRuntime) -> Result<(), Fail> {
     const STEPS: &[Step<u64, u64>] = &[Step::Pending, Step::Fail(6)];
     let alloc = rt.alloc();
     let task = MockTask::new(&rt)?;
-    let (feed, drain) = split(alloc, listed(alloc, &[1, 2, 3])?, 4, Policy::Suspend)?;
-    assert_turns(&rt, &task, feed, drain, CANCELLED_FEED);
+    let mut all = Differences::none(alloc);
+    let sides = split(alloc, listed(alloc, &[1, 2, 3])?, 4, Policy::Suspend)?;
+    compare_turns(&rt, &mut all, &task, sides, CANCELLED_FEED)?;
     let steps = scripted(STEPS.to_vec(alloc)?);
-    let (feed, drain) = split(alloc, steps, 1, Policy::Suspend)?;
-    assert_turns(&rt, &task, feed, drain, ONE_END);
+    let sides = split(alloc, steps, 1, Policy::Suspend)?;
+    compare_turns(&rt, &mut all, &task, sides, ONE_END)?;
+    all.assert_none(&rt);
     Ok(())
 }
 
@@ -448,12 +498,27 @@ fn turns_of_a_split(rt: HostRuntime) -> Result<(), Fail> {
 fn turns_of_a_full_split(rt: HostRuntime) -> Result<(), Fail> {
     let alloc = rt.alloc();
     let task = MockTask::new(&rt)?;
-    let (feed, drain) = split(alloc, range::<u64>(0, 3), 1, Policy::DropOldest)?;
-    assert_turns(&rt, &task, feed, drain, FULL_DROPS_THE_OLDEST);
-    let (feed, drain) = split(alloc, range::<u64>(0, 3), 1, Policy::DropLatest)?;
-    assert_turns(&rt, &task, feed, drain, FULL_DROPS_THE_LATEST);
+    let mut all = Differences::none(alloc);
+    let sides = split(alloc, range::<u64>(0, 3), 1, Policy::DropOldest)?;
+    compare_turns(&rt, &mut all, &task, sides, FULL_DROPS_THE_OLDEST)?;
+    let sides = split(alloc, range::<u64>(0, 3), 1, Policy::DropLatest)?;
+    compare_turns(&rt, &mut all, &task, sides, FULL_DROPS_THE_LATEST)?;
+    all.assert_none(&rt);
     let (feed, drain) = split(alloc, range::<u64>(0, 2), 1, Policy::DropLatest)?;
     agree(feed, drain);
+    Ok(())
+}
+
+#[test]
+fn refilled_split_drops_nothing(rt: HostRuntime) -> Result<(), Fail> {
+    let alloc = rt.alloc();
+    let task = MockTask::new(&rt)?;
+    let mut all = Differences::none(alloc);
+    let sides = split(alloc, range::<u64>(0, 5), 2, Policy::DropOldest)?;
+    compare_turns(&rt, &mut all, &task, sides, REFILLED_AFTER_THE_OLDEST)?;
+    let sides = split(alloc, range::<u64>(0, 5), 2, Policy::DropLatest)?;
+    compare_turns(&rt, &mut all, &task, sides, REFILLED_AFTER_THE_LATEST)?;
+    all.assert_none(&rt);
     Ok(())
 }
 

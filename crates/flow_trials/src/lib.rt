@@ -2,6 +2,8 @@
 #![tactic(auto)]
 
 #[cfg(test)]
+mod asking_rows;
+#[cfg(test)]
 mod body_rows;
 #[cfg(test)]
 mod buffer_rows;
@@ -11,6 +13,10 @@ mod cold_rows;
 mod core_limits;
 #[cfg(test)]
 mod core_rows;
+#[cfg(test)]
+mod lane_rows;
+#[cfg(test)]
+mod lane_threads;
 #[cfg(test)]
 mod list_body;
 #[cfg(test)]

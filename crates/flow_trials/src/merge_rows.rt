@@ -5,7 +5,7 @@ ghost use Rattle.std.specs.Prelude.{◌≡◌, is_some, ◌==◌, if◌then◌el
 ghost use Rattle.std.specs.Iterator.{at_most};
 
 use crate::tools::{
-    Answer, Polling, Sum, assert_list, assert_polls, assert_same, broken, listed, next,
+    Answer, Polling, Same, Sum, assert_list, assert_polls, assert_same, broken, listed, next,
 };
 use cold_flow::{
     Apply, Caught, Cause, Event, Flow, Numbers, Refusal, Run, Step, catch_with, collect, range,
@@ -130,20 +130,6 @@ const EMPTY: Brief = Brief {
     to: 0,
     fault: None,
 };
-
-// The same inner flow for each value.
-#[derive(Clone, Copy)]
-struct Same(Numbers<u64>);
-
-impl Apply<u64> for Same {
-    type Out = Numbers<u64>;
-
-    ghost gives = { λ f _. f.0 };
-
-    fn apply(&self, _argument: u64) -> Numbers<u64> {
-        self.0
-    }
-}
 
 // Inner runs of two polls and the end.
 struct Two;
@@ -311,6 +297,44 @@ fn assert_merges<F: Flow<Item = u64, Fault = u64>>(
     Ok(())
 }
 
+// A run that has a value is asked in the poll in which the two before it wait.
+#[test]
+fn merge_asks_each_run_that_stands(rt: HostRuntime) -> Result<(), Fail> {
+    const INNER: Pick = Pick {
+        zero: Brief {
+            waits: 3,
+            next: 10,
+            to: 11,
+            fault: None,
+        },
+        one: Brief {
+            waits: 3,
+            next: 20,
+            to: 21,
+            fault: None,
+        },
+        other: Brief {
+            waits: 0,
+            next: 30,
+            to: 32,
+            fault: None,
+        },
+    };
+    const FIRST: &[Polling] = &[
+        Poll::Ready(Event::Value(30)),
+        Poll::Ready(Event::Value(31)),
+        Poll::Pending,
+    ];
+    const REST: &[u64] = &[10, 20];
+    let task = MockTask::new(&rt)?;
+    let mut run = flat_map_merge(rt.alloc(), range::<u64>(0, 3), INNER, 3)?.start()?;
+    assert_polls(&rt, &task, &mut run, FIRST);
+    let (rest, finished) = sorted_rest(&rt, rt.alloc(), &task, &mut run, 8)?;
+    assert!(rt; finished);
+    assert_same(&rt, "the rest, sorted", rest.as_slice(), REST);
+    Ok(())
+}
+
 // The number of the refusal of a merge, or 0 where there is none.
 fn refused_merge(alloc: Global, inner: Pick, limit: u32) -> u8 {
     match flat_map_merge(alloc, range::<u64>(0, 3), inner, limit) {
@@ -449,14 +473,15 @@ fn pipes_of_several_sources(rt: HostRuntime) -> Result<(), Fail> {
     assert_joined(&rt, alloc, &task)
 }
 
-// A flow whose runs wait for good and count the cancels that they get.
+/// A flow that counts its starts, and whose runs wait for good and count the cancels that they get.
 #[derive(Clone, Copy)]
-struct Watched<'a> {
-    cancels: &'a Cell<u32>,
+pub(crate) struct Watched<'a> {
+    pub(crate) starts: &'a Cell<u32>,
+    pub(crate) cancels: &'a Cell<u32>,
 }
 
 #[derive(Drop)]
-struct WatchedRun<'a> {
+pub(crate) struct WatchedRun<'a> {
     cancels: &'a Cell<u32>,
     ended: Option<Cause<u64>>,
 }
@@ -471,6 +496,7 @@ impl<'a> Flow for Watched<'a> {
     ghost may = { λ _. AnyTrace };
 
     fn start(&self) -> Result<WatchedRun<'a>, Refusal> {
+        self.starts.set(self.starts.get().saturating_add(1));
         Ok(WatchedRun {
             cancels: self.cancels,
             ended: None,
@@ -535,14 +561,19 @@ impl Flow for Refused {
 // A start of both sides leaves none started where the right one is refused.
 #[test]
 fn refused_start_cancels_the_other_side(rt: HostRuntime) {
+    let starts = Cell::new(0);
     let cancels = Cell::new(0);
-    let left = Watched { cancels: &cancels };
+    let left = Watched {
+        starts: &starts,
+        cancels: &cancels,
+    };
     let refused = zip(left, Refused, Sum).start().is_err();
     assert!(rt; refused);
     assert_same(&rt, "cancels by the zip", cancels.get(), 1);
     let refused = combine(left, Refused, Sum).start().is_err();
     assert!(rt; refused);
     assert_same(&rt, "cancels by both", cancels.get(), 2);
+    assert_same(&rt, "starts by both", starts.get(), 2);
 }
 
 // What the caller of a zip gives.
@@ -566,7 +597,12 @@ fn a_list_is_joined(rt: HostRuntime) -> Result<(), Fail> {
     let task = MockTask::new(&rt)?;
     let outer = TENS.to_vec(alloc)?;
     let numbers = task.enter(move |cx| {
-        joined_list::<u64, u64, u64, Numbers<u64>, Same, Two>(alloc, outer, Same(range(0, 2)), cx)
+        joined_list::<u64, u64, u64, Numbers<u64>, Same<Numbers<u64>>, Two>(
+            alloc,
+            outer,
+            Same(range(0, 2)),
+            cx,
+        )
     })?;
     assert_list(&rt, &numbers, &[0, 1, 0, 1], Cause::Finished);
     Ok(())

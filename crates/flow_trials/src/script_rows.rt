@@ -9,7 +9,7 @@ mod rows;
 mod sharings;
 mod streams;
 
-use crate::tools::assert_same;
+use crate::tools::Differences;
 use flow_script::{Engine, ScriptFault, run_script};
 use rows::{ROWS, Row};
 use std::alloc::{AllocError, AllocGlobal, Global};
@@ -43,23 +43,39 @@ fn lines_of(alloc: Global, text: &str) -> Result<String, AllocError> {
     Ok(lines)
 }
 
-/// Fails where a row's script has other answers.
-fn assert_row(
-    rt: &(impl Abort + Wait + RandomSource + AllocGlobal),
+/// Compares what a row's script answers.
+fn compare_row(
+    rt: &(impl Wait + RandomSource + AllocGlobal),
+    differences: &mut Differences,
     row: &Row,
 ) -> Result<(), Fail> {
     let script = lines_of(rt.alloc(), row.script)?;
     let want = lines_of(rt.alloc(), row.answers)?;
     let text = answers(rt, script.as_bytes())?;
-    assert_same(rt, row.name, text.as_slice(), want.as_bytes());
-    Ok(())
+    differences.compare_text(row.name, &text, want.as_bytes())
 }
 
 #[test]
 fn each_row_gives_its_answers(rt: HostRuntime) -> Result<(), Fail> {
+    let mut differences = Differences::none(rt.alloc());
     for row in ROWS {
-        assert_row(&rt, row)?;
+        compare_row(&rt, &mut differences, row)?;
     }
+    differences.assert_none(&rt);
+    Ok(())
+}
+
+/// Compares what each script answers, and names a wrong one by its text.
+fn assert_answers(
+    rt: &(impl Abort + Wait + RandomSource + AllocGlobal),
+    lines: &[(&[u8], &[u8])],
+) -> Result<(), Fail> {
+    let mut differences = Differences::none(rt.alloc());
+    for (script, want) in lines {
+        let text = answers(rt, script)?;
+        differences.compare_text(str::from_utf8(script)?, &text, want)?;
+    }
+    differences.assert_none(rt);
     Ok(())
 }
 
@@ -127,10 +143,23 @@ const LINES: &[(&[u8], &[u8])] = &[
 
 #[test]
 fn each_form_of_a_line_is_answered(rt: HostRuntime) -> Result<(), Fail> {
-    for (script, want) in LINES {
-        let text = answers(&rt, script)?;
-        assert_eq!(rt; text.as_slice(), *want);
+    assert_answers(&rt, LINES)
+}
+
+#[test]
+fn each_fault_has_its_text(rt: HostRuntime) -> Result<(), Fail> {
+    const TEXTS: &[(ScriptFault, &str)] = &[
+        (ScriptFault::Read, "read fault"),
+        (ScriptFault::TooLong, "script too long"),
+        (ScriptFault::Write, "write fault"),
+        (ScriptFault::NoMemory, "out of memory"),
+    ];
+    let mut differences = Differences::none(rt.alloc());
+    for (fault, text) in TEXTS {
+        let told = format!(in rt.alloc(); "{fault}")?;
+        differences.compare("a fault", told.as_str(), *text)?;
     }
+    differences.assert_none(&rt);
     Ok(())
 }
 

@@ -7,7 +7,7 @@ use crate::shared_stage::Answer::{
 use crate::shared_stage::Call::{Ask, Cancel, Emit, Next, Subscribe, TakeBack, Try};
 use crate::shared_stage::Party::{A, B, First, Owner, Second, Third};
 use crate::shared_stage::{Call, Emitting, Line, Listening, played};
-use crate::tools::assert_same;
+use crate::tools::{Differences, assert_same};
 use cold_flow::Policy;
 use shared_core::{Begun, Config, Withdrawn};
 use shared_flow::{Emitter, SharedFlow};
@@ -168,20 +168,15 @@ const ROWS: &[Row<'_>] = &[
     },
 ];
 
-fn assert_row<R>(rt: &R, row: &Row<'_>)
-where
-    R: Wait + RandomSource + AllocGlobal + Abort,
-{
-    let played = played(rt, row.config, row.lines);
-    assert_same(rt, row.name, played.lines, row.lines.len());
-    assert_same(rt, row.name, played.cache.as_slice(), row.cache);
-}
-
 #[test]
 fn calls_are_answered(rt: HostRuntime) -> Result<(), Fail> {
+    let mut differences = Differences::none(rt.alloc());
     for row in ROWS {
-        assert_row(&rt, row);
+        let played = played(&rt, row.config, row.lines);
+        differences.compare(row.name, played.lines, row.lines.len())?;
+        differences.compare(row.name, played.cache.as_slice(), row.cache)?;
     }
+    differences.assert_none(&rt);
     Ok(())
 }
 

@@ -7,7 +7,7 @@ use crate::shared_stage::Answer::{
 use crate::shared_stage::Call::{Ask, Cancel, Emit, Next, Subscribe, TakeBack, Try};
 use crate::shared_stage::Party::{A, B, First, Owner, Second, Third};
 use crate::shared_stage::{Call, Line, watched};
-use crate::tools::assert_same;
+use crate::tools::Differences;
 use cold_flow::Policy;
 use shared_core::Config;
 use std::test::Fail;
@@ -134,9 +134,11 @@ const ROWS: &[Row<'_>] = &[
 
 #[test]
 fn calls_wake(rt: HostRuntime) -> Result<(), Fail> {
+    let mut differences = Differences::none(rt.alloc());
     for row in ROWS {
         let watched = watched(&rt, row.config, row.lines);
-        assert_same(&rt, row.name, watched.lines, row.lines.len());
+        differences.compare(row.name, watched.lines, row.lines.len())?;
     }
+    differences.assert_none(&rt);
     Ok(())
 }

@@ -1,13 +1,12 @@
 //! Worked examples of a state that is set from a cold flow.
 
 use crate::ticks::Tick;
-use crate::tools::{assert_same, broken, listed};
+use crate::tools::{Differences, broken, listed};
 use cold_flow::{Cause, Flow, NumbersRun, Refusal, Step, range, scripted};
 use flow_sharing::{Started, StateSharing, state_in};
 use futures::test::MockTask;
 use state_flow::{Collector, StateFlow, StateSeat};
 use std::alloc::AllocGlobal;
-use std::process::Abort;
 use std::random::RandomSource;
 use std::test::Fail;
 
@@ -224,8 +223,9 @@ impl Stage {
     }
 }
 
-fn assert_shares<R: Abort + RandomSource + AllocGlobal, F: Flow<Item = u64, Fault = u64>>(
+fn compare_row<R: RandomSource + AllocGlobal, F: Flow<Item = u64, Fault = u64>>(
     rt: &R,
+    differences: &mut Differences,
     upstream: F,
     row: &Row<'_>,
 ) -> Result<(), Fail> {
@@ -241,12 +241,12 @@ fn assert_shares<R: Abort + RandomSource + AllocGlobal, F: Flow<Item = u64, Faul
         latest: 0,
     };
     let mut sharing = state_in(shared, row.initial, upstream, row.started);
-    assert_same(rt, row.name, stage.seat.value(), row.initial);
+    let initial = stage.seat.value();
     let lines = stage.answered(&mut sharing, row.lines);
     drop(sharing.close());
     stage.leave();
-    assert_same(rt, row.name, lines, row.lines.len());
-    Ok(())
+    differences.compare(row.name, initial, row.initial)?;
+    differences.compare(row.name, lines, row.lines.len())
 }
 
 // A flow that never starts.
@@ -283,10 +283,13 @@ const UP_TO_31: [u64; 32] = [
 fn states_are_set(rt: HostRuntime) -> Result<(), Fail> {
     const STEPS: &[Step<u64, u64>] = &[Step::Value(1), Step::Pending, Step::Value(2)];
     let alloc = rt.alloc();
-    assert_shares(&rt, listed(alloc, &[1])?, STATED_AND_SHARED)?;
-    assert_shares(&rt, range::<u64>(0, 33), TAKES_32_EVENTS)?;
-    assert_shares(&rt, broken(alloc, &UP_TO_30, 6)?, FAILS_AFTER_31)?;
-    assert_shares(&rt, broken(alloc, &UP_TO_31, 6)?, FAILS_AFTER_32)?;
-    assert_shares(&rt, scripted(STEPS.to_vec(alloc)?), STARTS_ANEW)?;
-    assert_shares(&rt, Unstarted, NEVER_STARTS)
+    let mut all = Differences::none(alloc);
+    compare_row(&rt, &mut all, listed(alloc, &[1])?, STATED_AND_SHARED)?;
+    compare_row(&rt, &mut all, range::<u64>(0, 33), TAKES_32_EVENTS)?;
+    compare_row(&rt, &mut all, broken(alloc, &UP_TO_30, 6)?, FAILS_AFTER_31)?;
+    compare_row(&rt, &mut all, broken(alloc, &UP_TO_31, 6)?, FAILS_AFTER_32)?;
+    compare_row(&rt, &mut all, scripted(STEPS.to_vec(alloc)?), STARTS_ANEW)?;
+    compare_row(&rt, &mut all, Unstarted, NEVER_STARTS)?;
+    all.assert_none(&rt);
+    Ok(())
 }

@@ -1,5 +1,5 @@
 //! Worked examples of sharing strategies: what each poll commands.
-use crate::tools::assert_same;
+use crate::tools::Differences;
 use flow_sharing::laws::commands_of;
 use flow_sharing::{Command, Started, Strategy};
 use std::test::Fail;
@@ -124,12 +124,14 @@ const ROWS: &[Row<'_>] = &[
 
 #[test]
 fn commands(rt: HostRuntime) -> Result<(), Fail> {
+    let mut differences = Differences::none(rt.alloc());
     for row in ROWS {
         let mut commands = vec![in rt.alloc(); None; row.polls.len()]?;
         let strategy = commands_of(row.started, row.polls, &mut commands);
-        assert_same(&rt, row.name, commands.as_slice(), row.commands);
-        assert_same(&rt, row.name, strategy.on(), row.is_on);
-        assert_same(&rt, row.name, strategy.latest(), row.latest);
+        differences.compare(row.name, commands.as_slice(), row.commands)?;
+        differences.compare(row.name, strategy.on(), row.is_on)?;
+        differences.compare(row.name, strategy.latest(), row.latest)?;
     }
+    differences.assert_none(&rt);
     Ok(())
 }

@@ -23,6 +23,20 @@ impl Apply<(u64, u64)> for Sum {
     }
 }
 
+/// The same flow for each value.
+#[derive(Clone, Copy)]
+pub struct Same<F>(pub F);
+
+impl<F: Copy> Apply<u64> for Same<F> {
+    type Out = F;
+
+    ghost gives = { λ f _. f.0 };
+
+    fn apply(&self, _argument: u64) -> F {
+        self.0
+    }
+}
+
 /// Any failure becomes a given answer.
 #[derive(Clone, Copy)]
 pub struct Answer(pub Caught<u64, u64>);

@@ -1,6 +1,6 @@
 //! The inner flows of `concat`.
 
-ghost use Rattle.std.specs.Prelude.{is_some};
+ghost use Rattle.std.specs.Prelude.{is_some, true};
 ghost use Rattle.std.specs.Iterator.{at_most};
 ghost use Rattle.cold_flow.specs.Few.{few_len, values_of};
 ghost use Rattle.cold_flow.specs.Poll.{Beginnings, Unless};
@@ -30,6 +30,8 @@ impl Flow for Inner {
     ghost may = { λ f. Beginnings (ended_by (values_of f.values) (cause_of f.fault)) };
 
     ghost polls = { λ f. at_most (few_len f.values) };
+
+    ghost starts = { λ _. true };
 
     fn start(&self) -> Result<InnerRun, Refusal> {
         Ok(InnerRun {

@@ -1,6 +1,6 @@
 //! Buffers of a script: the rows that are worked out by hand, and the places where a line of a buffer may go wrong.
 
-use super::answers;
+use super::assert_answers;
 use std::test::Fail;
 
 /// Lines, and how they are answered.
@@ -59,9 +59,5 @@ const LINES: &[(&[u8], &[u8])] = &[
 
 #[test]
 fn each_buffer_is_answered(rt: HostRuntime) -> Result<(), Fail> {
-    for (script, want) in LINES {
-        let text = answers(&rt, script)?;
-        assert_eq!(rt; text.as_slice(), *want);
-    }
-    Ok(())
+    assert_answers(&rt, LINES)
 }

@@ -1,5 +1,6 @@
 //! The pipes that the documentation works out, and the places where a pipe's words may go wrong.
 
+use crate::tools::Differences;
 use flow_script::{Engine, run_script};
 use std::alloc::AllocGlobal;
 use std::process::Abort;
@@ -7,17 +8,28 @@ use std::random::RandomSource;
 use std::sync::Wait;
 use std::test::Fail;
 
-/// Compares what a script answers.
-fn answers(
-    rt: &(impl Abort + Wait + RandomSource + AllocGlobal),
+/// Compares what a script answers, and names a wrong one by its text.
+fn compare_answers(
+    rt: &(impl Wait + RandomSource + AllocGlobal),
+    differences: &mut Differences,
     script: &[u8],
     want: &[u8],
 ) -> Result<(), Fail> {
     let mut text = Vec::new(rt.alloc());
     let mut rest = script;
-    let ran = run_script(rt, &mut rest, &mut text, Engine::Core);
-    assert_eq!(rt; ran, Ok(()));
-    assert_eq!(rt; text.as_slice(), want);
+    run_script(rt, &mut rest, &mut text, Engine::Core)?;
+    differences.compare_text(str::from_utf8(script)?, &text, want)
+}
+
+/// Fails where a script has other answers.
+fn answers(
+    rt: &(impl Abort + Wait + RandomSource + AllocGlobal),
+    script: &[u8],
+    want: &[u8],
+) -> Result<(), Fail> {
+    let mut differences = Differences::none(rt.alloc());
+    compare_answers(rt, &mut differences, script, want)?;
+    differences.assert_none(rt);
     Ok(())
 }
 
@@ -69,9 +81,11 @@ fn each_is_answered(
     rt: &(impl Abort + Wait + RandomSource + AllocGlobal),
     cases: &[Case],
 ) -> Result<(), Fail> {
+    let mut differences = Differences::none(rt.alloc());
     for case in cases {
-        answers(rt, case.pipe, case.answer)?;
+        compare_answers(rt, &mut differences, case.pipe, case.answer)?;
     }
+    differences.assert_none(rt);
     Ok(())
 }
 
@@ -394,8 +408,10 @@ const BAD_COMMANDS: &[&[u8]] = &[
 
 #[test]
 fn pipes_that_are_bad_commands(rt: HostRuntime) -> Result<(), Fail> {
+    let mut differences = Differences::none(rt.alloc());
     for pipe in BAD_COMMANDS {
-        answers(&rt, pipe, b"line 1: bad command\n")?;
+        compare_answers(&rt, &mut differences, pipe, b"line 1: bad command\n")?;
     }
+    differences.assert_none(&rt);
     Ok(())
 }

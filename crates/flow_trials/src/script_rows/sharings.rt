@@ -1,6 +1,6 @@
 //! Sharings of a script: the places where a line may go wrong, and what no worked row shows.
 
-use super::answers;
+use super::assert_answers;
 use std::test::Fail;
 
 /// Lines, and how they are answered.
@@ -54,9 +54,5 @@ const LINES: &[(&[u8], &[u8])] = &[
 
 #[test]
 fn each_sharing_is_answered(rt: HostRuntime) -> Result<(), Fail> {
-    for (script, want) in LINES {
-        let text = answers(&rt, script)?;
-        assert_eq!(rt; text.as_slice(), *want);
-    }
-    Ok(())
+    assert_answers(&rt, LINES)
 }
