@@ -1,6 +1,6 @@
 -- Laws of gathering.
 use Rattle.std.specs.Prelude.{◌≡◌, List, [], ◌∷◌, ◌++◌, Result, Ok, Err, IfOk}
-use Rattle.cold_flow.specs.declared.refusal.Refusal.{Refusal}
+use Rattle.flow_terms.specs.declared.refusal.Refusal.{Refusal}
 use Rattle.cold_flow.specs.declared.ends.collect.Collected.{Collected}
 use Rattle.cold_flow.specs.Laws.{ended-begins}
 use Rattle.std.proofs.Common.{sym, ◌∙◌, ap, subst, append_assoc}

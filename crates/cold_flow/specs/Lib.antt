@@ -1,4 +1,3 @@
-pub mod Refusals
 pub mod Trace
 pub mod Poll
 pub mod Laws

@@ -5,7 +5,7 @@ use Rattle.futures.specs.declared.task.Poll.{Poll}
 use Rattle.futures.specs.declared.task.Poll.TheVariants.{Ready, Pending}
 use Rattle.cold_flow.specs.declared.cause.Cause.{Cause}
 use Rattle.cold_flow.specs.declared.cause.Cause.TheVariants.{Cancelled, Refused}
-use Rattle.cold_flow.specs.declared.refusal.Refusal.TheVariants.{NoMemory}
+use Rattle.flow_terms.specs.declared.refusal.Refusal.TheVariants.{NoMemory}
 use Rattle.cold_flow.specs.declared.event.Event.{Event}
 use Rattle.cold_flow.specs.declared.event.Event.TheVariants.{Value, End}
 use Rattle.cold_flow.specs.Trace.{Trace, ◌⊑◌, ended_by, led_by}

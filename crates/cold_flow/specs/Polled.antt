@@ -6,7 +6,7 @@ use Rattle.futures.specs.declared.task.Poll.TheVariants.{Ready, Pending}
 use Rattle.cold_flow.specs.declared.cause.Cause.{Cause}
 use Rattle.cold_flow.specs.declared.event.Event.{Event}
 use Rattle.cold_flow.specs.declared.event.Event.TheVariants.{Value, End}
-use Rattle.cold_flow.specs.declared.refusal.Refusal.{Refusal}
+use Rattle.flow_terms.specs.declared.refusal.Refusal.{Refusal}
 use Rattle.cold_flow.specs.declared.ends.collect.Collected.{Collected}
 use Rattle.cold_flow.specs.declared.ends.collect.Gathering.{Gathering}
 use Rattle.cold_flow.specs.declared.ends.collect.Gathering.TheVariants.{Going, Done, Lacking}

@@ -1,6 +1,6 @@
 //! Why a run ended.
 
-use crate::refusal::Refusal;
+use flow_terms::Refusal;
 
 /// Why a run ended: what Kotlin's `onCompletion` is told, and more than it is told.
 #[derive(Clone, Copy, Debug, PartialEq, Eq)]

@@ -3,11 +3,11 @@
 ghost use Rattle.std.specs.Prelude.{◌≡◌, List, Bool, false, IsTrue, IsOk, IfOk, IfErr, None};
 ghost use Rattle.std.specs.Iterator.{Count, endless};
 ghost use Rattle.cold_flow.specs.declared.cause.Cause.TheVariants.{Cancelled};
-ghost use Rattle.cold_flow.specs.declared.refusal.Refusal.TheVariants.{NoMemory};
+ghost use Rattle.flow_terms.specs.declared.refusal.Refusal.TheVariants.{NoMemory};
 ghost use Rattle.cold_flow.specs.Trace.{Trace, ended_by};
 ghost use Rattle.cold_flow.specs.Poll.{Within, IsWithinPolls};
 
-use crate::refusal::Refusal;
+use flow_terms::Refusal;
 use crate::run::Run;
 
 /// A cold flow, Kotlin's `Flow`: it can be collected any number of times, each time by a run of its own.

@@ -18,7 +18,7 @@
 //! A poll that left out 64 values in a row yields: it answers pending and asks to be polled again, so that no task holds its thread
 //! for long. So do `collect`, `fold` and `first` after 64 values.
 //!
-//! The crate also has what other flows share: why a call is refused (`Refusal`), what a full flow does with an emission
+//! The crate gives on what all flows share: why a call is refused (`Refusal`), what a full flow does with an emission
 //! (`Policy`), and the values that fit an atomic word (`Word`).
 #![tactic(auto)]
 
@@ -29,10 +29,7 @@ mod ends;
 mod event;
 mod flow;
 mod operators;
-mod policy;
-mod refusal;
 mod run;
-mod word;
 
 pub use apply::Apply;
 pub use builders::listed::{Listed, ListedRun, failing, of};
@@ -46,6 +43,7 @@ pub use ends::fold::{Folding, fold};
 pub use ends::to_list::to_list;
 pub use event::Event;
 pub use flow::Flow;
+pub use flow_terms::{Policy, Refusal, Word};
 pub use operators::catch_with::{Catching, CatchingRun, Caught, catch_with};
 pub use operators::closing::Closing;
 pub use operators::distinct::{Differing, distinct};
@@ -57,7 +55,4 @@ pub use operators::on_completion::{Completing, CompletingRun, on_completion};
 pub use operators::sift::{Sift, Sifted};
 pub use operators::take::{Taken, TakenRun, take};
 pub use operators::transform::{Transformed, TransformedRun, transform};
-pub use policy::Policy;
-pub use refusal::Refusal;
 pub use run::{BUDGET, Finite, Run};
-pub use word::Word;

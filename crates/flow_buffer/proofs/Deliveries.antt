@@ -1,8 +1,8 @@
 -- What a buffer leaves out, by its policy.
 use Rattle.std.proofs.Common.{◌≡◌, ℕ, Option, Some, None, List, [], ◌∷◌, ◌++◌, refl, ap, ◌∙◌, subst, inl, append_assoc}
 use Rattle.cold_flow.specs.declared.cause.Cause.{Cause}
-use Rattle.cold_flow.specs.declared.policy.Policy.{Policy}
-use Rattle.cold_flow.specs.declared.policy.Policy.TheVariants.{Suspend, DropOldest}
+use Rattle.flow_terms.specs.declared.policy.Policy.{Policy}
+use Rattle.flow_terms.specs.declared.policy.Policy.TheVariants.{Suspend, DropOldest}
 use Rattle.cold_flow.specs.Trace.{Trace, ◌⊑◌, ended_by, led_by}
 use Rattle.cold_flow.specs.Poll.{Traces, Fixes}
 use Rattle.cold_flow.specs.Laws.{begins-any, led-begins, begins-trans}

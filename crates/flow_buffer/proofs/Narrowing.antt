@@ -1,14 +1,14 @@
 -- A fill leaves a part of what the buffer could give.
 use Rattle.std.proofs.Common.{◌≡◌, ◌<◌, ℕ, true, List, [], ◌∷◌, ◌++◌, length, drop, sym, subst, inl, inr, arith}
 use Rattle.cold_flow.specs.declared.cause.Cause.{Cause}
-use Rattle.cold_flow.specs.declared.policy.Policy.{Policy}
-use Rattle.cold_flow.specs.declared.policy.Policy.TheVariants.{DropOldest}
+use Rattle.flow_terms.specs.declared.policy.Policy.{Policy}
+use Rattle.flow_terms.specs.declared.policy.Policy.TheVariants.{DropOldest}
 use Rattle.cold_flow.specs.Trace.{Trace, so_far, ended_by, led_by}
 use Rattle.cold_flow.specs.Poll.{Traces, After, Within, Beginnings}
 use Rattle.cold_flow.specs.Laws.{below-end}
 use Rattle.flow_buffer.specs.declared.ending.Ending.TheVariants.{Kept}
-use Rattle.flow_buffer.specs.declared.fill.Fill.{Fill}
-use Rattle.flow_buffer.specs.declared.fill.Fill.TheVariants.{Took, Overwrote, Dropped, Full, Pending, Ended}
+use Rattle.flow_terms.specs.declared.fill.Fill.{Fill}
+use Rattle.flow_terms.specs.declared.fill.Fill.TheVariants.{Took, Overwrote, Dropped, Full, Pending, Ended}
 use Rattle.flow_buffer.specs.declared.store.Store.{Store}
 use Rattle.flow_buffer.specs.Endings.{is_going}
 use Rattle.flow_buffer.specs.Stored.{Puts}

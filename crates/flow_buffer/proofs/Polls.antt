@@ -7,8 +7,8 @@ use Rattle.cold_flow.specs.Trace.{Trace, ended_by, led_by}
 use Rattle.cold_flow.specs.Poll.{Traces, After, Beginnings}
 use Rattle.flow_buffer.specs.declared.ending.Ending.{Ending}
 use Rattle.flow_buffer.specs.declared.ending.Ending.TheVariants.{Going, Kept, Given}
-use Rattle.flow_buffer.specs.declared.fill.Fill.{Fill}
-use Rattle.flow_buffer.specs.declared.fill.Fill.TheVariants.{Took, Overwrote, Dropped, Full, Pending, Ended}
+use Rattle.flow_terms.specs.declared.fill.Fill.{Fill}
+use Rattle.flow_terms.specs.declared.fill.Fill.TheVariants.{Took, Overwrote, Dropped, Full, Pending, Ended}
 use Rattle.flow_buffer.specs.declared.store.Store.{Store}
 use Rattle.flow_buffer.specs.Endings.{is_going, given, seen, settled}
 use Rattle.flow_buffer.specs.Contents.{IsAllTold}

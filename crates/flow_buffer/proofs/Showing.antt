@@ -5,8 +5,8 @@ use Rattle.circular_buffer.specs.Buffer.{buffer}
 use Rattle.cold_flow.specs.declared.cause.Cause.TheVariants.{Cancelled}
 use Rattle.flow_buffer.specs.declared.ending.Ending.{Ending}
 use Rattle.flow_buffer.specs.declared.ending.Ending.TheVariants.{Given}
-use Rattle.flow_buffer.specs.declared.fill.Fill.{Fill}
-use Rattle.flow_buffer.specs.declared.fill.Fill.TheVariants.{Took, Overwrote, Dropped as DroppedIt, Full, Pending, Ended}
+use Rattle.flow_terms.specs.declared.fill.Fill.{Fill}
+use Rattle.flow_terms.specs.declared.fill.Fill.TheVariants.{Took, Overwrote, Dropped as DroppedIt, Full, Pending, Ended}
 use Rattle.flow_buffer.specs.declared.side.Fate.{Fate}
 use Rattle.flow_buffer.specs.declared.side.Fate.TheVariants.{Taken, Held, Dropped}
 use Rattle.flow_buffer.specs.declared.store.Store.{Store}

@@ -10,8 +10,8 @@ use Rattle.cold_flow.specs.declared.event.Event.TheVariants.{Value, End}
 use Rattle.cold_flow.specs.Trace.{ended_by}
 use Rattle.cold_flow.specs.Poll.{Traces, Within, After}
 use Rattle.flow_buffer.specs.declared.ending.Ending.TheVariants.{Going, Kept, Given}
-use Rattle.flow_buffer.specs.declared.fill.Fill.{Fill}
-use Rattle.flow_buffer.specs.declared.fill.Fill.TheVariants.{Took, Overwrote, Dropped, Full, Pending, Ended}
+use Rattle.flow_terms.specs.declared.fill.Fill.{Fill}
+use Rattle.flow_terms.specs.declared.fill.Fill.TheVariants.{Took, Overwrote, Dropped, Full, Pending, Ended}
 use Rattle.flow_buffer.specs.declared.store.Store.{Store}
 use Rattle.flow_buffer.specs.Endings.{given, seen}
 use Rattle.flow_buffer.specs.Contents.{FillsTo, TakesTo, PassesTo, GivesUp, IsAllTold}

@@ -1,7 +1,7 @@
 -- Which capacities a buffer may have.
 use Rattle.std.specs.Prelude.{ℕ, ◌==◌, nat_lt, if◌then◌else◌, Option, Some, None, ◌≡◌, ◌⊎◌}
-use Rattle.cold_flow.specs.declared.refusal.Refusal.{Refusal}
-use Rattle.cold_flow.specs.declared.refusal.Refusal.TheVariants.{TooLarge, NotPositive, NoMemory}
+use Rattle.flow_terms.specs.declared.refusal.Refusal.{Refusal}
+use Rattle.flow_terms.specs.declared.refusal.Refusal.TheVariants.{TooLarge, NotPositive, NoMemory}
 
 -- why a buffer of that capacity is refused, if it is
 abbrev pub refused_capacity : ℕ → Option Refusal

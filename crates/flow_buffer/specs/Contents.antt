@@ -1,9 +1,9 @@
 -- A buffer in one task: what became of every value that its source produced, and what a call makes of it.
 use Rattle.std.specs.Prelude.{◌≡◌, ℕ, ◌+◌, ◌<◌, Bool, true, false, cond, List, [], ◌∷◌, ◌++◌, length}
-use Rattle.cold_flow.specs.declared.policy.Policy.{Policy}
-use Rattle.cold_flow.specs.declared.policy.Policy.TheVariants.{DropOldest, DropLatest}
-use Rattle.flow_buffer.specs.declared.fill.Fill.{Fill}
-use Rattle.flow_buffer.specs.declared.fill.Fill.TheVariants.{Took, Overwrote, Dropped as DroppedIt, Full, Pending, Ended}
+use Rattle.flow_terms.specs.declared.policy.Policy.{Policy}
+use Rattle.flow_terms.specs.declared.policy.Policy.TheVariants.{DropOldest, DropLatest}
+use Rattle.flow_terms.specs.declared.fill.Fill.{Fill}
+use Rattle.flow_terms.specs.declared.fill.Fill.TheVariants.{Took, Overwrote, Dropped as DroppedIt, Full, Pending, Ended}
 use Rattle.flow_buffer.specs.declared.side.Fate.{Fate}
 use Rattle.flow_buffer.specs.declared.side.Fate.TheVariants.{Taken, Held, Dropped}
 use Rattle.flow_buffer.specs.History.{is_taken, is_held, is_dropped, picked, Rises}

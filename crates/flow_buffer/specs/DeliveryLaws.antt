@@ -4,7 +4,7 @@ use Rattle.std.proofs.Common.{subst}
 use Rattle.std.specs.Iterator.{Count, IsFinite, at_most, count_add}
 use Rattle.cold_flow.specs.declared.cause.Cause.{Cause}
 use Rattle.cold_flow.specs.declared.cause.Cause.TheVariants.{Cancelled}
-use Rattle.cold_flow.specs.declared.policy.Policy.{Policy}
+use Rattle.flow_terms.specs.declared.policy.Policy.{Policy}
 use Rattle.cold_flow.specs.Trace.{Trace, ◌⊑◌, so_far, ended_by, led_by}
 use Rattle.cold_flow.specs.Poll.{Traces, After, Within, Beginnings}
 use Rattle.cold_flow.specs.Laws.{begins-any}

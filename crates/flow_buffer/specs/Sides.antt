@@ -5,10 +5,10 @@ use Rattle.atomic_table.specs.declared.badge.Badge.{Badge}
 use Rattle.crossbeam_channel.specs.declared.flavors.array.Key.{Key}
 use Rattle.flow_buffer.specs.declared.side.Fate.{Fate}
 use Rattle.cold_flow.specs.declared.cause.Cause.{Cause}
-use Rattle.cold_flow.specs.declared.policy.Policy.{Policy}
-use Rattle.cold_flow.specs.declared.policy.Policy.TheVariants.{Suspend, DropOldest, DropLatest}
-use Rattle.flow_buffer.specs.declared.fill.Fill.{Fill}
-use Rattle.flow_buffer.specs.declared.fill.Fill.TheVariants.{Took, Overwrote, Dropped, Full, Pending, Ended}
+use Rattle.flow_terms.specs.declared.policy.Policy.{Policy}
+use Rattle.flow_terms.specs.declared.policy.Policy.TheVariants.{Suspend, DropOldest, DropLatest}
+use Rattle.flow_terms.specs.declared.fill.Fill.{Fill}
+use Rattle.flow_terms.specs.declared.fill.Fill.TheVariants.{Took, Overwrote, Dropped, Full, Pending, Ended}
 use Rattle.cold_flow.specs.declared.event.Event.{Event}
 use Rattle.cold_flow.specs.declared.event.Event.TheVariants.{Value, End}
 use Rattle.flow_buffer.specs.History.{is_held, picked, marked, DropsOne, Rises, IsSettled}

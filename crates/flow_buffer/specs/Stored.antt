@@ -2,10 +2,10 @@
 use Rattle.std.specs.Prelude.{◌≡◌, ℕ, ◌+◌, ◌-◌, ◌^◌, ◌<◌, ◌≤◌, min, true, [], ◌∷◌, ◌++◌, Option, Some, None, length, map, drop}
 use Rattle.circular_buffer.specs.Buffer.{buffer}
 use Rattle.cold_flow.specs.declared.cause.Cause.TheVariants.{Cancelled}
-use Rattle.cold_flow.specs.declared.policy.Policy.TheVariants.{Suspend, DropOldest, DropLatest}
+use Rattle.flow_terms.specs.declared.policy.Policy.TheVariants.{Suspend, DropOldest, DropLatest}
 use Rattle.flow_buffer.specs.declared.ending.Ending.TheVariants.{Given}
-use Rattle.flow_buffer.specs.declared.fill.Fill.{Fill}
-use Rattle.flow_buffer.specs.declared.fill.Fill.TheVariants.{Took, Overwrote, Dropped, Full, Pending, Ended}
+use Rattle.flow_terms.specs.declared.fill.Fill.{Fill}
+use Rattle.flow_terms.specs.declared.fill.Fill.TheVariants.{Took, Overwrote, Dropped, Full, Pending, Ended}
 use Rattle.flow_buffer.specs.declared.store.Store.{Store}
 use Rattle.flow_buffer.specs.Contents.{Contents, taken_of, held_of, dropped_of, IsRising, IsOrdered}
 use Rattle.flow_buffer.specs.Sides.{saturated}

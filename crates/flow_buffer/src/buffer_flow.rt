@@ -1,7 +1,7 @@
 //! The flow of a buffer in one task.
 
 ghost use Rattle.std.specs.Prelude.{◌≡◌, ◌<◌, [], None, IfOk, IfErr, IsTrue};
-ghost use Rattle.cold_flow.specs.declared.refusal.Refusal.TheVariants.{NoMemory};
+ghost use Rattle.flow_terms.specs.declared.refusal.Refusal.TheVariants.{NoMemory};
 ghost use Rattle.cold_flow.specs.Poll.{Within, IsWithinPolls};
 ghost use Rattle.flow_buffer.specs.declared.ending.Ending.TheVariants.{Going};
 ghost use Rattle.flow_buffer.specs.Contents.{nothing};

@@ -6,7 +6,7 @@ ghost use Rattle.futures.specs.Task.{IsArmed, Keeps};
 ghost use Rattle.futures.specs.declared.task.Poll.TheVariants.{Ready, Pending as Waiting};
 ghost use Rattle.cold_flow.specs.declared.event.Event.TheVariants.{End};
 ghost use Rattle.cold_flow.specs.Poll.{Narrows, Within, end_of, after_cancel, Approaches, IsReady};
-ghost use Rattle.flow_buffer.specs.declared.fill.Fill.TheVariants.{Pending};
+ghost use Rattle.flow_terms.specs.declared.fill.Fill.TheVariants.{Pending};
 ghost use Rattle.flow_buffer.specs.Buffered.{Fills, Takes, Cancels};
 ghost use Rattle.flow_buffer.specs.Contents.{Contents, taken_of, dropped_of};
 ghost use Rattle.flow_buffer.specs.Delivery.{StoreGives, store_polls};
@@ -15,7 +15,7 @@ ghost use Rattle.flow_buffer.specs.Sides.{saturated};
 ghost use Rattle.flow_buffer.specs.Stored.{Shows};
 
 use crate::ending::Ending;
-use crate::fill::Fill;
+use flow_terms::Fill;
 use crate::store::Store;
 use cold_flow::{Cause, Event, Finite, Run};
 use futures::task::{Context, Poll};

@@ -5,11 +5,11 @@ ghost use Rattle.futures.specs.Task.{IsArmed, Keeps};
 ghost use Rattle.futures.specs.declared.task.Poll.TheVariants.{Pending as Waiting};
 ghost use Rattle.cold_flow.specs.Poll.{after_cancel};
 ghost use Rattle.cold_flow.specs.Polled.{WasCancelled};
-ghost use Rattle.flow_buffer.specs.declared.fill.Fill.TheVariants.{Pending};
+ghost use Rattle.flow_terms.specs.declared.fill.Fill.TheVariants.{Pending};
 ghost use Rattle.flow_buffer.specs.Sides.{saturated, drops};
 ghost use Rattle.flow_buffer.specs.Feed.{Pumps};
 
-use crate::fill::Fill;
+use flow_terms::Fill;
 use crate::inlet::Inlet;
 use cold_flow::{Cause, Event, Run};
 use futures::task::{Context, Poll};

@@ -4,10 +4,10 @@ ghost use Rattle.std.specs.Prelude.{◌≡◌, ◌≢◌, ◌+◌, [], true, fal
 ghost use Rattle.crossbeam_channel.specs.Claims.{view as knows, IsSeatAt};
 ghost use Rattle.crossbeam_channel.specs.Ends.{sends_on, receives_on, ruled_capacity};
 ghost use Rattle.flow_buffer.specs.Channel.{feed_side, Agree};
-ghost use Rattle.flow_buffer.specs.Sides.{Feeding, may_drop, saturated, drops, Filled};
+ghost use Rattle.flow_buffer.specs.Sides.{Feeding, may_drop, saturated, drops, is_loss, Filled};
 
 use crate::drain::Drain;
-use crate::fill::Fill;
+use flow_terms::Fill;
 use crate::rule::{Agreeing, Together};
 use crate::steps::{Knowledge, Receiver, Sender, put, send};
 use cold_flow::{Cause, Event, Policy};
@@ -34,6 +34,13 @@ impl<T: Copy, E: Copy> Model for Inlet<T, E> {
     ghost view = { λ f. record { channel = record { table = (sends_on f.sender).stamps.shared.table_id; key = (sends_on f.sender).stamps.shared.key }; capacity = ruled_capacity (sends_on f.sender); policy = f.policy; produced = (knows f.pass).produced; sent = f.sent } };
 
     ghost invariant = { λ f. (receives_on f.receiver ≡ sends_on f.sender) × IsSeatAt (sends_on f.sender) f.pass × (knows f.pass ≡ feed_side (may_drop f.policy) f.sent (knows f.pass).produced) × (f.dropped ≡ saturated (drops (knows f.pass).produced)) };
+}
+
+// Whether a value was dropped.
+fn is_loss(fill: Fill) -> bool
+    ensures { result ≡ is_loss fill }
+{
+    matches!(fill, Fill::Overwrote | Fill::Dropped)
 }
 
 impl<T: Copy, E: Copy> Inlet<T, E> {
@@ -79,7 +86,7 @@ impl<T: Copy, E: Copy> Inlet<T, E> {
             self.policy,
             value,
         );
-        if fill.is_loss() {
+        if is_loss(fill) {
             self.dropped = self.dropped.saturating_add(1);
         }
         fill

@@ -2,7 +2,7 @@
 
 ghost use Rattle.std.specs.Prelude.{◌≡◌, List, [], Some, None, IfOk, IsTrue, MatchResult};
 ghost use Rattle.cold_flow.specs.declared.cause.Cause.{Cause};
-ghost use Rattle.cold_flow.specs.declared.policy.Policy.TheVariants.{Suspend, DropOldest};
+ghost use Rattle.flow_terms.specs.declared.policy.Policy.TheVariants.{Suspend, DropOldest};
 ghost use Rattle.cold_flow.specs.Trace.{ended_by};
 ghost use Rattle.cold_flow.specs.Poll.{Within, Fixes, IsWithinPolls};
 ghost use Rattle.flow_buffer.specs.Capacity.{refused_capacity};

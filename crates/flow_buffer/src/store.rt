@@ -6,7 +6,7 @@ ghost use Rattle.flow_buffer.specs.declared.ending.Ending.TheVariants.{Going};
 ghost use Rattle.flow_buffer.specs.Stored.{IsStuck, Puts, Gets, one_more};
 
 use crate::ending::Ending;
-use crate::fill::Fill;
+use flow_terms::Fill;
 use circular_buffer::HeapCircularBuffer;
 use cold_flow::Policy;
 use std::alloc::{AllocError, Global};

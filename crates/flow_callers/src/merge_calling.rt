@@ -2,7 +2,7 @@
 
 ghost use Rattle.std.specs.Prelude.{◌≡◌, ◌⊎◌, Some, IfOk, map};
 ghost use Rattle.cold_flow.specs.declared.cause.Cause.TheVariants.{Finished, Refused};
-ghost use Rattle.cold_flow.specs.declared.refusal.Refusal.TheVariants.{NoMemory};
+ghost use Rattle.flow_terms.specs.declared.refusal.Refusal.TheVariants.{NoMemory};
 ghost use Rattle.cold_flow.specs.Poll.{Fixes, IsWithinPolls};
 ghost use Rattle.cold_flow.specs.Trace.{ended_by};
 ghost use Rattle.flow_merge.specs.Concat.{joined};

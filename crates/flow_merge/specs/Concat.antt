@@ -3,7 +3,7 @@ use Rattle.std.specs.Prelude.{◌≡◌, Bool, true, false, List, [], ◌∷◌,
 use Rattle.std.specs.List.{AllZip}
 use Rattle.cold_flow.specs.declared.cause.Cause.{Cause}
 use Rattle.cold_flow.specs.declared.cause.Cause.TheVariants.{Finished, Failed, Cancelled, Refused}
-use Rattle.cold_flow.specs.declared.refusal.Refusal.TheVariants.{NoMemory}
+use Rattle.flow_terms.specs.declared.refusal.Refusal.TheVariants.{NoMemory}
 use Rattle.cold_flow.specs.Trace.{Trace, ◌⊑◌, ended_by}
 use Rattle.cold_flow.specs.Poll.{Traces, OrRefused}
 use Rattle.cold_flow.specs.Polled.{HasWaited}

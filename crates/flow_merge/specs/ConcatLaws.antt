@@ -5,7 +5,7 @@ use Rattle.std.specs.List.{AllZip}
 use Rattle.std.proofs.lemmas.List.{append-nil}
 use Rattle.cold_flow.specs.declared.cause.Cause.{Cause}
 use Rattle.cold_flow.specs.declared.cause.Cause.TheVariants.{Finished, Failed, Cancelled, Refused}
-use Rattle.cold_flow.specs.declared.refusal.Refusal.TheVariants.{NoMemory}
+use Rattle.flow_terms.specs.declared.refusal.Refusal.TheVariants.{NoMemory}
 use Rattle.cold_flow.specs.Trace.{Trace, ◌⊑◌, so_far, ended_by, led_by}
 use Rattle.cold_flow.specs.Poll.{Traces, Within, After, Beginnings, OrRefused}
 use Rattle.cold_flow.specs.Laws.{begins-any, led-begins, ended-begins}

@@ -5,7 +5,7 @@ use Rattle.std.specs.List.{AllZip, remove}
 use Rattle.std.proofs.lemmas.Slice.Zip.{AllZip-long}
 use Rattle.cold_flow.specs.declared.cause.Cause.{Cause}
 use Rattle.cold_flow.specs.declared.cause.Cause.TheVariants.{Finished, Refused, Cancelled}
-use Rattle.cold_flow.specs.declared.refusal.Refusal.TheVariants.{NoMemory}
+use Rattle.flow_terms.specs.declared.refusal.Refusal.TheVariants.{NoMemory}
 use Rattle.cold_flow.specs.Trace.{Trace, so_far, ended_by, led_by}
 use Rattle.cold_flow.specs.Poll.{Traces, After, Within, OrRefused}
 use Rattle.flow_merge.specs.Standing.{Gave, Ended}

@@ -2,10 +2,10 @@
 use Rattle.std.proofs.Common.{◌≡◌, ℕ, zero, suc, ◌<◌, ◌≤◌, Bool, true, false, List, [], ◌∷◌, ◌++◌, length, set, get_or, Option, Some, None, Result, Ok, Err, is_some, slice_get, vec_len, refl, sym, ap, ◌∙◌, inl, inr, if◌then◌else◌, bytes_eq, arith}
 use Rattle.std.specs.Prelude.{◌⊎◌}
 use Rattle.std.proofs.lemmas.Option.{slice_get_past}
-use Rattle.cold_flow.specs.declared.policy.Policy.{Policy}
-use Rattle.cold_flow.specs.declared.refusal.Refusal.{Refusal}
-use Rattle.cold_flow.specs.declared.refusal.Refusal.TheVariants.{NoMemory}
-use Rattle.flow_buffer.specs.declared.fill.Fill.{Fill}
+use Rattle.flow_terms.specs.declared.policy.Policy.{Policy}
+use Rattle.flow_terms.specs.declared.refusal.Refusal.{Refusal}
+use Rattle.flow_terms.specs.declared.refusal.Refusal.TheVariants.{NoMemory}
+use Rattle.flow_terms.specs.declared.fill.Fill.{Fill}
 use Rattle.flow_buffer.specs.Capacity.{refused_capacity, WasRefused}
 use Rattle.script_pipes.specs.declared.answer.Answer.{Answer}
 use Rattle.script_pipes.specs.declared.answer.Answer.TheVariants.{Done, Refused}

@@ -1,8 +1,8 @@
 -- What a command that binds a name makes of the worlds that a runner pictures.
 use Rattle.std.proofs.Common.{◌≡◌, ℕ, ◌<◌, Bool, true, false, List, [], ◌∷◌, ◌++◌, length, set, get_or, Option, Some, None, Result, Ok, Err, is_some, bytes_eq, if◌then◌else◌, vec_len, refl, sym, ap, ◌∙◌}
 use Rattle.std.specs.Option.{IfSome, IfNone}
-use Rattle.cold_flow.specs.declared.refusal.Refusal.{Refusal}
-use Rattle.cold_flow.specs.declared.refusal.Refusal.TheVariants.{NoMemory}
+use Rattle.flow_terms.specs.declared.refusal.Refusal.{Refusal}
+use Rattle.flow_terms.specs.declared.refusal.Refusal.TheVariants.{NoMemory}
 use Rattle.shared_core.specs.declared.config.Config.{Config}
 use Rattle.shared_core.specs.Flow.{State, empty}
 use Rattle.shared_core.specs.Kept.{making_refusal, parameters_of}

@@ -1,10 +1,10 @@
 -- What the name that a command binds stands for, by what its call on a flow replied.
 use Rattle.std.specs.Prelude.{ℕ, Option, Some, None, Result, Ok, Err}
-use Rattle.cold_flow.specs.declared.refusal.Refusal.{Refusal}
-use Rattle.shared_core.specs.declared.ids.SubId.{SubId}
-use Rattle.shared_core.specs.declared.ids.Ticket.{Ticket}
-use Rattle.shared_core.specs.declared.answers.Begun.{Begun}
-use Rattle.shared_core.specs.declared.answers.Begun.TheVariants as begun
+use Rattle.flow_terms.specs.declared.refusal.Refusal.{Refusal}
+use Rattle.flow_terms.specs.declared.ids.SubId.{SubId}
+use Rattle.flow_terms.specs.declared.ids.Ticket.{Ticket}
+use Rattle.flow_terms.specs.declared.answers.Begun.{Begun}
+use Rattle.flow_terms.specs.declared.answers.Begun.TheVariants as begun
 use Rattle.flow_script.specs.declared.binding.Binding.{Binding}
 use Rattle.flow_script.specs.declared.binding.Binding.TheVariants as bindings
 use Rattle.flow_script.specs.declared.binding.Emission.TheVariants.{InFlight, Finished}

@@ -1,8 +1,8 @@
 -- What the names of a script stand for, and what each command answers and changes.
 use Rattle.std.specs.Prelude.{ℕ, Bool, true, false, List, [], ◌∷◌, ◌++◌, ◌+◌, length, Option, Some, None, bytes_eq, is_some, slice_get, slice_set, nat_lt, if◌then◌else◌}
-use Rattle.cold_flow.specs.declared.policy.Policy.{Policy}
-use Rattle.cold_flow.specs.declared.refusal.Refusal.{Refusal}
-use Rattle.cold_flow.specs.declared.refusal.Refusal.TheVariants.{NoMemory, Spent, SubscribersFull}
+use Rattle.flow_terms.specs.declared.policy.Policy.{Policy}
+use Rattle.flow_terms.specs.declared.refusal.Refusal.{Refusal}
+use Rattle.flow_terms.specs.declared.refusal.Refusal.TheVariants.{NoMemory, Spent, SubscribersFull}
 use Rattle.shared_core.specs.declared.config.Config.{Config}
 use Rattle.shared_core.specs.Flow.{State, empty}
 use Rattle.shared_core.specs.Flow as flows
@@ -17,15 +17,16 @@ use Rattle.flow_script.specs.declared.binding.Collecting.{Collecting}
 use Rattle.flow_script.specs.declared.binding.Emission.{Emission}
 use Rattle.flow_script.specs.declared.binding.Subscriber.{Subscriber}
 use Rattle.flow_script.specs.declared.binding.Emission.TheVariants as emissions
-use Rattle.script_pipes.specs.declared.ticked.Ticked.{Ticked}
-use Rattle.script_pipes.specs.declared.ticked.Ticked.TheVariants.{Off}
+use Rattle.script_flows.specs.declared.ticked.Ticked.{Ticked}
+use Rattle.script_flows.specs.declared.ticked.Ticked.TheVariants.{Off}
 use Rattle.script_flows.specs.Buffers.{Buffering, begun, filled, taken}
 use Rattle.script_pipes.specs.Commands.{Order, make_shared, subscribe, receive, cancel, try, emit, poll, withdraw, reset, cache, count, make_state, set_state, compare_state, read_state, collect_state, make_buffer, fill, cold, make_share, make_stated, tick}
 use Rattle.script_pipes.specs.Piping.{pipe_answer}
 use Rattle.script_pipes.specs.Sources.{Origin}
 use Rattle.script_flows.specs.Watching.{collecting}
 use Rattle.script_words.specs.Words.{◌>>=◌}
-use Rattle.script_pipes.specs.Replies.{try_answer, emit_answer, poll_answer, withdraw_answer, subscribe_answer, next_answer, cancel_answer, fill_answer, take_answer, tick_answer}
+use Rattle.script_pipes.specs.Replies.{try_answer, emit_answer, poll_answer, withdraw_answer, subscribe_answer, next_answer, cancel_answer, fill_answer, take_answer}
+use Rattle.script_flows.specs.Ticks.{tick_answer}
 use Rattle.flow_script.specs.Bindings.{emit_binding, subscribe_binding}
 
 -- ---- what a script has made so far

@@ -2,8 +2,8 @@
 use Rattle.std.proofs.Common.{◌≡◌, refl, Bool, true, false, List, [], ◌∷◌, ◌++◌, reverse, Option, Some, None, ap, arith}
 use Rattle.std.proofs.lemmas.List.{reverse-append}
 use mathlib.Core.List.{reverse_aux}
-use Rattle.flow_sharing.specs.declared.started.Started.{Started}
-use Rattle.flow_sharing.specs.declared.started.Started.TheVariants.{Eagerly, Lazily, WhileSubscribed}
+use Rattle.flow_terms.specs.declared.started.Started.{Started}
+use Rattle.flow_terms.specs.declared.started.Started.TheVariants.{Eagerly, Lazily, WhileSubscribed}
 use Rattle.flow_sharing.specs.declared.command.Command.{Command}
 use Rattle.flow_sharing.specs.Strategies.{Look, History, command_by, command, commands, commands_after, resets, is_on, is_reset}
 

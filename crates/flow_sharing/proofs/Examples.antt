@@ -1,6 +1,6 @@
 -- Worked examples, computed by the definition: the commands of some polls, the first one first.
 use Rattle.std.proofs.Common.{◌≡◌, refl, ℕ, [], ◌∷◌, Some, None}
-use Rattle.flow_sharing.specs.declared.started.Started.TheVariants.{Eagerly, Lazily, WhileSubscribed}
+use Rattle.flow_terms.specs.declared.started.Started.TheVariants.{Eagerly, Lazily, WhileSubscribed}
 use Rattle.flow_sharing.specs.declared.command.Command.TheVariants.{Start, Stop, StopAndReset}
 use Rattle.flow_sharing.specs.Strategies.{Look, commands}
 

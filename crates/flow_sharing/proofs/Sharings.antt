@@ -4,7 +4,7 @@ use Rattle.std.specs.Prelude.{IsTrue}
 use Rattle.futures.specs.declared.task.Poll.TheVariants.{Ready, Pending}
 use Rattle.cold_flow.specs.declared.cause.Cause.{Cause}
 use Rattle.cold_flow.specs.declared.cause.Cause.TheVariants.{Finished, Failed, Cancelled, Refused}
-use Rattle.cold_flow.specs.declared.refusal.Refusal.{Refusal}
+use Rattle.flow_terms.specs.declared.refusal.Refusal.{Refusal}
 use Rattle.cold_flow.specs.Trace.{so_far}
 use Rattle.cold_flow.specs.Poll.{Traces}
 use Rattle.shared_core.specs.declared.config.Config.{Config}

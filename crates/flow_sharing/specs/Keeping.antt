@@ -1,7 +1,7 @@
 -- What a strategy does with what it keeps, at one poll.
 use Rattle.std.specs.Prelude.{ℕ, ◌-◌, Bool, true, false, ◌||◌, nat_lt}
-use Rattle.flow_sharing.specs.declared.started.Started.{Started}
-use Rattle.flow_sharing.specs.declared.started.Started.TheVariants.{Eagerly, Lazily, WhileSubscribed}
+use Rattle.flow_terms.specs.declared.started.Started.{Started}
+use Rattle.flow_terms.specs.declared.started.Started.TheVariants.{Eagerly, Lazily, WhileSubscribed}
 use Rattle.flow_sharing.specs.declared.audience.Audience.{Audience}
 use Rattle.flow_sharing.specs.declared.audience.Audience.TheVariants.{Awaited, Present, Gone}
 use Rattle.flow_sharing.specs.Strategies.{expires}

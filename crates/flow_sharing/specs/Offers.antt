@@ -1,8 +1,8 @@
 -- How a value was offered to a shared flow.
 use Rattle.std.specs.Prelude.{◌≡◌, ◌⊎◌, Option, Some, None, Result, Ok, Err}
-use Rattle.cold_flow.specs.declared.policy.Policy.TheVariants.{Suspend}
-use Rattle.cold_flow.specs.declared.refusal.Refusal.{Refusal}
-use Rattle.cold_flow.specs.declared.refusal.Refusal.TheVariants.{Spent, EmitsFull}
+use Rattle.flow_terms.specs.declared.policy.Policy.TheVariants.{Suspend}
+use Rattle.flow_terms.specs.declared.refusal.Refusal.{Refusal}
+use Rattle.flow_terms.specs.declared.refusal.Refusal.TheVariants.{Spent, EmitsFull}
 use Rattle.shared_core.specs.declared.config.Config.{Config}
 
 -- the flow lets emissions wait

@@ -2,7 +2,7 @@
 use Rattle.std.specs.Prelude.{false, Option, Some, None}
 use Rattle.cold_flow.specs.declared.cause.Cause.{Cause}
 use Rattle.flow_sharing.specs.declared.polled.Polled.{Polled}
-use Rattle.flow_sharing.specs.declared.started.Started.{Started}
+use Rattle.flow_terms.specs.declared.started.Started.{Started}
 use Rattle.flow_sharing.specs.Strategies.{History, latest, latest_count, is_on, is_reset}
 
 -- the latest moment and count, and whether the sharing is on and what it shares was reset

@@ -2,7 +2,7 @@
 use Rattle.std.specs.Prelude.{◌≡◌, ◌≢◌, ◌<◌, ◌≤◌, ◌⊎◌, Bool, true, false, List, [], ◌∷◌, ◌++◌, length, Option, Some, None}
 use Rattle.cold_flow.specs.declared.cause.Cause.{Cause}
 use Rattle.cold_flow.specs.declared.cause.Cause.TheVariants.{Refused}
-use Rattle.cold_flow.specs.declared.refusal.Refusal.{Refusal}
+use Rattle.flow_terms.specs.declared.refusal.Refusal.{Refusal}
 use Rattle.cold_flow.specs.Poll.{Traces}
 use Rattle.shared_core.specs.declared.config.Config.{Config}
 use Rattle.flow_sharing.specs.declared.command.Command.{Command}

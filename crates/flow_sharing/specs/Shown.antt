@@ -1,7 +1,7 @@
 -- What a strategy keeps of a history.
 use Rattle.std.specs.Prelude.{◌≡◌, if◌then◌else◌}
 use Rattle.std.specs.List.{list_any}
-use Rattle.flow_sharing.specs.declared.started.Started.{Started}
+use Rattle.flow_terms.specs.declared.started.Started.{Started}
 use Rattle.flow_sharing.specs.declared.audience.Audience.{Audience}
 use Rattle.flow_sharing.specs.declared.audience.Audience.TheVariants.{Awaited, Present, Gone}
 use Rattle.flow_sharing.specs.declared.strategy.Strategy.{Strategy}

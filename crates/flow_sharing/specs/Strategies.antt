@@ -2,8 +2,8 @@
 -- strategy commands.
 use Rattle.std.specs.Prelude.{ℕ, ◌-◌, Bool, true, false, not, ◌&&◌, ◌||◌, ◌==◌, nat_lt, nat_le, max, if◌then◌else◌, List, [], ◌∷◌, Option, None, Some}
 use Rattle.std.specs.List.{list_any}
-use Rattle.flow_sharing.specs.declared.started.Started.{Started}
-use Rattle.flow_sharing.specs.declared.started.Started.TheVariants.{Eagerly, Lazily, WhileSubscribed}
+use Rattle.flow_terms.specs.declared.started.Started.{Started}
+use Rattle.flow_terms.specs.declared.started.Started.TheVariants.{Eagerly, Lazily, WhileSubscribed}
 use Rattle.flow_sharing.specs.declared.command.Command.{Command}
 use Rattle.flow_sharing.specs.declared.command.Command.TheVariants.{Start, Stop, StopAndReset}
 

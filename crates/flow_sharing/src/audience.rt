@@ -1,8 +1,9 @@
 //! What a strategy keeps of the counts of subscriptions that its polls found.
 ghost use Rattle.std.specs.Prelude.{◌≡◌, ◌==◌, ◌&&◌, not};
 ghost use Rattle.flow_sharing.specs.Keeping.{counted, is_past, is_expired, marked, on_by};
+ghost use Rattle.flow_sharing.specs.Strategies.{expires};
 
-use crate::started::Started;
+use flow_terms::Started;
 
 /// What a strategy keeps of the counts that its polls found.
 #[derive(Clone, Copy, Debug, PartialEq, Eq)]
@@ -18,6 +19,19 @@ pub(crate) enum Audience {
         // Whether a reset was due at one of them.
         expired: bool,
     },
+}
+
+// Whether the replay cache is reset once there has been no subscription for so long.
+fn expires(started: Started, lasted: u64) -> bool
+    ensures { result ≡ expires started lasted }
+{
+    match started {
+        Started::WhileSubscribed {
+            stop,
+            expire: Some(expire),
+        } => stop <= lasted && expire <= lasted - stop,
+        _ => false,
+    }
 }
 
 impl Audience {
@@ -44,7 +58,7 @@ impl Audience {
         ensures falls { result.1 ≡ (is_past started self latest && not (is_expired self)) }
     {
         match self {
-            Audience::Gone { since, expired } if started.expires(latest.saturating_sub(since)) => {
+            Audience::Gone { since, expired } if expires(started, latest.saturating_sub(since)) => {
                 (
                     Audience::Gone {
                         since,

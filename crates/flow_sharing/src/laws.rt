@@ -4,7 +4,7 @@ ghost use Rattle.flow_sharing.specs.Strategies.{commands, look_of};
 ghost use Rattle.flow_sharing.specs.Shown.{Shows};
 
 use crate::command::Command;
-use crate::started::Started;
+use flow_terms::Started;
 use crate::strategy::Strategy;
 
 /// Hands these polls, each a moment and a count, to a new strategy, and writes down what each one commands: what

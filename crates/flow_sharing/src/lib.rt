@@ -47,16 +47,15 @@ mod outlet;
 mod polled;
 mod share;
 mod sharing;
-mod started;
 mod state_sharing;
 mod strategy;
 mod turn;
 mod upstream;
 
 pub use command::Command;
+pub use flow_terms::Started;
 pub use polled::Polled;
 pub use share::share_in;
 pub use sharing::Sharing;
-pub use started::Started;
 pub use state_sharing::{StateSharing, state_in};
 pub use strategy::Strategy;

@@ -6,7 +6,7 @@ ghost use Rattle.flow_sharing.specs.Shown.{Shows};
 
 use crate::outlet::Outlet;
 use crate::sharing::Sharing;
-use crate::started::Started;
+use flow_terms::Started;
 use crate::strategy::Strategy;
 use crate::upstream::Upstream;
 use cold_flow::{Flow, Refusal, Word};

@@ -2,8 +2,8 @@
 
 ghost use Rattle.std.specs.Prelude.{◌≡◌, ◌∷◌, ℕ, Some, None, true, Option, IsTrue, IfOk, IfErr, OnOk, OnErr};
 ghost use Rattle.futures.specs.Task.{IsArmed, Keeps};
-ghost use Rattle.cold_flow.specs.declared.refusal.Refusal.TheVariants.{NoMemory};
-ghost use Rattle.shared_core.specs.declared.answers.Withdrawn.TheVariants as withdrawn;
+ghost use Rattle.flow_terms.specs.declared.refusal.Refusal.TheVariants.{NoMemory};
+ghost use Rattle.flow_terms.specs.declared.answers.Withdrawn.TheVariants as withdrawn;
 ghost use Rattle.shared_flow.specs.Parties.{IfLeft};
 ghost use Rattle.flow_sharing.specs.declared.command.Command.TheVariants.{Start};
 ghost use Rattle.flow_sharing.specs.Strategies.{History, command as command_of};

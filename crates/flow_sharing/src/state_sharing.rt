@@ -1,7 +1,7 @@
 //! A state that is set from a cold flow.
 ghost use Rattle.std.specs.Prelude.{◌≡◌, ◌∷◌, [], ℕ, Some, None, Option, IsTrue, IfOk, IfErr, OnOk, OnErr};
 ghost use Rattle.futures.specs.Task.{IsArmed, Keeps};
-ghost use Rattle.cold_flow.specs.declared.refusal.Refusal.TheVariants.{NoMemory};
+ghost use Rattle.flow_terms.specs.declared.refusal.Refusal.TheVariants.{NoMemory};
 ghost use Rattle.state_flow.specs.declared.view.View.{View};
 ghost use Rattle.state_flow.specs.Calls.{Counts, Sets};
 ghost use Rattle.flow_sharing.specs.declared.command.Command.TheVariants.{Start};
@@ -14,7 +14,7 @@ ghost use Rattle.flow_sharing.specs.StateSharings.{Takes, Obeys, Acts};
 
 use crate::command::Command;
 use crate::polled::Polled;
-use crate::started::Started;
+use flow_terms::Started;
 use crate::strategy::Strategy;
 use crate::turn::Turn;
 use crate::upstream::Upstream;

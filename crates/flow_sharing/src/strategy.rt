@@ -5,7 +5,7 @@ ghost use Rattle.flow_sharing.specs.Shown.{Shows};
 
 use crate::audience::Audience;
 use crate::command::Command;
-use crate::started::Started;
+use flow_terms::Started;
 
 /// Says at each poll of a sharing what is to be done: Kotlin's flow of commands, `SharingStarted.command`.
 #[derive(Clone, Copy, Debug, PartialEq, Eq)]

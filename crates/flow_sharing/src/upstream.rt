@@ -4,7 +4,7 @@ ghost use Rattle.std.specs.Prelude.{◌≡◌, IsTrue, OnOk, OnErr, IfErr};
 ghost use Rattle.futures.specs.Poll.{OnPending};
 ghost use Rattle.futures.specs.Task.{IsArmed, Keeps};
 ghost use Rattle.cold_flow.specs.declared.cause.Cause.TheVariants.{Refused};
-ghost use Rattle.cold_flow.specs.declared.refusal.Refusal.TheVariants.{NoMemory};
+ghost use Rattle.flow_terms.specs.declared.refusal.Refusal.TheVariants.{NoMemory};
 ghost use Rattle.flow_sharing.specs.declared.course.Course.TheVariants.{Idle, Running, Broken};
 ghost use Rattle.flow_sharing.specs.Courses.{IsNew, Asked, stopped, kept_cause, after_end};
 

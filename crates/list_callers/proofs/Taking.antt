@@ -4,11 +4,11 @@ use Rattle.std.proofs.lemmas.Bool.{eq-eqb}
 use Rattle.std.proofs.lemmas.List.{append-nil}
 use Rattle.std.proofs.lemmas.List.Elements.{filter_map-append}
 use Rattle.std.specs.List.{filter_map}
-use Rattle.cold_flow.specs.declared.refusal.Refusal.{Refusal}
-use Rattle.shared_core.specs.declared.ids.SubId.{SubId}
-use Rattle.shared_core.specs.declared.answers.Tried.{Tried}
-use Rattle.shared_core.specs.declared.answers.Next.{Next}
-use Rattle.shared_core.specs.declared.answers.Next.TheVariants as next
+use Rattle.flow_terms.specs.declared.refusal.Refusal.{Refusal}
+use Rattle.flow_terms.specs.declared.ids.SubId.{SubId}
+use Rattle.flow_terms.specs.declared.answers.Tried.{Tried}
+use Rattle.flow_terms.specs.declared.answers.Next.{Next}
+use Rattle.flow_terms.specs.declared.answers.Next.TheVariants as next
 use Rattle.shared_core.specs.Flow.{Parameters, empty}
 use Rattle.shared_core.specs.Calls.{Call, trying, subscribing, receiving, Reply, to_try, to_subscribe, to_receive, try_emit, subscribe, next_value}
 use Rattle.shared_core.specs.Shown.{Seen, Shows, Follows}

@@ -8,15 +8,15 @@ use Rattle.futures.specs.declared.task.Poll.TheVariants as polls
 use Rattle.cold_flow.specs.declared.cause.Cause.{Cause}
 use Rattle.cold_flow.specs.declared.event.Event.{Event}
 use Rattle.cold_flow.specs.declared.event.Event.TheVariants as events
-use Rattle.cold_flow.specs.declared.policy.Policy.{Policy}
-use Rattle.cold_flow.specs.declared.policy.Policy.TheVariants.{Suspend, DropOldest, DropLatest}
+use Rattle.flow_terms.specs.declared.policy.Policy.{Policy}
+use Rattle.flow_terms.specs.declared.policy.Policy.TheVariants.{Suspend, DropOldest, DropLatest}
 use Rattle.cold_flow.specs.Laws.{ended-begins}
 use Rattle.cold_flow.specs.Poll.{Traces, Within, After, Fixes}
 use Rattle.cold_flow.specs.Trace.{Trace, ◌⊑◌, so_far, ended_by, led_by}
 use Rattle.flow_buffer.specs.declared.ending.Ending.{Ending}
 use Rattle.flow_buffer.specs.declared.ending.Ending.TheVariants.{Going, Kept, Given}
-use Rattle.flow_buffer.specs.declared.fill.Fill.{Fill}
-use Rattle.flow_buffer.specs.declared.fill.Fill.TheVariants as fills
+use Rattle.flow_terms.specs.declared.fill.Fill.{Fill}
+use Rattle.flow_terms.specs.declared.fill.Fill.TheVariants as fills
 use Rattle.flow_buffer.specs.declared.side.Fate.TheVariants as fates
 use Rattle.flow_buffer.specs.declared.store.Store.{Store}
 use Rattle.flow_buffer.specs.Buffered.{Fills, Takes, Produces}

@@ -7,12 +7,12 @@ use Rattle.cold_flow.specs.declared.cause.Cause.{Cause}
 use Rattle.cold_flow.specs.declared.cause.Cause.TheVariants.{Finished, Failed}
 use Rattle.cold_flow.specs.declared.event.Event.{Event}
 use Rattle.cold_flow.specs.declared.event.Event.TheVariants as events
-use Rattle.cold_flow.specs.declared.policy.Policy.{Policy}
-use Rattle.cold_flow.specs.declared.policy.Policy.TheVariants.{Suspend, DropOldest, DropLatest}
+use Rattle.flow_terms.specs.declared.policy.Policy.{Policy}
+use Rattle.flow_terms.specs.declared.policy.Policy.TheVariants.{Suspend, DropOldest, DropLatest}
 use Rattle.flow_buffer.specs.declared.ending.Ending.{Ending}
 use Rattle.flow_buffer.specs.declared.ending.Ending.TheVariants.{Going, Kept, Given}
-use Rattle.flow_buffer.specs.declared.fill.Fill.{Fill}
-use Rattle.flow_buffer.specs.declared.fill.Fill.TheVariants as fills
+use Rattle.flow_terms.specs.declared.fill.Fill.{Fill}
+use Rattle.flow_terms.specs.declared.fill.Fill.TheVariants as fills
 use Rattle.flow_buffer.specs.declared.side.Fate.TheVariants as fates
 use Rattle.flow_buffer.specs.Contents.{Contents, nothing, held_of, produced, turned}
 use Rattle.script_words.specs.Items.{values_of}

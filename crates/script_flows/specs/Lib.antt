@@ -3,3 +3,4 @@ pub mod Buffers
 pub mod Buffered
 pub mod Sourced
 pub mod Shares
+pub mod Ticks

@@ -3,8 +3,8 @@ use Rattle.std.specs.Prelude.{◌≡◌, ℕ, suc, ◌+◌, Bool, true, false, L
 use Rattle.state_flow.specs.declared.view.View.{View}
 use Rattle.state_flow.specs.Views.{Place, giver, taker}
 use Rattle.state_flow.specs.Calls.{Collects, Begins, Ends, TakesBack}
-use Rattle.shared_core.specs.declared.answers.Next.{Next}
-use Rattle.shared_core.specs.declared.answers.Next.TheVariants.{Value, Nothing, Closed}
+use Rattle.flow_terms.specs.declared.answers.Next.{Next}
+use Rattle.flow_terms.specs.declared.answers.Next.TheVariants.{Value, Nothing, Closed}
 
 -- the place of the seat, and of each collector that was made, unless it was cancelled
 pub record Watch : Type 0 where

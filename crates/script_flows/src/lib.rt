@@ -8,10 +8,12 @@ mod buffer;
 mod share;
 mod source_flow;
 mod stating;
+mod ticked;
 mod watched;
 
 pub use buffer::ScriptBuffer;
 pub use share::Share;
 pub use source_flow::{SourceFlow, SourceRun};
 pub use stating::Stating;
+pub use ticked::Ticked;
 pub use watched::Watched;

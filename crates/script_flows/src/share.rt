@@ -1,19 +1,19 @@
 //! A shared flow of a script that shares a source.
 
 ghost use Rattle.std.specs.Prelude.{◌≡◌, ◌⊎◌, ◌++◌, ◌∷◌, [], Some, true, false, length, IfOk, IfErr, IfSome, IfNone, IsOkUnless, slice_set};
-ghost use Rattle.cold_flow.specs.declared.refusal.Refusal.TheVariants.{NoMemory, Spent, SubscribersFull};
+ghost use Rattle.flow_terms.specs.declared.refusal.Refusal.TheVariants.{NoMemory, Spent, SubscribersFull};
 ghost use Rattle.shared_core.specs.Kept.{making_refusal};
 ghost use Rattle.flow_sharing.specs.Courses.{kept_cause};
 ghost use Rattle.flow_sharing.specs.Shown.{Shows};
 ghost use Rattle.script_flows.specs.Shares.{live};
-ghost use Rattle.script_pipes.specs.Ticks.{TicksAs};
+ghost use Rattle.script_flows.specs.Ticks.{TicksAs};
 ghost use Rattle.script_flows.specs.Watching.{Asked, ended};
 
 use crate::source_flow::SourceFlow;
+use crate::ticked::Ticked;
 use cold_flow::Refusal;
 use flow_sharing::{Sharing, Started, share_in};
 use futures::task::{Context, Poll};
-use script_pipes::Ticked;
 use shared_core::{Config, Next};
 use shared_flow::{SharedFlow, Subscription};
 use std::alloc::Global;

@@ -4,12 +4,12 @@ ghost use Rattle.std.specs.Prelude.{◌≡◌, []};
 ghost use Rattle.state_flow.specs.Calls.{Sets};
 ghost use Rattle.flow_sharing.specs.Courses.{kept_cause};
 ghost use Rattle.flow_sharing.specs.Shown.{Shows};
-ghost use Rattle.script_pipes.specs.Ticks.{TicksAs};
+ghost use Rattle.script_flows.specs.Ticks.{TicksAs};
 
 use crate::source_flow::SourceFlow;
+use crate::ticked::Ticked;
 use flow_sharing::{Started, StateSharing, state_in};
 use futures::task::Context;
-use script_pipes::Ticked;
 use state_flow::StateSeat;
 
 /// A source whose values are set on a state. It must be spent, by [`close`](Stating::close).

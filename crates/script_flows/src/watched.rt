@@ -1,7 +1,7 @@
 //! A state of a script, with its collectors.
 
 ghost use Rattle.std.specs.Prelude.{◌≡◌, ◌⊎◌, ◌++◌, ◌∷◌, [], ◌<◌, ◌≤◌, true, false, length, IfOk, IfErr, slice_set};
-ghost use Rattle.cold_flow.specs.declared.refusal.Refusal.TheVariants.{NoMemory, SubscribersFull};
+ghost use Rattle.flow_terms.specs.declared.refusal.Refusal.TheVariants.{NoMemory, SubscribersFull};
 ghost use Rattle.state_flow.specs.Calls.{Reads, Sets, Compares, Counts};
 ghost use Rattle.state_flow.specs.Views.{opening, giver, taker};
 ghost use Rattle.script_flows.specs.Watching.{standing, collecting, Asked, ended, AsksOne, AddsOne, TakesOne};

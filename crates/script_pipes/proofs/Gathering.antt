@@ -8,8 +8,8 @@ use Rattle.cold_flow.specs.declared.cause.Cause.TheVariants.{Finished, Failed, C
 use Rattle.cold_flow.specs.declared.cause.Cause.TheVariants as causes
 use Rattle.cold_flow.specs.declared.operators.catch_with.Caught.{Caught}
 use Rattle.cold_flow.specs.declared.operators.catch_with.Caught.TheVariants.{End, Last, Fault}
-use Rattle.cold_flow.specs.declared.refusal.Refusal.{Refusal}
-use Rattle.cold_flow.specs.declared.refusal.Refusal.TheVariants.{NoMemory}
+use Rattle.flow_terms.specs.declared.refusal.Refusal.{Refusal}
+use Rattle.flow_terms.specs.declared.refusal.Refusal.TheVariants.{NoMemory}
 use Rattle.cold_flow.specs.Poll.{Traces, Fixes, Beginnings}
 use Rattle.cold_flow.specs.Few.{values_of}
 use Rattle.cold_flow.specs.Laws.{ended-begins}

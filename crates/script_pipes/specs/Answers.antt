@@ -1,6 +1,6 @@
 -- The answers as bytes.
 use Rattle.std.specs.Prelude.{ℕ, List, [], ◌∷◌, ◌++◌, codes, decimal, true, false, Some, None}
-use Rattle.cold_flow.specs.Refusals.{number_of}
+use Rattle.flow_terms.specs.Refusals.{number_of}
 use Rattle.script_pipes.specs.Listings.{listing}
 use Rattle.script_pipes.specs.declared.answer.Answer.{Answer}
 use Rattle.script_pipes.specs.declared.answer.Answer.TheVariants.{Done, Refused, Accepted, Dropped, Full, Waiting, Finished, Removed, Left, Gone, Value, Pending, Closed, Took, Overwrote, Ended, Completed, Failed, On, Off, Number, Truth, Values, Collected, TooMany, BadCommand}

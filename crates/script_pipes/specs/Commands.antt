@@ -1,8 +1,8 @@
 -- The commands, from their words.
 use Rattle.std.specs.Prelude.{ℕ, List, Option, Some}
 use Rattle.std.specs.Option.{option_map}
-use Rattle.cold_flow.specs.declared.policy.Policy.{Policy}
-use Rattle.flow_sharing.specs.declared.started.Started.{Started}
+use Rattle.flow_terms.specs.declared.policy.Policy.{Policy}
+use Rattle.flow_terms.specs.declared.started.Started.{Started}
 use Rattle.script_pipes.specs.declared.command.Command.{Command}
 use Rattle.script_pipes.specs.declared.command.Command.TheVariants as commands
 use Rattle.script_pipes.specs.declared.command.Sourced.{Sourced}

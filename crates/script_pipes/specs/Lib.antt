@@ -2,7 +2,6 @@ pub mod Commands
 pub mod Listings
 pub mod Answers
 pub mod Replies
-pub mod Ticks
 pub mod Sources
 pub mod Stages
 pub mod Pipes

@@ -6,7 +6,7 @@ use Rattle.cold_flow.specs.declared.cause.Cause.TheVariants.{Finished, Failed}
 use Rattle.cold_flow.specs.declared.cause.Cause.TheVariants as causes
 use Rattle.cold_flow.specs.declared.operators.few.Few.{Few}
 use Rattle.cold_flow.specs.declared.operators.few.Few.TheVariants.{Two}
-use Rattle.cold_flow.specs.declared.refusal.Refusal.TheVariants.{NotPositive, NoMemory}
+use Rattle.flow_terms.specs.declared.refusal.Refusal.TheVariants.{NotPositive, NoMemory}
 use Rattle.cold_flow.specs.Poll.{Traces}
 use Rattle.cold_flow.specs.Trace.{Trace, ended_by, cause_of, map_trace, on_values, take_trace}
 use Rattle.cold_flow.specs.Distinct.{distinct_after}

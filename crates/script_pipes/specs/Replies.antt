@@ -5,25 +5,23 @@ use Rattle.futures.specs.declared.task.Poll.TheVariants as polls
 use Rattle.cold_flow.specs.declared.cause.Cause.TheVariants as causes
 use Rattle.cold_flow.specs.declared.event.Event.{Event}
 use Rattle.cold_flow.specs.declared.event.Event.TheVariants as events
-use Rattle.cold_flow.specs.declared.refusal.Refusal.{Refusal}
-use Rattle.flow_buffer.specs.declared.fill.Fill.{Fill}
-use Rattle.flow_buffer.specs.declared.fill.Fill.TheVariants as fills
-use Rattle.shared_core.specs.declared.ids.SubId.{SubId}
-use Rattle.shared_core.specs.declared.ids.Ticket.{Ticket}
-use Rattle.shared_core.specs.declared.answers.Tried.{Tried}
-use Rattle.shared_core.specs.declared.answers.Tried.TheVariants as tried
-use Rattle.shared_core.specs.declared.answers.Begun.{Begun}
-use Rattle.shared_core.specs.declared.answers.Begun.TheVariants as begun
-use Rattle.shared_core.specs.declared.answers.Emit.{Emit}
-use Rattle.shared_core.specs.declared.answers.Emit.TheVariants as emit
-use Rattle.shared_core.specs.declared.answers.Withdrawn.{Withdrawn}
-use Rattle.shared_core.specs.declared.answers.Withdrawn.TheVariants as withdrawn
-use Rattle.shared_core.specs.declared.answers.Next.{Next}
-use Rattle.shared_core.specs.declared.answers.Next.TheVariants as next
+use Rattle.flow_terms.specs.declared.refusal.Refusal.{Refusal}
+use Rattle.flow_terms.specs.declared.fill.Fill.{Fill}
+use Rattle.flow_terms.specs.declared.fill.Fill.TheVariants as fills
+use Rattle.flow_terms.specs.declared.ids.SubId.{SubId}
+use Rattle.flow_terms.specs.declared.ids.Ticket.{Ticket}
+use Rattle.flow_terms.specs.declared.answers.Tried.{Tried}
+use Rattle.flow_terms.specs.declared.answers.Tried.TheVariants as tried
+use Rattle.flow_terms.specs.declared.answers.Begun.{Begun}
+use Rattle.flow_terms.specs.declared.answers.Begun.TheVariants as begun
+use Rattle.flow_terms.specs.declared.answers.Emit.{Emit}
+use Rattle.flow_terms.specs.declared.answers.Emit.TheVariants as emit
+use Rattle.flow_terms.specs.declared.answers.Withdrawn.{Withdrawn}
+use Rattle.flow_terms.specs.declared.answers.Withdrawn.TheVariants as withdrawn
+use Rattle.flow_terms.specs.declared.answers.Next.{Next}
+use Rattle.flow_terms.specs.declared.answers.Next.TheVariants as next
 use Rattle.script_pipes.specs.declared.answer.Answer.{Answer}
 use Rattle.script_pipes.specs.declared.answer.Answer.TheVariants as answers
-use Rattle.script_pipes.specs.declared.ticked.Ticked.{Ticked}
-use Rattle.script_pipes.specs.declared.ticked.Ticked.TheVariants as ticks
 
 abbrev pub try_answer : Result (Tried ℕ) Refusal → Answer
 try_answer (Ok (tried.Accepted number)) = answers.Accepted
@@ -54,12 +52,6 @@ subscribe_answer (Err refusal) = answers.Refused refusal
 abbrev pub collect_answer : Result ℕ Refusal → Answer
 collect_answer (Ok collector_index) = answers.Done
 collect_answer (Err refusal) = answers.Refused refusal
-
-abbrev pub tick_answer : Ticked → Answer
-tick_answer ticks.On = answers.On
-tick_answer ticks.Off = answers.Off
-tick_answer (ticks.Failed fault) = answers.Failed fault
-tick_answer (ticks.Refused refusal) = answers.Refused refusal
 
 abbrev pub next_answer : Next ℕ → Answer
 next_answer (next.Value value) = answers.Value value

@@ -8,7 +8,7 @@ ghost use Rattle.script_pipes.specs.Commands.{order_of, shared_of, sub_of, next_
 use crate::pipe::Pipe;
 use crate::source::Source;
 use cold_flow::Policy;
-use flow_sharing::Started;
+use flow_terms::Started;
 use script_words::{Keyword, Words};
 
 /// What a line asks for. Names are parts of the script.

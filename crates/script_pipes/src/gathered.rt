@@ -6,7 +6,7 @@ ghost use Rattle.cold_flow.specs.Trace.{Trace, cause_of};
 ghost use Rattle.cold_flow.specs.declared.cause.Cause.TheVariants.{Cancelled};
 ghost use Rattle.cold_flow.specs.declared.cause.Cause.TheVariants as causes;
 ghost use Rattle.script_pipes.specs.declared.gathered.Stop.TheVariants.{Refused};
-ghost use Rattle.cold_flow.specs.declared.refusal.Refusal.TheVariants.{NoMemory};
+ghost use Rattle.flow_terms.specs.declared.refusal.Refusal.TheVariants.{NoMemory};
 
 use cold_flow::{Cause, Finite, Flow, Listed, Refusal, failing, of, take, to_list};
 use futures::task::Context;

@@ -12,11 +12,9 @@ mod listing;
 mod pipe;
 mod source;
 mod stage;
-mod ticked;
 
 pub use answer::Answer;
 pub use command::{Command, Sourced};
 pub use listing::Listing;
 pub use pipe::Pipe;
 pub use source::Source;
-pub use ticked::Ticked;

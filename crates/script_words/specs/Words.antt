@@ -1,9 +1,9 @@
 -- What is taken from the words of a line, one after another.
 use Rattle.std.specs.Prelude.{ℕ, List, [], ◌∷◌, Option, Some, None, bytes_eq, codes, if◌then◌else◌}
 use Rattle.std.specs.Option.{option_map}
-use Rattle.cold_flow.specs.declared.policy.Policy.{Policy}
-use Rattle.flow_sharing.specs.declared.started.Started.{Started}
-use Rattle.flow_sharing.specs.declared.started.Started.TheVariants.{Eagerly, Lazily, WhileSubscribed}
+use Rattle.flow_terms.specs.declared.policy.Policy.{Policy}
+use Rattle.flow_terms.specs.declared.started.Started.{Started}
+use Rattle.flow_terms.specs.declared.started.Started.TheVariants.{Eagerly, Lazily, WhileSubscribed}
 use Rattle.script_words.specs.Fields.{is_name, number_of, policy_of, expiry_of}
 
 infixl 10 ◌>>=◌

@@ -8,7 +8,7 @@ ghost use Rattle.script_words.specs.Words.{name_at, number_at, policy_at, expiry
 
 use crate::fields::{expiry_of, is_name, number_of, policy_of};
 use cold_flow::Policy;
-use flow_sharing::Started;
+use flow_terms::Started;
 
 /// What is left of a line, taken word by word.
 #[derive(Clone, Copy)]

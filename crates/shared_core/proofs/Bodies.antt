@@ -3,11 +3,11 @@ use Rattle.std.proofs.Common.{◌≡◌, ◌≢◌, Result, Ok, Err, ℕ, ◌+�
 use Rattle.std.specs.List.{list_any, remove}
 use Rattle.std.proofs.Math.ListN.{length-map, drop_of_length-le}
 use Rattle.std.proofs.Math.Seq.{drop-nil}
-use Rattle.cold_flow.specs.declared.refusal.Refusal.{Refusal}
-use Rattle.cold_flow.specs.declared.refusal.Refusal.TheVariants.{Spent, SubscribersFull}
-use Rattle.shared_core.specs.declared.ids.SubId.{SubId}
-use Rattle.shared_core.specs.declared.answers.Next.{Next}
-use Rattle.shared_core.specs.declared.answers.Next.TheVariants as next
+use Rattle.flow_terms.specs.declared.refusal.Refusal.{Refusal}
+use Rattle.flow_terms.specs.declared.refusal.Refusal.TheVariants.{Spent, SubscribersFull}
+use Rattle.flow_terms.specs.declared.ids.SubId.{SubId}
+use Rattle.flow_terms.specs.declared.answers.Next.{Next}
+use Rattle.flow_terms.specs.declared.answers.Next.TheVariants as next
 use Rattle.shared_core.specs.Ringed.{Ringed, empty_ring}
 use Rattle.shared_core.specs.declared.tickets.Held.{Held}
 use Rattle.shared_core.specs.declared.tickets.Accepted.{Accepted}

@@ -4,7 +4,7 @@ use Rattle.std.proofs.lemmas.Bool.{eqb-true}
 use Rattle.std.proofs.lemmas.List.{append-nil}
 use Rattle.std.proofs.lemmas.Option.{none-some, same_Some, slice_get_within}
 use Rattle.std.specs.List.{fold, range_with_len}
-use Rattle.shared_core.specs.declared.answers.Next.TheVariants as next
+use Rattle.flow_terms.specs.declared.answers.Next.TheVariants as next
 use Rattle.shared_core.specs.Flow.{Parameters, State, Standing, waits, stands, gone, Subscription, empty, settle, settle_one, accept, put, has_room, change, close_at, number}
 use Rattle.shared_core.specs.Calls.{Call, trying, starting, polling, withdrawing, subscribing, receiving, cancelling, resetting, counting, Reply, to_receive, to_cancel, step, replies, after, next_value, next_at, cancel, cancel_at, live_one}
 use Rattle.shared_core.specs.Shown.{seen_of}

@@ -1,15 +1,15 @@
 -- A program's run grows by each call that it makes, and is at each moment the model's run of its calls, of which the headline holds.
 use Rattle.std.proofs.Common.{◌≡◌, ℕ, cond, Bool, List, [], ◌∷◌, ◌++◌, length, Result, refl, sym, ap, ◌∙◌, subst, arith, append_assoc}
 use Rattle.std.proofs.lemmas.Bool.{eq-eqb}
-use Rattle.cold_flow.specs.declared.refusal.Refusal.{Refusal}
-use Rattle.shared_core.specs.declared.ids.SubId.{SubId}
-use Rattle.shared_core.specs.declared.ids.Ticket.{Ticket}
-use Rattle.shared_core.specs.declared.answers.Tried.{Tried}
-use Rattle.shared_core.specs.declared.answers.Begun.{Begun}
-use Rattle.shared_core.specs.declared.answers.Emit.{Emit}
-use Rattle.shared_core.specs.declared.answers.Withdrawn.{Withdrawn}
-use Rattle.shared_core.specs.declared.answers.Next.{Next}
-use Rattle.shared_core.specs.declared.answers.Next.TheVariants as next
+use Rattle.flow_terms.specs.declared.refusal.Refusal.{Refusal}
+use Rattle.flow_terms.specs.declared.ids.SubId.{SubId}
+use Rattle.flow_terms.specs.declared.ids.Ticket.{Ticket}
+use Rattle.flow_terms.specs.declared.answers.Tried.{Tried}
+use Rattle.flow_terms.specs.declared.answers.Begun.{Begun}
+use Rattle.flow_terms.specs.declared.answers.Emit.{Emit}
+use Rattle.flow_terms.specs.declared.answers.Withdrawn.{Withdrawn}
+use Rattle.flow_terms.specs.declared.answers.Next.{Next}
+use Rattle.flow_terms.specs.declared.answers.Next.TheVariants as next
 use Rattle.shared_core.specs.Flow.{Parameters, empty, live_count}
 use Rattle.shared_core.specs.Calls as calls
 use Rattle.shared_core.specs.Calls.{Call, trying, starting, polling, withdrawing, subscribing, receiving, cancelling, resetting, counting, Reply, to_try, to_start, to_poll, to_withdraw, to_subscribe, to_receive, to_cancel, to_reset, to_count, step, replies, after}

@@ -3,13 +3,13 @@ use Rattle.std.proofs.Common.{◌≡◌, ◌≢◌, ℕ, ◌+◌, ◌-◌, ◌<�
 use Rattle.std.proofs.Math.Bool.{or-true}
 use Rattle.std.proofs.lemmas.Bool.{eqb-false, eq-eqb, ne_eqb, ltb-true}
 use Rattle.std.specs.List.{list_all}
-use Rattle.cold_flow.specs.declared.refusal.Refusal.{Refusal}
-use Rattle.cold_flow.specs.declared.refusal.Refusal.TheVariants.{EmitsFull, Spent}
-use Rattle.shared_core.specs.declared.ids.Ticket.{Ticket}
-use Rattle.shared_core.specs.declared.answers.Tried.{Tried}
-use Rattle.shared_core.specs.declared.answers.Tried.TheVariants as tried
-use Rattle.shared_core.specs.declared.answers.Begun.{Begun}
-use Rattle.shared_core.specs.declared.answers.Begun.TheVariants as begun
+use Rattle.flow_terms.specs.declared.refusal.Refusal.{Refusal}
+use Rattle.flow_terms.specs.declared.refusal.Refusal.TheVariants.{EmitsFull, Spent}
+use Rattle.flow_terms.specs.declared.ids.Ticket.{Ticket}
+use Rattle.flow_terms.specs.declared.answers.Tried.{Tried}
+use Rattle.flow_terms.specs.declared.answers.Tried.TheVariants as tried
+use Rattle.flow_terms.specs.declared.answers.Begun.{Begun}
+use Rattle.flow_terms.specs.declared.answers.Begun.TheVariants as begun
 use Rattle.shared_core.specs.Flow.{State, Standing, Parameters, Overflow, waits, stands, is_out, accept, lose_oldest, give, number, number_limit, capacity, places, has_room, waiting_count, out_count}
 use Rattle.shared_core.specs.Calls.{Call, step, trying, starting, try_emit, try_by, start_emit, start_by, wait_with, fate, fate_by, without_room, Fate, enters, pushes_in, handed_over, dropped, held_up, numbers_spent, tickets_spent}
 use Rattle.shared_core.specs.Shown.{Seen, seen_of, Shows, Follows}

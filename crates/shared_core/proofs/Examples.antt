@@ -1,13 +1,13 @@
 -- Worked examples, computed by the definitions: the replies to some calls on a new flow, what was accepted, what waits, and
 -- what each subscription received.
 use Rattle.std.proofs.Common.{◌≡◌, refl, ℕ, ◌+◌, ◌-◌, [], ◌∷◌, Ok, Err, true, false, Some, None}
-use Rattle.cold_flow.specs.declared.refusal.Refusal.TheVariants.{EmitsFull, Spent, SubscribersFull, TooLarge, PolicyNeedsBuffer, BadLimit}
-use Rattle.cold_flow.specs.declared.policy.Policy.TheVariants.{Suspend, DropOldest, DropLatest}
-use Rattle.shared_core.specs.declared.answers.Tried.TheVariants as tried
-use Rattle.shared_core.specs.declared.answers.Begun.TheVariants as begun
-use Rattle.shared_core.specs.declared.answers.Emit.TheVariants as emit
-use Rattle.shared_core.specs.declared.answers.Withdrawn.TheVariants as withdrawn
-use Rattle.shared_core.specs.declared.answers.Next.TheVariants as next
+use Rattle.flow_terms.specs.declared.refusal.Refusal.TheVariants.{EmitsFull, Spent, SubscribersFull, TooLarge, PolicyNeedsBuffer, BadLimit}
+use Rattle.flow_terms.specs.declared.policy.Policy.TheVariants.{Suspend, DropOldest, DropLatest}
+use Rattle.flow_terms.specs.declared.answers.Tried.TheVariants as tried
+use Rattle.flow_terms.specs.declared.answers.Begun.TheVariants as begun
+use Rattle.flow_terms.specs.declared.answers.Emit.TheVariants as emit
+use Rattle.flow_terms.specs.declared.answers.Withdrawn.TheVariants as withdrawn
+use Rattle.flow_terms.specs.declared.answers.Next.TheVariants as next
 use Rattle.shared_core.specs.Flow.{Overflow, suspend, drop_oldest, drop_latest, Parameters, number_limit, pending, has_room, live_count, waiting_count, out_count, settle, values}
 use Rattle.shared_core.specs.Calls.{try_emit, start_emit, poll_emit, cancel_emit, subscribe, next_value, cancel, trying, starting, polling, withdrawing, subscribing, receiving, cancelling, resetting, counting, Reply, to_try, to_start, to_poll, to_withdraw, to_subscribe, to_receive, to_cancel, to_reset, to_count}
 use Rattle.shared_core.specs.Kept.{making_refusal}

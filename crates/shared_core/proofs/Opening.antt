@@ -2,9 +2,9 @@
 use Rattle.std.proofs.Common.{◌≡◌, ℕ, ◌+◌, ◌<◌, ◌⊎◌, inl, inr, ⊎_elim, Bool, true, false, cond, ◌||◌, ◌==◌, List, [], ◌∷◌, length, Option, Some, None, Result, Ok, Err, refl, ap, ◌∙◌, subst, arith, length-append}
 use Rattle.std.proofs.Math.ListN.{length-map}
 use Rattle.std.proofs.lemmas.Bool.{cases_lt}
-use Rattle.cold_flow.specs.declared.refusal.Refusal.{Refusal}
-use Rattle.cold_flow.specs.declared.refusal.Refusal.TheVariants.{Spent, SubscribersFull}
-use Rattle.shared_core.specs.declared.ids.SubId.{SubId}
+use Rattle.flow_terms.specs.declared.refusal.Refusal.{Refusal}
+use Rattle.flow_terms.specs.declared.refusal.Refusal.TheVariants.{Spent, SubscribersFull}
+use Rattle.flow_terms.specs.declared.ids.SubId.{SubId}
 use Rattle.shared_core.specs.Flow.{State, Standing, waits, stands, gone, Subscription, receive, open_next, close_at, received_next, live_count, number, number_limit, index}
 use Rattle.shared_core.specs.Calls.{Fate, enters, pushes_in, handed_over, dropped, held_up, fate, try_by, try_emit, start_by, start_emit, is_done, take_back, ticket_at, poll_at, poll_emit, cancel_emit_at, cancel_emit, subscribe, next_of, next_at, next_value, cancel_at, cancel, live_one, numbers_spent, tickets_spent, Call, trying, starting, polling, withdrawing, subscribing, receiving, cancelling, resetting, counting, Reply, to_subscribe, step, after}
 use Rattle.shared_core.proofs.Closing.{settled_subscriptions}

@@ -8,9 +8,9 @@ use Rattle.std.proofs.lemmas.List.{map-append, drop-append-le, take-append-drop}
 use Rattle.std.proofs.lemmas.List.Elements.{filter_map-append, All-nil, All-cons}
 use Rattle.std.proofs.lemmas.Option.{none-some, same_Some, some_pair_parts, slice_get_within, slice_get-get_or, get_or_from_slice_get}
 use Rattle.std.specs.List.{Contains, All, cons_option, range_with_len}
-use Rattle.cold_flow.specs.declared.refusal.Refusal.{Refusal}
-use Rattle.cold_flow.specs.declared.refusal.Refusal.TheVariants.{Spent, SubscribersFull}
-use Rattle.shared_core.specs.declared.ids.SubId.{SubId}
+use Rattle.flow_terms.specs.declared.refusal.Refusal.{Refusal}
+use Rattle.flow_terms.specs.declared.refusal.Refusal.TheVariants.{Spent, SubscribersFull}
+use Rattle.flow_terms.specs.declared.ids.SubId.{SubId}
 use Rattle.shared_core.specs.Flow.{cache_start, Parameters, State, Subscription, empty, contains, pending, pending_values, values, values_at, cache, open_next, live_count, number, number_limit, capacity, drop_oldest}
 use Rattle.shared_core.specs.Calls.{Call, subscribing, subscribe, Reply, to_subscribe, step, replies, after, cancelling, to_cancel}
 use Rattle.shared_core.specs.Shown.{seen_of, live_from, Seen}

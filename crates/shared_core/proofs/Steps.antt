@@ -3,10 +3,10 @@ use Rattle.std.proofs.Common.{◌≡◌, ◌≢◌, ℕ, zero, suc, ◌+◌, ◌
 use Rattle.std.proofs.Math.ListN.{length-map}
 use Rattle.std.proofs.lemmas.Bool.{leb-true, le-leb, eq-eqb, ne_eqb}
 use Rattle.std.specs.List.{list_any, remove}
-use Rattle.cold_flow.specs.declared.refusal.Refusal.{Refusal}
-use Rattle.cold_flow.specs.declared.refusal.Refusal.TheVariants.{Spent, SubscribersFull}
-use Rattle.shared_core.specs.declared.ids.SubId.{SubId}
-use Rattle.shared_core.specs.declared.answers.Next.TheVariants as next
+use Rattle.flow_terms.specs.declared.refusal.Refusal.{Refusal}
+use Rattle.flow_terms.specs.declared.refusal.Refusal.TheVariants.{Spent, SubscribersFull}
+use Rattle.flow_terms.specs.declared.ids.SubId.{SubId}
+use Rattle.flow_terms.specs.declared.answers.Next.TheVariants as next
 use Rattle.shared_core.specs.Flow.{cache_start, State, Subscription, empty, receive, close_at, open_next, settle, change, received_next, pending, pending_values, values, index, number_limit, cache, live_count}
 use Rattle.shared_core.specs.Calls.{Call, step, after, next_value, next_at, next_of, live_one, live_at, if_live, pending_count, pending_count_at, cancel, cancel_at, subscribe}
 use Rattle.shared_core.specs.Shown.{Seen, live_from, seen_of, Shows}

@@ -1,9 +1,9 @@
 -- What each event keeps, each call keeps: a relation of states that holds over every event holds over any list of calls.
 use Rattle.std.proofs.Common.{◌≡◌, ◌≢◌, ℕ, Bool, true, false, cond, ◌||◌, List, [], ◌∷◌, length, Option, Some, None, slice_get, Result, Ok, Err, ◌==◌, refl, ap}
 use Rattle.std.specs.List.{fold, list_any, range_with_len}
-use Rattle.cold_flow.specs.declared.refusal.Refusal.{Refusal}
-use Rattle.cold_flow.specs.declared.refusal.Refusal.TheVariants.{Spent, SubscribersFull}
-use Rattle.shared_core.specs.declared.ids.SubId.{SubId}
+use Rattle.flow_terms.specs.declared.refusal.Refusal.{Refusal}
+use Rattle.flow_terms.specs.declared.refusal.Refusal.TheVariants.{Spent, SubscribersFull}
+use Rattle.flow_terms.specs.declared.ids.SubId.{SubId}
 use Rattle.shared_core.specs.Flow.{State, Subscription, Standing, waits, stands, gone, capacity, accept, receive, lose_oldest, open_next, close_at, put, settle, settle_one, has_room, live_count, number, number_limit, index}
 use Rattle.shared_core.specs.Calls.{Fate, enters, pushes_in, handed_over, dropped, held_up, fate, try_by, try_emit, start_by, start_emit, is_done, take_back, poll_at, poll_emit, cancel_emit_at, cancel_emit, subscribe, next_of, next_at, next_value, cancel_at, cancel, reset, Call, trying, starting, polling, withdrawing, subscribing, receiving, cancelling, resetting, counting, step, after, numbers_spent, ticket_at, live_one}
 use Rattle.shared_core.specs.Headline.{is_reset}

@@ -1,20 +1,20 @@
 -- The calls of a shared flow: what each answers and what state it leaves. A refused call leaves the state as it was.
 use Rattle.std.specs.Prelude.{ℕ, ◌+◌, Bool, true, false, not, ◌||◌, ◌==◌, nat_lt, if◌then◌else◌, List, [], ◌∷◌, length, Option, None, Some, Result, Ok, Err, slice_get}
 use Rattle.std.specs.List.{list_all}
-use Rattle.cold_flow.specs.declared.refusal.Refusal.{Refusal}
-use Rattle.cold_flow.specs.declared.refusal.Refusal.TheVariants.{EmitsFull, Spent, SubscribersFull}
-use Rattle.shared_core.specs.declared.ids.SubId.{SubId}
-use Rattle.shared_core.specs.declared.ids.Ticket.{Ticket}
-use Rattle.shared_core.specs.declared.answers.Tried.{Tried}
-use Rattle.shared_core.specs.declared.answers.Tried.TheVariants as tried
-use Rattle.shared_core.specs.declared.answers.Begun.{Begun}
-use Rattle.shared_core.specs.declared.answers.Begun.TheVariants as begun
-use Rattle.shared_core.specs.declared.answers.Emit.{Emit}
-use Rattle.shared_core.specs.declared.answers.Emit.TheVariants as emit
-use Rattle.shared_core.specs.declared.answers.Withdrawn.{Withdrawn}
-use Rattle.shared_core.specs.declared.answers.Withdrawn.TheVariants as withdrawn
-use Rattle.shared_core.specs.declared.answers.Next.{Next}
-use Rattle.shared_core.specs.declared.answers.Next.TheVariants as next
+use Rattle.flow_terms.specs.declared.refusal.Refusal.{Refusal}
+use Rattle.flow_terms.specs.declared.refusal.Refusal.TheVariants.{EmitsFull, Spent, SubscribersFull}
+use Rattle.flow_terms.specs.declared.ids.SubId.{SubId}
+use Rattle.flow_terms.specs.declared.ids.Ticket.{Ticket}
+use Rattle.flow_terms.specs.declared.answers.Tried.{Tried}
+use Rattle.flow_terms.specs.declared.answers.Tried.TheVariants as tried
+use Rattle.flow_terms.specs.declared.answers.Begun.{Begun}
+use Rattle.flow_terms.specs.declared.answers.Begun.TheVariants as begun
+use Rattle.flow_terms.specs.declared.answers.Emit.{Emit}
+use Rattle.flow_terms.specs.declared.answers.Emit.TheVariants as emit
+use Rattle.flow_terms.specs.declared.answers.Withdrawn.{Withdrawn}
+use Rattle.flow_terms.specs.declared.answers.Withdrawn.TheVariants as withdrawn
+use Rattle.flow_terms.specs.declared.answers.Next.{Next}
+use Rattle.flow_terms.specs.declared.answers.Next.TheVariants as next
 use Rattle.shared_core.specs.Flow.{Overflow, suspend, drop_oldest, drop_latest, number_limit, capacity, State, Standing, waits, stands, gone, Subscription, contains, pending, pending_values, has_room, live_count, waiting_count, out_count, number, index, accept, receive, lose_oldest, open_next, close_at, give, put, settle}
 
 -- ---- emissions

@@ -2,10 +2,10 @@
 use Rattle.std.specs.Prelude.{◌≡◌, ℕ, ◌+◌, ◌-◌, ◌≤◌, Bool, false, not, ◌||◌, ◌==◌, if◌then◌else◌, List, [], ◌∷◌, ◌++◌, length, drop, Option, Some, None, Ok, slice_get, IsTrue}
 use Rattle.std.specs.List.{AllByRecursion, filter, filter_map, range_with_len}
 use Rattle.shared_core.specs.Flow.{State, Standing, waits, stands, gone, Subscription, Parameters, contains, empty, pending, pending_values, values, values_at, cache, open_next}
-use Rattle.shared_core.specs.declared.answers.Next.TheVariants.{Value}
-use Rattle.shared_core.specs.declared.answers.Withdrawn.TheVariants.{Removed}
-use Rattle.shared_core.specs.declared.answers.Tried.TheVariants as tried
-use Rattle.shared_core.specs.declared.answers.Begun.TheVariants as begun
+use Rattle.flow_terms.specs.declared.answers.Next.TheVariants.{Value}
+use Rattle.flow_terms.specs.declared.answers.Withdrawn.TheVariants.{Removed}
+use Rattle.flow_terms.specs.declared.answers.Tried.TheVariants as tried
+use Rattle.flow_terms.specs.declared.answers.Begun.TheVariants as begun
 use Rattle.shared_core.specs.Calls.{Call, Reply, trying, starting, withdrawing, receiving, to_try, to_start, to_withdraw, to_receive, after, replies}
 
 -- the two lists, each in its order, make up the third

@@ -1,8 +1,6 @@
 //! A call of a shared flow as a value, and its reply.
 
-use crate::answers::{Begun, Emit, Next, Tried, Withdrawn};
-use crate::ids::{SubId, Ticket};
-use cold_flow::Refusal;
+use flow_terms::{Begun, Emit, Next, Refusal, SubId, Ticket, Tried, Withdrawn};
 
 /// A call of a shared flow.
 #[derive(Clone, Copy, Debug, PartialEq, Eq)]

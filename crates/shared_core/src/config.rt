@@ -3,7 +3,7 @@
 ghost use Rattle.std.specs.Prelude.{◌≡◌};
 ghost use Rattle.shared_core.specs.Kept.{making_refusal};
 
-use cold_flow::{Policy, Refusal};
+use flow_terms::{Policy, Refusal};
 
 /// Numbers stay below this.
 pub(crate) const NUMBER_LIMIT: u64 = 1 << 62;

@@ -5,11 +5,9 @@
 //! `specs/Calls.antt`.
 #![tactic(auto)]
 
-mod answers;
 mod call;
 mod config;
 mod headline;
-mod ids;
 mod laws;
 mod place;
 mod queue;
@@ -17,10 +15,9 @@ mod ring;
 mod state;
 mod tickets;
 
-pub use answers::{Begun, Emit, Next, Tried, Withdrawn};
 pub use call::{Call, Reply};
 pub use config::Config;
+pub use flow_terms::{Begun, Emit, Next, SubId, Ticket, Tried, Withdrawn};
 pub use headline::each_subscription_receives_cache_then_later;
-pub use ids::{SubId, Ticket};
 pub use laws::each_subscription_has_its_story;
 pub use state::SharedState;

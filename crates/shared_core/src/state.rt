@@ -51,7 +51,7 @@ use crate::config::Config;
 use crate::queue::Queue;
 use crate::ring::Ring;
 use crate::tickets::{Accepted, Held, Waiting};
-use cold_flow::Refusal;
+use flow_terms::Refusal;
 use std::alloc::Global;
 use std::marker::Model;
 

@@ -1,12 +1,12 @@
 -- What the policy of a flow leaves of the answers of an emission.
 use Rattle.std.proofs.Common.{◌≡◌, ℕ, ◌+◌, Bool, true, false, not, cond, ◌&&◌, ◌||◌, ◌==◌, nat_lt, length, Option, Some, None, Result, Err, refl, sym, subst, arith}
-use Rattle.cold_flow.specs.declared.refusal.Refusal.{Refusal}
-use Rattle.cold_flow.specs.declared.refusal.Refusal.TheVariants.{Spent}
-use Rattle.cold_flow.specs.declared.policy.Policy.{Policy}
-use Rattle.cold_flow.specs.declared.policy.Policy.TheVariants.{Suspend, DropOldest, DropLatest}
+use Rattle.flow_terms.specs.declared.refusal.Refusal.{Refusal}
+use Rattle.flow_terms.specs.declared.refusal.Refusal.TheVariants.{Spent}
+use Rattle.flow_terms.specs.declared.policy.Policy.{Policy}
+use Rattle.flow_terms.specs.declared.policy.Policy.TheVariants.{Suspend, DropOldest, DropLatest}
 use Rattle.shared_core.specs.declared.config.Config.{Config}
-use Rattle.shared_core.specs.declared.ids.Ticket.{Ticket}
-use Rattle.shared_core.specs.declared.answers.Begun.{Begun}
+use Rattle.flow_terms.specs.declared.ids.Ticket.{Ticket}
+use Rattle.flow_terms.specs.declared.answers.Begun.{Begun}
 use Rattle.shared_core.specs.Flow.{State, Parameters, Standing, stands, waits, capacity, live_count, waiting_count, has_room, out_count, accept}
 use Rattle.shared_core.specs.Kept.{parameters_of, overflow_of, suspends, making_refusal}
 use Rattle.shared_core.specs.Calls.{Fate, enters, pushes_in, handed_over, dropped, held_up, without_room, fate_by, fate, numbers_spent, tickets_spent, try_by, try_emit, start_by, start_emit, wait_with}

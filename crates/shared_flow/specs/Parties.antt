@@ -1,15 +1,15 @@
 -- What contracts see of an emitter, and of its answers.
 use Rattle.std.specs.Prelude.{◌≡◌, ⊤, ℕ, Bool, true, false, Option, Result, Ok, Err}
-use Rattle.cold_flow.specs.declared.refusal.Refusal.{Refusal}
-use Rattle.cold_flow.specs.declared.policy.Policy.{Policy}
-use Rattle.cold_flow.specs.declared.policy.Policy.TheVariants.{Suspend, DropLatest}
+use Rattle.flow_terms.specs.declared.refusal.Refusal.{Refusal}
+use Rattle.flow_terms.specs.declared.policy.Policy.{Policy}
+use Rattle.flow_terms.specs.declared.policy.Policy.TheVariants.{Suspend, DropLatest}
 use Rattle.shared_core.specs.declared.config.Config.{Config}
-use Rattle.shared_core.specs.declared.answers.Tried.{Tried}
-use Rattle.shared_core.specs.declared.answers.Tried.TheVariants as tried
-use Rattle.shared_core.specs.declared.answers.Begun.{Begun}
-use Rattle.shared_core.specs.declared.answers.Begun.TheVariants as begun
-use Rattle.shared_core.specs.declared.answers.Withdrawn.{Withdrawn}
-use Rattle.shared_core.specs.declared.answers.Withdrawn.TheVariants as withdrawn
+use Rattle.flow_terms.specs.declared.answers.Tried.{Tried}
+use Rattle.flow_terms.specs.declared.answers.Tried.TheVariants as tried
+use Rattle.flow_terms.specs.declared.answers.Begun.{Begun}
+use Rattle.flow_terms.specs.declared.answers.Begun.TheVariants as begun
+use Rattle.flow_terms.specs.declared.answers.Withdrawn.{Withdrawn}
+use Rattle.flow_terms.specs.declared.answers.Withdrawn.TheVariants as withdrawn
 
 -- the config of its flow, its id, and whether it has an emission in flight
 pub record Emitting : Type 0 where

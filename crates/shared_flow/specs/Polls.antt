@@ -1,9 +1,9 @@
 -- What is so of a poll that gave nothing.
 use Rattle.std.specs.Prelude.{⊤}
-use Rattle.shared_core.specs.declared.answers.Emit.{Emit}
-use Rattle.shared_core.specs.declared.answers.Emit.TheVariants.{Done, Waiting, Gone}
-use Rattle.shared_core.specs.declared.answers.Next.{Next}
-use Rattle.shared_core.specs.declared.answers.Next.TheVariants as next
+use Rattle.flow_terms.specs.declared.answers.Emit.{Emit}
+use Rattle.flow_terms.specs.declared.answers.Emit.TheVariants.{Done, Waiting, Gone}
+use Rattle.flow_terms.specs.declared.answers.Next.{Next}
+use Rattle.flow_terms.specs.declared.answers.Next.TheVariants as next
 
 -- of an emission that isn't done
 abbrev pub UnlessDone : Emit → Type 0 → Type 0

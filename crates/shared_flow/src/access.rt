@@ -5,7 +5,7 @@ ghost use Rattle.std.specs.Prelude.{◌≡◌, Some, IfOk, IsOkUnless};
 use crate::lock::{Held, Lock};
 use crate::shared::{Shared, wakes_of};
 use crate::wakes::Wakes;
-use cold_flow::{Refusal, Word};
+use flow_terms::{Refusal, Word};
 use shared_core::Config;
 use std::alloc::Global;
 use std::marker::Model;

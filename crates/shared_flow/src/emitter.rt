@@ -1,17 +1,17 @@
 //! One that emits into a shared flow.
 
 ghost use Rattle.std.specs.Prelude.{◌≡◌, ◌⊎◌, true, false, Some, IfErr};
-ghost use Rattle.cold_flow.specs.declared.refusal.Refusal.TheVariants.{Spent, EmitsFull};
+ghost use Rattle.flow_terms.specs.declared.refusal.Refusal.TheVariants.{Spent, EmitsFull};
 ghost use Rattle.futures.specs.Poll.{IfReady, OnPending};
 ghost use Rattle.futures.specs.Task.{IsArmed, Keeps};
 ghost use Rattle.shared_flow.specs.Parties.{IfTried, IfBegun, IfLeft, TriedUnder, BegunUnder, is_waiting};
-ghost use Rattle.shared_core.specs.declared.answers.Withdrawn.TheVariants as withdrawn;
+ghost use Rattle.flow_terms.specs.declared.answers.Withdrawn.TheVariants as withdrawn;
 
 use crate::access::Access;
 use crate::laws;
 use crate::receipt::Receipt;
 use crate::sleepers::Bed;
-use cold_flow::{Refusal, Word};
+use flow_terms::{Refusal, Word};
 use futures::task::{Context, Poll};
 use shared_core::{Begun, Emit, Ticket, Tried, Withdrawn};
 use std::marker::Model;

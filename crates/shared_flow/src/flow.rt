@@ -1,7 +1,7 @@
 //! An owner of a shared flow.
 
 ghost use Rattle.std.specs.Prelude.{◌≡◌, ◌⊎◌, ◌++◌, false, Some, IfOk, IfErr, IfSome, IfNone, IsOkUnless, OnErr};
-ghost use Rattle.cold_flow.specs.declared.refusal.Refusal.TheVariants.{Spent, SubscribersFull, NoMemory};
+ghost use Rattle.flow_terms.specs.declared.refusal.Refusal.TheVariants.{Spent, SubscribersFull, NoMemory};
 ghost use Rattle.shared_core.specs.Kept.{making_refusal};
 
 use crate::access::Access;
@@ -9,7 +9,7 @@ use crate::emitter::Emitter;
 use crate::laws;
 use crate::shared::Shared;
 use crate::subscription::Subscription;
-use cold_flow::{Refusal, Word};
+use flow_terms::{Refusal, Word};
 use shared_core::Config;
 use std::alloc::Global;
 use std::marker::Model;

@@ -4,7 +4,7 @@
 //! the flow shows the model after the call. Wakers of those whom a call helps are kept, and called once the lock is given back.
 
 ghost use Rattle.std.specs.Prelude.{◌≡◌, ◌⊎◌, ◌++◌, IfErr, IsOkUnless, OnOk, OnErr};
-ghost use Rattle.cold_flow.specs.declared.refusal.Refusal.TheVariants.{Spent, EmitsFull, SubscribersFull, NoMemory};
+ghost use Rattle.flow_terms.specs.declared.refusal.Refusal.TheVariants.{Spent, EmitsFull, SubscribersFull, NoMemory};
 ghost use Rattle.futures.specs.Task.{IsArmed, Keeps};
 ghost use Rattle.shared_core.specs.Flow.{cache, live_count};
 ghost use Rattle.shared_core.specs.Calls as calls;
@@ -14,7 +14,7 @@ ghost use Rattle.shared_flow.specs.Polls.{UnlessDone, UnlessValue};
 
 use crate::shared::Shared;
 use crate::sleepers::Bed;
-use cold_flow::Refusal;
+use flow_terms::Refusal;
 use futures::task::Context;
 use shared_core::{Begun, Emit, Next, SubId, Ticket, Tried, Withdrawn};
 

@@ -3,7 +3,7 @@
 ghost use Rattle.std.specs.Prelude.{◌≡◌};
 ghost use Rattle.shared_flow.specs.Parties.{IfTried, IfBegun, IfLeft, is_waiting};
 
-use cold_flow::Refusal;
+use flow_terms::Refusal;
 use shared_core::{Begun, Ticket, Tried, Withdrawn};
 
 /// An emission was accepted: whose it was, and its number, counted up from the flow's `first`.

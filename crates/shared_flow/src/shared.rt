@@ -10,7 +10,7 @@ ghost use Rattle.shared_flow.specs.Polls.{UnlessDone, UnlessValue};
 use crate::rule::Keyed;
 use crate::sleepers::{Bed, Sleepers};
 use crate::wakes::Wakes;
-use cold_flow::Refusal;
+use flow_terms::Refusal;
 use futures::task::{Context, Poll};
 use shared_core::{Config, Emit, Next, SharedState, SubId, Ticket};
 use std::alloc::Global;

@@ -7,7 +7,7 @@ ghost use Rattle.futures.specs.Task.{IsArmed, Keeps};
 use crate::access::Access;
 use crate::laws;
 use crate::sleepers::Bed;
-use cold_flow::Word;
+use flow_terms::Word;
 use futures::task::{Context, Poll};
 use shared_core::{Next, SubId};
 use std::marker::Model;

@@ -2,7 +2,7 @@
 use Rattle.std.proofs.Common.{◌≡◌, ℕ, ◌+◌, List, [], ◌∷◌, ◌++◌, length, refl, sym, ap, ◌∙◌}
 use mathlib.Core.Option.{some}
 use lib.ListN.{get_elem?}
-use Rattle.shared_core.specs.declared.answers.Tried.TheVariants.{Accepted}
+use Rattle.flow_terms.specs.declared.answers.Tried.TheVariants.{Accepted}
 use Rattle.lane_steps.specs.Law.{Entry}
 use Rattle.shared_lane.specs.Views.{SequencerSeen}
 use Rattle.shared_lane.specs.Places.{IsAccepted}

@@ -2,8 +2,8 @@
 use Rattle.std.proofs.Common.{rules, arith, ◌≡◌, ◌≢◌, ℕ, suc, List, [], ◌∷◌, length, true, false, true≢false, sym, refl}
 use Rattle.std.specs.Bool.{◌==◌}
 use Rattle.lane_steps.specs.declared.view.View.{View}
-use Rattle.cold_flow.specs.declared.policy.Policy.{Policy}
-use Rattle.cold_flow.specs.declared.policy.Policy.TheVariants.{Suspend, DropOldest, DropLatest}
+use Rattle.flow_terms.specs.declared.policy.Policy.{Policy}
+use Rattle.flow_terms.specs.declared.policy.Policy.TheVariants.{Suspend, DropOldest, DropLatest}
 use Rattle.shared_lane.specs.Views.{SequencerSeen}
 use Rattle.shared_lane.specs.Caches.{may_wait}
 use Rattle.shared_lane.specs.Sequencers.{RoundedBy}

@@ -8,8 +8,8 @@ use Rattle.shared_lane.proofs.Outstanding.{inside_some}
 use Rattle.circular_buffer.specs.Buffer.{keep_last}
 use Rattle.lane_steps.specs.declared.view.View.{View}
 use Rattle.lane_steps.specs.Law.{Begins}
-use Rattle.cold_flow.specs.declared.policy.Policy.{Policy}
-use Rattle.cold_flow.specs.declared.policy.Policy.TheVariants.{Suspend, DropOldest, DropLatest}
+use Rattle.flow_terms.specs.declared.policy.Policy.{Policy}
+use Rattle.flow_terms.specs.declared.policy.Policy.TheVariants.{Suspend, DropOldest, DropLatest}
 use Rattle.shared_lane.specs.Views.{SequencerSeen}
 use Rattle.shared_lane.specs.Surveys.{Round, FoundAt, Behind, cursor_loads}
 use Rattle.shared_lane.specs.declared.tickets.Waiting.{Waiting}

@@ -1,10 +1,10 @@
 -- How an emission stands whose ticket is polled.
 use Rattle.std.specs.Prelude.{◌≡◌, ◌≢◌, ◌⊎◌, ℕ, ◌<◌, List, length, slice_get, Some, true, false}
 use Rattle.std.specs.List.{remove}
-use Rattle.shared_core.specs.declared.answers.Emit.{Emit}
-use Rattle.shared_core.specs.declared.answers.Emit.TheVariants as emit
-use Rattle.shared_core.specs.declared.answers.Withdrawn.{Withdrawn}
-use Rattle.shared_core.specs.declared.answers.Withdrawn.TheVariants as withdrawn
+use Rattle.flow_terms.specs.declared.answers.Emit.{Emit}
+use Rattle.flow_terms.specs.declared.answers.Emit.TheVariants as emit
+use Rattle.flow_terms.specs.declared.answers.Withdrawn.{Withdrawn}
+use Rattle.flow_terms.specs.declared.answers.Withdrawn.TheVariants as withdrawn
 use Rattle.shared_lane.specs.Views.{SequencerSeen}
 use Rattle.shared_lane.specs.declared.tickets.Waiting.{Waiting}
 use Rattle.shared_lane.specs.declared.tickets.Standing.{Standing}

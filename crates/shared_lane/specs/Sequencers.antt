@@ -5,16 +5,16 @@ use Rattle.lane_steps.specs.declared.view.Shape.{Shape}
 use Rattle.lane_steps.specs.declared.view.View.{View}
 use Rattle.lane_steps.specs.Law.{Begins, Entry}
 use Rattle.lane_steps.specs.Steps.{next_number}
-use Rattle.cold_flow.specs.declared.policy.Policy.{Policy}
-use Rattle.cold_flow.specs.declared.policy.Policy.TheVariants.{Suspend, DropOldest, DropLatest}
+use Rattle.flow_terms.specs.declared.policy.Policy.{Policy}
+use Rattle.flow_terms.specs.declared.policy.Policy.TheVariants.{Suspend, DropOldest, DropLatest}
 use Rattle.shared_core.specs.declared.config.Config.{Config}
-use Rattle.cold_flow.specs.declared.refusal.Refusal.{Refusal}
-use Rattle.cold_flow.specs.declared.refusal.Refusal.TheVariants.{Spent, EmitsFull}
-use Rattle.shared_core.specs.declared.answers.Begun.{Begun}
-use Rattle.shared_core.specs.declared.answers.Begun.TheVariants as begun
-use Rattle.shared_core.specs.declared.answers.Tried.{Tried}
-use Rattle.shared_core.specs.declared.answers.Tried.TheVariants.{Accepted, Dropped, Full}
-use Rattle.shared_core.specs.declared.ids.Ticket.{Ticket}
+use Rattle.flow_terms.specs.declared.refusal.Refusal.{Refusal}
+use Rattle.flow_terms.specs.declared.refusal.Refusal.TheVariants.{Spent, EmitsFull}
+use Rattle.flow_terms.specs.declared.answers.Begun.{Begun}
+use Rattle.flow_terms.specs.declared.answers.Begun.TheVariants as begun
+use Rattle.flow_terms.specs.declared.answers.Tried.{Tried}
+use Rattle.flow_terms.specs.declared.answers.Tried.TheVariants.{Accepted, Dropped, Full}
+use Rattle.flow_terms.specs.declared.ids.Ticket.{Ticket}
 use Rattle.shared_lane.specs.Caches.{drops_values}
 use Rattle.shared_lane.specs.Views.{LaneSeen, SequencerSeen}
 use Rattle.shared_lane.specs.declared.tickets.Waiting.{Waiting}

@@ -1,7 +1,7 @@
 //! The sequencer, which alone accepts emissions.
 use crate::tickets::{Standing, Waiting};
 use circular_buffer::HeapCircularBuffer;
-use cold_flow::Policy;
+use flow_terms::Policy;
 use lane_steps::Place;
 use std::alloc::Allocator;
 use std::marker::Model;

@@ -10,7 +10,7 @@ use crate::flow::StateFlow;
 use crate::seat::StateSeat;
 use crate::view::View;
 use atomic_table::Seat;
-use cold_flow::Word;
+use flow_terms::Word;
 use futures::task::{Context, Poll};
 use std::alloc::{Allocator, Global};
 use std::marker::Model;

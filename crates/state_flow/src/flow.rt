@@ -1,13 +1,13 @@
 //! The two words that the seats of a state flow share.
 ghost use Rattle.std.specs.Prelude.{◌≡◌, ◌<◌, ◌≤◌, ◌⊎◌, ◌↔◌, IfOk, IfErr};
 ghost use Rattle.state_flow.specs.Views.{opening};
-ghost use Rattle.cold_flow.specs.declared.refusal.Refusal.TheVariants.{BadLimit, NoMemory};
+ghost use Rattle.flow_terms.specs.declared.refusal.Refusal.TheVariants.{BadLimit, NoMemory};
 
 use crate::plays::OneHistory;
 use crate::seat::StateSeat;
 use crate::view::View;
 use atomic_table::Table;
-use cold_flow::{Refusal, Word};
+use flow_terms::{Refusal, Word};
 use std::alloc::{Allocator, Global};
 use std::sync::Arc;
 

@@ -7,7 +7,7 @@ ghost use Rattle.state_flow.specs.declared.view.View.{View};
 ghost use Rattle.state_flow.specs.History.{Continues};
 ghost use Rattle.state_flow.specs.Law.{Rule, HasOneHistory};
 
-use cold_flow::Word;
+use flow_terms::Word;
 
 /// A law, with nothing to run. Between any two steps there is one value history, and each seat has seen it as it was after
 /// the seat's last step on the value. So of two seats the one with the later step has seen all that the other has. What each

@@ -1,7 +1,7 @@
 //! The law of the two words, and what each kind of step on them tells the seat that makes it.
 use crate::view::View;
 use atomic_table::{Join, Play, Split, TableRule};
-use cold_flow::Word;
+use flow_terms::Word;
 use std::marker::{Brand, PhantomData};
 
 /// The law of a flow that was made with a first value and a number of seats.

@@ -3,13 +3,13 @@ ghost use Rattle.std.specs.Prelude.{◌≡◌, ◌+◌, ◌<◌, ◌≤◌, ◌�
 ghost use Rattle.std.specs.Arc.{arc_value};
 ghost use Rattle.state_flow.specs.Views.{place_of, IsSeated, giver, taker};
 ghost use Rattle.state_flow.specs.Calls.{Reads, Sets, Compares, TakesBack, Counts, Begins};
-ghost use Rattle.cold_flow.specs.declared.refusal.Refusal.TheVariants.{SubscribersFull, NoMemory};
+ghost use Rattle.flow_terms.specs.declared.refusal.Refusal.TheVariants.{SubscribersFull, NoMemory};
 
 use crate::collector::Collector;
 use crate::flow::StateFlow;
 use crate::view::View;
 use atomic_table::Seat;
-use cold_flow::{Refusal, Word};
+use flow_terms::{Refusal, Word};
 use std::alloc::{Allocator, Global};
 use std::marker::{Brand, Model};
 use std::sync::Arc;

@@ -9,7 +9,7 @@ ghost use Rattle.cold_flow.specs.declared.cause.Cause.TheVariants.{Finished, Fai
 use crate::cause::Cause;
 use crate::event::Event;
 use crate::flow::Flow;
-use crate::refusal::Refusal;
+use flow_terms::Refusal;
 use crate::run::{Finite, Run};
 use futures::task::{Context, Poll};
 

@@ -11,7 +11,7 @@ ghost use Rattle.cold_flow.specs.Laws.{Unless-begins, Unless-over, begins-any};
 use crate::cause::Cause;
 use crate::event::Event;
 use crate::flow::Flow;
-use crate::refusal::Refusal;
+use flow_terms::Refusal;
 use crate::run::{Finite, Run};
 use futures::task::{Context, Poll};
 use std::marker::PhantomData;

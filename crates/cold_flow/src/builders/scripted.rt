@@ -8,7 +8,7 @@ ghost use Rattle.cold_flow.specs.Scripted.{played, never_pends};
 use crate::cause::Cause;
 use crate::event::Event;
 use crate::flow::Flow;
-use crate::refusal::Refusal;
+use flow_terms::Refusal;
 use crate::run::{Finite, Run};
 use futures::task::{Context, Poll};
 

@@ -7,7 +7,7 @@ ghost use Rattle.cold_flow.specs.declared.ends.collect.Gathering.TheVariants.{Go
 
 use crate::cause::Cause;
 use crate::event::Event;
-use crate::refusal::Refusal;
+use flow_terms::Refusal;
 use crate::run::{BUDGET, Run};
 use futures::task::{Context, Poll};
 use std::alloc::Global;

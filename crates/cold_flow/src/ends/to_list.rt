@@ -2,14 +2,14 @@
 
 ghost use Rattle.std.specs.Prelude.{◌≡◌, IfOk, IfErr, MatchResult};
 ghost use Rattle.futures.specs.Task.{Keeps};
-ghost use Rattle.cold_flow.specs.declared.refusal.Refusal.TheVariants.{NoMemory};
+ghost use Rattle.flow_terms.specs.declared.refusal.Refusal.TheVariants.{NoMemory};
 ghost use Rattle.cold_flow.specs.Trace.{ended_by};
 ghost use Rattle.cold_flow.specs.Poll.{Fixes};
 ghost use Rattle.cold_flow.specs.Polled.{GaveAll, GivesUp};
 
 use crate::ends::collect::Collected;
 use crate::event::Event;
-use crate::refusal::Refusal;
+use flow_terms::Refusal;
 use crate::run::Finite;
 use futures::task::{Context, Poll};
 use std::alloc::Global;

@@ -14,7 +14,7 @@ use crate::cause::Cause;
 use crate::event::Event;
 use crate::flow::Flow;
 use crate::operators::closing::Closing;
-use crate::refusal::Refusal;
+use flow_terms::Refusal;
 use crate::run::{Finite, Run};
 use futures::task::{Context, Poll};
 

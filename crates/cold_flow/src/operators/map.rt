@@ -10,7 +10,7 @@ ghost use Rattle.cold_flow.specs.Laws.{Through-begins, Through-fixed, map-monoto
 use crate::apply::Apply;
 use crate::event::Event;
 use crate::flow::Flow;
-use crate::refusal::Refusal;
+use flow_terms::Refusal;
 use crate::run::{Finite, Run};
 use futures::task::{Context, Poll};
 

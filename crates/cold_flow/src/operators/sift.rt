@@ -11,7 +11,7 @@ ghost use Rattle.cold_flow.specs.Laws.{Through-begins, Through-over};
 
 use crate::event::Event;
 use crate::flow::Flow;
-use crate::refusal::Refusal;
+use flow_terms::Refusal;
 use crate::run::{BUDGET, Finite, Run};
 use futures::task::{Context, Poll};
 

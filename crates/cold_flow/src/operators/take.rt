@@ -3,7 +3,7 @@
 ghost use Rattle.std.specs.Prelude.{◌≡◌, ◌<◌, IfOk, MatchResult, IsTrue, ◌||◌};
 ghost use Rattle.futures.specs.Poll.{OnPending};
 ghost use Rattle.futures.specs.declared.task.Poll.TheVariants.{Pending};
-ghost use Rattle.cold_flow.specs.declared.refusal.Refusal.TheVariants.{NotPositive};
+ghost use Rattle.flow_terms.specs.declared.refusal.Refusal.TheVariants.{NotPositive};
 ghost use Rattle.cold_flow.specs.Trace.{take_trace};
 ghost use Rattle.cold_flow.specs.Poll.{Through, Makes, MakesExactly, IsWithinPolls};
 ghost use Rattle.cold_flow.specs.Closing.{Following, given_cause, polls_left, and_one, is_open, is_prompt};
@@ -12,7 +12,7 @@ use crate::cause::Cause;
 use crate::event::Event;
 use crate::flow::Flow;
 use crate::operators::closing::Closing;
-use crate::refusal::Refusal;
+use flow_terms::Refusal;
 use crate::run::{Finite, Run};
 use futures::task::{Context, Poll};
 

@@ -12,7 +12,7 @@ use crate::apply::Apply;
 use crate::event::Event;
 use crate::flow::Flow;
 use crate::operators::few::Few;
-use crate::refusal::Refusal;
+use flow_terms::Refusal;
 use crate::run::{BUDGET, Finite, Run};
 use futures::task::{Context, Poll};
 

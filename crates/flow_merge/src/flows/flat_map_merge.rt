@@ -3,7 +3,7 @@
 ghost use Rattle.std.specs.Prelude.{◌≡◌, ◌+◌, ◌<◌, ◌≤◌, ◌↔◌, ◌⊎◌, true, false, [], None, IsSome, IsTrue, IfOk, IsOk, Err, ◌&&◌, vec_len};
 ghost use Rattle.futures.specs.Poll.{OnPending};
 ghost use Rattle.futures.specs.Task.{IsArmed, Keeps};
-ghost use Rattle.cold_flow.specs.declared.refusal.Refusal.TheVariants.{NotPositive, TooManyWorkers};
+ghost use Rattle.flow_terms.specs.declared.refusal.Refusal.TheVariants.{NotPositive, TooManyWorkers};
 ghost use Rattle.cold_flow.specs.Poll.{Unless, Within, Narrows};
 ghost use Rattle.flow_merge.specs.Combine.{OrFinished};
 ghost use Rattle.flow_merge.specs.Asking.{Asks};

@@ -2,7 +2,7 @@
 
 ghost use Rattle.std.specs.Prelude.{◌≡◌, IfOk};
 ghost use Rattle.script_pipes.specs.declared.answer.Answer.TheVariants.{Number};
-ghost use Rattle.script_pipes.specs.Replies.{tick_answer};
+ghost use Rattle.script_flows.specs.Ticks.{tick_answer};
 ghost use Rattle.flow_script.specs.Worlds.{make_share_step, unless_bound, admit_on, on_share, cached_answer, subscriber_next, subscriber_cancel};
 ghost use Rattle.flow_script.specs.Pictures.{Steps, StepsNoted, StepsOrRefused};
 

@@ -1,7 +1,7 @@
 //! States that are set from a source, and the polls of sharings.
 
 ghost use Rattle.std.specs.Prelude.{IfOk};
-ghost use Rattle.script_pipes.specs.Replies.{tick_answer};
+ghost use Rattle.script_flows.specs.Ticks.{tick_answer};
 ghost use Rattle.flow_script.specs.Worlds.{make_stated_step, on_stating, tick_step};
 ghost use Rattle.flow_script.specs.Pictures.{StepsNoted, StepsOrRefused};
 

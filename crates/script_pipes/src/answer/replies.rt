@@ -1,14 +1,12 @@
 //! The answers to what the calls of a flow replied.
 
 ghost use Rattle.std.specs.Prelude.{◌≡◌};
-ghost use Rattle.script_pipes.specs.Replies.{try_answer, emit_answer, poll_answer, withdraw_answer, subscribe_answer, collect_answer, next_answer, cancel_answer, fill_answer, take_answer, tick_answer};
+ghost use Rattle.script_pipes.specs.Replies.{try_answer, emit_answer, poll_answer, withdraw_answer, subscribe_answer, collect_answer, next_answer, cancel_answer, fill_answer, take_answer};
 
 use super::Answer;
-use crate::ticked::Ticked;
 use cold_flow::{Cause, Event, Refusal};
-use flow_buffer::Fill;
+use flow_terms::{Begun, Emit, Fill, Next, SubId, Ticket, Tried, Withdrawn};
 use futures::task::Poll;
-use shared_core::{Begun, Emit, Next, SubId, Ticket, Tried, Withdrawn};
 
 impl From<Result<Tried<u64>, Refusal>> for Answer {
     ghost from_gives = { λ tried answer. answer ≡ try_answer tried };
@@ -106,19 +104,6 @@ impl From<Fill> for Answer {
             Fill::Full => Answer::Full,
             Fill::Pending => Answer::Pending,
             Fill::Ended => Answer::Ended,
-        }
-    }
-}
-
-impl From<Ticked> for Answer {
-    ghost from_gives = { λ ticked answer. answer ≡ tick_answer ticked };
-
-    fn from(ticked: Ticked) -> Answer {
-        match ticked {
-            Ticked::On => Answer::On,
-            Ticked::Off => Answer::Off,
-            Ticked::Failed(fault) => Answer::Failed(fault),
-            Ticked::Refused(refusal) => Answer::Refused(refusal),
         }
     }
 }

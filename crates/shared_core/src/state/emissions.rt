@@ -6,12 +6,10 @@ ghost use Rattle.shared_core.specs.Accepting.{with_accepted, without_oldest_of, 
 ghost use Rattle.shared_core.specs.Calls as calls;
 ghost use Rattle.shared_core.specs.Shown.{Follows, Reads};
 
-use crate::answers::{Begun, Emit, Tried, Withdrawn};
 use crate::config::NUMBER_LIMIT;
-use crate::ids::Ticket;
 use crate::state::SharedState;
 use crate::tickets::{Accepted, Held, Waiting, held_at};
-use cold_flow::{Policy, Refusal};
+use flow_terms::{Begun, Emit, Policy, Refusal, Ticket, Tried, Withdrawn};
 
 /// What an emission comes to, before it is asked whether it may wait.
 #[derive(Clone, Copy)]

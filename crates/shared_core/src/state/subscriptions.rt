@@ -5,11 +5,9 @@ ghost use Rattle.shared_core.specs.Flow.{live_count};
 ghost use Rattle.shared_core.specs.Calls as calls;
 ghost use Rattle.shared_core.specs.Shown.{Follows, Reads, CountsPending};
 
-use crate::answers::Next;
 use crate::config::NUMBER_LIMIT;
-use crate::ids::SubId;
 use crate::state::SharedState;
-use cold_flow::Refusal;
+use flow_terms::{Next, Refusal, SubId};
 
 impl<T: Copy> SharedState<T> {
     /// A new subscription, which starts at the oldest value of the replay cache: Kotlin's `collect`, as it begins.

@@ -1,6 +1,6 @@
 //! How an emission is accepted: a round over the cursors that finds room, a store of the cell, a store of the tail.
 ghost use Rattle.std.specs.Prelude.{◌≡◌, ◌≢◌, ◌+◌, ◌<◌, ◌≤◌, [], length, drop, slice_get, Some, true};
-ghost use Rattle.cold_flow.specs.declared.policy.Policy.TheVariants.{Suspend};
+ghost use Rattle.flow_terms.specs.declared.policy.Policy.TheVariants.{Suspend};
 ghost use Rattle.lane_steps.specs.Steps.{IsRoomy};
 ghost use Rattle.shared_lane.specs.Caches.{emitter_at};
 ghost use Rattle.shared_lane.specs.Sequencers.{IsSequencerOf, IsSameSequencer, OnlyLoaded, Rounded, HasNumber, HasTicketNumber, HasFreeTicket, next, seen, accepted_on, stood_on, waited, Settled, IsStuck};
@@ -9,7 +9,7 @@ use super::Sequencer;
 use crate::lane::Lane;
 use crate::survey::{load_cursors, make_room};
 use crate::tickets::{Standing, Waiting};
-use cold_flow::Policy;
+use flow_terms::Policy;
 use std::alloc::Allocator;
 
 impl<A: Allocator> Sequencer<A> {

@@ -1,11 +1,11 @@
 //! Emissions begin.
 ghost use Rattle.std.specs.Prelude.{◌≡◌, ◌≢◌, ◌+◌, ◌<◌, [], length, IfOk, IfErr};
-ghost use Rattle.cold_flow.specs.declared.policy.Policy.TheVariants.{Suspend};
+ghost use Rattle.flow_terms.specs.declared.policy.Policy.TheVariants.{Suspend};
 ghost use Rattle.shared_lane.specs.Sequencers.{IsSequencerOf, IsSameSequencer, HasNumber, HasTicketNumber, TriedOn, RefusedTry, BegunOn, RefusedStart, AfterScan};
 
 use super::Sequencer;
 use crate::lane::Lane;
-use cold_flow::{Policy, Refusal};
+use flow_terms::{Policy, Refusal};
 use shared_core::{Begun, Ticket, Tried};
 use std::alloc::Allocator;
 

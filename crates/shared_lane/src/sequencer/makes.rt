@@ -7,7 +7,7 @@ ghost use Rattle.shared_lane.specs.Sequencers.{IsSequencerOf, IsFresh};
 use super::Sequencer;
 use crate::lane::Lane;
 use circular_buffer::HeapCircularBuffer;
-use cold_flow::{Policy, Refusal};
+use flow_terms::{Policy, Refusal};
 use lane_steps::{Shape, Words};
 use shared_core::Config;
 use std::alloc::Allocator;

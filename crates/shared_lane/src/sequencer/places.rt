@@ -11,7 +11,7 @@ use crate::lane::Lane;
 use crate::reader::Reader;
 use crate::receipt::Receipt;
 use crate::survey::{find_closed, load_cursors};
-use cold_flow::Refusal;
+use flow_terms::Refusal;
 use std::alloc::Allocator;
 
 impl<A: Allocator> Sequencer<A> {

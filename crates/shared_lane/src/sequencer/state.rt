@@ -1,10 +1,10 @@
 //! What the sequencer knows without a step on the words.
 ghost use Rattle.std.specs.Prelude.{◌≡◌, ◌≢◌, ◌+◌, ◌<◌, ◌≤◌, [], length, max, true, false};
-ghost use Rattle.cold_flow.specs.declared.policy.Policy.TheVariants.{Suspend};
+ghost use Rattle.flow_terms.specs.declared.policy.Policy.TheVariants.{Suspend};
 ghost use Rattle.shared_lane.specs.Sequencers.{next, HasNumber, HasTicketNumber, HasFreeTicket};
 
 use super::Sequencer;
-use cold_flow::Policy;
+use flow_terms::Policy;
 use std::alloc::Allocator;
 
 /// Numbers stay below this.

@@ -10,7 +10,7 @@ use super::StateFlow;
 use crate::plays::{Begin, Compare, Cut, End, Gather, Look, Merge, Part, Put, Tally};
 use crate::view::View;
 use atomic_table::Seat;
-use cold_flow::Word;
+use flow_terms::Word;
 use std::alloc::Allocator;
 
 impl<T: Word, A: Allocator> StateFlow<T, A> {

@@ -1,5 +1,5 @@
 use Rattle.std.proofs.Common.{rules, refl}
-use Rattle.cold_flow.specs.declared.policy.Policy.TheVariants.{DropOldest}
+use Rattle.flow_terms.specs.declared.policy.Policy.TheVariants.{DropOldest}
 use Rattle.flow_buffer.proofs.Deliveries.{gives_latest}
 use Rattle.flow_buffer.proofs.making.conflate.Goals as goal
 

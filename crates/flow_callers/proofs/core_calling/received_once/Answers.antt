@@ -1,8 +1,8 @@
 -- What the model answers to these calls, one after another.
 use Rattle.std.proofs.Common.{◌≡◌, ℕ, Ok, Result, ap, ◌∙◌, refl}
-use Rattle.cold_flow.specs.declared.refusal.Refusal.{Refusal}
-use Rattle.shared_core.specs.declared.ids.SubId.{SubId}
-use Rattle.shared_core.specs.declared.answers.Next.TheVariants as next
+use Rattle.flow_terms.specs.declared.refusal.Refusal.{Refusal}
+use Rattle.flow_terms.specs.declared.ids.SubId.{SubId}
+use Rattle.flow_terms.specs.declared.answers.Next.TheVariants as next
 use Rattle.shared_core.specs.Flow.{State, Parameters, suspend, empty, pending, has_room, live_count, waiting_count, settle}
 use Rattle.shared_core.specs.Calls.{subscribe, try_emit, next_value}
 use Rattle.flow_callers.proofs.core_calling.received_once.Goals as goal

@@ -3,8 +3,8 @@ use Rattle.std.proofs.lemmas.Result.{IfOk-weaker}
 use Rattle.flow_sharing.specs.declared.course.Course.{Course}
 use Rattle.flow_sharing.specs.declared.course.Course.TheVariants.{Idle}
 use Rattle.flow_sharing.specs.declared.polled.Polled.{Polled}
-use Rattle.flow_sharing.specs.declared.started.Started.{Started}
-use Rattle.flow_sharing.specs.declared.started.Started.TheVariants.{Eagerly}
+use Rattle.flow_terms.specs.declared.started.Started.{Started}
+use Rattle.flow_terms.specs.declared.started.Started.TheVariants.{Eagerly}
 use Rattle.flow_sharing.specs.Strategies.{Look}
 use Rattle.flow_sharing.specs.Polls.{answer}
 use Rattle.flow_sharing.specs.Courses.{kept_cause}

@@ -1,5 +1,5 @@
 use Rattle.std.proofs.Common.{rules, ◌≡◌, IfErr, subst, sym}
-use Rattle.cold_flow.specs.declared.refusal.Refusal.TheVariants.{Spent}
+use Rattle.flow_terms.specs.declared.refusal.Refusal.TheVariants.{Spent}
 use Rattle.shared_core.specs.Calls.{trying}
 use Rattle.shared_flow.proofs.Configs.{stays}
 use Rattle.shared_flow.specs.Guarded.{Guarded}

@@ -1,6 +1,6 @@
 use Rattle.std.proofs.Common.{refl}
 use Rattle.std.specs.Vec.{with_item}
-use Rattle.script_pipes.specs.Replies.{tick_answer}
+use Rattle.script_flows.specs.Ticks.{tick_answer}
 use Rattle.flow_script.specs.Worlds.{plain}
 use Rattle.flow_script.proofs.Shares.{no_share, on_the_share}
 use Rattle.flow_script.proofs.runner.Runner.tick_share.Goals as goal

@@ -1,6 +1,6 @@
 use Rattle.std.proofs.Common.{refl}
 use Rattle.std.specs.Vec.{with_item}
-use Rattle.script_pipes.specs.Replies.{tick_answer}
+use Rattle.script_flows.specs.Ticks.{tick_answer}
 use Rattle.flow_script.specs.Worlds.{plain}
 use Rattle.flow_script.proofs.Ticks.{no_stating, on_the_stating}
 use Rattle.flow_script.proofs.runner.Runner.tick_stating.Goals as goal

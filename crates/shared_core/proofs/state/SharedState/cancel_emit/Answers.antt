@@ -4,7 +4,7 @@ use Rattle.std.proofs.lemmas.Option.{slice_get_within}
 use Rattle.std.specs.List.{remove}
 use Rattle.shared_core.specs.declared.tickets.Held.{Held}
 use Rattle.shared_core.specs.declared.tickets.Accepted.{Accepted}
-use Rattle.shared_core.specs.declared.answers.Withdrawn.TheVariants as withdrawn
+use Rattle.flow_terms.specs.declared.answers.Withdrawn.TheVariants as withdrawn
 use Rattle.shared_core.specs.Calls.{cancel_emit}
 use Rattle.shared_core.specs.Queues.{Queued}
 use Rattle.shared_core.specs.Shown.{Seen, Follows}

@@ -5,7 +5,7 @@ use Rattle.std.specs.List.{All, remove}
 use Rattle.shared_core.specs.declared.config.Config.{Config}
 use Rattle.shared_core.specs.declared.tickets.Held.{Held}
 use Rattle.shared_core.specs.declared.tickets.Accepted.{Accepted}
-use Rattle.shared_core.specs.declared.answers.Emit.TheVariants as emit
+use Rattle.flow_terms.specs.declared.answers.Emit.TheVariants as emit
 use Rattle.shared_core.specs.Calls.{poll_emit}
 use Rattle.shared_core.specs.Queues.{Queued}
 use Rattle.shared_core.specs.Shown.{Seen, Follows}

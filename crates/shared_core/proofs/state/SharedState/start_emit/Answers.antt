@@ -1,5 +1,5 @@
 use Rattle.std.proofs.Common.{◌≡◌, ◌≢◌, ◌∙◌, ◌+◌, ◌-◌, ℕ, Bool, true, false, not, eqb, Ok, inl, inr, ap, sym, refl, subst}
-use Rattle.shared_core.specs.declared.answers.Begun.TheVariants as begun
+use Rattle.flow_terms.specs.declared.answers.Begun.TheVariants as begun
 use Rattle.shared_core.specs.Flow.{number_limit, stands}
 use Rattle.shared_core.specs.Calls.{start_emit, handed_over, held_up}
 use Rattle.shared_core.specs.Shown.{Seen, Follows}

@@ -1,5 +1,5 @@
 use Rattle.std.proofs.Common.{◌∙◌, ⊎_elim, Ok, sym, refl, subst}
-use Rattle.shared_core.specs.declared.answers.Tried.TheVariants as tried
+use Rattle.flow_terms.specs.declared.answers.Tried.TheVariants as tried
 use Rattle.shared_core.specs.Calls.{dropped, handed_over, held_up}
 use Rattle.shared_core.specs.Accepting.{HasFate}
 use Rattle.shared_core.proofs.Emitting.{try_spent, try_enters, try_pushes, try_stays, within_limit}

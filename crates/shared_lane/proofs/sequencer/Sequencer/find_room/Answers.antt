@@ -2,8 +2,8 @@ use Rattle.std.proofs.Common.{◌≡◌, ◌≤◌, ℕ, List, length, not, Bool
 use Rattle.lane_steps.specs.declared.view.View.{View}
 use Rattle.lane_steps.specs.declared.view.Shape.{Shape}
 use Rattle.lane_steps.specs.Steps.{IsRoomy, next_number}
-use Rattle.cold_flow.specs.declared.policy.Policy.{Policy}
-use Rattle.cold_flow.specs.declared.policy.Policy.TheVariants.{Suspend, DropOldest, DropLatest}
+use Rattle.flow_terms.specs.declared.policy.Policy.{Policy}
+use Rattle.flow_terms.specs.declared.policy.Policy.TheVariants.{Suspend, DropOldest, DropLatest}
 use Rattle.shared_lane.specs.Views.{LaneSeen, SequencerSeen, sequencer_of}
 use Rattle.shared_lane.specs.Sequencers.{RoundedBy}
 use Rattle.shared_lane.specs.Surveys.{Round, FoundAt, Behind}

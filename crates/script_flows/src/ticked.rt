@@ -1,10 +1,11 @@
 //! What a tick comes to.
 
 ghost use Rattle.std.specs.Prelude.{◌≡◌};
-ghost use Rattle.script_pipes.specs.Ticks.{ticked, turned};
+ghost use Rattle.script_flows.specs.Ticks.{ticked, turned, tick_answer};
 
 use cold_flow::{Cause, Refusal};
 use flow_sharing::Polled;
+use script_pipes::Answer;
 
 /// What one poll of a sharing comes to.
 #[derive(Clone, Copy, Debug, PartialEq, Eq)]
@@ -36,5 +37,18 @@ impl Ticked {
         ensures { result ≡ turned on }
     {
         if on { Ticked::On } else { Ticked::Off }
+    }
+}
+
+impl From<Ticked> for Answer {
+    ghost from_gives = { λ ticked answer. answer ≡ tick_answer ticked };
+
+    fn from(ticked: Ticked) -> Answer {
+        match ticked {
+            Ticked::On => Answer::On,
+            Ticked::Off => Answer::Off,
+            Ticked::Failed(fault) => Answer::Failed(fault),
+            Ticked::Refused(refusal) => Answer::Refused(refusal),
+        }
     }
 }

@@ -1,8 +1,5 @@
 //! What filling a buffer once did.
 
-ghost use Rattle.std.specs.Prelude.{◌≡◌};
-ghost use Rattle.flow_buffer.specs.Sides.{is_loss};
-
 /// What filling a buffer once did.
 #[derive(Clone, Copy, Debug, PartialEq, Eq)]
 pub enum Fill {
@@ -18,13 +15,4 @@ pub enum Fill {
     Pending,
     /// The source has ended. So it is at every later call.
     Ended,
-}
-
-impl Fill {
-    // Whether a value was dropped.
-    pub(crate) fn is_loss(self) -> bool
-        ensures { result ≡ is_loss self }
-    {
-        matches!(self, Fill::Overwrote | Fill::Dropped)
-    }
 }

@@ -1,5 +1,5 @@
 use Rattle.std.proofs.Common.{rules}
-use Rattle.cold_flow.proofs.refusal.Refusal.number.Goals as goal
+use Rattle.flow_terms.proofs.refusal.Refusal.number.Goals as goal
 
 -- A wrong body makes this false: so answered, it is refused at once.
 pub returns-in-TooManyWorkers : goal.returns-in-TooManyWorkers

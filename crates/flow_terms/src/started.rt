@@ -1,6 +1,4 @@
 //! When a sharing is on: Kotlin's `SharingStarted`.
-ghost use Rattle.std.specs.Prelude.{◌≡◌};
-ghost use Rattle.flow_sharing.specs.Strategies.{expires};
 
 /// When the upstream of a sharing is collected, by the moments of its polls and the live subscriptions that they found:
 /// Kotlin's `SharingStarted`. Moments and spans are whole milliseconds.
@@ -17,19 +15,4 @@ pub enum Started {
         /// How long after the stop the replay cache is reset, None for never: `replayExpirationMillis`.
         expire: Option<u64>,
     },
-}
-
-impl Started {
-    // Whether the replay cache is reset once there has been no subscription for so long.
-    pub(crate) fn expires(self, lasted: u64) -> bool
-        ensures { result ≡ expires self lasted }
-    {
-        match self {
-            Started::WhileSubscribed {
-                stop,
-                expire: Some(expire),
-            } => stop <= lasted && expire <= lasted - stop,
-            _ => false,
-        }
-    }
 }

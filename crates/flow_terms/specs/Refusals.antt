@@ -1,6 +1,6 @@
 use Rattle.std.specs.Prelude.{ℕ}
-use Rattle.cold_flow.specs.declared.refusal.Refusal.{Refusal}
-use Rattle.cold_flow.specs.declared.refusal.Refusal.TheVariants.{TooLarge, PolicyNeedsBuffer, BadLimit, NoMemory, SubscribersFull, EmitsFull, Spent, NotPositive, TooManyWorkers}
+use Rattle.flow_terms.specs.declared.refusal.Refusal.{Refusal}
+use Rattle.flow_terms.specs.declared.refusal.Refusal.TheVariants.{TooLarge, PolicyNeedsBuffer, BadLimit, NoMemory, SubscribersFull, EmitsFull, Spent, NotPositive, TooManyWorkers}
 
 -- the number under which a refusal is printed
 abbrev pub number_of : Refusal → ℕ

@@ -2,15 +2,17 @@
 use Rattle.std.specs.Prelude.{◌≡◌, ℕ, Bool, true, false, ◌∷◌, Option, Some, None, Result, Ok, Err}
 use Rattle.cold_flow.specs.declared.cause.Cause.{Cause}
 use Rattle.cold_flow.specs.declared.cause.Cause.TheVariants as causes
-use Rattle.cold_flow.specs.declared.refusal.Refusal.{Refusal}
-use Rattle.cold_flow.specs.declared.refusal.Refusal.TheVariants.{NoMemory}
+use Rattle.flow_terms.specs.declared.refusal.Refusal.{Refusal}
+use Rattle.flow_terms.specs.declared.refusal.Refusal.TheVariants.{NoMemory}
 use Rattle.flow_sharing.specs.declared.polled.Polled.{Polled}
 use Rattle.flow_sharing.specs.declared.strategy.Strategy.{Strategy}
 use Rattle.flow_sharing.specs.Strategies.{History}
 use Rattle.flow_sharing.specs.Shown.{Shows}
 use Rattle.flow_sharing.specs.Polls.{answer}
-use Rattle.script_pipes.specs.declared.ticked.Ticked.{Ticked}
-use Rattle.script_pipes.specs.declared.ticked.Ticked.TheVariants.{On, Off, Failed, Refused}
+use Rattle.script_pipes.specs.declared.answer.Answer.{Answer}
+use Rattle.script_pipes.specs.declared.answer.Answer.TheVariants as answers
+use Rattle.script_flows.specs.declared.ticked.Ticked.{Ticked}
+use Rattle.script_flows.specs.declared.ticked.Ticked.TheVariants.{On, Off, Failed, Refused}
 
 abbrev pub turned : Bool → Ticked
 turned true = On
@@ -28,6 +30,13 @@ ended_by (Some (causes.Refused refusal)) on = Refused refusal
 abbrev pub ticked : Result Polled Refusal → Option (Cause ℕ) → Ticked
 ticked (Ok polled) fault = ended_by fault polled.on
 ticked (Err refusal) fault = Refused refusal
+
+-- what the runner answers
+abbrev pub tick_answer : Ticked → Answer
+tick_answer On = answers.On
+tick_answer Off = answers.Off
+tick_answer (Failed fault) = answers.Failed fault
+tick_answer (Refused refusal) = answers.Refused refusal
 
 -- The poll's answer is the one that all polls so far ask for. Refused is the start of the source alone, and then the
 -- strategy is as before.
