@@ -4,10 +4,8 @@
 //! written, where the command line is no engine.
 #![tactic(auto)]
 
-use clap::error::ErrorKind;
-use clap::{Arg, Command};
 use flow_script::{Engine, ScriptFault, run_script};
-use std::alloc::Global;
+use runner_arguments::{ArgumentsFault, EngineName, engine_name};
 use std::io::{BufWriter, Write};
 use std::process::ExitCode;
 use std::{env, io};
@@ -20,18 +18,12 @@ enum Stop {
     Fault(ScriptFault),
 }
 
-/// The engine that the command line names.
-fn engine_of(alloc: Global, words: &[String]) -> Result<Engine, Stop> {
-    let engine = Arg::new(alloc, "engine").value_parser(["core"].as_slice());
-    let Ok(command) = Command::new(alloc, "flow_runner").arg(engine) else {
-        return Err(Stop::Fault(ScriptFault::NoMemory));
-    };
-    match command.try_get_matches_from(words) {
-        Ok(_) => Ok(Engine::Core),
-        Err(error) => match error.kind() {
-            ErrorKind::OutOfMemory => Err(Stop::Fault(ScriptFault::NoMemory)),
-            _ => Err(Stop::Usage),
-        },
+impl From<ArgumentsFault> for Stop {
+    fn from(fault: ArgumentsFault) -> Stop {
+        match fault {
+            ArgumentsFault::Usage => Stop::Usage,
+            ArgumentsFault::NoMemory => Stop::Fault(ScriptFault::NoMemory),
+        }
     }
 }
 
@@ -50,7 +42,9 @@ fn asked_engine(rt: &HostRuntime) -> Result<Engine, Stop> {
     let Ok(words) = words.collect::<Vec<String>>(alloc) else {
         return Err(Stop::Fault(ScriptFault::NoMemory));
     };
-    engine_of(alloc, words.as_slice())
+    match engine_name(alloc, words.as_slice())? {
+        EngineName::Core => Ok(Engine::Core),
+    }
 }
 
 /// Names the fault on standard error, and gives the status of such an end.
@@ -73,8 +67,11 @@ fn main(rt: HostRuntime) -> ExitCode {
         return status_of(&rt, Stop::Fault(ScriptFault::NoMemory));
     };
     let ran = run_script(&rt, &mut rt.reader(), &mut writer, engine);
-    // A script that ended early leaves the answers of the lines before in the buffer.
-    let _ = writer.flush();
+    // A script that ended early leaves the answers of the lines before in the buffer; after a write that failed, nothing
+    // more is written.
+    if ran != Err(ScriptFault::Write) {
+        let _ = writer.flush();
+    }
     match ran {
         Ok(()) => ExitCode::SUCCESS,
         Err(fault) => status_of(&rt, Stop::Fault(fault)),

@@ -17,7 +17,7 @@ mod tickets;
 
 pub use call::{Call, Reply};
 pub use config::Config;
-pub use flow_terms::{Begun, Emit, Next, SubId, Ticket, Tried, Withdrawn};
+pub use flow_terms::{Begun, Emit, Next, Policy, Refusal, SubId, Ticket, Tried, Withdrawn};
 pub use headline::each_subscription_receives_cache_then_later;
 pub use laws::each_subscription_has_its_story;
 pub use state::SharedState;

@@ -50,5 +50,6 @@ mod wakes;
 
 pub use emitter::Emitter;
 pub use flow::SharedFlow;
+pub use flow_terms::{Refusal, Word};
 pub use receipt::Receipt;
 pub use subscription::Subscription;

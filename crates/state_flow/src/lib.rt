@@ -57,6 +57,7 @@ mod view;
 
 pub use collector::Collector;
 pub use flow::StateFlow;
+pub use flow_terms::{Refusal, Word};
 pub use law::one_history;
 pub use seat::StateSeat;
 pub use view::View;
