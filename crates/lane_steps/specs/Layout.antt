@@ -11,9 +11,13 @@ tail_word = 0
 unfoldable pub cursor_word : ℕ → ℕ
 cursor_word p = DISTANCE + DISTANCE * p
 
+-- the index of the number n's cell among the cells
+unfoldable pub cell_index : Shape → ℕ → ℕ
+cell_index key n = n % key.cells
+
 -- the cell of the number n
 unfoldable pub cell_word : Shape → ℕ → ℕ
-cell_word key n = DISTANCE + DISTANCE * key.places + n % key.cells
+cell_word key n = DISTANCE + DISTANCE * key.places + cell_index key n
 
 -- how many words there are
 unfoldable pub width : Shape → ℕ

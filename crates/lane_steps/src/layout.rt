@@ -7,8 +7,8 @@
 //!
 //! The tail and each cursor have `D` words to themselves ([`DISTANCE`]), since different threads write them. The cells
 //! are written by the sequencer alone, in order, and lie side by side.
-ghost use Rattle.std.specs.Prelude.{◌≡◌, ◌<◌, ◌≤◌};
-ghost use Rattle.lane_steps.specs.Layout.{cursor_word, cell_word, width};
+ghost use Rattle.std.specs.Prelude.{◌≡◌, ℕ, ◌+◌, ◌<◌, ◌≤◌};
+ghost use Rattle.lane_steps.specs.Layout.{cursor_word, cell_index, cell_word, width};
 
 use crate::view::Shape;
 
@@ -25,14 +25,34 @@ pub(crate) fn cursor_at(place: usize) -> usize
     DISTANCE + DISTANCE * place
 }
 
-/// The word of the cell for a number.
+/// The word of the cell at an index, which is that of each number with this index.
 #[tactic(auto, unfolding(crate::specs::Layout::cell_word))]
-pub(crate) fn cell_at(shape: &Shape, number: u64) -> usize
-    requires cells { 0 < shape.now.cells }
+pub(crate) fn cell_at(shape: &Shape, cell: usize) -> usize
+    requires cell { cell < shape.now.cells }
     requires sized { (shape.now.cells ≤ 65536) × (shape.now.places ≤ 1024) }
-    ensures { result ≡ cell_word shape.now number }
+    ensures { (n : ℕ) → cell ≡ cell_index shape.now n → result ≡ cell_word shape.now n }
 {
-    DISTANCE + DISTANCE * shape.places + (number % shape.cells as u64) as usize
+    DISTANCE + DISTANCE * shape.places + cell
+}
+
+/// The index of a number's cell, by a division.
+#[tactic(auto, unfolding(crate::specs::Layout::cell_index))]
+pub(crate) fn index_in(shape: &Shape, number: u64) -> usize
+    requires { (0 < shape.now.cells) × (shape.now.cells ≤ 65536) }
+    ensures { result ≡ cell_index shape.now number }
+{
+    (number % shape.cells as u64) as usize
+}
+
+/// The index after one, which is that of the next number's cell.
+pub(crate) fn index_after(shape: &Shape, cell: usize) -> usize
+    requires { 0 < shape.now.cells }
+    ensures { (n : ℕ) → cell ≡ cell_index shape.now n → result ≡ cell_index shape.now (n + 1) }
+{
+    if cell >= shape.cells - 1 {
+        return 0;
+    }
+    cell + 1
 }
 
 /// How many words a table of this shape has.

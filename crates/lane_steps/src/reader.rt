@@ -1,6 +1,6 @@
 //! The steps of a reader.
 ghost use Rattle.std.specs.Prelude.{◌≡◌, ◌+◌, ◌%◌, ◌<◌, true};
-ghost use Rattle.lane_steps.specs.Layout.{cursor_word, cell_word};
+ghost use Rattle.lane_steps.specs.Layout.{cursor_word, cell_index, cell_word};
 ghost use Rattle.lane_steps.specs.Seats.{IsSeatOf, IsSameSeat};
 ghost use Rattle.lane_steps.specs.Steps.{position, next_number, Noticed, Picked, Took, Looked, HasQuit};
 
@@ -20,15 +20,16 @@ impl<A: Allocator> Words<A> {
         self.table.shared.load::<Notice>(seat, 0)
     }
 
-    /// Loads the cell of the reader's position `at`.
-    pub fn load_cell(&self, seat: &mut Place, at: u64) -> u64
+    /// Loads the cell of the reader's position, which has the index `cell`.
+    pub fn load_cell(&self, seat: &mut Place, cell: usize) -> u64
         requires seat { IsSeatOf self.now seat.old × (seat.old.me.0.reading.active ≡ true) }
-        requires position { (at ≡ position seat.old.me.0.reading) × (at < next_number seat.old.me.0) }
+        requires cell { cell ≡ cell_index self.now.shape (position seat.old.me.0.reading) }
+        requires position { position seat.old.me.0.reading < next_number seat.old.me.0 }
         ensures seat { IsSameSeat seat.old seat.new }
-        ensures view { Picked (cell_word self.now.shape at) seat.old.me.0 result seat.new.me.0 }
+        ensures view { Picked (cell_word self.now.shape (position seat.old.me.0.reading)) seat.old.me.0 result seat.new.me.0 }
     {
-        let cell = cell_at(&self.shape, at);
-        self.table.shared.load::<Pick>(seat, cell)
+        let word = cell_at(&self.shape, cell);
+        self.table.shared.load::<Pick>(seat, word)
     }
 
     /// Moves the reader's cursor from `at` up by one, where it still stands there, and returns what it found.

@@ -2,7 +2,7 @@
 ghost use Rattle.std.specs.Prelude.{◌≡◌, ℕ, ◌+◌, ◌%◌, ◌<◌, ◌≤◌, true, false};
 ghost use mathlib.Core.Option.{some};
 ghost use lib.ListN.{get_elem?};
-ghost use Rattle.lane_steps.specs.Layout.{cursor_word};
+ghost use Rattle.lane_steps.specs.Layout.{cursor_word, cell_index};
 ghost use Rattle.lane_steps.specs.Seats.{IsSeatOf, IsSameSeat};
 ghost use Rattle.lane_steps.specs.Steps.{next_number, known_of, IsRoomy, Surveyed, Filled, Accepted, Dropped, Opened, Met};
 
@@ -23,26 +23,28 @@ impl<A: Allocator> Words<A> {
         self.table.shared.load::<Survey>(seat, cursor_at(place))
     }
 
-    fn fill<E: Told>(&self, seat: &mut Place, tail: u64, emitter: u32, word: u64)
+    fn fill<E: Told>(&self, seat: &mut Place, cell: usize, emitter: u32, word: u64)
         requires told { E.number ≡ emitter }
-        requires seat { IsSeatOf self.now seat.old × (seat.old.me.0.sequencing.active ≡ true) × (tail ≡ next_number seat.old.me.0) }
+        requires seat { IsSeatOf self.now seat.old × (seat.old.me.0.sequencing.active ≡ true) }
+        requires cell { cell ≡ cell_index self.now.shape (next_number seat.old.me.0) }
         requires room { IsRoomy self.now.shape.cells seat.old.me.0 }
         ensures seat { IsSameSeat seat.old seat.new }
         ensures view { Filled emitter word seat.old.me.0 seat.new.me.0 }
     {
         let _emitter = emitter;
-        let cell = cell_at(&self.shape, tail);
-        self.table.shared.store::<Fill<E>>(seat, cell, word);
+        let at = cell_at(&self.shape, cell);
+        self.table.shared.store::<Fill<E>>(seat, at, word);
     }
 
-    /// Stores the word of the next emission in its cell.
-    pub fn store_cell(&self, seat: &mut Place, tail: u64, emitter: u32, word: u64)
-        requires seat { IsSeatOf self.now seat.old × (seat.old.me.0.sequencing.active ≡ true) × (tail ≡ next_number seat.old.me.0) }
+    /// Stores the word of the next emission in its cell, which has the index `cell`.
+    pub fn store_cell(&self, seat: &mut Place, cell: usize, emitter: u32, word: u64)
+        requires seat { IsSeatOf self.now seat.old × (seat.old.me.0.sequencing.active ≡ true) }
+        requires cell { cell ≡ cell_index self.now.shape (next_number seat.old.me.0) }
         requires room { IsRoomy self.now.shape.cells seat.old.me.0 }
         ensures seat { IsSameSeat seat.old seat.new }
         ensures view { Filled emitter word seat.old.me.0 seat.new.me.0 }
     {
-        self.fill::<Brand>(seat, tail, emitter, word);
+        self.fill::<Brand>(seat, cell, emitter, word);
     }
 
     /// Stores the tail, and so accepts the emission in flight.

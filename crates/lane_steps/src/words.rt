@@ -1,9 +1,9 @@
 //! The table with the lane's words.
 ghost use Rattle.std.specs.Prelude.{◌≡◌, ℕ, ◌+◌, ◌<◌, ◌≤◌, ◌^◌, [], length, slice_index, IfOk};
-ghost use Rattle.lane_steps.specs.Layout.{tail_word, cursor_word, width};
+ghost use Rattle.lane_steps.specs.Layout.{tail_word, cursor_word, cell_index, width};
 ghost use Rattle.lane_steps.specs.Law.{closed, opening_view, IsShape};
 
-use crate::layout::word_count;
+use crate::layout::{index_after, index_in, word_count};
 use crate::rule::{LaneRule, Place};
 use crate::view::{Shape, View};
 use atomic_table::Table;
@@ -48,5 +48,33 @@ impl<A: Allocator> Words<A> {
             &shape,
         )?;
         Ok((Words { table, shape }, seat))
+    }
+
+    /// The index of a number's cell, by a division.
+    #[inline]
+    pub fn index_of(&self, number: u64) -> usize
+        ensures { result ≡ cell_index self.now.shape number }
+    {
+        index_in(&self.shape, number)
+    }
+
+    /// The index of a number's cell, where that of `from` is known: without a division where both numbers are one.
+    #[inline]
+    pub fn index_from(&self, from: u64, cell: usize, number: u64) -> usize
+        requires { cell ≡ cell_index self.now.shape from }
+        ensures { result ≡ cell_index self.now.shape number }
+    {
+        if number == from {
+            return cell;
+        }
+        self.index_of(number)
+    }
+
+    /// The index of the next number's cell, which is counted up.
+    #[inline]
+    pub fn next_index(&self, cell: usize) -> usize
+        ensures { (n : ℕ) → cell ≡ cell_index self.now.shape n → result ≡ cell_index self.now.shape (n + 1) }
+    {
+        index_after(&self.shape, cell)
     }
 }
