@@ -3,18 +3,20 @@ use Rattle.std.specs.Prelude.{◌≡◌, ℕ, ◌+◌, ◌≤◌, ◌<◌, [], l
 use Rattle.atomic_table.specs.declared.shared.Seat.{Seat}
 use Rattle.lane_steps.specs.declared.view.View.{View}
 use Rattle.lane_steps.specs.Law.{received}
+use Rattle.lane_steps.specs.Layout.{cell_index}
 use Rattle.lane_steps.specs.Steps.{position, next_number}
 use Rattle.shared_lane.specs.Views.{SequencerSeen}
 use Rattle.shared_lane.specs.Caches.{drops_values, may_wait, AreAccepted, IsLastOf}
 
 -- a reader's seat, and the numbers that it keeps beside it
-pub record IsReading (seat : Seat (Unit {0}) View) (place start at taken : ℕ) : Type 0 where
+pub record IsReading (seat : Seat (Unit {0}) View) (place start at cell taken : ℕ) : Type 0 where
   pub active : seat.me.0.reading.active ≡ true
   pub holds_no_slot : seat.me.1 ≡ []
   pub place_is : seat.me.0.reading.place ≡ place
   pub inside : place < seat.me.0.shape.places
   pub start_is : seat.me.0.reading.start ≡ start
   pub at_is : at ≡ position seat.me.0.reading
+  pub cell_is : cell ≡ cell_index seat.me.0.shape at
   pub taken_is : taken ≡ length (received start seat.me.0.reading.story)
 
 -- what is true of what contracts see of a sequencer
@@ -35,10 +37,11 @@ pub record IsSound (q : SequencerSeen) : Type 0 where
   pub stands : AreAccepted q.view.shape.first q.view.seen q.standing
   pub cached : IsLastOf q.view.seen q.cache
 
--- a sequencer's seat, its copy of the tail, and the room of its tables
-pub record IsSequencing (q : SequencerSeen) (seat : Seat (Unit {0}) View) (tail waiting_room standing_room : ℕ) : Type 0 where
+-- a sequencer's seat, its copy of the tail, the index of the tail's cell, and the room of its tables
+pub record IsSequencing (q : SequencerSeen) (seat : Seat (Unit {0}) View) (tail cell waiting_room standing_room : ℕ) : Type 0 where
   pub sound : IsSound q
   pub holds_no_slot : seat.me.1 ≡ []
   pub tail_is : tail ≡ next_number q.view
+  pub cell_is : cell ≡ cell_index q.view.shape tail
   pub room_to_wait : q.emits ≤ waiting_room
   pub room_to_stand : q.emits ≤ standing_room

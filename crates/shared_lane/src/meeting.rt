@@ -42,6 +42,7 @@ pub fn meet<A: Allocator, B: Allocator>(
     words.join_reading(&mut sequencer.seat, part);
     let at = words.meet_cursor(&mut sequencer.seat, reader.place);
     reader.seat = words.split_reading(&mut sequencer.seat);
+    reader.cell = words.index_from(reader.at, reader.cell, at);
     reader.at = at;
     Met {
         accepted: sequencer.tail - reader.start,

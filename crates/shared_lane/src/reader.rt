@@ -28,6 +28,8 @@ pub struct Reader {
     pub(crate) start: u64,
     // The number of the next value, as it has seen it.
     pub(crate) at: u64,
+    // The index of that value's cell: counted up, so that a receipt needs no division.
+    pub(crate) cell: usize,
     // How many values it received.
     pub(crate) taken: u64,
 }
@@ -40,5 +42,5 @@ impl Model for Reader {
 
     ghost view = { λ r. reader_of r.seat };
 
-    ghost invariant = { λ r. IsReading r.seat r.place r.start r.at r.taken };
+    ghost invariant = { λ r. IsReading r.seat r.place r.start r.at r.cell r.taken };
 }

@@ -25,6 +25,8 @@ pub struct Sequencer<A: Allocator> {
     pub(crate) seat: Place,
     // The number of the next emission, as in the word that it alone stores.
     pub(crate) tail: u64,
+    // The index of that emission's cell: counted up, so that an emission needs no division.
+    cell: usize,
     policy: Policy,
     // How many values a reader may have pending; 0 where emissions are handed over.
     capacity: u64,
@@ -51,5 +53,5 @@ impl<A: Allocator> Model for Sequencer<A> {
 
     ghost view = { λ q. sequencer_of q.seat q.policy q.capacity q.cache.capacity q.emits q.cache.items q.waiting.items q.standing.items q.ticket q.subscription };
 
-    ghost invariant = { λ q. IsSequencing (sequencer_of q.seat q.policy q.capacity q.cache.capacity q.emits q.cache.items q.waiting.items q.standing.items q.ticket q.subscription) q.seat q.tail (vec_capacity q.waiting) (vec_capacity q.standing) };
+    ghost invariant = { λ q. IsSequencing (sequencer_of q.seat q.policy q.capacity q.cache.capacity q.emits q.cache.items q.waiting.items q.standing.items q.ticket q.subscription) q.seat q.tail q.cell (vec_capacity q.waiting) (vec_capacity q.standing) };
 }

@@ -12,8 +12,8 @@ use lane_steps::Place;
 use std::alloc::Allocator;
 
 impl Reader {
-    pub(crate) fn at_start(seat: Place, place: usize, start: u64) -> Reader
-        requires { IsReading seat place start start 0 }
+    pub(crate) fn at_start(seat: Place, place: usize, start: u64, cell: usize) -> Reader
+        requires { IsReading seat place start start cell 0 }
         ensures { result ≡ reader_of seat }
     {
         Reader {
@@ -21,6 +21,7 @@ impl Reader {
             place,
             start,
             at: start,
+            cell,
             taken: 0,
         }
     }
@@ -37,18 +38,22 @@ impl Reader {
     {
         let words = lane.words();
         let at = words.load_own(&mut self.seat, self.place);
+        let cell = words.index_from(self.at, self.cell, at);
         self.at = at;
+        self.cell = cell;
         let tail = words.load_tail(&mut self.seat);
         if tail == at {
             return Taken::Nothing;
         }
-        let word = words.load_cell(&mut self.seat, at);
+        let word = words.load_cell(&mut self.seat, cell);
         let found = words.receive(&mut self.seat, self.place, at);
         if found != at {
             self.at = found;
+            self.cell = words.index_of(found);
             return Taken::Overtaken;
         }
         self.at = at + 1;
+        self.cell = words.next_index(cell);
         self.taken += 1;
         Taken::Value(word)
     }
@@ -98,6 +103,7 @@ impl Reader {
             place,
             start: _,
             at: _,
+            cell: _,
             taken: _,
         } = self;
         lane.words().quit(&mut seat, place);

@@ -40,9 +40,10 @@ impl<A: Allocator> Sequencer<A> {
     {
         let words = lane.words();
         let number = self.tail;
-        words.store_cell(&mut self.seat, number, emitter, word);
+        words.store_cell(&mut self.seat, self.cell, emitter, word);
         words.store_tail(&mut self.seat, number + 1);
         self.tail = number + 1;
+        self.cell = words.next_index(self.cell);
         self.cache.push_back(word);
         number
     }

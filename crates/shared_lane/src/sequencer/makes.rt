@@ -43,6 +43,7 @@ impl<A: Allocator + Clone> Lane<A> {
             drops: drops(config.policy),
         };
         let (words, seat) = Words::new(alloc.clone()?, shape)?;
+        let cell = words.index_of(config.first);
         let emits = config.emits as usize;
         let waiting = Vec::with_capacity(alloc.clone()?, emits)?;
         let standing = Vec::with_capacity(alloc.clone()?, emits)?;
@@ -50,6 +51,7 @@ impl<A: Allocator + Clone> Lane<A> {
         let sequencer = Sequencer {
             seat,
             tail: config.first,
+            cell,
             policy: config.policy,
             capacity,
             cache,

@@ -45,7 +45,7 @@ impl<A: Allocator> Sequencer<A> {
         words.open(&mut self.seat, place, start);
         let seat = words.hand_out(&mut self.seat, place);
         self.subscription += 1;
-        Ok(Reader::at_start(seat, place, start))
+        Ok(Reader::at_start(seat, place, start, words.index_of(start)))
     }
 
     /// A receipt for an emission that was accepted. It takes no memory.

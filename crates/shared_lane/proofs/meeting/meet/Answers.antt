@@ -2,23 +2,30 @@ use Rattle.std.proofs.Common.{arith, ◌≡◌, ℕ, ◌-◌, ◌<◌, ◌≤◌
 use Rattle.lane_steps.specs.declared.view.View.{View}
 use Rattle.lane_steps.specs.declared.view.Reading.{Reading}
 use Rattle.lane_steps.specs.declared.view.Shape.{Shape}
+use Rattle.lane_steps.specs.Layout.{cell_index}
 use Rattle.lane_steps.specs.Law.{Entry, Begins, received, lost}
 use Rattle.lane_steps.specs.Steps.{position, found_at, next_number}
 use Rattle.shared_lane.specs.Views.{LaneSeen, ReaderSeen, SequencerSeen}
 use Rattle.shared_lane.proofs.Stories.{position_found, received_none, each_once}
 use Rattle.shared_lane.proofs.meeting.meet.Goals as goal
 
+pub index_from-reader-inside-requires : goal.index_from-reader-inside-requires
+index_from-reader-inside-requires g c = let s = c.reader.inside in let of_lane = ap (λ (z : ReaderSeen). z.shape) c.reader.view_is ∙ (c.requires.1.1 ∙ sym (ap (λ (z : LaneSeen). z.shape) c.words-words.ensures)) in
+    c.reader.invariant.cell_is ∙ ap (λ (z : Shape). cell_index z s.at) of_lane
+
 pub invariant_of-reader : goal.invariant_of-reader
 invariant_of-reader g c = let s = c.reader.inside in let inv = c.reader.invariant in let r : Reading = s.seat.me.0.reading in let n : ℕ = c.meet_cursor-at.result in let part = ap (λ m. m.0.reading) c.split_reading-part.ensures.reader.1 in
     let join = ap (λ (v : View). v.reading) c.join_reading.ensures.1 ∙ part in let met = c.meet_cursor-at.ensures.view in let le : position r ≤ n = subst (λ (z : Reading). position z ≤ n) join met.4 in
     let e : c.split_reading.result.me.0.reading ≡ found_at n r = ap (λ m. m.0.reading) c.split_reading.ensures.reader.1 ∙ (ap (λ (v : View). v.reading) met.0 ∙ ap (found_at n) join) in
-    let shape : c.split_reading.result.me.0.shape ≡ s.seat.me.0.shape = ap (λ m. m.0.shape) c.split_reading.ensures.reader.1 ∙ (ap (λ (v : View). v.shape) met.0 ∙ (ap (λ (v : View). v.shape) c.join_reading.ensures.1 ∙ (ap (λ (q : SequencerSeen). q.view.shape) c.sequencer.view_is ∙ c.requires.0.1 ∙ sym c.requires.1.1 ∙ sym (ap (λ (z : ReaderSeen). z.shape) c.reader.view_is)))) in record {
+    let shape : c.split_reading.result.me.0.shape ≡ s.seat.me.0.shape = ap (λ m. m.0.shape) c.split_reading.ensures.reader.1 ∙ (ap (λ (v : View). v.shape) met.0 ∙ (ap (λ (v : View). v.shape) c.join_reading.ensures.1 ∙ (ap (λ (q : SequencerSeen). q.view.shape) c.sequencer.view_is ∙ c.requires.0.1 ∙ sym c.requires.1.1 ∙ sym (ap (λ (z : ReaderSeen). z.shape) c.reader.view_is)))) in
+    let of_lane : s.seat.me.0.shape ≡ c.words-words.result.now.shape = ap (λ (z : ReaderSeen). z.shape) c.reader.view_is ∙ (c.requires.1.1 ∙ sym (ap (λ (z : LaneSeen). z.shape) c.words-words.ensures)) in record {
       active = ap (λ (x : Reading). x.active) e ∙ inv.active;
       holds_no_slot = ap (λ m. m.1) c.split_reading.ensures.reader.1;
       place_is = ap (λ (x : Reading). x.place) e ∙ inv.place_is;
       inside = subst (λ (z : Shape). s.place < z.places) (sym shape) inv.inside;
       start_is = ap (λ (x : Reading). x.start) e ∙ inv.start_is;
       at_is = sym (ap position e ∙ position_found n r le);
+      cell_is = c.index_from-reader-inside.ensures ∙ ap (λ (z : Shape). cell_index z n) (sym (shape ∙ of_lane));
       taken_is = inv.taken_is ∙ sym (ap (λ (x : Reading). length (received s.start x.story)) e ∙ received_none s.start (n - position r) r.story);
     }
 

@@ -3,19 +3,32 @@ use Rattle.lane_steps.specs.declared.view.View.{View}
 use Rattle.lane_steps.specs.declared.view.Reading.{Reading}
 use Rattle.lane_steps.specs.declared.view.Shape.{Shape}
 use Rattle.lane_steps.specs.Law.{Entry, HasWord, received}
+use Rattle.lane_steps.specs.Layout.{cell_index}
 use Rattle.lane_steps.specs.Steps.{position, got, found_at, picked_up}
+use Rattle.shared_lane.specs.Views.{LaneSeen, ReaderSeen}
 use Rattle.shared_lane.proofs.Stories.{position_found, found_twice, received_none, received_one, each_once}
 use Rattle.shared_lane.proofs.reader.Reader.try_next.Goals as goal
 
+pub index_from-cell-requires : goal.index_from-cell-requires
+index_from-cell-requires g c = let s = c.self.inside in let of_lane = ap (λ (z : ReaderSeen). z.shape) c.self.view_is ∙ (c.requires.1 ∙ sym (ap (λ (z : LaneSeen). z.shape) c.words-words.ensures)) in
+    c.self.invariant.cell_is ∙ ap (λ (z : Shape). cell_index z s.at) of_lane
+
+pub load_cell-word-requires-clause-cell : goal.load_cell-word-requires-clause-cell
+load_cell-word-requires-clause-cell g c = let r : Reading = c.self.inside.seat.me.0.reading in let n : ℕ = c.load_own-at.result in let own = c.load_own-at.ensures in let tail = c.load_tail-tail.ensures in
+    let e = ap (λ (v : View). v.reading) tail.view.0 ∙ ap (λ (v : View). v.reading) own.view.0 in
+    c.index_from-cell.ensures ∙ ap (λ (z : ℕ). cell_index c.words-words.result.now.shape z) (sym (ap position e ∙ position_found n r own.view.1))
+
 pub invariant_of-self : goal.invariant_of-self
 invariant_of-self g c = let s = c.self.inside in let inv = c.self.invariant in let r : Reading = s.seat.me.0.reading in let n : ℕ = c.load_own-at.result in let own = c.load_own-at.ensures in let tail = c.load_tail-tail.ensures in
-    let e = ap (λ (v : View). v.reading) tail.view.0 ∙ ap (λ (v : View). v.reading) own.view.0 in let shape = ap (λ (v : View). v.shape) tail.view.0 ∙ ap (λ (v : View). v.shape) own.view.0 in record {
+    let e = ap (λ (v : View). v.reading) tail.view.0 ∙ ap (λ (v : View). v.reading) own.view.0 in let shape = ap (λ (v : View). v.shape) tail.view.0 ∙ ap (λ (v : View). v.shape) own.view.0 in
+    let of_lane : s.seat.me.0.shape ≡ c.words-words.result.now.shape = ap (λ (z : ReaderSeen). z.shape) c.self.view_is ∙ (c.requires.1 ∙ sym (ap (λ (z : LaneSeen). z.shape) c.words-words.ensures)) in record {
       active = ap (λ (x : Reading). x.active) e ∙ inv.active;
       holds_no_slot = tail.seat.2 ∙ own.seat.2 ∙ inv.holds_no_slot;
       place_is = ap (λ (x : Reading). x.place) e ∙ inv.place_is;
       inside = subst (λ (z : Shape). s.place < z.places) (sym shape) inv.inside;
       start_is = ap (λ (x : Reading). x.start) e ∙ inv.start_is;
       at_is = sym (ap position e ∙ position_found n r own.view.1);
+      cell_is = c.index_from-cell.ensures ∙ ap (λ (z : Shape). cell_index z n) (sym (shape ∙ of_lane));
       taken_is = inv.taken_is ∙ sym (ap (λ (x : Reading). length (received s.start x.story)) e ∙ received_none s.start (n - position r) r.story);
     }
 
@@ -26,12 +39,14 @@ invariant_of-self-then-found-at g c = let s = c.self.inside in let inv = c.self.
     let e4 = ap (λ (v : View). v.reading) miss.0 ∙ ap (found_at m) e3 in let pos = position_found n r own.view.1 in let p : ℕ = position r in let le = own.view.1 in
     let above : n < m = subst (λ (z : ℕ). z < m) (ap position e3 ∙ pos) miss.1 in
     let shape = ap (λ (v : View). v.shape) miss.0 ∙ ap (λ (v : View). v.shape) cell.view ∙ ap (λ (v : View). v.shape) tail.view.0 ∙ ap (λ (v : View). v.shape) own.view.0 in
-    let story = ap (λ (x : Reading). x.story) e4 ∙ (ap (λ (z : ℕ). (r.story ++ replicate (n - p) false) ++ replicate (m - z) false) pos ∙ found_twice p n m r.story le (omega arith)) in record {
+    let story = ap (λ (x : Reading). x.story) e4 ∙ (ap (λ (z : ℕ). (r.story ++ replicate (n - p) false) ++ replicate (m - z) false) pos ∙ found_twice p n m r.story le (omega arith)) in
+    let of_lane : s.seat.me.0.shape ≡ c.words-words.result.now.shape = ap (λ (z : ReaderSeen). z.shape) c.self.view_is ∙ (c.requires.1 ∙ sym (ap (λ (z : LaneSeen). z.shape) c.words-words.ensures)) in record {
       active = ap (λ (x : Reading). x.active) e4 ∙ inv.active;
       holds_no_slot = got'.seat.2 ∙ cell.seat.2 ∙ tail.seat.2 ∙ own.seat.2 ∙ inv.holds_no_slot;
       place_is = ap (λ (x : Reading). x.place) e4 ∙ inv.place_is;
       inside = subst (λ (z : Shape). s.place < z.places) (sym shape) inv.inside;
       start_is = ap (λ (x : Reading). x.start) e4 ∙ inv.start_is;
+      cell_is = c.index_of-self-inside.ensures ∙ ap (λ (z : Shape). cell_index z m) (sym (shape ∙ of_lane));
       at_is = sym (ap position e4 ∙ position_found m (picked_up c.load_cell-word.result (found_at n r)) (subst (λ (z : ℕ). z ≤ m) (sym pos) (omega arith)));
       taken_is = inv.taken_is ∙ sym (ap (λ (l : List Bool). length (received s.start l)) story ∙ received_none s.start (m - p) r.story);
     }
@@ -58,13 +73,15 @@ invariant_of-self-2 g c = let s = c.self.inside in let inv = c.self.invariant in
     let e4 = ap (λ (v : View). v.reading) hit.0 ∙ ap got e3 in let pos = position_found n r own.view.1 in let p : ℕ = position r in
     let shape = ap (λ (v : View). v.shape) hit.0 ∙ ap (λ (v : View). v.shape) cell.view ∙ ap (λ (v : View). v.shape) tail.view.0 ∙ ap (λ (v : View). v.shape) own.view.0 in
     let bs : List Bool = r.story ++ replicate (n - p) false in let longer : length (bs ++ true ∷ []) ≡ length bs + 1 = Rattle.std.proofs.Common.length-append bs (true ∷ []) in
-    let there : position (got (found_at n r)) ≡ n + 1 = omega arith in record {
+    let there : position (got (found_at n r)) ≡ n + 1 = omega arith in
+    let of_lane : s.seat.me.0.shape ≡ c.words-words.result.now.shape = ap (λ (z : ReaderSeen). z.shape) c.self.view_is ∙ (c.requires.1 ∙ sym (ap (λ (z : LaneSeen). z.shape) c.words-words.ensures)) in record {
       active = ap (λ (x : Reading). x.active) e4 ∙ inv.active;
       holds_no_slot = got'.seat.2 ∙ cell.seat.2 ∙ tail.seat.2 ∙ own.seat.2 ∙ inv.holds_no_slot;
       place_is = ap (λ (x : Reading). x.place) e4 ∙ inv.place_is;
       inside = subst (λ (z : Shape). s.place < z.places) (sym shape) inv.inside;
       start_is = ap (λ (x : Reading). x.start) e4 ∙ inv.start_is;
       at_is = sym (ap position e4 ∙ there);
+      cell_is = c.next_index-self-inside.ensures n c.index_from-cell.ensures ∙ ap (λ (z : Shape). cell_index z (n + 1)) (sym (shape ∙ of_lane));
       taken_is = ap (λ (z : ℕ). z + 1) (inv.taken_is ∙ sym (received_none s.start (n - p) r.story)) ∙ sym (ap (λ (x : Reading). length (received s.start x.story)) e4 ∙ received_one s.start bs);
     }
 

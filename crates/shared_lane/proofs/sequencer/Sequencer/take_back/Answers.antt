@@ -14,6 +14,7 @@ invariant_of-self g c = let s = c.self.inside in let inv = c.self.invariant in l
   sound = subst (λ l. IsSound (sequencer_of s.seat s.policy s.capacity s.cache.capacity s.emits s.cache.items s.waiting.items l s.ticket s.subscription)) (sym c.remove.ensures.items) (sound_given_back c.args.index q inv.sound);
   holds_no_slot = inv.holds_no_slot;
   tail_is = inv.tail_is;
+  cell_is = inv.cell_is;
   room_to_wait = inv.room_to_wait;
   room_to_stand = grind (arith, common_steps);
 }
