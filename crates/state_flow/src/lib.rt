@@ -42,6 +42,11 @@
 //! }
 //! ```
 //!
+//! # What a collector does that finds nothing new
+//! It yields: [`poll_next`](Collector::poll_next) is pending and asks to be polled again at once, and
+//! [`try_next`](Collector::try_next) answers nothing. Nobody wakes a collector, so a task that polls one without end keeps a
+//! processor busy. Pause between two asks, for as long as the value may be late; what was set meanwhile is conflated.
+//!
 //! # What is not claimed
 //! That a value which another thread sets is seen by any time, or by whom first: two seats that never met know of one
 //! history, and of one order of the steps on it, but not where in it the other is. Nor that a pending collector's task is
