@@ -56,7 +56,7 @@ fn main(rt: HostRuntime) -> io::Result<ExitCode> {
             Ok(ExitCode::SUCCESS)
         }
         Err(refusal) => {
-            eprintln!(rt; "refused: {refusal:?}")?;
+            eprintln!(rt; "refused: {refusal}")?;
             Ok(ExitCode::FAILURE)
         }
     }

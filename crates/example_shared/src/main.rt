@@ -1,9 +1,8 @@
 //! A shared flow between two threads: one emits, the other receives, and sleeps while nothing is there.
 #![tactic(auto)]
 
-use cold_flow::{Policy, Refusal};
 use futures::task::{Doorbell, Poll, Queue};
-use shared_core::{Config, Tried};
+use shared_core::{Config, Policy, Refusal, Tried};
 use shared_flow::{SharedFlow, Subscription};
 use std::alloc::AllocGlobal;
 use std::process::ExitCode;
@@ -91,7 +90,7 @@ fn main(rt: HostRuntime) -> io::Result<ExitCode> {
             Ok(ExitCode::SUCCESS)
         }
         Err(refusal) => {
-            eprintln!(rt; "refused: {refusal:?}")?;
+            eprintln!(rt; "refused: {refusal}")?;
             Ok(ExitCode::FAILURE)
         }
     }

@@ -1,8 +1,7 @@
 //! A state flow between two threads: one sets it, the other watches it.
 #![tactic(auto)]
 
-use cold_flow::Refusal;
-use state_flow::{StateFlow, StateSeat};
+use state_flow::{Refusal, StateFlow, StateSeat};
 use std::alloc::AllocGlobal;
 use std::process::ExitCode;
 use std::rt::Clock;
@@ -77,7 +76,7 @@ fn main(rt: HostRuntime) -> io::Result<ExitCode> {
             Ok(ExitCode::SUCCESS)
         }
         Err(refusal) => {
-            eprintln!(rt; "refused: {refusal:?}")?;
+            eprintln!(rt; "refused: {refusal}")?;
             Ok(ExitCode::FAILURE)
         }
     }
