@@ -7,8 +7,8 @@ ghost use Rattle.flow_terms.specs.declared.refusal.Refusal.TheVariants.{NoMemory
 ghost use Rattle.cold_flow.specs.Trace.{Trace, ended_by};
 ghost use Rattle.cold_flow.specs.Poll.{Within, IsWithinPolls};
 
-use flow_terms::Refusal;
 use crate::run::Run;
+use flow_terms::Refusal;
 
 /// A cold flow, Kotlin's `Flow`: it can be collected any number of times, each time by a run of its own.
 ///

@@ -15,9 +15,9 @@ ghost use Rattle.flow_buffer.specs.Sides.{saturated};
 ghost use Rattle.flow_buffer.specs.Stored.{Shows};
 
 use crate::ending::Ending;
-use flow_terms::Fill;
 use crate::store::Store;
 use cold_flow::{Cause, Event, Finite, Run};
+use flow_terms::Fill;
 use futures::task::{Context, Poll};
 
 /// The run of a buffer in one task: its source's run, and the values that were produced and not yet taken.

@@ -9,9 +9,9 @@ ghost use Rattle.flow_terms.specs.declared.fill.Fill.TheVariants.{Pending};
 ghost use Rattle.flow_buffer.specs.Sides.{saturated, drops};
 ghost use Rattle.flow_buffer.specs.Feed.{Pumps};
 
-use flow_terms::Fill;
 use crate::inlet::Inlet;
 use cold_flow::{Cause, Event, Run};
+use flow_terms::Fill;
 use futures::task::{Context, Poll};
 use std::sync::Wait;
 

@@ -7,10 +7,10 @@ ghost use Rattle.flow_buffer.specs.Channel.{feed_side, Agree};
 ghost use Rattle.flow_buffer.specs.Sides.{Feeding, may_drop, saturated, drops, is_loss, Filled};
 
 use crate::drain::Drain;
-use flow_terms::Fill;
 use crate::rule::{Agreeing, Together};
 use crate::steps::{Knowledge, Receiver, Sender, put, send};
 use cold_flow::{Cause, Event, Policy};
+use flow_terms::Fill;
 use std::marker::Model;
 use std::sync::Wait;
 

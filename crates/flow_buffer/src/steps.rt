@@ -8,11 +8,11 @@ ghost use Rattle.flow_buffer.specs.Channel.{Sends, Overwrites, Takes, Looks, fee
 ghost use Rattle.flow_buffer.specs.Sides.{WasFull, Filled, may_drop};
 ghost use Rattle.flow_buffer.specs.History.{DropsOne};
 
-use flow_terms::Fill;
 use crate::rule::{Buffering, Missed, Missing, Overwriting, Sending, Taking};
 use crate::side::Side;
 use cold_flow::{Event, Policy};
 use crossbeam_channel::{Pass, RuledReceiver, RuledSender, TrySendError};
+use flow_terms::Fill;
 use std::marker::Brand;
 use std::sync::Wait;
 

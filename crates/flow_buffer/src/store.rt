@@ -6,9 +6,9 @@ ghost use Rattle.flow_buffer.specs.declared.ending.Ending.TheVariants.{Going};
 ghost use Rattle.flow_buffer.specs.Stored.{IsStuck, Puts, Gets, one_more};
 
 use crate::ending::Ending;
-use flow_terms::Fill;
 use circular_buffer::HeapCircularBuffer;
 use cold_flow::Policy;
+use flow_terms::Fill;
 use std::alloc::{AllocError, Global};
 
 /// The ring of a buffer in one task, with its counts and its end.

@@ -4,8 +4,8 @@ ghost use Rattle.flow_sharing.specs.Strategies.{commands, look_of};
 ghost use Rattle.flow_sharing.specs.Shown.{Shows};
 
 use crate::command::Command;
-use flow_terms::Started;
 use crate::strategy::Strategy;
+use flow_terms::Started;
 
 /// Hands these polls, each a moment and a count, to a new strategy, and writes down what each one commands: what
 /// the definition says of the list of all polls up to that one.

@@ -6,10 +6,10 @@ ghost use Rattle.flow_sharing.specs.Shown.{Shows};
 
 use crate::outlet::Outlet;
 use crate::sharing::Sharing;
-use flow_terms::Started;
 use crate::strategy::Strategy;
 use crate::upstream::Upstream;
 use cold_flow::{Flow, Refusal, Word};
+use flow_terms::Started;
 use shared_flow::SharedFlow;
 use std::sync::Wait;
 

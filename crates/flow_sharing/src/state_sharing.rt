@@ -14,11 +14,11 @@ ghost use Rattle.flow_sharing.specs.StateSharings.{Takes, Obeys, Acts};
 
 use crate::command::Command;
 use crate::polled::Polled;
-use flow_terms::Started;
 use crate::strategy::Strategy;
 use crate::turn::Turn;
 use crate::upstream::Upstream;
 use cold_flow::{Cause, Flow, Refusal, Word};
+use flow_terms::Started;
 use futures::task::{Context, Poll};
 use state_flow::StateSeat;
 use std::alloc::{Allocator, Global};

@@ -9,8 +9,8 @@ ghost use Rattle.cold_flow.specs.declared.cause.Cause.TheVariants.{Finished, Fai
 use crate::cause::Cause;
 use crate::event::Event;
 use crate::flow::Flow;
-use flow_terms::Refusal;
 use crate::run::{Finite, Run};
+use flow_terms::Refusal;
 use futures::task::{Context, Poll};
 
 /// The flow of `of` and `failing`.

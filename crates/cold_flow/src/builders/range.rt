@@ -11,8 +11,8 @@ ghost use Rattle.cold_flow.specs.Laws.{Unless-begins, Unless-over, begins-any};
 use crate::cause::Cause;
 use crate::event::Event;
 use crate::flow::Flow;
-use flow_terms::Refusal;
 use crate::run::{Finite, Run};
+use flow_terms::Refusal;
 use futures::task::{Context, Poll};
 use std::marker::PhantomData;
 

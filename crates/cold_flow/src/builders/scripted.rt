@@ -8,8 +8,8 @@ ghost use Rattle.cold_flow.specs.Scripted.{played, never_pends};
 use crate::cause::Cause;
 use crate::event::Event;
 use crate::flow::Flow;
-use flow_terms::Refusal;
 use crate::run::{Finite, Run};
+use flow_terms::Refusal;
 use futures::task::{Context, Poll};
 
 /// One step of a flow that is given step by step.

@@ -7,8 +7,8 @@ ghost use Rattle.cold_flow.specs.declared.ends.collect.Gathering.TheVariants.{Go
 
 use crate::cause::Cause;
 use crate::event::Event;
-use flow_terms::Refusal;
 use crate::run::{BUDGET, Run};
+use flow_terms::Refusal;
 use futures::task::{Context, Poll};
 use std::alloc::Global;
 use std::mem;

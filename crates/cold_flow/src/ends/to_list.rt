@@ -9,8 +9,8 @@ ghost use Rattle.cold_flow.specs.Polled.{GaveAll, GivesUp};
 
 use crate::ends::collect::Collected;
 use crate::event::Event;
-use flow_terms::Refusal;
 use crate::run::Finite;
+use flow_terms::Refusal;
 use futures::task::{Context, Poll};
 use std::alloc::Global;
 

@@ -14,8 +14,8 @@ use crate::cause::Cause;
 use crate::event::Event;
 use crate::flow::Flow;
 use crate::operators::closing::Closing;
-use flow_terms::Refusal;
 use crate::run::{Finite, Run};
+use flow_terms::Refusal;
 use futures::task::{Context, Poll};
 
 /// What `catch_with` makes of a failure.

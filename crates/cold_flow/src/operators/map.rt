@@ -10,8 +10,8 @@ ghost use Rattle.cold_flow.specs.Laws.{Through-begins, Through-fixed, map-monoto
 use crate::apply::Apply;
 use crate::event::Event;
 use crate::flow::Flow;
-use flow_terms::Refusal;
 use crate::run::{Finite, Run};
+use flow_terms::Refusal;
 use futures::task::{Context, Poll};
 
 /// The flow of `map`, and its run over a run of the source.

@@ -11,8 +11,8 @@ ghost use Rattle.cold_flow.specs.Laws.{Through-begins, Through-over};
 
 use crate::event::Event;
 use crate::flow::Flow;
-use flow_terms::Refusal;
 use crate::run::{BUDGET, Finite, Run};
+use flow_terms::Refusal;
 use futures::task::{Context, Poll};
 
 /// Which values an operator passes on, and as what.

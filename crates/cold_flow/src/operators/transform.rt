@@ -12,8 +12,8 @@ use crate::apply::Apply;
 use crate::event::Event;
 use crate::flow::Flow;
 use crate::operators::few::Few;
-use flow_terms::Refusal;
 use crate::run::{BUDGET, Finite, Run};
+use flow_terms::Refusal;
 use futures::task::{Context, Poll};
 
 /// The flow of `transform`.
