@@ -23,7 +23,8 @@
 //! | cell | stores, before the tail | |
 //! | cursor | stores, to open a closed one; exchanges, to drop a value | exchanges, to receive; stores, to close |
 //!
-//! Each function makes one atomic step, and its contract says what that did to the [`View`] of the seat that made it.
+//! Each function makes one atomic step, and its contract says what that did to the [`View`] of the seat that made it; but
+//! `index_of`, `index_from` and `next_index` touch no word and find the index of a number's cell.
 #![tactic(auto)]
 
 mod layout;
