@@ -16,7 +16,7 @@ const DONE: u64 = 100;
 /// What the watching thread came to.
 #[derive(Clone, Copy)]
 struct Watched {
-    last: u64,
+    last: Option<u64>,
     /// Whether each value was above the one before.
     rose: bool,
 }
@@ -37,19 +37,19 @@ fn work<R: Clock>(rt: &R, mut seat: StateSeat<u64>) {
 fn watch<R: Clock + Wait>(rt: &R, seat: StateSeat<u64>) -> Watched {
     let mut collector = seat.collect();
     let mut watched = Watched {
-        last: 0,
+        last: None,
         rose: true,
     };
     for _ in rt.forever() {
         match collector.try_next() {
             Some(percent) => {
-                let rose = watched.rose && watched.last <= percent;
+                let is_above = watched.last.is_none_or(|before| before < percent);
                 watched = Watched {
-                    last: percent,
-                    rose,
+                    last: Some(percent),
+                    rose: watched.rose && is_above,
                 };
             }
-            None if watched.last == DONE => break,
+            None if watched.last == Some(DONE) => break,
             None => thread::sleep(rt, Duration::from_millis(1)),
         }
     }
@@ -71,8 +71,10 @@ where
 fn main(rt: HostRuntime) -> io::Result<ExitCode> {
     match run(&rt) {
         Ok(watched) => {
-            println!(rt; "the last value is {}", watched.last)?;
-            println!(rt; "the values rose: {}", watched.rose)?;
+            println!(rt;
+                "last: {:?}, each above the one before: {}",
+                watched.last, watched.rose
+            )?;
             Ok(ExitCode::SUCCESS)
         }
         Err(refusal) => {
