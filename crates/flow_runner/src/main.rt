@@ -67,10 +67,10 @@ fn main(rt: HostRuntime) -> ExitCode {
         return status_of(&rt, Stop::Fault(ScriptFault::NoMemory));
     };
     let ran = run_script(&rt, &mut rt.reader(), &mut writer, engine);
-    // A script that ended early leaves the answers of the lines before in the buffer; after a write that failed, nothing
-    // more is written.
-    if ran != Err(ScriptFault::Write) {
-        let _ = writer.flush();
+    // A script that ended early leaves the answers of the lines before in the buffer. After a write that failed nothing
+    // more is written: what the buffer holds is let go.
+    if ran == Err(ScriptFault::Write) || writer.flush().is_err() {
+        let _ = writer.into_parts();
     }
     match ran {
         Ok(()) => ExitCode::SUCCESS,
