@@ -13,7 +13,6 @@ use Rattle.shared_core.specs.Flow.{Parameters, empty}
 use Rattle.shared_core.specs.Calls.{Call, trying, subscribing, receiving, Reply, to_try, to_subscribe, to_receive, try_emit, subscribe, next_value}
 use Rattle.shared_core.specs.Shown.{Seen, Shows, Follows}
 use Rattle.shared_core.specs.Story.{given_to}
-use Rattle.shared_core.specs.Headline.{Run}
 use Rattle.shared_core.specs.Made.{IsRunOf, run_begun, and_then}
 use Rattle.shared_core.proofs.Continuing.{headline_of, begun_run, after_try, after_subscribe, after_next, received_then}
 use Rattle.list_callers.specs.Taking.{offered_by, Took, TookByTheHeadline}

@@ -1,7 +1,10 @@
 //! A program that goes by the answers of its calls, and what its subscription received.
 
-ghost use Rattle.std.specs.Prelude.{IfOk, OnOk};
-ghost use Rattle.shared_core.specs.Kept.{parameters_of};
+ghost use Rattle.std.specs.Prelude.{◌≡◌, ◌⊎◌, IfOk, IfErr, IfSome, IfNone, OnOk, Err};
+ghost use Rattle.flow_terms.specs.declared.refusal.Refusal.TheVariants.{NoMemory, Spent};
+ghost use Rattle.shared_core.specs.Flow.{State};
+ghost use Rattle.shared_core.specs.Kept.{making_refusal, parameters_of};
+ghost use Rattle.shared_core.specs.Shown.{Shows};
 ghost use Rattle.list_callers.specs.Taking.{OffersNone, OffersOneMore, TookByTheHeadline};
 
 use cold_flow::Refusal;
@@ -22,7 +25,8 @@ fn take_one<T: Copy>(
     subscription: SubId,
     taken: &mut Vec<T>,
 ) -> Result<bool, Refusal>
-    ensures { OnOk result (OffersNone subscription.0 flow.old taken.old.items flow.new taken.new.items) }
+    ensures took { OnOk result (OffersNone subscription.0 flow.old taken.old.items flow.new taken.new.items) }
+    ensures refused { IfErr result (λ refusal. refusal ≡ NoMemory) }
 {
     match flow.next(subscription) {
         Next::Value(value) => {
@@ -40,7 +44,8 @@ fn offer<T: Copy>(
     value: T,
     taken: &mut Vec<T>,
 ) -> Result<(), Refusal>
-    ensures { OnOk result (OffersOneMore subscription.0 value flow.old taken.old.items flow.new taken.new.items) }
+    ensures offered { OnOk result (OffersOneMore subscription.0 value flow.old taken.old.items flow.new taken.new.items) }
+    ensures refused { IfErr result (λ refusal. (M : State T) → Shows flow.old M → (refusal ≡ NoMemory) ⊎ (refusal ≡ Spent)) }
 {
     match flow.try_emit(0, value)? {
         Tried::Accepted(_) | Tried::Dropped => Ok(()),
@@ -55,12 +60,16 @@ fn offer<T: Copy>(
 ///
 /// What it took, then what is pending for it in the flow, is all that was accepted of them, in order and once, less just
 /// the values its policy dropped: the headline holds of the replies to these calls.
+///
+/// Refused as `SharedState::new` refuses such a flow; any other refusal is `NoMemory`, or `Spent` where the numbers are used up.
 pub fn offer_and_take<T: Copy>(
     alloc: Global,
     config: Config,
     values: &[T],
 ) -> Result<Taken<T>, Refusal>
-    ensures { IfOk result (λ it. TookByTheHeadline (parameters_of config) it.subscription.0 it.flow values.now it.values.items) }
+    ensures took { IfOk result (λ it. TookByTheHeadline (parameters_of config) it.subscription.0 it.flow values.now it.values.items) }
+    ensures refused { IfSome (making_refusal config) (λ refusal. result ≡ Err refusal) }
+    ensures otherwise { IfNone (making_refusal config) (IfErr result (λ refusal. (refusal ≡ NoMemory) ⊎ (refusal ≡ Spent))) }
 {
     let mut flow = SharedState::new(alloc, config)?;
     let subscription = flow.subscribe()?;

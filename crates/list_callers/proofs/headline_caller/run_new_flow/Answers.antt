@@ -1,31 +1,23 @@
-use Rattle.std.proofs.Common.{rules, arith, ◌≡◌, Option, Some, None, Result, Ok, Err, IfSome, IfNone, map, sym, subst}
+use Rattle.std.proofs.Common.{rules, arith, map, sym, subst}
 use Rattle.std.proofs.lemmas.Grind.{common_steps}
 use Rattle.shared_core.specs.Headline.{Headline}
 use Rattle.shared_core.specs.Kept.{making_refusal, parameters_of}
 use Rattle.shared_core.specs.Runs.{Runs, call_of}
 use Rattle.shared_core.proofs.Replaying.{made_is}
+use Rattle.list_callers.proofs.Refusals.{none_if_ok, whatever}
 use Rattle.list_callers.proofs.headline_caller.run_new_flow.Goals as goal
-
--- a flow that was made was not refused, whatever the result is then
-refuses : {A E : Type 0} (o : Option E) (x : A) (y : Result A E) → IfSome o (λ e. ◌≡◌ {A = Result A E} (Ok x) (Err e)) → IfSome o (λ e. ◌≡◌ {A = Result A E} y (Err e))
-refuses None x y was = tt
-refuses (Some e) x y was = absurd (cc)
-
-whatever : {E : Type 0} (o : Option E) (P : Type 0) → P → IfNone o P
-whatever None P it = it
-whatever (Some e) P it = tt
 
 pub returns-in_err-flow-clause-refused : goal.returns-in_err-flow-clause-refused
 returns-in_err-flow-clause-refused g c = grind (arith, common_steps)
 
 pub returns-in_err-run-clause-refused : goal.returns-in_err-run-clause-refused
-returns-in_err-run-clause-refused g c = refuses (making_refusal c.args.config) c.in_ok-flow.flow _ c.in_ok-flow.ensures.refused
+returns-in_err-run-clause-refused g c = none_if_ok (making_refusal c.args.config) c.in_ok-flow.flow _ c.in_ok-flow.ensures.refused
 
 pub returns-in_err-run-clause-made : goal.returns-in_err-run-clause-made
 returns-in_err-run-clause-made g c = whatever (making_refusal c.args.config) _ (search rules)
 
 pub returns-clause-refused : goal.returns-clause-refused
-returns-clause-refused g c = refuses (making_refusal c.args.config) c.in_ok-flow.flow _ c.in_ok-flow.ensures.refused
+returns-clause-refused g c = none_if_ok (making_refusal c.args.config) c.in_ok-flow.flow _ c.in_ok-flow.ensures.refused
 
 pub returns-clause-run : goal.returns-clause-run
 returns-clause-run g c =
