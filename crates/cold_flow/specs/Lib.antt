@@ -10,6 +10,8 @@ pub mod Few
 pub mod FewLaws
 pub mod Scripted
 pub mod ScriptedLaws
+pub mod Unfolds
+pub mod UnfoldsLaws
 pub mod Gather
 pub mod GatherLaws
 pub mod Distinct

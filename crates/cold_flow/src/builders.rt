@@ -3,3 +3,4 @@
 pub mod listed;
 pub mod range;
 pub mod scripted;
+pub mod unfold;

@@ -35,6 +35,7 @@ pub use apply::Apply;
 pub use builders::listed::{Listed, ListedRun, failing, of};
 pub use builders::range::{Numbers, NumbersRun, range};
 pub use builders::scripted::{Step, Stepped, SteppedRun, scripted};
+pub use builders::unfold::{Unfolded, Unfolding, UnfoldingRun, unfold};
 pub use cause::Cause;
 pub use ends::collect::{Collected, Collecting, Gathering, collect};
 pub use ends::first;
