@@ -8,6 +8,7 @@ pub mod Finale
 pub mod FinaleLaws
 pub mod Few
 pub mod FewLaws
+pub mod Steps
 pub mod Scripted
 pub mod ScriptedLaws
 pub mod Unfolds

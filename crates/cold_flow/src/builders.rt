@@ -3,4 +3,5 @@
 pub mod listed;
 pub mod range;
 pub mod scripted;
+pub mod steps;
 pub mod unfold;

@@ -32,10 +32,11 @@ mod operators;
 mod run;
 
 pub use apply::Apply;
-pub use builders::listed::{Listed, ListedRun, failing, of};
-pub use builders::range::{Numbers, NumbersRun, range};
-pub use builders::scripted::{Step, Stepped, SteppedRun, scripted};
-pub use builders::unfold::{Unfolded, Unfolding, UnfoldingRun, unfold};
+pub use builders::listed::{Listed, failing, of};
+pub use builders::range::{Numbers, range};
+pub use builders::scripted::{Step, Stepped, scripted};
+pub use builders::steps::{EndingRun, FiniteSteps, Steps};
+pub use builders::unfold::{Unfolded, Unfolding, unfold};
 pub use cause::Cause;
 pub use ends::collect::{Collected, Collecting, Gathering, collect};
 pub use ends::first;

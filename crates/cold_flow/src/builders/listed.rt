@@ -1,22 +1,22 @@
 //! Flows of a list: `of` and `failing`.
 
-ghost use Rattle.std.specs.Prelude.{◌-◌, Option, Some, None, true, IsTrue, is_some, length, drop};
+ghost use Rattle.std.specs.Prelude.{◌-◌, true, IsTrue, length, drop};
 ghost use Rattle.std.specs.Iterator.{at_most};
 ghost use Rattle.cold_flow.specs.Trace.{ended_by, cause_of};
-ghost use Rattle.cold_flow.specs.Poll.{Beginnings, Unless, Fixes, IsWithinPolls};
+ghost use Rattle.cold_flow.specs.Poll.{Beginnings, Fixes, IsWithinPolls};
 ghost use Rattle.cold_flow.specs.declared.cause.Cause.TheVariants.{Finished, Failed};
 
-use crate::cause::Cause;
-use crate::event::Event;
+use crate::builders::scripted::Step;
+use crate::builders::steps::{EndingRun, FiniteSteps, Steps};
 use crate::flow::Flow;
-use crate::run::{Finite, Run};
 use flow_terms::Refusal;
-use futures::task::{Context, Poll};
 
-/// The flow of `of` and `failing`.
+/// The flow of `of` and `failing`, and its steps.
 #[derive(Drop)]
 pub struct Listed<T, E> {
     values: Vec<T>,
+    // The index of the next value, 0 in a flow.
+    next: usize,
     // How it ends: by this fault, or by `Cause::Finished`.
     fault: Option<E>,
 }
@@ -31,6 +31,7 @@ pub fn of<T: Copy, E: Copy>(values: Vec<T>) -> Listed<T, E>
 {
     Listed {
         values,
+        next: 0,
         fault: None,
     }
 }
@@ -45,6 +46,7 @@ pub fn failing<T: Copy, E: Copy>(values: Vec<T>, fault: E) -> Listed<T, E>
 {
     Listed {
         values,
+        next: 0,
         fault: Some(fault),
     }
 }
@@ -56,87 +58,58 @@ impl<T: Copy, E: Copy> Flow for Listed<T, E> {
 
     type Fault = E;
 
-    type Running = ListedRun<T, E>;
+    type Running = EndingRun<Listed<T, E>, E>;
 
-    ghost may = { λ f. Beginnings (ended_by f.values.items (cause_of f.fault)) };
+    ghost may = { λ f. ⟦<Listed<T, E> as Steps>⟧.may f };
 
-    ghost polls = { λ f. at_most (length f.values.items) };
+    ghost polls = { λ f. ⟦<Listed<T, E> as Steps>⟧.polls f };
 
     ghost prompt = { λ _. true };
 
-    fn start(&self) -> Result<ListedRun<T, E>, Refusal> {
+    fn start(&self) -> Result<EndingRun<Listed<T, E>, E>, Refusal> {
         let mut values = Vec::new(*self.values.allocator());
         if values.extend_from_slice(self.values.as_slice()).is_err() {
             return Err(Refusal::NoMemory);
         }
-        Ok(ListedRun {
+        Ok(EndingRun::new(Listed {
             values,
-            next: 0,
+            next: self.next,
             fault: self.fault,
-            ended: None,
-        })
+        }))
     }
 
     ghost uncancelled = { λ f xs h. list-uncancelled _ f.fault xs h };
 }
 
-/// The run of `of` and `failing`.
-#[derive(Drop)]
-pub struct ListedRun<T, E> {
-    values: Vec<T>,
-    next: usize,
-    fault: Option<E>,
-    ended: Option<Cause<E>>,
-}
-
-impl<T: Copy, E: Copy> Run for ListedRun<T, E> {
-    ghost use Rattle.cold_flow.specs.Laws.{Unless-begins, Unless-over, begins-any};
+impl<T: Copy, E: Copy> Steps for Listed<T, E> {
+    ghost use Rattle.cold_flow.specs.Laws.{begins-any};
 
     type Item = T;
 
     type Fault = E;
 
-    ghost may = { λ r. Unless r.ended (Beginnings (ended_by (drop r.next r.values.items) (cause_of r.fault))) };
+    ghost may = { λ s. Beginnings (ended_by (drop s.next s.values.items) (cause_of s.fault)) };
 
-    ghost ended = { λ r. r.ended };
-
-    ghost stopped = { λ r. is_some r.ended };
-
-    ghost polls = { λ r. at_most (length r.values.items - r.next) };
+    ghost polls = { λ s. at_most (length s.values.items - s.next) };
 
     ghost prompt = { λ _. true };
 
-    fn poll_next(&mut self, _cx: &mut Context<'_>) -> Poll<Event<T, E>> {
-        if let Some(cause) = self.ended {
-            return Poll::Ready(Event::End(cause));
-        }
+    fn step(&mut self) -> Option<Step<T, E>> {
         match self.values.get(self.next) {
             Some(value) => {
                 self.next += 1;
-                Poll::Ready(Event::Value(*value))
+                Some(Step::Value(*value))
             }
-            None => {
-                let cause = match self.fault {
-                    Some(fault) => Cause::Failed(fault),
-                    None => Cause::Finished,
-                };
-                self.ended = Some(cause);
-                Poll::Ready(Event::End(cause))
-            }
+            None => match self.fault {
+                Some(fault) => Some(Step::Fail(fault)),
+                None => None,
+            },
         }
     }
 
-    fn cancel(&mut self) {
-        if self.ended.is_none() {
-            self.ended = Some(Cause::Cancelled);
-        }
-    }
-
-    ghost begins = { λ r. Unless-begins r.ended _ (begins-any _) };
-
-    ghost over = { λ r. Unless-over r.ended _ };
+    ghost begins = { λ _. begins-any _ };
 }
 
-impl<T: Copy, E: Copy> Finite for ListedRun<T, E> {
+impl<T: Copy, E: Copy> FiniteSteps for Listed<T, E> {
     ghost is_finite = { λ _. tt };
 }

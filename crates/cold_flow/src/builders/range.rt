@@ -1,22 +1,20 @@
 //! `range`: consecutive numbers.
 
-ghost use Rattle.std.specs.Prelude.{◌-◌, ◌+◌, Some, None, true, IsTrue, is_some};
+ghost use Rattle.std.specs.Prelude.{◌-◌, ◌+◌, None, true, IsTrue};
 ghost use Rattle.std.specs.List.{range_with_len};
 ghost use Rattle.std.specs.Iterator.{at_most};
 ghost use Rattle.cold_flow.specs.declared.cause.Cause.TheVariants.{Finished};
 ghost use Rattle.cold_flow.specs.Trace.{ended_by};
-ghost use Rattle.cold_flow.specs.Poll.{Beginnings, Unless, Fixes, IsWithinPolls};
-ghost use Rattle.cold_flow.specs.Laws.{Unless-begins, Unless-over, begins-any};
+ghost use Rattle.cold_flow.specs.Poll.{Beginnings, Fixes, IsWithinPolls};
+ghost use Rattle.cold_flow.specs.Laws.{begins-any};
 
-use crate::cause::Cause;
-use crate::event::Event;
+use crate::builders::scripted::Step;
+use crate::builders::steps::{EndingRun, FiniteSteps, Steps};
 use crate::flow::Flow;
-use crate::run::{Finite, Run};
 use flow_terms::Refusal;
-use futures::task::{Context, Poll};
 use std::marker::PhantomData;
 
-/// The flow of `range`.
+/// The flow of `range`, and its steps: each takes the number `from`, and leaves the numbers after it.
 #[derive(Clone, Copy)]
 pub struct Numbers<E> {
     from: u64,
@@ -47,75 +45,47 @@ impl<E: Copy> Flow for Numbers<E> {
 
     type Fault = E;
 
-    type Running = NumbersRun<E>;
+    type Running = EndingRun<Numbers<E>, E>;
 
-    ghost may = { λ f. Beginnings (ended_by (range_with_len f.from (f.to - f.from)) Finished) };
+    ghost may = { λ f. ⟦<Numbers<E> as Steps>⟧.may f };
 
-    ghost polls = { λ f. at_most (f.to - f.from) };
+    ghost polls = { λ f. ⟦<Numbers<E> as Steps>⟧.polls f };
 
     ghost prompt = { λ _. true };
 
     ghost starts = { λ _. true };
 
-    fn start(&self) -> Result<NumbersRun<E>, Refusal> {
-        Ok(NumbersRun {
-            next: self.from,
-            to: self.to,
-            ended: None,
-        })
+    fn start(&self) -> Result<EndingRun<Numbers<E>, E>, Refusal> {
+        Ok(EndingRun::new(*self))
     }
 
     ghost uncancelled = { λ f xs h. list-uncancelled _ None xs h };
 }
 
-/// The run of `range`.
-#[derive(Drop)]
-pub struct NumbersRun<E> {
-    next: u64,
-    to: u64,
-    ended: Option<Cause<E>>,
-}
-
-impl<E: Copy> Run for NumbersRun<E> {
+impl<E: Copy> Steps for Numbers<E> {
     type Item = u64;
 
     type Fault = E;
 
-    ghost may = { λ r. Unless r.ended (Beginnings (ended_by (range_with_len r.next (r.to - r.next)) Finished)) };
+    ghost may = { λ s. Beginnings (ended_by (range_with_len s.from (s.to - s.from)) Finished) };
 
-    ghost ended = { λ r. r.ended };
-
-    ghost stopped = { λ r. is_some r.ended };
-
-    ghost polls = { λ r. at_most (r.to - r.next) };
+    ghost polls = { λ s. at_most (s.to - s.from) };
 
     ghost prompt = { λ _. true };
 
-    fn poll_next(&mut self, _cx: &mut Context<'_>) -> Poll<Event<u64, E>> {
-        if let Some(cause) = self.ended {
-            return Poll::Ready(Event::End(cause));
-        }
-        if self.next < self.to {
-            let value = self.next;
-            self.next += 1;
-            Poll::Ready(Event::Value(value))
+    fn step(&mut self) -> Option<Step<u64, E>> {
+        if self.from < self.to {
+            let value = self.from;
+            self.from += 1;
+            Some(Step::Value(value))
         } else {
-            self.ended = Some(Cause::Finished);
-            Poll::Ready(Event::End(Cause::Finished))
+            None
         }
     }
 
-    fn cancel(&mut self) {
-        if self.ended.is_none() {
-            self.ended = Some(Cause::Cancelled);
-        }
-    }
-
-    ghost begins = { λ r. Unless-begins r.ended _ (begins-any _) };
-
-    ghost over = { λ r. Unless-over r.ended _ };
+    ghost begins = { λ _. begins-any _ };
 }
 
-impl<E: Copy> Finite for NumbersRun<E> {
+impl<E: Copy> FiniteSteps for Numbers<E> {
     ghost is_finite = { λ _. tt };
 }

@@ -1,18 +1,15 @@
 //! `unfold`: a flow by a state and a step.
 
-ghost use Rattle.std.specs.Prelude.{true, IsTrue, is_some};
-ghost use Rattle.cold_flow.specs.Poll.{Unless, Within};
+ghost use Rattle.std.specs.Prelude.{true, IsTrue};
+ghost use Rattle.cold_flow.specs.Poll.{Within};
 ghost use Rattle.cold_flow.specs.Unfolds.{Unfolds};
 ghost use Rattle.cold_flow.specs.UnfoldsLaws.{unfolds-nothing, unfolds-uncancelled};
-ghost use Rattle.cold_flow.specs.Laws.{Unless-begins, Unless-over};
 
 use crate::apply::Apply;
-use crate::cause::Cause;
-use crate::event::Event;
+use crate::builders::scripted::Step;
+use crate::builders::steps::{EndingRun, Steps};
 use crate::flow::Flow;
-use crate::run::Run;
 use flow_terms::Refusal;
-use futures::task::{Context, Poll};
 
 /// What the step of [`unfold`] answers.
 #[derive(Clone, Copy, Debug, PartialEq, Eq)]
@@ -25,7 +22,7 @@ pub enum Unfolded<T, S, E> {
     Fail(E),
 }
 
-/// The flow of `unfold`.
+/// The flow of `unfold`, and its steps: each goes on from the state that the one before it gave.
 #[derive(Clone, Copy)]
 pub struct Unfolding<S, G> {
     state: S,
@@ -37,7 +34,10 @@ pub struct Unfolding<S, G> {
 ///
 /// A start takes no memory, and each run begins with `state` again. A run asks one step a poll, and never answers pending.
 /// A step that answers no end makes a flow without an end.
-pub fn unfold<T: Copy, S: Copy, E: Copy, G: Apply<S, Out = Unfolded<T, S, E>>>(state: S, step: G) -> Unfolding<S, G>
+pub fn unfold<T: Copy, S: Copy, E: Copy, G: Apply<S, Out = Unfolded<T, S, E>>>(
+    state: S,
+    step: G,
+) -> Unfolding<S, G>
     ensures gives { Within (Unfolds (G.gives step) state) (⟦<Unfolding<S, G> as Flow>⟧.may result) }
     ensures prompt { IsTrue (⟦<Unfolding<S, G> as Flow>⟧.prompt result) }
     ensures starts { IsTrue (⟦<Unfolding<S, G> as Flow>⟧.starts result) }
@@ -50,69 +50,40 @@ impl<T: Copy, S: Copy, E: Copy, G: Apply<S, Out = Unfolded<T, S, E>>> Flow for U
 
     type Fault = E;
 
-    type Running = UnfoldingRun<S, E, G>;
+    type Running = EndingRun<Unfolding<S, G>, E>;
 
-    ghost may = { λ f. Unfolds (G.gives f.step) f.state };
+    ghost may = { λ f. ⟦<Unfolding<S, G> as Steps>⟧.may f };
 
     ghost prompt = { λ _. true };
 
     ghost starts = { λ _. true };
 
-    fn start(&self) -> Result<UnfoldingRun<S, E, G>, Refusal> {
-        Ok(UnfoldingRun {
-            state: self.state,
-            step: self.step,
-            ended: None,
-        })
+    fn start(&self) -> Result<EndingRun<Unfolding<S, G>, E>, Refusal> {
+        Ok(EndingRun::new(*self))
     }
 
     ghost uncancelled = { λ f xs h. unfolds-uncancelled (G.gives f.step) f.state xs h };
 }
 
-/// The run of `unfold`.
-#[derive(Drop)]
-pub struct UnfoldingRun<S, E, G> {
-    state: S,
-    step: G,
-    ended: Option<Cause<E>>,
-}
-
-impl<T: Copy, S: Copy, E: Copy, G: Apply<S, Out = Unfolded<T, S, E>>> Run for UnfoldingRun<S, E, G> {
+impl<T: Copy, S: Copy, E: Copy, G: Apply<S, Out = Unfolded<T, S, E>>> Steps for Unfolding<S, G> {
     type Item = T;
 
     type Fault = E;
 
-    ghost may = { λ r. Unless r.ended (Unfolds (G.gives r.step) r.state) };
-
-    ghost ended = { λ r. r.ended };
-
-    ghost stopped = { λ r. is_some r.ended };
+    ghost may = { λ s. Unfolds (G.gives s.step) s.state };
 
     ghost prompt = { λ _. true };
 
-    fn poll_next(&mut self, _cx: &mut Context<'_>) -> Poll<Event<T, E>> {
-        if let Some(cause) = self.ended {
-            return Poll::Ready(Event::End(cause));
-        }
-        let cause = match self.step.apply(self.state) {
+    fn step(&mut self) -> Option<Step<T, E>> {
+        match self.step.apply(self.state) {
             Unfolded::Next(value, state) => {
                 self.state = state;
-                return Poll::Ready(Event::Value(value));
+                Some(Step::Value(value))
             }
-            Unfolded::Finish => Cause::Finished,
-            Unfolded::Fail(fault) => Cause::Failed(fault),
-        };
-        self.ended = Some(cause);
-        Poll::Ready(Event::End(cause))
-    }
-
-    fn cancel(&mut self) {
-        if self.ended.is_none() {
-            self.ended = Some(Cause::Cancelled);
+            Unfolded::Finish => None,
+            Unfolded::Fail(fault) => Some(Step::Fail(fault)),
         }
     }
 
-    ghost begins = { λ r. Unless-begins r.ended _ (unfolds-nothing (G.gives r.step) r.state) };
-
-    ghost over = { λ r. Unless-over r.ended _ };
+    ghost begins = { λ s. unfolds-nothing (G.gives s.step) s.state };
 }
