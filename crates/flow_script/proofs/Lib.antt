@@ -1,13 +1,6 @@
 pub mod Transfers
-pub mod Picturing
+pub mod Objects
 pub mod Making
-pub mod States
-pub mod Misnamed
-pub mod Collecting
-pub mod Shares
-pub mod Ticks
-pub mod Caching
 pub mod Running
 pub mod Single
-pub mod Buffers
 pub mod Whole

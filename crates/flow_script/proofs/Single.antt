@@ -7,8 +7,9 @@ use Rattle.script_pipes.specs.Answers.{line_of}
 use Rattle.script_words.specs.Lines.{words_of, starts_with_hash}
 use Rattle.script_pipes.specs.Commands.{Order, command_of}
 use Rattle.flow_script.specs.declared.runner.Runner.{Runner}
-use Rattle.flow_script.specs.Worlds.{World, Outcome, plain, step}
-use Rattle.flow_script.specs.Pictures.{Meets, Steps, StepsOrRefused, Executes}
+use Rattle.flow_script.specs.Worlds.{World, Outcome, step}
+use Rattle.flow_script.specs.Pictures.{Meets, Executes}
+use Rattle.script_flows.specs.Findings.{plain}
 use Rattle.flow_script.specs.Scripts.{reply_of, answered, Gives, Replies}
 
 pub silent_reply : (number : ℕ) (line : List ℕ) (r : Runner) → [] ≡ words_of line → Replies number line r r None
@@ -26,13 +27,6 @@ long_reply number line first words r e h long = λ world p. (plain, rw (e, h, lt
 pub bad_reply : (number : ℕ) (line first : List ℕ) (words : List (List ℕ)) (r : Runner) → words_of line ≡ first ∷ words → starts_with_hash first ≡ false → length line ≤ 1024 → None ≡ command_of first words → Replies number line r r (Some (BadCommand number))
 unfolding reply_of
 bad_reply number line first words r e h short bad = λ world p. (plain, rw (e, h, le-ltb 1024 (length line) short, ← bad) (record { text = refl; pictured = p }))
-
--- an order that memory isn't refused, and one that it may be
-pub surely : (order : Order) (old new : Runner) (answer : Option Answer) → Steps (step plain order) old new answer → Executes order old new answer
-surely order old new answer steps = λ world p. (plain, steps world p)
-
-pub refusable : (order : Order) (old new : Runner) (answer : Option Answer) → StepsOrRefused (λ refused. step (record plain { refused = refused }) order) old new answer → Executes order old new answer
-refusable order old new answer steps = λ world p. (record plain { refused = (steps world p).0 }, (steps world p).1)
 
 outcome_reply : (number : ℕ) (outcome : Option Outcome) (world : World) (new : Runner) (answer : Option Answer) → Meets outcome world new answer → Gives (answered number world outcome) new (Some (unwrap_or answer (BadCommand number)))
 outcome_reply number None world new answer meets = record { text = ap (λ a. line_of (unwrap_or a (BadCommand number))) (sym meets.answered); pictured = meets.pictured }

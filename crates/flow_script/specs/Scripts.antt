@@ -1,4 +1,4 @@
--- What a script answers: a function of its bytes and of what is noted of its lines.
+-- What a script answers: a function of its bytes and of what its lines found.
 use Rattle.std.specs.Prelude.{◌≡◌, ℕ, ◌+◌, List, [], ◌∷◌, ◌++◌, length, Option, Some, None, Result, Ok, Err, nat_lt, ◌==◌, ◌<◌, ◌≤◌, ◌⊎◌, if◌then◌else◌}
 use Rattle.std.specs.Io.KnownBytes.{Appends, Keeps, Consumes, IsAtEnd}
 use Rattle.script_pipes.specs.declared.answer.Answer.{Answer}
@@ -10,9 +10,10 @@ use Rattle.script_pipes.specs.Commands.{command_of}
 use Rattle.script_words.specs.Words.{◌>>=◌}
 use Rattle.flow_script.specs.declared.runner.Runner.{Runner}
 use Rattle.script_words.specs.Lines.{lines_of, words_of, starts_with_hash}
+use Rattle.script_flows.specs.Findings.{Finding, plain}
 use Rattle.flow_script.specs.Output.{AppendsFront}
 use Rattle.flow_script.specs.Pictures.{Pictures}
-use Rattle.flow_script.specs.Worlds.{World, Outcome, Note, plain, empty_world, step}
+use Rattle.flow_script.specs.Worlds.{World, Outcome, empty_world, step}
 
 -- the text of one line or more, and the world after them
 pub record Reply : Type 0 where
@@ -27,39 +28,39 @@ answered number world None = record { text = line_of (BadCommand number); after 
 answered number world (Some outcome) = record { text = line_of outcome.answer; after = outcome.after }
 
 -- the reply to a line of these words, which is so long
-abbrev pub reply_to : Note → ℕ → World → ℕ → List (List ℕ) → Reply
-reply_to note number world size [] = silent world
-reply_to note number world size (first ∷ words) =
+abbrev pub reply_to : Finding → ℕ → World → ℕ → List (List ℕ) → Reply
+reply_to finding number world size [] = silent world
+reply_to finding number world size (first ∷ words) =
     if starts_with_hash first then silent world
     else (if nat_lt 1024 size then answered number world None
-    else answered number world (command_of first words >>= (λ order. step note order world)))
+    else answered number world (command_of first words >>= (λ order. step finding order world)))
 
 -- the reply to the line with this number
-unfoldable pub reply_of : Note → ℕ → World → List ℕ → Reply
-reply_of note number world line = reply_to note number world (length line) (words_of line)
+unfoldable pub reply_of : Finding → ℕ → World → List ℕ → Reply
+reply_of finding number world line = reply_to finding number world (length line) (words_of line)
 
--- what is noted of some lines
-abbrev pub Notes : Type 0
-Notes = List (ℕ × Note)
+-- what some lines found, by their numbers
+abbrev pub Findings : Type 0
+Findings = List (ℕ × Finding)
 
-abbrev pub note_at : ℕ → Notes → Note
-note_at number [] = plain
-note_at number (entry ∷ entries) = if number == entry.0 then entry.1 else note_at number entries
+abbrev pub found_at : ℕ → Findings → Finding
+found_at number [] = plain
+found_at number (entry ∷ entries) = if number == entry.0 then entry.1 else found_at number entries
 
 -- the replies to lines from this number on, one after another
-abbrev pub replies_to : Notes → ℕ → World → List (List ℕ) → Reply
-replies_to notes number world [] = silent world
-replies_to notes number world (line ∷ lines) =
-    let reply = reply_of (note_at number notes) number world line in
-    let rest = replies_to notes (number + 1) reply.after lines in
+abbrev pub replies_to : Findings → ℕ → World → List (List ℕ) → Reply
+replies_to findings number world [] = silent world
+replies_to findings number world (line ∷ lines) =
+    let reply = reply_of (found_at number findings) number world line in
+    let rest = replies_to findings (number + 1) reply.after lines in
     record { text = reply.text ++ rest.text; after = rest.after }
 
-abbrev pub text_of_lines : Notes → List (List ℕ) → List ℕ
-text_of_lines notes lines = (replies_to notes 1 empty_world lines).text
+abbrev pub text_of_lines : Findings → List (List ℕ) → List ℕ
+text_of_lines findings lines = (replies_to findings 1 empty_world lines).text
 
--- THE ANSWER TEXT of a script, where this is noted of its lines
-abbrev pub text_of_script : Notes → List ℕ → List ℕ
-text_of_script notes script = text_of_lines notes (lines_of script)
+-- THE ANSWER TEXT of a script, where this its lines found
+abbrev pub text_of_script : Findings → List ℕ → List ℕ
+text_of_script findings script = text_of_lines findings (lines_of script)
 
 abbrev pub text_of_answer : Option Answer → List ℕ
 text_of_answer None = []
@@ -72,13 +73,13 @@ pub record Gives (reply : Reply) (new : Runner) (answer : Option Answer) : Type 
 
 -- In whatever world the runner pictures, the line is answered as the world has it.
 abbrev pub Replies : ℕ → List ℕ → Runner → Runner → Option Answer → Type 0
-Replies number line old new answer = (world : World) → Pictures old world → (note : Note) × Gives (reply_of note number world line) new answer
+Replies number line old new answer = (world : World) → Pictures old world → (finding : Finding) × Gives (reply_of finding number world line) new answer
 
 -- The whole text was written; where writing failed, a front of it; where memory was refused, the answers of the lines before.
 abbrev pub Writes : Option (List ℕ) → Option (List ℕ) → List ℕ → Result (Unit {0}) ScriptFault → Type 0
-Writes old new script (Ok done) = (notes : Notes) × Appends old new (text_of_script notes script)
-Writes old new script (Err Write) = (notes : Notes) × AppendsFront old new (text_of_script notes script)
-Writes old new script (Err NoMemory) = (notes : Notes) × (before : List (List ℕ)) × (after : List (List ℕ)) × (lines_of script ≡ before ++ after) × Appends old new (text_of_lines notes before)
+Writes old new script (Ok done) = (findings : Findings) × Appends old new (text_of_script findings script)
+Writes old new script (Err Write) = (findings : Findings) × AppendsFront old new (text_of_script findings script)
+Writes old new script (Err NoMemory) = (findings : Findings) × (before : List (List ℕ)) × (after : List (List ℕ)) × (lines_of script ≡ before ++ after) × Appends old new (text_of_lines findings before)
 Writes old new script (Err Read) = ⊥
 Writes old new script (Err TooLong) = ⊥
 

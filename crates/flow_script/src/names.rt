@@ -1,7 +1,7 @@
 //! The names that a script has bound.
 
 ghost use Rattle.std.specs.Prelude.{◌≡◌, ◌<◌, None, Some, OnOk, bytes_eq, if◌then◌else◌, List, ℕ};
-ghost use Rattle.flow_script.specs.Names.{bound_to, bound_over, room};
+ghost use Rattle.flow_script.specs.Names.{bound_to, room};
 
 use crate::binding::Binding;
 use std::alloc::{AllocError, Global};
@@ -45,15 +45,5 @@ impl<'a> Names<'a> {
         ensures { (other : List ℕ) → bound_to self.new other ≡ (if bytes_eq name.entry.now other then Some binding else bound_to self.old other) }
     {
         let _ = self.bindings.insert(name, binding);
-    }
-
-    /// Binds a name to what was made, if anything was.
-    pub fn bind_made(&mut self, name: &'a [u8], made: Option<Binding>)
-        requires { 0 < room self.old }
-        ensures { (other : List ℕ) → bound_to self.new other ≡ bound_over name.entry.now made (bound_to self.old other) other }
-    {
-        if let Some(binding) = made {
-            self.bind(name, binding);
-        }
     }
 }

@@ -1,29 +1,20 @@
 //! What the names of a script stand for, and what its lines do.
 
-ghost use Rattle.std.specs.Prelude.{◌≡◌, length, IfOk};
-ghost use Rattle.script_pipes.specs.Commands.{order_of, sourced_order_of};
+ghost use Rattle.std.specs.Prelude.{◌≡◌, Bool, length, IfOk};
+ghost use Rattle.script_pipes.specs.Commands.{order_of, made_in, make, join, ask};
+ghost use Rattle.script_pipes.specs.Pipes.{pipe_in};
+ghost use Rattle.script_pipes.specs.Piping.{pipe_answer};
 ghost use Rattle.script_words.specs.Lines.{starts_with_hash};
 ghost use Rattle.flow_script.specs.Worlds.{empty_world};
 ghost use Rattle.flow_script.specs.Pictures.{Pictures, Executes};
 ghost use Rattle.flow_script.specs.Scripts.{Replies};
 
-mod buffers;
-mod close;
-mod cold;
-mod emissions;
-mod shared;
-mod shares;
-mod states;
-mod subscriptions;
-mod ticks;
-
+use crate::binding::Binding;
 use crate::names::Names;
-use futures::task::Solo;
-use script_flows::{ScriptBuffer, Share, Stating, Watched};
-use script_pipes::{Answer, Command, Sourced};
+use futures::task::{Poll, Solo};
+use script_flows::{Object, Part};
+use script_pipes::{Answer, Command, Making, Party, Pipe, Request};
 use script_words::Words;
-use shared::config_of;
-use shared_core::SharedState;
 use std::alloc::{AllocError, Global};
 use std::sync::Wait;
 
@@ -40,18 +31,11 @@ fn is_comment(word: &[u8]) -> bool
     }
 }
 
-/// What a script has made so far. It must be spent, by [`close`](Runner::close), since collectors, subscriptions and sharings
-/// must be.
+/// What a script has made so far. It must be spent, by [`close`](Runner::close), since its objects must be.
 pub struct Runner<'a> {
     names: Names<'a>,
-    flows: Vec<SharedState<u64>>,
-    states: Vec<Watched>,
-    buffers: Vec<ScriptBuffer>,
-    // The flows that share a source.
-    shares: Vec<Share<'a>>,
-    // What sets states from a source.
-    statings: Vec<Stating<'a>>,
-    // The task in whose name cold flows, buffers and sharings are polled.
+    objects: Vec<Object<'a>>,
+    // The task in whose name flows are polled.
     task: &'a Solo,
 }
 
@@ -62,16 +46,106 @@ impl<'a> Runner<'a> {
     {
         Runner {
             names: Names::new(alloc),
-            flows: Vec::new(alloc),
-            states: Vec::new(alloc),
-            buffers: Vec::new(alloc),
-            shares: Vec::new(alloc),
-            statings: Vec::new(alloc),
+            objects: Vec::new(alloc),
             task,
         }
     }
 
-    /// What a command answers, or nothing where a name stands in its way.
+    /// Makes an object and binds its name.
+    fn make(
+        &mut self,
+        rt: &impl Wait,
+        alloc: Global,
+        name: &'a [u8],
+        making: Making<'a>,
+    ) -> Result<Option<Answer>, AllocError>
+        ensures { IfOk result (λ answer. Executes (make name.entry.now (made_in making.entry)) self.old self.new answer) }
+    {
+        if self.names.get(name).is_some() {
+            return Ok(None);
+        }
+        self.names.reserve()?;
+        self.objects.reserve(1)?;
+        match Object::new(rt, alloc, making) {
+            Ok(object) => {
+                let binding = Binding {
+                    object_index: self.objects.len(),
+                    part: Part::Whole,
+                };
+                self.names.bind(name, binding);
+                self.objects.push_reserved(object);
+                Ok(Some(Answer::Done))
+            }
+            Err(refusal) => Ok(Some(Answer::Refused(refusal))),
+        }
+    }
+
+    /// Lets a party join what the host's name stands for, and binds its name.
+    fn join(
+        &mut self,
+        rt: &impl Wait,
+        host: &[u8],
+        name: &'a [u8],
+        party: Party,
+    ) -> Result<Option<Answer>, AllocError>
+        ensures { IfOk result (λ answer. Executes (join host.now name.entry.now party) self.old self.new answer) }
+    {
+        let Some(binding) = self.names.get(host) else {
+            return Ok(None);
+        };
+        if self.names.get(name).is_some() {
+            return Ok(None);
+        }
+        self.names.reserve()?;
+        let Some(object) = self.objects.get_mut(binding.object_index) else {
+            return Ok(None);
+        };
+        let Some((answer, joined)) = object.join(rt, binding.part, party) else {
+            return Ok(None);
+        };
+        if let Some(part) = joined {
+            self.names.bind(name, Binding { part, ..binding });
+        }
+        Ok(Some(answer))
+    }
+
+    /// Asks what a name stands for something.
+    fn ask(
+        &mut self,
+        rt: &impl Wait,
+        alloc: Global,
+        name: &[u8],
+        request: Request,
+    ) -> Result<Option<Answer>, AllocError>
+        ensures { IfOk result (λ answer. Executes (ask name.now request) self.old self.new answer) }
+    {
+        let Some(binding) = self.names.get(name) else {
+            return Ok(None);
+        };
+        let task = self.task;
+        let Some(object) = self.objects.get_mut(binding.object_index) else {
+            return Ok(None);
+        };
+        let mut cx = task.begin();
+        let answer = object.ask(rt, alloc, binding.part, request, &mut cx);
+        // A task is parked only where it waits for something or asks to be polled again.
+        let _woken: Poll<()> = cx.yield_now();
+        cx.park();
+        answer
+    }
+
+    /// What a pipe answers. It leaves the runner as it was.
+    fn collect(&self, alloc: Global, pipe: Pipe<'_>) -> Answer
+        ensures { (refused : Bool) × (result ≡ pipe_answer refused (pipe_in pipe.entry)) }
+    {
+        let mut cx = self.task.begin();
+        let answer = pipe.answer(alloc, &mut cx);
+        let _woken: Poll<()> = cx.yield_now();
+        cx.park();
+        answer
+    }
+
+    /// What a command answers, or nothing where a name stands in its way or stands for what doesn't know it.
     fn execute(
         &mut self,
         rt: &impl Wait,
@@ -81,75 +155,10 @@ impl<'a> Runner<'a> {
         ensures { IfOk result (λ answer. Executes (order_of command.entry) self.old self.new answer) }
     {
         match command {
-            Command::Shared {
-                flow,
-                replay,
-                extra,
-                policy,
-            } => self.make_shared(alloc, flow, config_of(replay, extra, policy)),
-            Command::Sub { flow, subscription } => self.subscribe(rt, flow, subscription),
-            Command::Next { name } => Ok(self.next(rt, name)),
-            Command::Cancel { name } => Ok(self.cancel(rt, name)),
-            Command::Try { flow, value } => Ok(self.try_emit(flow, value)),
-            Command::Emit {
-                flow,
-                emission,
-                value,
-            } => self.emit(flow, emission, value),
-            Command::Poll { emission } => Ok(self.poll(emission)),
-            Command::Withdraw { emission } => Ok(self.withdraw(emission)),
-            Command::Reset { flow } => Ok(self.reset(flow)),
-            Command::Cache { flow } => self.cache(rt, alloc, flow),
-            Command::Count { name } => Ok(self.count(rt, name)),
-            Command::State { state, value } => self.make_state(alloc, state, value),
-            Command::Set { state, value } => Ok(self.set(state, value)),
-            Command::Cas {
-                state,
-                expect,
-                update,
-            } => Ok(self.compare_and_set(state, expect, update)),
-            Command::Value { state } => Ok(self.value(state)),
-            Command::Collect { state, collector } => self.collect(state, collector),
-            Command::Fill { buffer } => Ok(self.fill(buffer)),
-            Command::Cold { pipe } => Ok(Some(self.cold(alloc, pipe))),
-            Command::Sourced(command) => self.make_of_source(rt, alloc, command),
-            Command::Tick { name, now } => Ok(self.tick(rt, name, now)),
-        }
-    }
-
-    /// What a command answers that makes something of a source, or nothing where a name stands in its way.
-    fn make_of_source(
-        &mut self,
-        rt: &impl Wait,
-        alloc: Global,
-        command: Sourced<'a>,
-    ) -> Result<Option<Answer>, AllocError>
-        ensures { IfOk result (λ answer. Executes (sourced_order_of command.entry) self.old self.new answer) }
-    {
-        match command {
-            Sourced::Buffer {
-                buffer,
-                capacity,
-                policy,
-                source,
-            } => self.make_buffer(alloc, buffer, capacity, policy, source),
-            Sourced::Share {
-                flow,
-                replay,
-                extra,
-                policy,
-                started,
-                source,
-            } => {
-                let config = config_of(replay, extra, policy);
-                self.make_share(rt, alloc, flow, config, started, source)
-            }
-            Sourced::Stated {
-                state,
-                value,
-                started,
-                source,
-            } => self.make_stated(alloc, state, value, started, source),
+            Command::Make { name, making } => self.make(rt, alloc, name, making),
+            Command::Join { host, name, party } => self.join(rt, host, name, party),
+            Command::Ask { name, request } => self.ask(rt, alloc, name, request),
+            Command::Cold { pipe } => Ok(Some(self.collect(alloc, pipe))),
         }
     }
 
@@ -179,5 +188,23 @@ impl<'a> Runner<'a> {
             Some(command) => Ok(Some(self.execute(rt, alloc, command)?.unwrap_or(bad))),
             None => Ok(Some(bad)),
         }
+    }
+
+    /// Closes every object, and says how many there were.
+    pub fn close(self, rt: &impl Wait) -> usize
+        ensures { result ≡ length self.entry.objects.items }
+    {
+        let Runner {
+            names: _,
+            mut objects,
+            task: _,
+        } = self;
+        let mut closed = 0;
+        while let Some(object) = objects.pop() {
+            object.close(rt);
+            closed += 1;
+        }
+        objects.destroy_empty();
+        closed
     }
 }

@@ -1,7 +1,7 @@
 //! Scripts with known answers, and readers and writers that fail.
 
 ghost use Rattle.std.specs.Prelude.{◌≡◌, IfOk};
-ghost use Rattle.flow_script.specs.Scripts.{Notes, text_of_script};
+ghost use Rattle.flow_script.specs.Scripts.{Findings, text_of_script};
 
 mod buffers;
 mod pipes;
@@ -28,7 +28,7 @@ const TEXT: &[u8] =
 
 /// What a script answers.
 fn answers(rt: &(impl Wait + RandomSource + AllocGlobal), script: &[u8]) -> Result<Vec<u8>, Fail>
-    ensures { IfOk result (λ text. (notes : Notes) × (text.items ≡ text_of_script notes script.now)) }
+    ensures { IfOk result (λ text. (findings : Findings) × (text.items ≡ text_of_script findings script.now)) }
 {
     let mut reader = script;
     let mut text = Vec::new(rt.alloc());

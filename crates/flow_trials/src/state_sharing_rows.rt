@@ -2,7 +2,7 @@
 
 use crate::ticks::Tick;
 use crate::tools::{Differences, broken, listed};
-use cold_flow::{Cause, Flow, NumbersRun, Refusal, Step, range, scripted};
+use cold_flow::{Cause, EndingRun, Flow, Numbers, Refusal, Step, range, scripted};
 use flow_sharing::{Started, StateSharing, state_in};
 use futures::test::MockTask;
 use state_flow::{Collector, StateFlow, StateSeat};
@@ -258,11 +258,11 @@ impl Flow for Unstarted {
 
     type Fault = u64;
 
-    type Running = NumbersRun<u64>;
+    type Running = EndingRun<Numbers<u64>, u64>;
 
     ghost may = { λ flow t. ⊥ };
 
-    fn start(&self) -> Result<NumbersRun<u64>, Refusal> {
+    fn start(&self) -> Result<EndingRun<Numbers<u64>, u64>, Refusal> {
         Err(Refusal::NoMemory)
     }
 

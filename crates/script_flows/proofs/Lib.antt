@@ -1,2 +1,5 @@
 pub mod Watching
+pub mod Asking
+pub mod Standing
 pub mod Buffering
+pub mod Caching

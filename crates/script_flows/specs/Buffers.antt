@@ -1,10 +1,8 @@
 -- Buffers of a script: what each holds, what its source gives still, and what its calls answer.
 use Rattle.std.specs.Prelude.{◌≡◌, ℕ, ◌==◌, ◌-◌, Bool, true, false, List, [], ◌∷◌, length, drop, if◌then◌else◌}
-use Rattle.std.specs.List.{range_with_len}
 use Rattle.futures.specs.declared.task.Poll.{Poll}
 use Rattle.futures.specs.declared.task.Poll.TheVariants as polls
 use Rattle.cold_flow.specs.declared.cause.Cause.{Cause}
-use Rattle.cold_flow.specs.declared.cause.Cause.TheVariants.{Finished, Failed}
 use Rattle.cold_flow.specs.declared.event.Event.{Event}
 use Rattle.cold_flow.specs.declared.event.Event.TheVariants as events
 use Rattle.flow_terms.specs.declared.policy.Policy.{Policy}
@@ -15,8 +13,7 @@ use Rattle.flow_terms.specs.declared.fill.Fill.{Fill}
 use Rattle.flow_terms.specs.declared.fill.Fill.TheVariants as fills
 use Rattle.flow_buffer.specs.declared.side.Fate.TheVariants as fates
 use Rattle.flow_buffer.specs.Contents.{Contents, nothing, held_of, produced, turned}
-use Rattle.script_words.specs.Items.{values_of}
-use Rattle.script_pipes.specs.Sources.{Origin, of, range, fail}
+use Rattle.script_pipes.specs.Sources.{Origin, values_from, cause_from}
 
 pub record Buffering : Type 0 where
   -- every value that the source gave, each taken, held or dropped
@@ -26,17 +23,6 @@ pub record Buffering : Type 0 where
   -- the values that the source gives still, and how it ends then
   pub coming : List ℕ
   pub cause : Cause ℕ
-
--- the values of a source, and how it ends
-abbrev pub values_from : Origin → List ℕ
-values_from (of items) = values_of items
-values_from (range from to) = range_with_len from (to - from)
-values_from (fail fault items) = values_of items
-
-abbrev pub cause_from : Origin → Cause ℕ
-cause_from (of items) = Finished
-cause_from (range from to) = Finished
-cause_from (fail fault items) = Failed fault
 
 -- a new buffer
 abbrev pub begun : ℕ → Policy → Origin → Buffering

@@ -1,6 +1,9 @@
 pub mod Watching
 pub mod Buffers
 pub mod Buffered
-pub mod Sourced
 pub mod Shares
 pub mod Ticks
+pub mod Parts
+pub mod Findings
+pub mod Things
+pub mod Objects

@@ -1,23 +1,25 @@
 //! The buffers of a script.
 
 ghost use Rattle.std.specs.Prelude.{◌≡◌, None, MatchResult};
-ghost use Rattle.flow_buffer.specs.Capacity.{refused_capacity, WasRefused};
+ghost use Rattle.flow_buffer.specs.Capacity.{refused_capacity};
 ghost use Rattle.script_flows.specs.Buffers.{begun, filled, taken};
 ghost use Rattle.script_flows.specs.Buffered.{ShowsBuffer, FollowsBuffer};
+ghost use Rattle.script_flows.specs.Findings.{RefusedFor};
+ghost use Rattle.script_flows.specs.Things.{kept, ask_buffer};
 ghost use Rattle.script_pipes.specs.Sources.{origin_in};
 
-use cold_flow::{Event, Flow, NumbersRun, Policy, Refusal, Run, SteppedRun, range};
+use crate::part::Part;
+use cold_flow::{Event, Flow, Run};
 use flow_buffer::{Buffered, Fill, buffer};
+use flow_terms::{Policy, Refusal};
 use futures::task::{Context, Poll};
-use script_pipes::Source;
-use script_words::ItemFlow;
+use script_pipes::{Answer, Request, Source, SourceFlow, SourceRun};
 use std::alloc::Global;
 
-/// A buffer of a script, by what its source is.
+/// A buffer of a script, behind a source.
 #[derive(Drop)]
-pub enum ScriptBuffer {
-    Items(Buffered<SteppedRun<u64, u64>>),
-    Numbers(Buffered<NumbersRun<u64>>),
+pub struct ScriptBuffer {
+    run: Buffered<SourceRun>,
 }
 
 impl ScriptBuffer {
@@ -31,46 +33,35 @@ impl ScriptBuffer {
         capacity: u64,
         policy: Policy,
     ) -> Result<ScriptBuffer, Refusal>
-        ensures { MatchResult result (λ made. (refused_capacity capacity ≡ None) × ShowsBuffer made (begun capacity policy (origin_in source.entry))) (λ refusal. WasRefused capacity refusal) }
+        ensures { MatchResult result (λ made. (refused_capacity capacity ≡ None) × ShowsBuffer made (begun capacity policy (origin_in source.entry))) (λ refusal. RefusedFor (refused_capacity capacity) refusal) }
     {
-        match source {
-            Source::Of { items } => {
-                let flow = buffer(alloc, ItemFlow::new(alloc, items, None), capacity, policy)?;
-                Ok(ScriptBuffer::Items(flow.start()?))
-            }
-            Source::Range { from, to } => {
-                let flow = buffer(alloc, range::<u64>(from, to), capacity, policy)?;
-                Ok(ScriptBuffer::Numbers(flow.start()?))
-            }
-            Source::Fail { fault, items } => {
-                let flow = buffer(
-                    alloc,
-                    ItemFlow::new(alloc, items, Some(fault)),
-                    capacity,
-                    policy,
-                )?;
-                Ok(ScriptBuffer::Items(flow.start()?))
-            }
-        }
+        let flow = buffer(alloc, SourceFlow::new(alloc, source), capacity, policy)?;
+        let run = flow.start()?;
+        Ok(ScriptBuffer { run })
     }
 
     /// Fills the buffer once.
-    pub fn fill(&mut self, cx: &mut Context<'_>) -> Fill
+    fn fill(&mut self, cx: &mut Context<'_>) -> Fill
         ensures { FollowsBuffer filled self.old result self.new }
     {
-        match self {
-            ScriptBuffer::Items(run) => run.poll_fill(cx),
-            ScriptBuffer::Numbers(run) => run.poll_fill(cx),
-        }
+        self.run.poll_fill(cx)
     }
 
     /// Takes the oldest held value, or what the source gives where none is held.
-    pub fn take(&mut self, cx: &mut Context<'_>) -> Poll<Event<u64, u64>>
+    fn take(&mut self, cx: &mut Context<'_>) -> Poll<Event<u64, u64>>
         ensures { FollowsBuffer taken self.old result self.new }
     {
-        match self {
-            ScriptBuffer::Items(run) => run.poll_next(cx),
-            ScriptBuffer::Numbers(run) => run.poll_next(cx),
+        self.run.poll_next(cx)
+    }
+
+    /// Answers a command, or nothing where it is none for this part of a buffer.
+    pub fn ask(&mut self, part: Part, request: Request, cx: &mut Context<'_>) -> Option<Answer>
+        ensures { FollowsBuffer (λ pending before. kept before (ask_buffer pending part request before)) self.old result self.new }
+    {
+        match (part, request) {
+            (Part::Whole, Request::Fill) => Some(Answer::from(self.fill(cx))),
+            (Part::Whole, Request::Next) => Some(Answer::from(self.take(cx))),
+            _ => None,
         }
     }
 }

@@ -1,19 +1,17 @@
-//! What the commands of scripts make and call: states with their collectors, flows that share a source with their
-//! subscriptions, sharings that set a state, and buffers.
+//! What the names of scripts stand for: shared flows, states with their collectors, buffers, and flows and states that share
+//! a source; each answers the commands that it knows.
 //!
-//! `flow_script` finds each by its name, and answers what its calls reply.
+//! `flow_script` finds each by its name, and writes what it answers.
 #![tactic(auto)]
 
 mod buffer;
+mod flow;
+mod object;
+mod part;
 mod share;
-mod source_flow;
-mod stating;
+mod stated;
 mod ticked;
 mod watched;
 
-pub use buffer::ScriptBuffer;
-pub use share::Share;
-pub use source_flow::{SourceFlow, SourceRun};
-pub use stating::Stating;
-pub use ticked::Ticked;
-pub use watched::Watched;
+pub use object::Object;
+pub use part::Part;

@@ -8,13 +8,16 @@ ghost use Rattle.flow_sharing.specs.Shown.{Shows};
 ghost use Rattle.script_flows.specs.Shares.{live};
 ghost use Rattle.script_flows.specs.Ticks.{TicksAs};
 ghost use Rattle.script_flows.specs.Watching.{Asked, ended};
+ghost use Rattle.script_flows.specs.Findings.{Finding};
+ghost use Rattle.script_flows.specs.Things.{kept, ask_share, join_share};
 
-use crate::source_flow::SourceFlow;
+use crate::part::Part;
 use crate::ticked::Ticked;
-use cold_flow::Refusal;
-use flow_sharing::{Sharing, Started, share_in};
+use flow_sharing::{Sharing, share_in};
+use flow_terms::{Next, Refusal, Started};
 use futures::task::{Context, Poll};
-use shared_core::{Config, Next};
+use script_pipes::{Answer, Listing, Party, Request, SourceFlow};
+use shared_core::Config;
 use shared_flow::{SharedFlow, Subscription};
 use std::alloc::Global;
 use std::sync::Wait;
@@ -125,6 +128,52 @@ impl<'a> Share<'a> {
     {
         let polled = self.sharing.poll(rt, now, cx);
         Ticked::of(polled, self.sharing.fault())
+    }
+
+    /// Answers a command, or nothing where it is none for this part of a flow that shares a source.
+    pub fn ask(
+        &mut self,
+        rt: &impl Wait,
+        alloc: Global,
+        part: Part,
+        request: Request,
+        cx: &mut Context<'_>,
+    ) -> Option<Answer>
+        ensures { (finding : Finding) × ((result, live self.new) ≡ kept (live self.old) (ask_share finding part request (live self.old))) }
+    {
+        match (part, request) {
+            (Part::Whole, Request::Cache) => match self.cache(rt, alloc) {
+                Ok(values) => Some(Answer::Values(Listing::new(values))),
+                Err(refusal) => Some(Answer::Refused(refusal)),
+            },
+            (Part::Whole, Request::Count) => Some(Answer::Number(u64::from(self.count(rt)))),
+            (Part::Whole, Request::Tick(now)) => Some(Answer::from(self.tick(rt, now, cx))),
+            (Part::Subscriber(index), Request::Next) => {
+                Some(Answer::from(self.next(rt, index, cx)?))
+            }
+            (Part::Subscriber(index), Request::Cancel) => {
+                Some(Answer::to_cancel(self.cancel(rt, index)?))
+            }
+            _ => None,
+        }
+    }
+
+    /// Lets a subscription join, and says what its name is, if one was made; nothing where the flow takes no such party.
+    pub fn join(
+        &mut self,
+        rt: &impl Wait,
+        part: Part,
+        party: Party,
+    ) -> Option<(Answer, Option<Part>)>
+        ensures { (finding : Finding) × ((result, live self.new) ≡ kept (live self.old) (join_share finding part party (live self.old))) }
+    {
+        match (part, party) {
+            (Part::Whole, Party::Subscription) => match self.subscribe(rt) {
+                Ok(index) => Some((Answer::Done, Some(Part::Subscriber(index)))),
+                Err(refusal) => Some((Answer::Refused(refusal), None)),
+            },
+            _ => None,
+        }
     }
 
     /// Ends the subscriptions and the sharing, and gives the flow that they were of.

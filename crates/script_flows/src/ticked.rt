@@ -3,8 +3,9 @@
 ghost use Rattle.std.specs.Prelude.{◌≡◌};
 ghost use Rattle.script_flows.specs.Ticks.{ticked, turned, tick_answer};
 
-use cold_flow::{Cause, Refusal};
+use cold_flow::Cause;
 use flow_sharing::Polled;
+use flow_terms::Refusal;
 use script_pipes::Answer;
 
 /// What one poll of a sharing comes to.

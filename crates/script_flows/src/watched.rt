@@ -5,9 +5,12 @@ ghost use Rattle.flow_terms.specs.declared.refusal.Refusal.TheVariants.{NoMemory
 ghost use Rattle.state_flow.specs.Calls.{Reads, Sets, Compares, Counts};
 ghost use Rattle.state_flow.specs.Views.{opening, giver, taker};
 ghost use Rattle.script_flows.specs.Watching.{standing, collecting, Asked, ended, AsksOne, AddsOne, TakesOne};
+ghost use Rattle.script_flows.specs.Findings.{Finding};
+ghost use Rattle.script_flows.specs.Things.{kept, ask_state, join_state};
 
-use cold_flow::Refusal;
-use shared_core::Next;
+use crate::part::Part;
+use flow_terms::{Next, Refusal};
+use script_pipes::{Answer, Party, Request};
 use state_flow::{Collector, StateFlow, StateSeat};
 use std::alloc::Global;
 use std::marker::Model;
@@ -143,6 +146,41 @@ impl Watched {
                 Some(true)
             }
             None => Some(false),
+        }
+    }
+
+    /// Answers a command, or nothing where it is none for this part of a state.
+    pub fn ask(&mut self, part: Part, request: Request) -> Option<Answer>
+        ensures { (finding : Finding) × ((result, standing self.new) ≡ kept (standing self.old) (ask_state finding part request (standing self.old))) }
+    {
+        match (part, request) {
+            (Part::Whole, Request::Value) => Some(Answer::Value(self.value())),
+            (Part::Whole, Request::Set(value)) => {
+                self.set(value);
+                Some(Answer::Done)
+            }
+            (Part::Whole, Request::CompareAndSet(expect, update)) => {
+                Some(Answer::Truth(self.compare_and_set(expect, update)))
+            }
+            (Part::Whole, Request::Count) => Some(Answer::Number(u64::from(self.count()))),
+            (Part::Collector(index), Request::Next) => Some(Answer::from(self.next(index)?)),
+            (Part::Collector(index), Request::Cancel) => {
+                Some(Answer::to_cancel(self.cancel(index)?))
+            }
+            _ => None,
+        }
+    }
+
+    /// Lets a collector join, and says what its name is, if one was made; nothing where a state takes no such party.
+    pub fn join(&mut self, part: Part, party: Party) -> Option<(Answer, Option<Part>)>
+        ensures { (finding : Finding) × ((result, standing self.new) ≡ kept (standing self.old) (join_state finding part party (standing self.old))) }
+    {
+        match (part, party) {
+            (Part::Whole, Party::Collector) => match self.collect() {
+                Ok(index) => Some((Answer::Done, Some(Part::Collector(index)))),
+                Err(refusal) => Some((Answer::Refused(refusal), None)),
+            },
+            _ => None,
         }
     }
 

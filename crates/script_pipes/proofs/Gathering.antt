@@ -24,8 +24,8 @@ use Rattle.flow_merge.specs.Zip.{zip_end, zip_trace}
 use Rattle.flow_merge.specs.Combine.{with_result, after_end, rest_of_left, rest_of_right, in_turn, combine_trace}
 use Rattle.flow_merge.specs.Concat.{followed_by, joined}
 use Rattle.script_pipes.specs.Inners.{inner_flow}
-use Rattle.script_pipes.specs.Sources.{Origin, of, range, fail}
-use Rattle.script_pipes.specs.Piping.{given, sum, inner_of, made_by, bounded, stop_in, unless_stopped, after_stage, after_stages, trace_of, Comes, EndsAs, IsEnded}
+use Rattle.script_pipes.specs.Sources.{Origin, of, range, fail, given}
+use Rattle.script_pipes.specs.Piping.{sum, inner_of, made_by, bounded, stop_in, unless_stopped, after_stage, after_stages, trace_of, Comes, EndsAs, IsEnded}
 
 -- more than 10,000 values, or not
 pub over : (whole : Trace ℕ ℕ) → 10000 < length whole.0 → bounded whole ≡ Err TooMany

@@ -2,7 +2,9 @@ pub mod Commands
 pub mod Listings
 pub mod Answers
 pub mod Replies
+pub mod Items
 pub mod Sources
+pub mod Sourced
 pub mod Stages
 pub mod Pipes
 pub mod Piping

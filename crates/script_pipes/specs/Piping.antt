@@ -20,16 +20,9 @@ use Rattle.script_pipes.specs.declared.answer.Answer.TheVariants as answers
 use Rattle.script_pipes.specs.declared.gathered.Gathered.{Gathered}
 use Rattle.script_pipes.specs.declared.gathered.Stop.{Stop}
 use Rattle.script_pipes.specs.declared.gathered.Stop.TheVariants.{Refused, TooMany}
-use Rattle.script_words.specs.Items.{values_of}
 use Rattle.script_pipes.specs.Pipes.{Pipe}
-use Rattle.script_pipes.specs.Sources.{Origin, of, range, fail}
+use Rattle.script_pipes.specs.Sources.{Origin, given}
 use Rattle.script_pipes.specs.Stages.{Operation, add, even, twice, take_first, drop_first, distinct, catch, done, zip, combine, concat}
-
--- what a source gives
-abbrev pub given : Origin → Trace ℕ ℕ
-given (of items) = ended_by (values_of items) Finished
-given (range from to) = ended_by (range_with_len from (to - from)) Finished
-given (fail fault items) = ended_by (values_of items) (Failed fault)
 
 -- a sum modulo 2^64
 abbrev pub plus : ℕ → ℕ → ℕ

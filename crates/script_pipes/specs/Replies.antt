@@ -49,10 +49,6 @@ abbrev pub subscribe_answer : Result SubId Refusal → Answer
 subscribe_answer (Ok id) = answers.Done
 subscribe_answer (Err refusal) = answers.Refused refusal
 
-abbrev pub collect_answer : Result ℕ Refusal → Answer
-collect_answer (Ok collector_index) = answers.Done
-collect_answer (Err refusal) = answers.Refused refusal
-
 abbrev pub next_answer : Next ℕ → Answer
 next_answer (next.Value value) = answers.Value value
 next_answer next.Nothing = answers.Pending

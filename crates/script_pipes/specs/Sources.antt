@@ -1,10 +1,14 @@
 -- The sources, from their words.
-use Rattle.std.specs.Prelude.{ℕ, List, [], ◌∷◌, Option, Some, None, codes, bytes_eq, if◌then◌else◌}
+use Rattle.std.specs.Prelude.{ℕ, ◌-◌, List, [], ◌∷◌, Option, Some, None, codes, bytes_eq, if◌then◌else◌}
+use Rattle.std.specs.List.{range_with_len}
 use Rattle.std.specs.Option.{option_map}
-use Rattle.script_words.specs.declared.items.Item.{Item}
+use Rattle.cold_flow.specs.declared.cause.Cause.{Cause}
+use Rattle.cold_flow.specs.declared.cause.Cause.TheVariants.{Finished, Failed}
+use Rattle.cold_flow.specs.Trace.{Trace, ended_by}
+use Rattle.script_pipes.specs.declared.items.Item.{Item}
 use Rattle.script_pipes.specs.declared.source.Source.{Source}
 use Rattle.script_pipes.specs.declared.source.Source.TheVariants as sources
-use Rattle.script_words.specs.Items.{items_of, written}
+use Rattle.script_pipes.specs.Items.{items_of, written, values_of}
 use Rattle.script_words.specs.Words.{◌>>=◌, number_at, ended}
 
 -- where values come from
@@ -53,3 +57,18 @@ origin_by first words =
 abbrev pub origin_of : List (List ℕ) → Option Origin
 origin_of [] = None
 origin_of (first ∷ words) = origin_by first words
+
+-- the values of a source, pending answers left out, and how it ends
+abbrev pub values_from : Origin → List ℕ
+values_from (of items) = values_of items
+values_from (range from to) = range_with_len from (to - from)
+values_from (fail fault items) = values_of items
+
+abbrev pub cause_from : Origin → Cause ℕ
+cause_from (of items) = Finished
+cause_from (range from to) = Finished
+cause_from (fail fault items) = Failed fault
+
+-- what a source gives
+abbrev pub given : Origin → Trace ℕ ℕ
+given origin = ended_by (values_from origin) (cause_from origin)

@@ -2,15 +2,16 @@
 
 ghost use Rattle.std.specs.Prelude.{◌≡◌};
 ghost use Rattle.std.specs.Option.{option_map};
-ghost use Rattle.script_words.specs.Items.{written};
+ghost use Rattle.script_pipes.specs.Items.{written};
 ghost use Rattle.script_words.specs.Lines.{words_of};
-ghost use Rattle.script_pipes.specs.Piping.{given, bounded, Comes};
-ghost use Rattle.script_pipes.specs.Sources.{origin_in, origin_of, last_list, of_of, range_of, fail_of};
+ghost use Rattle.script_pipes.specs.Piping.{bounded, Comes};
+ghost use Rattle.script_pipes.specs.Sources.{origin_in, given, origin_of, last_list, of_of, range_of, fail_of};
 
 use crate::gathered::{Gathered, Stop};
-use cold_flow::failing;
+use crate::items::Items;
+use crate::source_flow::SourceFlow;
 use futures::task::Context;
-use script_words::{Items, Words};
+use script_words::Words;
 use std::alloc::Global;
 
 /// A source as a line says it.
@@ -84,12 +85,6 @@ impl<'a> Source<'a> {
     pub(crate) fn run(self, alloc: Global, cx: &mut Context<'_>) -> Result<Gathered, Stop>
         ensures { Comes (bounded (given (origin_in self.entry))) result }
     {
-        match self {
-            Source::Of { items } => { Gathered::of(alloc, cold_flow::of(items.values(alloc)?), cx) }
-            Source::Range { from, to } => Gathered::of(alloc, cold_flow::range(from, to), cx),
-            Source::Fail { fault, items } => {
-                Gathered::of(alloc, failing(items.values(alloc)?, fault), cx)
-            }
-        }
+        Gathered::of(alloc, SourceFlow::new(alloc, self), cx)
     }
 }

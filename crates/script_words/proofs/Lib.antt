@@ -1,4 +1,3 @@
 pub mod Splitting
 pub mod Digits
 pub mod Cutting
-pub mod Playing

@@ -3,7 +3,7 @@
 ghost use Rattle.std.specs.Prelude.{◌≡◌, ◌≤◌, ◌+◌, ◌*◌, ◌-◌, Some};
 ghost use Rattle.script_words.specs.Fields.{number_of, is_name, are_name_bytes, below_limit, policy_of, expiry_of};
 
-use cold_flow::Policy;
+use flow_terms::Policy;
 
 /// The most digits of a number.
 const MOST_DIGITS: usize = 20;

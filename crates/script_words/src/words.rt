@@ -7,8 +7,7 @@ ghost use Rattle.script_words.specs.Lines.{words_of, is_space, is_no_space};
 ghost use Rattle.script_words.specs.Words.{name_at, number_at, policy_at, expiry_at, while_at, start_at, ended};
 
 use crate::fields::{expiry_of, is_name, number_of, policy_of};
-use cold_flow::Policy;
-use flow_terms::Started;
+use flow_terms::{Policy, Started};
 
 /// What is left of a line, taken word by word.
 #[derive(Clone, Copy)]

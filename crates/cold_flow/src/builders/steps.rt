@@ -1,4 +1,4 @@
-//! Runs of the sources that end by themselves.
+//! Runs of the sources that are given step by step.
 
 ghost use Rattle.std.specs.Prelude.{◌≡◌, ◌||◌, [], None, Bool, false, IsTrue, is_some};
 ghost use Rattle.std.specs.Iterator.{Count, endless, IsFinite};

@@ -1,7 +1,7 @@
 //! The answers to what the calls of a flow replied.
 
 ghost use Rattle.std.specs.Prelude.{◌≡◌};
-ghost use Rattle.script_pipes.specs.Replies.{try_answer, emit_answer, poll_answer, withdraw_answer, subscribe_answer, collect_answer, next_answer, cancel_answer, fill_answer, take_answer};
+ghost use Rattle.script_pipes.specs.Replies.{try_answer, emit_answer, poll_answer, withdraw_answer, subscribe_answer, next_answer, cancel_answer, fill_answer, take_answer};
 
 use super::Answer;
 use cold_flow::{Cause, Event, Refusal};
@@ -63,18 +63,6 @@ impl From<Result<SubId, Refusal>> for Answer {
 
     fn from(subscribed: Result<SubId, Refusal>) -> Answer {
         match subscribed {
-            Ok(_) => Answer::Done,
-            Err(refusal) => Answer::Refused(refusal),
-        }
-    }
-}
-
-/// A collector is known by its index, and so is a subscription of a flow that shares a source.
-impl From<Result<usize, Refusal>> for Answer {
-    ghost from_gives = { λ collected answer. answer ≡ collect_answer collected };
-
-    fn from(collected: Result<usize, Refusal>) -> Answer {
-        match collected {
             Ok(_) => Answer::Done,
             Err(refusal) => Answer::Refused(refusal),
         }

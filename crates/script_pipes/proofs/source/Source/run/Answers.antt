@@ -1,11 +1,9 @@
-use Rattle.std.proofs.Common.{Some, None, refl}
+use Rattle.script_pipes.specs.Sources.{origin_in, given}
+use Rattle.script_pipes.proofs.Gathering.{given_ends}
 use Rattle.script_pipes.proofs.source.Source.run.Goals as goal
 
-pub of-requires-in-Of : goal.of-requires-in-Of
-of-requires-in-Of c = (_, c.of.ensures.exact, (None, refl))
+pub of-requires : goal.of-requires
+of-requires c = (given (origin_in c.args.self), rw c.new.ensures (λ t came. came), given_ends (origin_in c.args.self))
 
-pub of-requires-in-Range : goal.of-requires-in-Range
-of-requires-in-Range c = (_, c.range.ensures.exact, (None, refl))
-
-pub of-requires-in-Fail : goal.of-requires-in-Fail
-of-requires-in-Fail c = (_, c.failing.ensures.exact, (Some c.in-Fail.fault, refl))
+pub returns : goal.returns
+returns c = c.of.ensures (given (origin_in c.args.self)) (rw c.new.ensures (λ t came. came))

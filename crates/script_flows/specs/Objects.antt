@@ -1,0 +1,42 @@
+-- Which thing of a world an object stands for.
+use Rattle.std.specs.Prelude.{◌≡◌, ℕ, Bool, List, [], ◌∷◌, Option, None, Result, Ok, Err}
+use Rattle.shared_core.specs.Shown.{Shows}
+use Rattle.flow_terms.specs.declared.refusal.Refusal.{Refusal}
+use Rattle.script_pipes.specs.declared.answer.Answer.{Answer}
+use Rattle.script_pipes.specs.declared.request.Party.{Party}
+use Rattle.script_pipes.specs.declared.request.Request.{Request}
+use Rattle.script_pipes.specs.Commands.{Made}
+use Rattle.script_flows.specs.declared.object.Object.{Object}
+use Rattle.script_flows.specs.declared.object.Object.TheVariants as objects
+use Rattle.script_flows.specs.declared.part.Part.{Part}
+use Rattle.script_flows.specs.Buffered.{ShowsBuffer}
+use Rattle.script_flows.specs.Findings.{Finding, RefusedFor}
+use Rattle.script_flows.specs.Shares.{live}
+use Rattle.script_flows.specs.Things.{Thing, flow, state, stated, buffer, share, kept, ask, join, Joined, refused_with, thing_of}
+use Rattle.script_flows.specs.Watching.{standing}
+
+abbrev pub Stands : Object → Thing → Type 0
+Stands (objects.Flow shown) (flow M) = Shows shown.state M
+Stands (objects.State watched) (state collectors) = standing watched ≡ collectors
+Stands (objects.Stated shown) (stated collectors) = standing shown.state ≡ collectors
+Stands (objects.Buffer shown) (buffer buffering) = ShowsBuffer shown buffering
+Stands (objects.Share shared) (share subscriptions) = live shared ≡ subscriptions
+Stands object thing = ⊥
+
+-- what was made stands for the thing, or it was refused for what it is made with, or for want of memory
+abbrev pub Makes : Made → Result Object Refusal → Type 0
+Makes made (Ok object) = (refused_with made ≡ None) × Stands object (thing_of made)
+Makes made (Err refusal) = RefusedFor (refused_with made) refusal
+
+-- Whatever the old object stands for, the call's result is that of the thing, by what it found, and the new object stands for
+-- what is left of the thing.
+abbrev pub Comes : {R : Type 0} → (Finding → Thing → Option (R × Thing)) → Object → Option R → Object → Type 0
+Comes call old result new =
+    (thing : Thing) → Stands old thing
+    → (finding : Finding) × (result ≡ (kept thing (call finding thing)).0) × Stands new (kept thing (call finding thing)).1
+
+abbrev pub Asks : Part → Request → Object → Option Answer → Object → Type 0
+Asks part request old answer new = Comes (λ finding. ask finding part request) old answer new
+
+abbrev pub Joins : Part → Party → Object → Option Joined → Object → Type 0
+Joins part party old joined new = Comes (λ finding. join finding part party) old joined new

@@ -1,0 +1,194 @@
+-- What a name of a script may stand for, and what each kind answers the commands that it knows.
+use Rattle.std.specs.Prelude.{◌≡◌, ℕ, Bool, true, false, List, [], ◌∷◌, ◌++◌, length, Option, Some, None, slice_get, slice_set, nat_lt, if◌then◌else◌}
+use Rattle.std.specs.Option.{option_map}
+use Rattle.flow_terms.specs.declared.policy.Policy.{Policy}
+use Rattle.flow_terms.specs.declared.refusal.Refusal.{Refusal}
+use Rattle.flow_terms.specs.declared.refusal.Refusal.TheVariants.{NoMemory, SubscribersFull}
+use Rattle.flow_buffer.specs.Capacity.{refused_capacity}
+use Rattle.shared_core.specs.declared.config.Config.{Config}
+use Rattle.shared_core.specs.Flow.{State, empty}
+use Rattle.shared_core.specs.Flow as flows
+use Rattle.shared_core.specs.Calls as calls
+use Rattle.shared_core.specs.Kept.{making_refusal, parameters_of}
+use Rattle.script_pipes.specs.declared.answer.Answer.{Answer}
+use Rattle.script_pipes.specs.declared.answer.Answer.TheVariants as answers
+use Rattle.script_pipes.specs.declared.request.Request.{Request}
+use Rattle.script_pipes.specs.declared.request.Request.TheVariants as requests
+use Rattle.script_pipes.specs.declared.request.Party.{Party}
+use Rattle.script_pipes.specs.declared.request.Party.TheVariants as parties
+use Rattle.script_pipes.specs.Commands.{Made}
+use Rattle.script_pipes.specs.Commands as commands
+use Rattle.script_pipes.specs.Replies.{try_answer, emit_answer, poll_answer, withdraw_answer, subscribe_answer, next_answer, cancel_answer, fill_answer, take_answer}
+use Rattle.script_flows.specs.declared.part.Part.{Part}
+use Rattle.script_flows.specs.declared.part.Part.TheVariants.{Whole, Subscription, InFlight, Finished, Collector, Subscriber}
+use Rattle.script_flows.specs.Buffers.{Buffering, begun, filled, taken}
+use Rattle.script_flows.specs.Findings.{Finding, Lack, was_refused, lack_in, read_in, compared_in, received_in, has_waited, cached_in, ticked_in, refusal_for}
+use Rattle.script_flows.specs.Parts.{subscription_in, emission_in}
+use Rattle.script_flows.specs.Ticks.{tick_answer}
+use Rattle.script_flows.specs.Watching.{collecting}
+use Rattle.script_words.specs.Words.{◌>>=◌}
+
+pub data Thing : Type 0 where
+  -- a flow, as its model has it
+  flow : State ℕ → Thing
+  -- a state: for each collector that it has had, whether it collects still
+  state : List Bool → Thing
+  -- a state that is set from a source
+  stated : List Bool → Thing
+  -- a buffer, with what its source gives still
+  buffer : Buffering → Thing
+  -- a flow that shares a source: for each subscription that it has had, whether it is live still
+  share : List Bool → Thing
+
+-- ---- what is made
+
+abbrev pub config_of : ℕ → ℕ → Policy → Config
+config_of replay extra policy = record { replay = replay; extra = extra; policy = policy; subscribers = 8; emits = 8; first = 0 }
+
+-- why it is refused, by what it is made with
+abbrev pub refused_with : Made → Option Refusal
+refused_with (commands.shared replay extra policy) = making_refusal (config_of replay extra policy)
+refused_with (commands.state value) = None
+refused_with (commands.buffer capacity policy origin) = refused_capacity capacity
+refused_with (commands.share replay extra policy started origin) = making_refusal (config_of replay extra policy)
+refused_with (commands.stated value started origin) = None
+
+abbrev pub thing_of : Made → Thing
+thing_of (commands.shared replay extra policy) = flow (empty (parameters_of (config_of replay extra policy)))
+thing_of (commands.state value) = state []
+thing_of (commands.buffer capacity policy origin) = buffer (begun capacity policy origin)
+thing_of (commands.share replay extra policy started origin) = share []
+thing_of (commands.stated value started origin) = stated []
+
+-- ---- what is asked: the answer and what stands after it, or nothing where it is no command for that part
+
+-- what an answer leaves; without one everything stands as it stood
+abbrev pub kept : {A S : Type 0} → S → Option (A × S) → Option A × S
+kept before None = (None, before)
+kept before (Some came) = (Some came.0, came.1)
+
+-- a call's reply as an answer
+abbrev pub replied : {R S : Type 0} → (R → Answer) → R × S → Option (Answer × S)
+replied answer_of came = Some (answer_of came.0, came.1)
+
+abbrev pub ask_flow : Part → Request → State ℕ → Option (Answer × State ℕ)
+ask_flow Whole (requests.Try value) M = replied try_answer (calls.try_emit 0 value M)
+ask_flow Whole requests.Reset M = Some (answers.Done, calls.reset M)
+ask_flow Whole requests.Cache M = Some (answers.Values (flows.cache M), M)
+ask_flow Whole requests.Count M = Some (answers.Number (flows.live_count M), M)
+ask_flow (Subscription id) requests.Next M = replied next_answer (calls.next_value id.0 M)
+ask_flow (Subscription id) requests.Cancel M = replied cancel_answer (calls.cancel id.0 M)
+ask_flow (InFlight ticket) requests.Poll M = replied poll_answer (calls.poll_emit ticket.0 M)
+ask_flow (InFlight ticket) requests.Withdraw M = replied withdraw_answer (calls.cancel_emit ticket.0 M)
+-- an emission that was finished at once is known no more
+ask_flow Finished requests.Poll M = Some (answers.Gone, M)
+ask_flow Finished requests.Withdraw M = Some (answers.Gone, M)
+ask_flow part request M = None
+
+-- the value that was there, if one was
+abbrev pub received_answer : Option ℕ → Answer
+received_answer (Some value) = answers.Value value
+received_answer None = answers.Pending
+
+-- one of them was asked for a value: a cancelled one is closed
+abbrev pub receive : Finding → ℕ → List Bool → Option (Answer × List Bool)
+receive finding index those = do
+  lives ← slice_get those index
+  Some ((if lives then received_answer (received_in finding) else answers.Closed), those)
+
+-- one of them was cancelled, or had been
+abbrev pub cancelled : ℕ → List Bool → Option (Answer × List Bool)
+cancelled index those = do
+  lives ← slice_get those index
+  Some (cancel_answer lives, slice_set those index false)
+
+abbrev pub ask_state : Finding → Part → Request → List Bool → Option (Answer × List Bool)
+ask_state finding Whole requests.Value collectors = Some (answers.Value (read_in finding), collectors)
+ask_state finding Whole (requests.Set value) collectors = Some (answers.Done, collectors)
+ask_state finding Whole (requests.CompareAndSet expect update) collectors = Some (answers.Truth (compared_in finding), collectors)
+ask_state finding Whole requests.Count collectors = Some (answers.Number (read_in finding), collectors)
+ask_state finding (Collector index) requests.Next collectors = receive finding index collectors
+ask_state finding (Collector index) requests.Cancel collectors = cancelled index collectors
+ask_state finding part request collectors = None
+
+-- no command sets it
+abbrev pub ask_stated : Finding → Part → Request → List Bool → Option (Answer × List Bool)
+ask_stated finding Whole (requests.Set value) collectors = None
+ask_stated finding Whole (requests.CompareAndSet expect update) collectors = None
+ask_stated finding Whole (requests.Tick now) collectors = Some (tick_answer (ticked_in finding), collectors)
+ask_stated finding part request collectors = ask_state finding part request collectors
+
+abbrev pub ask_buffer : Bool → Part → Request → Buffering → Option (Answer × Buffering)
+ask_buffer pending Whole requests.Fill buffering = replied fill_answer (filled pending buffering)
+ask_buffer pending Whole requests.Next buffering = replied take_answer (taken pending buffering)
+ask_buffer pending part request buffering = None
+
+-- the replay cache that was found, where memory was there for it
+abbrev pub cached_answer : Option (List ℕ) → Answer
+cached_answer (Some values) = answers.Values values
+cached_answer None = answers.Refused NoMemory
+
+abbrev pub ask_share : Finding → Part → Request → List Bool → Option (Answer × List Bool)
+ask_share finding Whole requests.Cache subscriptions = Some (cached_answer (cached_in finding), subscriptions)
+ask_share finding Whole requests.Count subscriptions = Some (answers.Number (read_in finding), subscriptions)
+ask_share finding Whole (requests.Tick now) subscriptions = Some (tick_answer (ticked_in finding), subscriptions)
+ask_share finding (Subscriber index) requests.Next subscriptions = receive finding index subscriptions
+ask_share finding (Subscriber index) requests.Cancel subscriptions = cancelled index subscriptions
+ask_share finding part request subscriptions = None
+
+abbrev pub as_thing : {A S : Type 0} → (S → Thing) → Option (A × S) → Option (A × Thing)
+as_thing kind came = option_map (λ c. (c.0, kind c.1)) came
+
+-- WHAT A THING ANSWERS, where this is a name's part of it, and what stands after it
+abbrev pub ask : Finding → Part → Request → Thing → Option (Answer × Thing)
+ask finding part request (flow M) = as_thing flow (ask_flow part request M)
+ask finding part request (state collectors) = as_thing state (ask_state finding part request collectors)
+ask finding part request (stated collectors) = as_thing stated (ask_stated finding part request collectors)
+ask finding part request (buffer buffering) = as_thing buffer (ask_buffer (has_waited finding) part request buffering)
+ask finding part request (share subscriptions) = as_thing share (ask_share finding part request subscriptions)
+
+-- ---- what joins: the answer with what the new name is, if anything was made; nothing where it takes no such party
+
+abbrev pub Joined : Type 0
+Joined = Answer × Option Part
+
+abbrev pub joined_as : {R : Type 0} → (R → Answer) → (R → Option Part) → R × State ℕ → Option (Joined × State ℕ)
+joined_as answer_of part_in came = Some ((answer_of came.0, part_in came.0), came.1)
+
+abbrev pub join_flow : Part → Party → State ℕ → Option (Joined × State ℕ)
+join_flow Whole parties.Subscription M = joined_as subscribe_answer subscription_in (calls.subscribe M)
+join_flow Whole (parties.Emission value) M = joined_as emit_answer emission_in (calls.start_emit 0 value M)
+join_flow part party M = None
+
+-- one more of them, the last
+abbrev pub one_more : (ℕ → Part) → List Bool → Joined × List Bool
+one_more part those = ((answers.Done, Some (part (length those))), those ++ (true ∷ []))
+
+abbrev pub not_joined : Refusal → List Bool → Joined × List Bool
+not_joined refusal those = ((answers.Refused refusal, None), those)
+
+-- a ninth collector is refused, after want of memory
+abbrev pub join_collectors : Bool → List Bool → Joined × List Bool
+join_collectors refused collectors =
+    if refused then not_joined NoMemory collectors
+    else (if nat_lt (collecting collectors) 8 then one_more Collector collectors else not_joined SubscribersFull collectors)
+
+abbrev pub join_state : Finding → Part → Party → List Bool → Option (Joined × List Bool)
+join_state finding Whole parties.Collector collectors = Some (join_collectors (was_refused finding) collectors)
+join_state finding part party collectors = None
+
+abbrev pub join_subscriptions : Option Lack → List Bool → Joined × List Bool
+join_subscriptions (Some lack) subscriptions = not_joined (refusal_for lack) subscriptions
+join_subscriptions None subscriptions = one_more Subscriber subscriptions
+
+abbrev pub join_share : Finding → Part → Party → List Bool → Option (Joined × List Bool)
+join_share finding Whole parties.Subscription subscriptions = Some (join_subscriptions (lack_in finding) subscriptions)
+join_share finding part party subscriptions = None
+
+-- WHAT JOINS A THING, where this is a name's part of it, and what stands after it
+abbrev pub join : Finding → Part → Party → Thing → Option (Joined × Thing)
+join finding part party (flow M) = as_thing flow (join_flow part party M)
+join finding part party (state collectors) = as_thing state (join_state finding part party collectors)
+join finding part party (stated collectors) = as_thing stated (join_state finding part party collectors)
+join finding part party (buffer buffering) = None
+join finding part party (share subscriptions) = as_thing share (join_share finding part party subscriptions)

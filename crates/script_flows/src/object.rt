@@ -1,0 +1,136 @@
+//! What the names of a script stand for: one kind of object, which answers the commands that it knows.
+
+ghost use Rattle.std.specs.Prelude.{IfOk, MatchResult};
+ghost use Rattle.script_pipes.specs.Commands.{made_in};
+ghost use Rattle.script_flows.specs.Findings.{RefusedFor};
+ghost use Rattle.script_flows.specs.Things.{refused_with, thing_of};
+ghost use Rattle.script_flows.specs.Objects.{Stands, Makes, Asks, Joins};
+
+use crate::buffer::ScriptBuffer;
+use crate::flow::{ScriptFlow, config_of};
+use crate::part::Part;
+use crate::share::Share;
+use crate::stated::Stated;
+use crate::watched::Watched;
+use flow_terms::Refusal;
+use futures::task::Context;
+use script_pipes::{Answer, Making, Party, Request, SourceFlow};
+use std::alloc::{AllocError, Global};
+use std::sync::Wait;
+
+/// What a name of a script may stand for. It must be spent, by [`close`](Object::close), since collectors, subscriptions and
+/// sharings must be.
+pub enum Object<'a> {
+    /// A shared flow.
+    Flow(ScriptFlow),
+    /// A state with its collectors.
+    State(Watched),
+    /// A state that is set from a source.
+    Stated(Stated<'a>),
+    /// A buffer behind a source.
+    Buffer(ScriptBuffer),
+    /// A shared flow that shares a source.
+    Share(Share<'a>),
+}
+
+impl<'a> Object<'a> {
+    /// Makes what a line says. Refused for what it is made with, in the order of its kind, and then with 4.
+    pub fn new(rt: &impl Wait, alloc: Global, making: Making<'a>) -> Result<Object<'a>, Refusal>
+        ensures { Makes (made_in making.entry) result }
+    {
+        match making {
+            Making::Shared {
+                replay,
+                extra,
+                policy,
+            } => {
+                let flow = ScriptFlow::new(alloc, config_of(replay, extra, policy))?;
+                Ok(Object::Flow(flow))
+            }
+            Making::State { value } => Ok(Object::State(Watched::new(alloc, value)?)),
+            Making::Buffer {
+                capacity,
+                policy,
+                source,
+            } => {
+                let buffer = ScriptBuffer::new(alloc, source, capacity, policy)?;
+                Ok(Object::Buffer(buffer))
+            }
+            Making::Share {
+                replay,
+                extra,
+                policy,
+                started,
+                source,
+            } => {
+                let config = config_of(replay, extra, policy);
+                let source = SourceFlow::new(alloc, source);
+                Ok(Object::Share(Share::new(rt, alloc, config, started, source)?))
+            }
+            Making::Stated {
+                value,
+                started,
+                source,
+            } => {
+                let source = SourceFlow::new(alloc, source);
+                Ok(Object::Stated(Stated::new(alloc, value, started, source)?))
+            }
+        }
+    }
+
+    /// Answers a command to the part that a name is of it, or nothing where it is none for that part. Where memory is refused
+    /// for the replay cache of a shared flow, there is no answer.
+    pub fn ask(
+        &mut self,
+        rt: &impl Wait,
+        alloc: Global,
+        part: Part,
+        request: Request,
+        cx: &mut Context<'_>,
+    ) -> Result<Option<Answer>, AllocError>
+        ensures { IfOk result (λ answer. Asks part request self.old answer self.new) }
+    {
+        match self {
+            Object::Flow(flow) => flow.ask(alloc, part, request),
+            Object::State(state) => Ok(state.ask(part, request)),
+            Object::Stated(state) => Ok(state.ask(part, request, cx)),
+            Object::Buffer(buffer) => Ok(buffer.ask(part, request, cx)),
+            Object::Share(share) => Ok(share.ask(rt, alloc, part, request, cx)),
+        }
+    }
+
+    /// Lets a party join the part that a name is of it, and says what the party's name is, if anything was made; nothing where
+    /// that part takes no such party.
+    pub fn join(
+        &mut self,
+        rt: &impl Wait,
+        part: Part,
+        party: Party,
+    ) -> Option<(Answer, Option<Part>)>
+        ensures { Joins part party self.old result self.new }
+    {
+        match self {
+            Object::Flow(flow) => flow.join(part, party),
+            Object::State(state) => state.join(part, party),
+            Object::Stated(state) => state.join(part, party),
+            Object::Buffer(_) => None,
+            Object::Share(share) => share.join(rt, part, party),
+        }
+    }
+
+    /// Ends its collectors and subscriptions, and closes its sharing.
+    pub fn close(self, rt: &impl Wait) {
+        match self {
+            Object::Flow(_) | Object::Buffer(_) => {}
+            Object::State(state) => {
+                let _seat = state.close();
+            }
+            Object::Stated(state) => {
+                let _seats = state.close();
+            }
+            Object::Share(share) => {
+                let _flow = share.close(rt);
+            }
+        }
+    }
+}
