@@ -7,6 +7,7 @@ mod lane_calling;
 mod merge_calling;
 mod shared_calling;
 mod sharing_calling;
+mod source_calling;
 mod state_calling;
 mod strategy_calling;
 
@@ -16,5 +17,6 @@ pub use lane_calling::{drained, emitted_and_taken, taken_from_the_cache};
 pub use merge_calling::{joined_list, zipped_lists};
 pub use shared_calling::{emitted, finished, passed_on, received};
 pub use sharing_calling::first_poll;
+pub use source_calling::{Halve, Repeated, gathered_halves, mapped_halves, repeated_list};
 pub use state_calling::{Dimmer, Light, asked_twice};
 pub use strategy_calling::comes_and_goes;
