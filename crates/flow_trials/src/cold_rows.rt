@@ -1,9 +1,9 @@
 //! Cold flows poll by poll: the worked examples, each operator and end once with ample memory, and cancelled runs.
-ghost use Rattle.std.specs.Prelude.{◌≡◌, ◌+◌, ◌%◌, ◌^◌, nat_lt, Some};
+ghost use Rattle.std.specs.Prelude.{◌≡◌, ◌%◌, nat_lt, Some};
 ghost use Rattle.cold_flow.specs.declared.operators.few.Few.TheVariants.{Two};
 
 use crate::tools::{
-    Answer, Polling, Sum, assert_list, assert_polls, assert_same, broken, listed, next,
+    Add, Answer, Polling, Sum, assert_list, assert_polls, assert_same, broken, listed, next,
 };
 use cold_flow::{
     Apply, Caught, Cause, Collected, Collecting, Event, Few, Finite, First, Flow, Folding, Refusal,
@@ -16,19 +16,6 @@ use futures::test::MockTask;
 use std::alloc::Global;
 use std::process::Abort;
 use std::test::Fail;
-
-#[derive(Clone, Copy)]
-struct Add(u64);
-
-impl Apply<u64> for Add {
-    type Out = u64;
-
-    ghost gives = { λ f x. (x + f.0) % 2 ^ 64 };
-
-    fn apply(&self, argument: u64) -> u64 {
-        argument.wrapping_add(self.0)
-    }
-}
 
 #[derive(Clone, Copy)]
 struct IsAbove(u64);

@@ -45,3 +45,5 @@ mod strategy_rows;
 mod ticks;
 #[cfg(test)]
 mod tools;
+#[cfg(test)]
+mod unfold_rows;

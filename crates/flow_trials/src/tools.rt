@@ -23,6 +23,20 @@ impl Apply<(u64, u64)> for Sum {
     }
 }
 
+/// A given number more.
+#[derive(Clone, Copy)]
+pub struct Add(pub u64);
+
+impl Apply<u64> for Add {
+    type Out = u64;
+
+    ghost gives = { λ f x. (x + f.0) % 2 ^ 64 };
+
+    fn apply(&self, argument: u64) -> u64 {
+        argument.wrapping_add(self.0)
+    }
+}
+
 /// The same flow for each value.
 #[derive(Clone, Copy)]
 pub struct Same<F>(pub F);

@@ -1,0 +1,572 @@
+//! Sources of one's own, by a state and a step or by steps that a type gives itself: what they give, how often a step is asked, and
+//! that none is asked once the run has ended.
+ghost use Rattle.std.specs.Prelude.{◌*◌, ◌%◌, ◌^◌, nat_lt, if◌then◌else◌};
+ghost use Rattle.std.specs.Iterator.{at_most};
+ghost use Rattle.cold_flow.specs.declared.builders.unfold.Unfolded.TheVariants.{Next};
+ghost use Rattle.flow_trials.specs.Uncancelled.{AnyTrace};
+
+use crate::tools::{Add, Differences, Polling, assert_list, assert_same, next};
+use cold_flow::{
+    Apply, Cause, Collected, EndingRun, Event, FiniteSteps, Flow, Refusal, Run, Step, Steps,
+    Unfolded, collect, map, take, to_list, unfold,
+};
+use flow_callers::{Repeated, gathered_halves, mapped_halves, repeated_list};
+use futures::task::Poll;
+use futures::test::MockTask;
+use std::alloc::Global;
+use std::cell::Cell;
+use std::fmt::Debug;
+use std::test::Fail;
+
+// Gives a number that is below a limit, and goes on with its double. It counts how often it is asked.
+#[derive(Clone, Copy)]
+struct Doubling<'a> {
+    limit: u64,
+    // What it answers from the limit on.
+    end: Unfolded<u64, u64, u64>,
+    asked: &'a Cell<u32>,
+}
+
+impl Apply<u64> for Doubling<'_> {
+    type Out = Unfolded<u64, u64, u64>;
+
+    ghost gives = { λ f number. (if nat_lt number f.limit then Next number ((number * 2) % 2 ^ 64) else f.end) };
+
+    fn apply(&self, number: u64) -> Unfolded<u64, u64, u64> {
+        self.asked.set(self.asked.get().saturating_add(1));
+        if number < self.limit {
+            Unfolded::Next(number, number.wrapping_mul(2))
+        } else {
+            self.end
+        }
+    }
+}
+
+// Counts down from an odd number to 0, and gives only what is even: every other step is pending. It counts how often it is asked.
+#[derive(Clone, Copy)]
+struct Pausing<'a> {
+    left: u64,
+    asked: &'a Cell<u32>,
+}
+
+impl<'a> Flow for Pausing<'a> {
+    type Item = u64;
+
+    type Fault = u64;
+
+    type Running = EndingRun<Pausing<'a>, u64>;
+
+    ghost may = { λ _. AnyTrace };
+
+    fn start(&self) -> Result<EndingRun<Pausing<'a>, u64>, Refusal> {
+        Ok(EndingRun::new(*self))
+    }
+
+    ghost uncancelled = { λ _ _ h. h };
+}
+
+impl Steps for Pausing<'_> {
+    type Item = u64;
+
+    type Fault = u64;
+
+    ghost may = { λ _. AnyTrace };
+
+    ghost polls = { λ s. at_most s.left };
+
+    fn step(&mut self) -> Option<Step<u64, u64>> {
+        self.asked.set(self.asked.get().saturating_add(1));
+        if self.left == 0 {
+            return None;
+        }
+        self.left -= 1;
+        if self.left % 2 == 0 {
+            Some(Step::Value(self.left))
+        } else {
+            Some(Step::Pending)
+        }
+    }
+
+    ghost begins = { λ _. tt };
+}
+
+impl FiniteSteps for Pausing<'_> {
+    ghost is_finite = { λ _. tt };
+}
+
+const FINISH: Unfolded<u64, u64, u64> = Unfolded::Finish;
+
+const FAIL: Unfolded<u64, u64, u64> = Unfolded::Fail(7);
+
+const ENDED: Polling = Poll::Ready(Event::End(Cause::Finished));
+
+const FAILED: Polling = Poll::Ready(Event::End(Cause::Failed(7)));
+
+const CANCELLED: Polling = Poll::Ready(Event::End(Cause::Cancelled));
+
+const ZERO: Polling = Poll::Ready(Event::Value(0));
+
+const ONE: Polling = Poll::Ready(Event::Value(1));
+
+const TWO: Polling = Poll::Ready(Event::Value(2));
+
+const FOUR: Polling = Poll::Ready(Event::Value(4));
+
+const WAITS: Polling = Poll::Pending;
+
+// What doubling gives from a number on, the cause of its end, and how often its step is asked for all of that.
+struct Doubled<'a> {
+    name: &'a str,
+    from: u64,
+    limit: u64,
+    end: Unfolded<u64, u64, u64>,
+    values: &'a [u64],
+    cause: Cause<u64>,
+    asked: u32,
+}
+
+const DOUBLED: &[Doubled<'_>] = &[
+    Doubled {
+        name: "powers of two below a limit",
+        from: 1,
+        limit: 20,
+        end: FINISH,
+        values: &[1, 2, 4, 8, 16],
+        cause: Cause::Finished,
+        asked: 6,
+    },
+    Doubled {
+        name: "a limit that is a power itself",
+        from: 1,
+        limit: 16,
+        end: FINISH,
+        values: &[1, 2, 4, 8],
+        cause: Cause::Finished,
+        asked: 5,
+    },
+    Doubled {
+        name: "another first state",
+        from: 3,
+        limit: 13,
+        end: FINISH,
+        values: &[3, 6, 12],
+        cause: Cause::Finished,
+        asked: 4,
+    },
+    Doubled {
+        name: "an end at the first step",
+        from: 5,
+        limit: 5,
+        end: FINISH,
+        values: &[],
+        cause: Cause::Finished,
+        asked: 1,
+    },
+    Doubled {
+        name: "a failure after two values",
+        from: 1,
+        limit: 4,
+        end: FAIL,
+        values: &[1, 2],
+        cause: Cause::Failed(7),
+        asked: 3,
+    },
+    Doubled {
+        name: "a failure at the first step",
+        from: 4,
+        limit: 4,
+        end: FAIL,
+        values: &[],
+        cause: Cause::Failed(7),
+        asked: 1,
+    },
+];
+
+// Compares what one poll gathered with a whole list.
+fn compare_gathered<E: Copy + PartialEq + Debug>(
+    differences: &mut Differences,
+    name: &str,
+    gathered: Poll<Result<Collected<u64, E>, Refusal>>,
+    values: &[u64],
+    cause: Cause<E>,
+) -> Result<(), Fail> {
+    match gathered {
+        Poll::Ready(list) => {
+            let list = list?;
+            differences.compare(name, list.values.as_slice(), values)?;
+            differences.compare(name, list.cause, cause)
+        }
+        Poll::Pending => differences.compare(name, "it waits", "it ends"),
+    }
+}
+
+// Two starts of a row's flow. Each begins with its state: both give the same, and ask as often.
+fn compare_row(
+    differences: &mut Differences,
+    alloc: Global,
+    task: &MockTask,
+    row: &Doubled<'_>,
+) -> Result<(), Fail> {
+    let asked = Cell::new(0);
+    let step = Doubling {
+        limit: row.limit,
+        end: row.end,
+        asked: &asked,
+    };
+    let flow = unfold(row.from, step);
+    for _start in 0..2 {
+        asked.set(0);
+        let mut gathering = collect(alloc, flow.start()?);
+        let gathered = task.enter(|cx| gathering.poll(cx));
+        compare_gathered(differences, row.name, gathered, row.values, row.cause)?;
+        differences.compare(row.name, asked.get(), row.asked)?;
+    }
+    Ok(())
+}
+
+#[test]
+fn unfolds_give_what_their_steps_answer(rt: HostRuntime) -> Result<(), Fail> {
+    let task = MockTask::new(&rt)?;
+    let mut differences = Differences::none(rt.alloc());
+    for row in DOUBLED {
+        compare_row(&mut differences, rt.alloc(), &task, row)?;
+    }
+    differences.assert_none(&rt);
+    Ok(())
+}
+
+// Polls a run. Compares each answer, and how often its step was asked until then. A poll that is pending has woken its task.
+fn compare_polls<R: Run<Item = u64, Fault = u64>>(
+    differences: &mut Differences,
+    task: &MockTask,
+    name: &str,
+    run: &mut R,
+    asked: &Cell<u32>,
+    polls: &[(Polling, u32)],
+) -> Result<(), Fail> {
+    for (answer, count) in polls {
+        differences.compare(name, next(task, run), *answer)?;
+        differences.compare(name, answer.is_ready() || task.is_woken(), true)?;
+        differences.compare(name, asked.get(), *count)?;
+    }
+    Ok(())
+}
+
+// Polls of a run, each with how often its step was asked until then, and what the polls give once it is cancelled after them.
+struct Polled<'a> {
+    name: &'a str,
+    polls: &'a [(Polling, u32)],
+    cancelled: Polling,
+}
+
+// Polls a run and cancels it. From then on its step is asked no more.
+fn compare_cancelled<R: Run<Item = u64, Fault = u64>>(
+    differences: &mut Differences,
+    task: &MockTask,
+    run: &mut R,
+    asked: &Cell<u32>,
+    row: &Polled<'_>,
+) -> Result<(), Fail> {
+    compare_polls(differences, task, row.name, run, asked, row.polls)?;
+    run.cancel();
+    let after = (row.cancelled, asked.get());
+    compare_polls(
+        differences,
+        task,
+        row.name,
+        run,
+        asked,
+        &[after, after, after],
+    )
+}
+
+// A doubling of 1: where it ends and how, and the polls of its run.
+struct Unfolds<'a> {
+    limit: u64,
+    end: Unfolded<u64, u64, u64>,
+    polled: Polled<'a>,
+}
+
+const UNFOLDS: &[Unfolds<'_>] = &[
+    Unfolds {
+        limit: 3,
+        end: FINISH,
+        polled: Polled {
+            name: "a cancel before any poll",
+            polls: &[],
+            cancelled: CANCELLED,
+        },
+    },
+    Unfolds {
+        limit: 3,
+        end: FINISH,
+        polled: Polled {
+            name: "a cancel after two values",
+            polls: &[(ONE, 1), (TWO, 2)],
+            cancelled: CANCELLED,
+        },
+    },
+    Unfolds {
+        limit: 3,
+        end: FINISH,
+        polled: Polled {
+            name: "an end is kept",
+            polls: &[(ONE, 1), (TWO, 2), (ENDED, 3), (ENDED, 3), (ENDED, 3)],
+            cancelled: ENDED,
+        },
+    },
+    Unfolds {
+        limit: 2,
+        end: FAIL,
+        polled: Polled {
+            name: "a failure is kept",
+            polls: &[(ONE, 1), (FAILED, 2), (FAILED, 2), (FAILED, 2)],
+            cancelled: FAILED,
+        },
+    },
+];
+
+#[test]
+fn unfolds_ask_one_step_a_poll(rt: HostRuntime) -> Result<(), Fail> {
+    let task = MockTask::new(&rt)?;
+    let mut differences = Differences::none(rt.alloc());
+    for row in UNFOLDS {
+        let asked = Cell::new(0);
+        let step = Doubling {
+            limit: row.limit,
+            end: row.end,
+            asked: &asked,
+        };
+        let mut run = unfold(1u64, step).start()?;
+        compare_cancelled(&mut differences, &task, &mut run, &asked, &row.polled)?;
+    }
+    differences.assert_none(&rt);
+    Ok(())
+}
+
+// Two runs of one flow, side by side. Each has a state of its own, and a cancel of one leaves the other going.
+#[test]
+fn runs_of_an_unfold_stand_side_by_side(rt: HostRuntime) -> Result<(), Fail> {
+    let task = MockTask::new(&rt)?;
+    let mut all = Differences::none(rt.alloc());
+    let asked = Cell::new(0);
+    let step = Doubling {
+        limit: 5,
+        end: FINISH,
+        asked: &asked,
+    };
+    let flow = unfold(1u64, step);
+    let mut left = flow.start()?;
+    let mut right = flow.start()?;
+    let begun = [(ONE, 1), (TWO, 2)];
+    compare_polls(&mut all, &task, "left", &mut left, &asked, &begun)?;
+    let behind = [(ONE, 3)];
+    compare_polls(&mut all, &task, "right", &mut right, &asked, &behind)?;
+    left.cancel();
+    let on = [(TWO, 4), (FOUR, 5), (ENDED, 6)];
+    compare_polls(&mut all, &task, "right goes on", &mut right, &asked, &on)?;
+    let over = [(CANCELLED, 6)];
+    compare_polls(&mut all, &task, "left is over", &mut left, &asked, &over)?;
+    all.assert_none(&rt);
+    Ok(())
+}
+
+// Doubling without an end: the powers of two that fit, and then 0 for good. A collection takes 64 values a poll; `take` ends it.
+#[test]
+fn unfolds_without_an_end(rt: HostRuntime) -> Result<(), Fail> {
+    const GREATEST_POWER: u64 = 0x8000_0000_0000_0000;
+    let task = MockTask::new(&rt)?;
+    let asked = Cell::new(0);
+    let step = Doubling {
+        limit: u64::MAX,
+        end: FINISH,
+        asked: &asked,
+    };
+    let flow = unfold(1u64, step);
+    let mut gathering = collect(rt.alloc(), flow.start()?);
+    assert!(rt; task.enter(|cx| gathering.poll(cx)).is_pending());
+    assert!(rt; task.is_woken());
+    assert_same(&rt, "values", gathering.so_far().len(), 64);
+    let last = gathering.so_far().last().copied();
+    assert_same(&rt, "last value", last, Some(GREATEST_POWER));
+    assert_same(&rt, "steps", asked.get(), 64);
+    asked.set(0);
+    let mut gathering = collect(rt.alloc(), take(flow, 3)?.start()?);
+    let mut differences = Differences::none(rt.alloc());
+    let gathered = task.enter(|cx| gathering.poll(cx));
+    compare_gathered(
+        &mut differences,
+        "the first three",
+        gathered,
+        &[1, 2, 4],
+        Cause::Finished,
+    )?;
+    differences.compare("steps of them", asked.get(), 3)?;
+    differences.assert_none(&rt);
+    Ok(())
+}
+
+const PAUSES: &[Polled<'_>] = &[
+    Polled {
+        name: "a pause each second poll, and the end is kept",
+        polls: &[
+            (FOUR, 1),
+            (WAITS, 2),
+            (TWO, 3),
+            (WAITS, 4),
+            (ZERO, 5),
+            (ENDED, 6),
+            (ENDED, 6),
+        ],
+        cancelled: ENDED,
+    },
+    Polled {
+        name: "a cancel while it waits",
+        polls: &[(FOUR, 1), (WAITS, 2)],
+        cancelled: CANCELLED,
+    },
+    Polled {
+        name: "a cancel before it waits",
+        polls: &[],
+        cancelled: CANCELLED,
+    },
+];
+
+#[test]
+fn steps_of_ones_own_may_wait(rt: HostRuntime) -> Result<(), Fail> {
+    let task = MockTask::new(&rt)?;
+    let mut differences = Differences::none(rt.alloc());
+    for row in PAUSES {
+        let asked = Cell::new(0);
+        let source = Pausing {
+            left: 5,
+            asked: &asked,
+        };
+        let mut run = source.start()?;
+        compare_cancelled(&mut differences, &task, &mut run, &asked, row)?;
+    }
+    differences.assert_none(&rt);
+    Ok(())
+}
+
+// `to_list` asks again at once; a collection waits with its task. Both starts begin anew.
+#[test]
+fn steps_of_ones_own_are_listed(rt: HostRuntime) -> Result<(), Fail> {
+    const VALUES: &[u64] = &[4, 2, 0];
+    let alloc = rt.alloc();
+    let task = MockTask::new(&rt)?;
+    let asked = Cell::new(0);
+    let source = Pausing {
+        left: 5,
+        asked: &asked,
+    };
+    let run = source.start()?;
+    let list = task.enter(move |cx| to_list(alloc, run, cx))?;
+    assert_list(&rt, &list, VALUES, Cause::Finished);
+    assert_same(&rt, "steps", asked.get(), 6);
+    let mut gathering = collect(alloc, source.start()?);
+    for count in [1, 2] {
+        assert!(rt; task.enter(|cx| gathering.poll(cx)).is_pending());
+        assert!(rt; task.is_woken());
+        assert_same(&rt, "values so far", gathering.so_far().len(), count);
+    }
+    let mut differences = Differences::none(alloc);
+    let gathered = task.enter(|cx| gathering.poll(cx));
+    compare_gathered(
+        &mut differences,
+        "third poll",
+        gathered,
+        VALUES,
+        Cause::Finished,
+    )?;
+    differences.assert_none(&rt);
+    Ok(())
+}
+
+// A number, its half and so on, and these with 1 added.
+struct Halved<'a> {
+    name: &'a str,
+    number: u64,
+    values: &'a [u64],
+    more: &'a [u64],
+}
+
+const HALVED: &[Halved<'_>] = &[
+    Halved {
+        name: "halves of 20",
+        number: 20,
+        values: &[20, 10, 5, 2, 1],
+        more: &[21, 11, 6, 3, 2],
+    },
+    Halved {
+        name: "halves of 8",
+        number: 8,
+        values: &[8, 4, 2, 1],
+        more: &[9, 5, 3, 2],
+    },
+    Halved {
+        name: "halves of 1",
+        number: 1,
+        values: &[1],
+        more: &[2],
+    },
+    Halved {
+        name: "halves of 0",
+        number: 0,
+        values: &[],
+        more: &[],
+    },
+];
+
+// What the callers of `unfold` give.
+#[test]
+fn halves(rt: HostRuntime) -> Result<(), Fail> {
+    let alloc = rt.alloc();
+    let task = MockTask::new(&rt)?;
+    let mut all = Differences::none(alloc);
+    for row in HALVED {
+        let gathered = task.enter(|cx| gathered_halves(alloc, row.number, cx));
+        compare_gathered(&mut all, row.name, gathered, row.values, Cause::Finished)?;
+        let mut gathering = collect(alloc, mapped_halves(row.number, Add(1)).start()?);
+        let mapped = task.enter(|cx| gathering.poll(cx));
+        compare_gathered(&mut all, row.name, mapped, row.more, Cause::Finished)?;
+    }
+    all.assert_none(&rt);
+    Ok(())
+}
+
+// A number of 63 bits has 63 halves, and its end comes in the poll that gathers them; after 64 the poll yields.
+#[test]
+fn halves_of_great_numbers(rt: HostRuntime) -> Result<(), Fail> {
+    const OF_63_BITS: u64 = 0x7fff_ffff_ffff_ffff;
+    const OF_64_BITS: u64 = 0x8000_0000_0000_0000;
+    let alloc = rt.alloc();
+    let task = MockTask::new(&rt)?;
+    match task.enter(|cx| gathered_halves(alloc, OF_63_BITS, cx)) {
+        Poll::Ready(list) => assert_same(&rt, "values", list?.values.len(), 63),
+        Poll::Pending => return Err(Fail::from("it waits")),
+    }
+    let gathered = task.enter(|cx| gathered_halves(alloc, OF_64_BITS, cx));
+    assert!(rt; gathered.is_pending());
+    assert!(rt; task.is_woken());
+    Ok(())
+}
+
+// What the caller of a source by its steps gives, and an operator over that source.
+#[test]
+fn repeated_values(rt: HostRuntime) -> Result<(), Fail> {
+    let alloc = rt.alloc();
+    let task = MockTask::new(&rt)?;
+    let list = task.enter(|cx| repeated_list(alloc, 7u64, 3, cx))?;
+    assert_list(&rt, &list, &[7, 7, 7], Cause::Finished);
+    let list = task.enter(|cx| repeated_list(alloc, 7u64, 0, cx))?;
+    assert_list(&rt, &list, &[], Cause::Finished);
+    let source = Repeated {
+        value: 7u64,
+        times: 2,
+    };
+    let run = map(source, Add(1)).start()?;
+    let list = task.enter(move |cx| to_list(alloc, run, cx))?;
+    assert_list(&rt, &list, &[8, 8], Cause::Finished);
+    Ok(())
+}
