@@ -245,18 +245,18 @@ fn compare_polls<R: Run<Item = u64, Fault = u64>>(
     polls: &[(Polling, u32)],
 ) -> Result<(), Fail> {
     for (answer, count) in polls {
-        differences.compare(name, next(task, run), *answer)?;
+        differences.compare(name, &next(task, run), answer)?;
         differences.compare(name, answer.is_ready() || task.is_woken(), true)?;
         differences.compare(name, asked.get(), *count)?;
     }
     Ok(())
 }
 
-// Polls of a run, each with how often its step was asked until then, and what the polls give once it is cancelled after them.
+// Polls of a run, each with how often its step was asked until then, and the end that it gives once it is cancelled after them.
 struct Polled<'a> {
     name: &'a str,
     polls: &'a [(Polling, u32)],
-    cancelled: Polling,
+    cancelled: Cause<u64>,
 }
 
 // Polls a run and cancels it. From then on its step is asked no more.
@@ -269,15 +269,12 @@ fn compare_cancelled<R: Run<Item = u64, Fault = u64>>(
 ) -> Result<(), Fail> {
     compare_polls(differences, task, row.name, run, asked, row.polls)?;
     run.cancel();
-    let after = (row.cancelled, asked.get());
-    compare_polls(
-        differences,
-        task,
-        row.name,
-        run,
-        asked,
-        &[after, after, after],
-    )
+    let count = asked.get();
+    for _poll in 0..2 {
+        let end = [(Poll::Ready(Event::End(row.cancelled)), count)];
+        compare_polls(differences, task, row.name, run, asked, &end)?;
+    }
+    Ok(())
 }
 
 // A doubling of 1: where it ends and how, and the polls of its run.
@@ -294,7 +291,7 @@ const UNFOLDS: &[Unfolds<'_>] = &[
         polled: Polled {
             name: "a cancel before any poll",
             polls: &[],
-            cancelled: CANCELLED,
+            cancelled: Cause::Cancelled,
         },
     },
     Unfolds {
@@ -303,7 +300,7 @@ const UNFOLDS: &[Unfolds<'_>] = &[
         polled: Polled {
             name: "a cancel after two values",
             polls: &[(ONE, 1), (TWO, 2)],
-            cancelled: CANCELLED,
+            cancelled: Cause::Cancelled,
         },
     },
     Unfolds {
@@ -312,7 +309,7 @@ const UNFOLDS: &[Unfolds<'_>] = &[
         polled: Polled {
             name: "an end is kept",
             polls: &[(ONE, 1), (TWO, 2), (ENDED, 3), (ENDED, 3), (ENDED, 3)],
-            cancelled: ENDED,
+            cancelled: Cause::Finished,
         },
     },
     Unfolds {
@@ -321,7 +318,7 @@ const UNFOLDS: &[Unfolds<'_>] = &[
         polled: Polled {
             name: "a failure is kept",
             polls: &[(ONE, 1), (FAILED, 2), (FAILED, 2), (FAILED, 2)],
-            cancelled: FAILED,
+            cancelled: Cause::Failed(7),
         },
     },
 ];
@@ -418,17 +415,17 @@ const PAUSES: &[Polled<'_>] = &[
             (ENDED, 6),
             (ENDED, 6),
         ],
-        cancelled: ENDED,
+        cancelled: Cause::Finished,
     },
     Polled {
         name: "a cancel while it waits",
         polls: &[(FOUR, 1), (WAITS, 2)],
-        cancelled: CANCELLED,
+        cancelled: Cause::Cancelled,
     },
     Polled {
         name: "a cancel before it waits",
         polls: &[],
-        cancelled: CANCELLED,
+        cancelled: Cause::Cancelled,
     },
 ];
 
