@@ -1,13 +1,16 @@
 -- The latest values of two sources, at each arrival.
-use Rattle.std.specs.Prelude.{◌≡◌, ◌⊎◌, Bool, true, false, not, IsTrue, List, [], ◌∷◌, Option, Some, None, map}
+use Rattle.std.specs.Prelude.{◌≡◌, ◌⊎◌, Bool, true, false, not, ◌||◌, IsTrue, List, [], ◌∷◌, Option, Some, None, map}
 use Rattle.cold_flow.specs.declared.cause.Cause.{Cause}
 use Rattle.cold_flow.specs.declared.cause.Cause.TheVariants.{Finished, Failed, Cancelled, Refused}
 use Rattle.cold_flow.specs.declared.event.Event.{Event}
-use Rattle.cold_flow.specs.declared.event.Event.TheVariants.{Value}
+use Rattle.cold_flow.specs.declared.event.Event.TheVariants.{Value, End}
 use Rattle.cold_flow.specs.Trace.{Trace, so_far, ended_by, led_by}
 use Rattle.cold_flow.specs.Poll.{Traces}
 use Rattle.cold_flow.specs.Polled.{HasWaited}
 use Rattle.futures.specs.declared.task.Poll.{Poll}
+use Rattle.futures.specs.declared.task.Poll.TheVariants.{Ready, Pending}
+use Rattle.flow_merge.specs.declared.flows.side.Arrival.{Arrival}
+use Rattle.flow_merge.specs.declared.flows.side.Arrival.TheVariants.{Came, Done, Ended}
 use Rattle.flow_merge.specs.declared.flows.turn.Turn.{Turn}
 use Rattle.flow_merge.specs.declared.flows.turn.Turn.TheVariants.{Left, Right}
 
@@ -16,6 +19,14 @@ abbrev pub result_of : {A B C E : Type 0} → (A × B → C) → Option A → Op
 result_of g None right = None
 result_of g (Some x) None = None
 result_of g (Some x) (Some y) = Some (Value (g (x, y)))
+
+-- What a question answers to an arrival at a side: the result of the latest values, or the end, which a finish is once both sides have.
+abbrev pub answer_to : {A B C E : Type 0} → (A × B → C) → Poll (Arrival E) → Bool → Option A → Option B → Poll (Option (Event C E))
+answer_to g (Ready Came) both_finished l r = Ready (result_of g l r)
+answer_to g (Ready Done) true l r = Ready (Some (End Finished))
+answer_to g (Ready Done) false l r = Ready None
+answer_to g (Ready (Ended k)) both_finished l r = Ready (Some (End k))
+answer_to g Pending both_finished l r = Pending
 
 -- that result, and then t
 abbrev pub with_result : {A B C E : Type 0} → (A × B → C) → Option A → Option B → Trace C E → Trace C E
@@ -62,10 +73,10 @@ turn_to turn false = turn
 turn_to Left true = Right
 turn_to Right true = Left
 
--- whether the side whose turn it is has not finished
-abbrev pub is_open : Turn → Bool → Bool → Bool
-is_open Left left_finished right_finished = not left_finished
-is_open Right left_finished right_finished = not right_finished
+-- whether the side whose turn it is has not finished, unless both have
+abbrev pub is_due : Turn → Bool → Bool → Bool
+is_due Left left_finished right_finished = not left_finished || right_finished
+is_due Right left_finished right_finished = not right_finished || left_finished
 
 -- what the values of one side give once the other has finished, whose latest value stays
 abbrev pub rest_of_left : {A B C E : Type 0} → (A × B → C) → Option B → Trace A E → Trace C E

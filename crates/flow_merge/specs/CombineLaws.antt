@@ -1,19 +1,24 @@
 -- Laws of `combine`.
-use Rattle.std.specs.Prelude.{◌≡◌, Bool, true, false, IsTrue, List, [], ◌∷◌, ◌++◌, Option, Some, None, ◌⊎◌, refl}
+use Rattle.std.specs.Prelude.{◌≡◌, Bool, true, false, IsTrue, ◌&&◌, List, [], ◌∷◌, ◌++◌, Option, Some, None, ◌⊎◌, refl}
 use Rattle.std.proofs.Common.{sym, ◌∙◌, ap, subst, inl, inr}
 use Rattle.cold_flow.specs.declared.cause.Cause.{Cause}
 use Rattle.cold_flow.specs.declared.cause.Cause.TheVariants.{Finished, Failed, Cancelled, Refused}
 use Rattle.cold_flow.specs.declared.event.Event.{Event}
+use Rattle.cold_flow.specs.declared.event.Event.TheVariants.{Value, End}
 use Rattle.cold_flow.specs.Trace.{Trace, ◌⊑◌, so_far, ended_by, led_by}
-use Rattle.cold_flow.specs.Poll.{Traces, Within, After, Beginnings}
+use Rattle.cold_flow.specs.Poll.{Traces, Within, After, Beginnings, IsReady}
 use Rattle.cold_flow.specs.Laws.{begins-any, led-begins, ended-begins}
 use Rattle.flow_merge.specs.declared.flows.turn.Turn.{Turn}
 use Rattle.flow_merge.specs.declared.flows.turn.Turn.TheVariants.{Left, Right}
 use Rattle.futures.specs.declared.task.Poll.{Poll}
-use Rattle.futures.specs.declared.task.Poll.TheVariants.{Ready}
+use Rattle.futures.specs.declared.task.Poll.TheVariants.{Ready, Pending}
 use Rattle.cold_flow.specs.Polled.{HasWaited}
 use Rattle.flow_merge.specs.Asking.{Asks}
-use Rattle.flow_merge.specs.Combine.{with_result, result_of, Combines, OrFinished, turn_to, is_open, MayCombine, rest_of_left, rest_of_right, after_end, in_turn, combine_trace, SideWaited, OtherWaited, BothWaited}
+use Rattle.flow_merge.specs.declared.flows.side.Arrival.{Arrival}
+use Rattle.flow_merge.specs.declared.flows.side.Arrival.TheVariants.{Came, Done, Ended}
+use Rattle.flow_merge.specs.Side.{Brings, is_done}
+use Rattle.flow_merge.specs.Combine.{with_result, result_of, answer_to, Combines, OrFinished, turn_to, MayCombine, SideWaited, OtherWaited, BothWaited}
+use Rattle.flow_merge.specs.Combine.{rest_of_left, rest_of_right, after_end, in_turn, combine_trace}
 use Rattle.flow_merge.specs.Combine.Combines.{stops, left_gives, right_gives, left_passes, right_passes, finishes, left_fails, right_fails}
 
 -- whatever b allows, a allows: where a side must not answer pending, it must not later on
@@ -111,18 +116,18 @@ module _ {A B C E : Type 0} (g : A × B → C) where
     combines = loosen p q p' q' h k _ _ _ _ _ _ c.combines;
   }
 
-  -- the left's turn, where it has not finished
-  combine_left_gives : (p q p' : Bool) (l : Option A) (r : Option B) (rf : Bool) (old new : Traces A E) (right : Traces B E) (x : A)
-      → Looser p p' → After old x new
+  -- ---- a question to the left, at its turn
+
+  left_came : (p q p' : Bool) (l : Option A) (r : Option B) (rf : Bool) (old new : Traces A E) (right : Traces B E) (x : A) → Looser p p' → After old x new
       → AfterResult g (Some x) r (MayCombine g p q Left l r old (OrFinished rf right)) (MayCombine g p' q (turn_to Right rf) (Some x) r new (OrFinished rf right))
-  combine_left_gives p q p' l r false old new right x h after t c = record {
+  left_came p q p' l r false old new right x h after t c = record {
     of_left = led_by x c.of_left;
     of_right = c.of_right;
     left_came = after c.of_left c.left_came;
     right_came = c.right_came;
     combines = left_gives x (loosen p q p' q h (λ e. e) _ _ _ _ _ _ c.combines);
   }
-  combine_left_gives p q p' l r true old new right x h after t c = record {
+  left_came p q p' l r true old new right x h after t c = record {
     of_left = led_by x c.of_left;
     of_right = c.of_right;
     left_came = after c.of_left c.left_came;
@@ -130,17 +135,17 @@ module _ {A B C E : Type 0} (g : A × B → C) where
     combines = left_gives x (right_passes (λ _. c.right_came) (loosen p q p' q h (λ e. e) _ _ _ _ _ _ c.combines));
   }
 
-  pub combine_left_waits : (p q p' : Bool) (l : Option A) (r : Option B) (rf : Bool) (old new : Traces A E) (right : Traces B E)
+  left_waits : (p q p' : Bool) (l : Option A) (r : Option B) (rf : Bool) (old new : Traces A E) (right : Traces B E)
       → Looser p p' → (IsTrue p → ⊥) → Within old new
       → Within (MayCombine g p q Left l r old (OrFinished rf right)) (MayCombine g p' q (turn_to Right rf) l r new (OrFinished rf right))
-  combine_left_waits p q p' l r false old new right h waits within t c = record {
+  left_waits p q p' l r false old new right h waits within t c = record {
     of_left = c.of_left;
     of_right = c.of_right;
     left_came = within c.of_left c.left_came;
     right_came = c.right_came;
     combines = left_passes (λ is. absurd (waits is)) (loosen p q p' q h (λ e. e) _ _ _ _ _ _ c.combines);
   }
-  combine_left_waits p q p' l r true old new right h waits within t c = record {
+  left_waits p q p' l r true old new right h waits within t c = record {
     of_left = c.of_left;
     of_right = c.of_right;
     left_came = within c.of_left c.left_came;
@@ -148,10 +153,9 @@ module _ {A B C E : Type 0} (g : A × B → C) where
     combines = loosen p q p' q h (λ e. e) _ _ _ _ _ _ c.combines;
   }
 
-  pub combine_left_finishes : (p q p' : Bool) (l : Option A) (r : Option B) (old new : Traces A E) (right : Traces B E)
-      → Looser p p' → old (ended_by [] Finished)
-      → Within (MayCombine g p q Left l r old (OrFinished false right)) (MayCombine g p' q Right l r (OrFinished true new) (OrFinished false right))
-  combine_left_finishes p q p' l r old new right h came t c = record {
+  left_finishes : (p q p' : Bool) (l : Option A) (r : Option B) (old new : Traces A E) (right : Traces B E) → Looser p p' → old (ended_by [] Finished)
+      → Within (MayCombine g p q Left l r old right) (MayCombine g p' q Right l r (OrFinished true new) right)
+  left_finishes p q p' l r old new right h came t c = record {
     of_left = c.of_left;
     of_right = c.of_right;
     left_came = subst old (sym c.left_came) came;
@@ -159,121 +163,105 @@ module _ {A B C E : Type 0} (g : A × B → C) where
     combines = left_passes (λ _. c.left_came) (loosen p q p' q h (λ e. e) _ _ _ _ _ _ c.combines);
   }
 
-  pub combine_left_last : (p q : Bool) (l : Option A) (r : Option B) (old : Traces A E) (right : Traces B E) → old (ended_by [] Finished)
-      → MayCombine g p q Left l r old (OrFinished true right) (ended_by [] Finished)
-  combine_left_last p q l r old right came =
-      record { of_left = ended_by [] Finished; of_right = ended_by [] Finished; left_came = came; right_came = refl; combines = finishes }
+  asks_result : (l : Option A) (r : Option B) (old new : Traces C E) → AfterResult g l r old new → Asks old (Ready (result_of g l r)) new
+  asks_result None r old new h = h
+  asks_result (Some x) None old new h = h
+  asks_result (Some x) (Some y) old new h = h
 
-  pub combine_left_fails : (p q : Bool) (l : Option A) (r : Option B) (rf : Bool) (old : Traces A E) (right : Traces B E) (k : Cause E)
-      → right (so_far []) → old (ended_by [] k) → (k ≡ Finished → ⊥) → MayCombine g p q Left l r old (OrFinished rf right) (ended_by [] k)
-  combine_left_fails p q l r rf old right k begun came fails =
-      let b = side_begins rf right begun in
-      record { of_left = ended_by [] k; of_right = b.0; left_came = came; right_came = b.1; combines = left_fails k fails }
+  pub asks_left : (p q p' : Bool) (l l' : Option A) (r : Option B) (rf : Bool) (old new : Traces A E) (right : Traces B E) (arrival : Poll (Arrival E))
+      → right (so_far []) → (IsTrue p → IsReady arrival × IsTrue p') → Brings old l arrival (OrFinished (is_done arrival) new) l'
+      → Asks (MayCombine g p q Left l r old (OrFinished rf right)) (answer_to g arrival (is_done arrival && rf) l' r)
+      (MayCombine g p' q (turn_to Right rf) l' r (OrFinished (is_done arrival) new) (OrFinished rf right))
+  asks_left p q p' l l' r rf old new right (Ready Came) begun prompt b =
+      rw b.1 (asks_result (Some b.0) r _ _ (left_came p q p' l r rf old new right b.0 (λ h. (prompt h).1) b.2))
+  asks_left p q p' l l' r false old new right (Ready Done) begun prompt b = rw b.0 (left_finishes p q p' l r old new right (λ h. (prompt h).1) b.1)
+  asks_left p q p' l l' r true old new right (Ready Done) begun prompt b =
+      record { of_left = ended_by [] Finished; of_right = ended_by [] Finished; left_came = b.1; right_came = refl; combines = finishes }
+  asks_left p q p' l l' r rf old new right (Ready (Ended k)) begun prompt b =
+      let other = side_begins rf right begun in
+      record { of_left = ended_by [] k; of_right = other.0; left_came = b.2; right_came = other.1; combines = left_fails k b.1 }
+  asks_left p q p' l l' r rf old new right Pending begun prompt b =
+      rw b.0 (left_waits p q p' l r rf old new right (λ h. (prompt h).1) (λ h. (prompt h).0) b.1)
 
-  -- the right's turn, where it has not finished
-  combine_right_gives : (p q q' : Bool) (l : Option A) (r : Option B) (lf : Bool) (left : Traces A E) (old new : Traces B E) (y : B)
-      → Looser q q' → After old y new
-      → AfterResult g l (Some y) (MayCombine g p q Right l r (OrFinished lf left) old) (MayCombine g p q' (turn_to Left lf) l (Some y) (OrFinished lf left) new)
-  combine_right_gives p q q' l r false left old new y h after t c = record {
-    of_left = c.of_left;
-    of_right = led_by y c.of_right;
-    left_came = c.left_came;
-    right_came = after c.of_right c.right_came;
-    combines = right_gives y (loosen p q p q' (λ e. e) h _ _ _ _ _ _ c.combines);
+-- ---- a question to the right: the same, seen from the other side
+
+abbrev other_turn : Turn → Turn
+other_turn Left = Right
+other_turn Right = Left
+
+other-passes : (lf : Bool) → other_turn (turn_to Left lf) ≡ turn_to Right lf
+other-passes false = refl
+other-passes true = refl
+
+both-mirrored : (lf rf : Bool) → (rf && lf) ≡ (lf && rf)
+both-mirrored true true = refl
+both-mirrored true false = refl
+both-mirrored false true = refl
+both-mirrored false false = refl
+
+abbrev mirror : {A B C : Type 0} → (A × B → C) → B × A → C
+mirror g z = g (z.1, z.0)
+
+-- a question says the same where more could come before it, and where less may come after it
+asks_within : {C E : Type 0} (more old new less : Traces C E) (given : Poll (Option (Event C E))) → Within more old → Within new less
+    → Asks old given new → Asks more given less
+asks_within more old new less (Ready (Some (Value v))) h k asks = λ t c. h _ (asks t (k t c))
+asks_within more old new less (Ready (Some (End e))) h k asks = h _ asks
+asks_within more old new less (Ready None) h k asks = λ t c. h t (asks t (k t c))
+asks_within more old new less Pending h k asks = λ t c. h t (asks t (k t c))
+
+module _ {A B C E : Type 0} (g : A × B → C) where
+  with-mirrored : (l : Option A) (r : Option B) (t : Trace C E) → with_result (mirror g) r l t ≡ with_result g l r t
+  with-mirrored None None t = refl
+  with-mirrored None (Some y) t = refl
+  with-mirrored (Some x) None t = refl
+  with-mirrored (Some x) (Some y) t = refl
+
+  answer-mirrored : (arrival : Poll (Arrival E)) (both : Bool) (l : Option A) (r : Option B) → answer_to (mirror g) arrival both r l ≡ answer_to g arrival both l r
+  answer-mirrored (Ready Came) both None None = refl
+  answer-mirrored (Ready Came) both None (Some y) = refl
+  answer-mirrored (Ready Came) both (Some x) None = refl
+  answer-mirrored (Ready Came) both (Some x) (Some y) = refl
+  answer-mirrored (Ready Done) true l r = refl
+  answer-mirrored (Ready Done) false l r = refl
+  answer-mirrored (Ready (Ended k)) both l r = refl
+  answer-mirrored Pending both l r = refl
+
+  mirrored : (p q : Bool) (turn : Turn) (l : Option A) (r : Option B) (t : Trace A E) (u : Trace B E) (out : Trace C E)
+      → Combines g p q turn l r t u out → Combines (mirror g) q p (other_turn turn) r l u t out
+  mirrored p q _ _ _ _ _ _ stops = stops
+  mirrored p q _ _ _ _ _ _ (left_gives {l = l} {r = r} {t = t} {u = u} {out = out} x c) =
+      rw (← (with-mirrored (Some x) r out)) (right_gives x (mirrored p q Right (Some x) r t u out c))
+  mirrored p q _ _ _ _ _ _ (right_gives {l = l} {r = r} {t = t} {u = u} {out = out} y c) =
+      rw (← (with-mirrored l (Some y) out)) (left_gives y (mirrored p q Left l (Some y) t u out c))
+  mirrored p q _ _ _ _ _ _ (left_passes {l = l} {r = r} {t = t} {u = u} {out = out} e c) = right_passes e (mirrored p q Right l r t u out c)
+  mirrored p q _ _ _ _ _ _ (right_passes {l = l} {r = r} {t = t} {u = u} {out = out} e c) = left_passes e (mirrored p q Left l r t u out c)
+  mirrored p q _ _ _ _ _ _ finishes = finishes
+  mirrored p q _ _ _ _ _ _ (left_fails k e) = right_fails k e
+  mirrored p q _ _ _ _ _ _ (right_fails k e) = left_fails k e
+
+  may_mirrored : (p q : Bool) (turn : Turn) (l : Option A) (r : Option B) (left : Traces A E) (right : Traces B E)
+      → Within (MayCombine (mirror g) q p (other_turn turn) r l right left) (MayCombine g p q turn l r left right)
+  may_mirrored p q turn l r left right t c = record {
+    of_left = c.of_right;
+    of_right = c.of_left;
+    left_came = c.right_came;
+    right_came = c.left_came;
+    combines = mirrored p q turn l r _ _ t c.combines;
   }
-  combine_right_gives p q q' l r true left old new y h after t c = record {
-    of_left = c.of_left;
-    of_right = led_by y c.of_right;
-    left_came = c.left_came;
-    right_came = after c.of_right c.right_came;
-    combines = right_gives y (left_passes (λ _. c.left_came) (loosen p q p q' (λ e. e) h _ _ _ _ _ _ c.combines));
-  }
 
-  pub combine_right_waits : (p q q' : Bool) (l : Option A) (r : Option B) (lf : Bool) (left : Traces A E) (old new : Traces B E)
-      → Looser q q' → (IsTrue q → ⊥) → Within old new
-      → Within (MayCombine g p q Right l r (OrFinished lf left) old) (MayCombine g p q' (turn_to Left lf) l r (OrFinished lf left) new)
-  combine_right_waits p q q' l r false left old new h waits within t c = record {
-    of_left = c.of_left;
-    of_right = c.of_right;
-    left_came = c.left_came;
-    right_came = within c.of_right c.right_came;
-    combines = right_passes (λ is. absurd (waits is)) (loosen p q p q' (λ e. e) h _ _ _ _ _ _ c.combines);
-  }
-  combine_right_waits p q q' l r true left old new h waits within t c = record {
-    of_left = c.of_left;
-    of_right = c.of_right;
-    left_came = c.left_came;
-    right_came = within c.of_right c.right_came;
-    combines = loosen p q p q' (λ e. e) h _ _ _ _ _ _ c.combines;
-  }
-
-  pub combine_right_finishes : (p q q' : Bool) (l : Option A) (r : Option B) (left : Traces A E) (old new : Traces B E)
-      → Looser q q' → old (ended_by [] Finished)
-      → Within (MayCombine g p q Right l r (OrFinished false left) old) (MayCombine g p q' Left l r (OrFinished false left) (OrFinished true new))
-  combine_right_finishes p q q' l r left old new h came t c = record {
-    of_left = c.of_left;
-    of_right = c.of_right;
-    left_came = c.left_came;
-    right_came = subst old (sym c.right_came) came;
-    combines = right_passes (λ _. c.right_came) (loosen p q p q' (λ e. e) h _ _ _ _ _ _ c.combines);
-  }
-
-  pub combine_right_last : (p q : Bool) (l : Option A) (r : Option B) (left : Traces A E) (old : Traces B E) → old (ended_by [] Finished)
-      → MayCombine g p q Right l r (OrFinished true left) old (ended_by [] Finished)
-  combine_right_last p q l r left old came =
-      record { of_left = ended_by [] Finished; of_right = ended_by [] Finished; left_came = refl; right_came = came; combines = finishes }
-
-  pub combine_right_fails : (p q : Bool) (l : Option A) (r : Option B) (lf : Bool) (left : Traces A E) (old : Traces B E) (k : Cause E)
-      → left (so_far []) → old (ended_by [] k) → (k ≡ Finished → ⊥) → MayCombine g p q Right l r (OrFinished lf left) old (ended_by [] k)
-  combine_right_fails p q l r lf left old k begun came fails =
-      let a = side_begins lf left begun in
-      record { of_left = a.0; of_right = ended_by [] k; left_came = a.1; right_came = came; combines = right_fails k fails }
-
-  asks_result : (l : Option A) (r : Option B) (given : Option (Event C E)) (old new : Traces C E) → given ≡ result_of g l r → AfterResult g l r old new
-      → Asks old (Ready given) new
-  asks_result None r given old new e h = subst (λ (o : Option (Event C E)). Asks old (Ready o) new) (sym e) h
-  asks_result (Some x) None given old new e h = subst (λ (o : Option (Event C E)). Asks old (Ready o) new) (sym e) h
-  asks_result (Some x) (Some y) given old new e h = subst (λ (o : Option (Event C E)). Asks old (Ready o) new) (sym e) h
-
-  -- a value of the side whose turn it is
-  pub asks_left : (p q p' : Bool) (turn next : Turn) (lf rf : Bool) (l : Option A) (r : Option B) (old new : Traces A E) (right : Traces B E) (x : A)
-      (given : Option (Event C E)) → turn ≡ Left → lf ≡ false → next ≡ turn_to Right rf → given ≡ result_of g (Some x) r → Looser p p' → After old x new
-      → Asks (MayCombine g p q turn l r (OrFinished lf old) (OrFinished rf right)) (Ready given)
-      (MayCombine g p' q next (Some x) r (OrFinished lf new) (OrFinished rf right))
-  asks_left p q p' turn next lf rf l r old new right x given is going passes gives h after =
-      asks_result (Some x) r given _ _ gives
-      (subst (λ (b : Bool). AfterResult g (Some x) r (MayCombine g p q turn l r (OrFinished b old) (OrFinished rf right)) (MayCombine g p' q next (Some x) r (OrFinished b new) (OrFinished rf right))) (sym going)
-      (subst (λ (t : Turn). AfterResult g (Some x) r (MayCombine g p q t l r old (OrFinished rf right)) (MayCombine g p' q next (Some x) r new (OrFinished rf right))) (sym is)
-      (subst (λ (t : Turn). AfterResult g (Some x) r (MayCombine g p q Left l r old (OrFinished rf right)) (MayCombine g p' q t (Some x) r new (OrFinished rf right))) (sym passes)
-      (combine_left_gives p q p' l r rf old new right x h after))))
-
-  pub asks_right : (p q q' : Bool) (turn next : Turn) (lf rf : Bool) (l : Option A) (r : Option B) (left : Traces A E) (old new : Traces B E) (y : B)
-      (given : Option (Event C E)) → turn ≡ Right → rf ≡ false → next ≡ turn_to Left lf → given ≡ result_of g l (Some y) → Looser q q' → After old y new
-      → Asks (MayCombine g p q turn l r (OrFinished lf left) (OrFinished rf old)) (Ready given)
-      (MayCombine g p q' next l (Some y) (OrFinished lf left) (OrFinished rf new))
-  asks_right p q q' turn next lf rf l r left old new y given is going passes gives h after =
-      asks_result l (Some y) given _ _ gives
-      (subst (λ (b : Bool). AfterResult g l (Some y) (MayCombine g p q turn l r (OrFinished lf left) (OrFinished b old)) (MayCombine g p q' next l (Some y) (OrFinished lf left) (OrFinished b new))) (sym going)
-      (subst (λ (t : Turn). AfterResult g l (Some y) (MayCombine g p q t l r (OrFinished lf left) old) (MayCombine g p q' next l (Some y) (OrFinished lf left) new)) (sym is)
-      (subst (λ (t : Turn). AfterResult g l (Some y) (MayCombine g p q Right l r (OrFinished lf left) old) (MayCombine g p q' t l (Some y) (OrFinished lf left) new)) (sym passes)
-      (combine_right_gives p q q' l r lf left old new y h after))))
-
--- the side whose turn comes next has not finished
-pub open-after_left : (lf rf : Bool) → IsTrue (is_open Left lf rf) → IsTrue (is_open (turn_to Right rf) lf rf)
-open-after_left lf true h = h
-open-after_left lf false h = refl
-
-pub open-after_right : (lf rf : Bool) → IsTrue (is_open Right lf rf) → IsTrue (is_open (turn_to Left lf) lf rf)
-open-after_right true rf h = h
-open-after_right false rf h = refl
-
-pub not-finished_left : (lf rf : Bool) → IsTrue (is_open Left lf rf) → lf ≡ false
-not-finished_left true rf h = absurd (cc)
-not-finished_left false rf h = refl
-
-pub not-finished_right : (lf rf : Bool) → IsTrue (is_open Right lf rf) → rf ≡ false
-not-finished_right lf true h = absurd (cc)
-not-finished_right lf false h = refl
+module _ {A B C E : Type 0} (g : A × B → C) where
+  pub asks_right : (p q q' : Bool) (l : Option A) (r r' : Option B) (lf : Bool) (left : Traces A E) (old new : Traces B E) (arrival : Poll (Arrival E))
+      → left (so_far []) → (IsTrue q → IsReady arrival × IsTrue q') → Brings old r arrival (OrFinished (is_done arrival) new) r'
+      → Asks (MayCombine g p q Right l r (OrFinished lf left) old) (answer_to g arrival (lf && is_done arrival) l r')
+      (MayCombine g p q' (turn_to Left lf) l r' (OrFinished lf left) (OrFinished (is_done arrival) new))
+  asks_right p q q' l r r' lf left old new arrival begun prompt b =
+      let asks : Asks (MayCombine (mirror g) q p Left r l old (OrFinished lf left)) (answer_to (mirror g) arrival (is_done arrival && lf) r' l)
+      (MayCombine (mirror g) q' p (other_turn (turn_to Left lf)) r' l (OrFinished (is_done arrival) new) (OrFinished lf left)) =
+      rw (other-passes lf) (asks_left (mirror g) q p q' r r' l lf old new left arrival begun prompt b) in
+      rw (← (answer-mirrored g arrival (lf && is_done arrival) l r'), ← (both-mirrored lf (is_done arrival)))
+      (asks_within _ _ _ _ _ (may_mirrored (mirror g) q p Left r l old (OrFinished lf left))
+      (may_mirrored g p q' (turn_to Left lf) l r' (OrFinished lf left) (OrFinished (is_done arrival) new)) asks)
 
 -- ---- where no side answers pending
 

@@ -9,6 +9,10 @@ use Rattle.cold_flow.specs.Poll.{IsWithinPolls}
 abbrev pub with_end : Count → Count
 with_end c = count_map (λ n. n + 1) c
 
+-- fewer polls are left
+abbrev pub IsFewer : Count → Count → Type 0
+IsFewer old new = IsFinite old → IsFinite new × (size new < size old)
+
 both-true : (a b : Bool) → T a → T b → T (cond a b false)
 both-true true b h g = g
 both-true false b h g = h
@@ -24,12 +28,12 @@ pub unless-finite : (done : Bool) (c : Count) → IsFinite c → IsFinite (count
 unless-finite done c h = unless-true done c.bounded h
 
 -- after one more question that brings the end nearer
-pub after_question : (old new : Count) (n most : ℕ) → IsFinite old × (size old + n ≤ most) → (IsFinite old → IsFinite new × (size new < size old))
+pub after_question : (old new : Count) (n most : ℕ) → IsFinite old × (size old + n ≤ most) → IsFewer old new
     → IsFinite new × (size new + (n + 1) ≤ most)
 after_question old new n most was now = let h = now was.0 in (h.0, omega arith)
 
 -- one that does not count
-pub after_wait : (old new : Count) (n most : ℕ) → IsFinite old × (size old + n ≤ most) → (IsFinite old → IsFinite new × (size new < size old))
+pub after_wait : (old new : Count) (n most : ℕ) → IsFinite old × (size old + n ≤ most) → IsFewer old new
     → IsFinite new × (size new + n ≤ most)
 after_wait old new n most was now = let h = now was.0 in (h.0, omega arith)
 
@@ -80,7 +84,7 @@ fewer-rounds less more most h =
     let product : (most + 2) * less ≤ (most + 2) * more = mul-le-mul_left (most + 2) h in omega arith
 
 -- a value of the outer that starts an inner run
-pub start_approaches : (outer left most of_flow of_run : Count) → (IsFinite outer → IsFinite left × (size left < size outer)) → IsBoundedBy most of_flow
+pub start_approaches : (outer left most of_flow of_run : Count) → IsFewer outer left → IsBoundedBy most of_flow
     → IsWithinPolls of_flow of_run → IsFinite (count_add (rounds outer most) (at_most 0))
     → IsFinite (count_add (rounds left most) (with_end of_run)) × (size (count_add (rounds left most) (with_end of_run)) < size (count_add (rounds outer most) (at_most 0)))
 start_approaches outer left most of_flow of_run fewer bounded within h =
@@ -94,7 +98,7 @@ start_approaches outer left most of_flow of_run fewer bounded within h =
     )
 
 -- a pending answer of the outer
-pub wait_approaches : (outer left most : Count) → (IsFinite outer → IsFinite left × (size left < size outer)) → IsFinite (count_add (rounds outer most) (at_most 0))
+pub wait_approaches : (outer left most : Count) → IsFewer outer left → IsFinite (count_add (rounds outer most) (at_most 0))
     → IsFinite (count_add (rounds left most) (at_most 0)) × (size (count_add (rounds left most) (at_most 0)) < size (count_add (rounds outer most) (at_most 0)))
 wait_approaches outer left most fewer h =
     let whole : T (cond outer.bounded most.bounded false) = both-first (cond outer.bounded most.bounded false) true h in

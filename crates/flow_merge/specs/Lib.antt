@@ -5,6 +5,7 @@ pub mod ZipLaws
 pub mod Concat
 pub mod ConcatLaws
 pub mod Combine
+pub mod Side
 pub mod CombineLaws
 pub mod Standing
 pub mod StandingLaws

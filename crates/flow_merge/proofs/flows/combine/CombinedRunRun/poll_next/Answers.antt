@@ -6,12 +6,12 @@ use Rattle.flow_merge.proofs.flows.combine.CombinedRunRun.poll_next.Goals as goa
 pub returns-in-Ready-Some-Value-clause-narrows : goal.returns-in-Ready-Some-Value-clause-narrows
 returns-in-Ready-Some-Value-clause-narrows g c =
     let asked = rw (c.in-Ready-Some-Value.field-0-is, c.in-Ready-Some-Value.field-0-0-is) at c.in-Ready-Some-Value.ensures.asked in
-    rw (c.in-Ready-Some-Value.ensures.going, c.turns.invariant.begun) (λ t h. c.turns.invariant.within _ (asked t h))
+    λ t h. c.turns.invariant.within _ (asked t h)
 
 pub returns-in-Ready-Some-End-clause-narrows : goal.returns-in-Ready-Some-End-clause-narrows
 returns-in-Ready-Some-End-clause-narrows g c =
     let asked = rw (c.in-Ready-Some-End.field-0-is, c.in-Ready-Some-End.field-0-0-is) at c.in-Ready-Some-End.ensures.asked in
-    rw c.turns.invariant.begun (c.turns.invariant.within _ asked)
+    c.turns.invariant.within _ asked
 
 pub turns-preserved-in-Ready-None : goal.turns-preserved-in-Ready-None
 turns-preserved-in-Ready-None g c =
@@ -28,7 +28,7 @@ turns-preserved-in-Ready-None g c =
 
 pub returns-then-waited-clause-narrows : goal.returns-then-waited-clause-narrows
 returns-then-waited-clause-narrows g c =
-    rw (c.in-Pending.ensures.going, c.turns.invariant.begun) (λ t h. c.turns.invariant.within _ (c.in-Pending.ensures.asked t h))
+    λ t h. c.turns.invariant.within _ (c.in-Pending.ensures.asked t h)
 
 pub turns-preserved : goal.turns-preserved
 turns-preserved g c =
@@ -39,13 +39,14 @@ turns-preserved g c =
       going = c.in-Pending.ensures.going;
       within = λ t h. c.turns.invariant.within t (c.in-Pending.ensures.asked t h);
       approaches = λ h. after_wait _ _ _ _ (c.turns.invariant.approaches h) c.in-Pending.ensures.approaches;
-      waited = λ h. other_waited g.A.Run.polled g.B.Run.polled was.turn now.turn now.left_finished now.right_finished was.left now.left was.right now.right c.in-Pending.ensures.waits c.if-self.false c.if-self-2.false;
+      waited = λ h. other_waited g.A.Run.polled g.B.Run.polled was.turn now.turn now.left.finished now.right.finished was.left.run now.left.run
+          was.right.run now.right.run c.in-Pending.ensures.waits c.if-self.false c.if-self-2.false;
       kept = search rules;
     }
 
 pub returns-clause-narrows : goal.returns-clause-narrows
 returns-clause-narrows g c =
-    rw (c.yield_now.ensures.pending, c.turns.invariant.begun, c.turns.invariant.going) c.turns.invariant.within
+    rw c.yield_now.ensures.pending c.turns.invariant.within
 
 -- A wrong body makes this false: so answered, it is refused at once.
 pub turns-smaller : goal.turns-smaller
