@@ -2,4 +2,3 @@ pub mod Commands
 pub mod Examples
 pub mod Courses
 pub mod Sharings
-pub mod StateSharings

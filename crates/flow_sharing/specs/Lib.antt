@@ -3,6 +3,8 @@ pub mod Keeping
 pub mod Shown
 pub mod Polls
 pub mod Courses
+pub mod Destinations
 pub mod Offers
+pub mod FlowDestinations
+pub mod StateDestinations
 pub mod Sharings
-pub mod StateSharings

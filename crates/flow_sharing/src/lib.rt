@@ -41,12 +41,18 @@
 mod audience;
 mod command;
 mod course;
+mod destination;
+mod feeding;
+mod flow_destination;
 pub mod laws;
 mod live_run;
+mod offer;
 mod outlet;
 mod polled;
+mod polling;
 mod share;
 mod sharing;
+mod state_destination;
 mod state_sharing;
 mod strategy;
 mod turn;

@@ -1,0 +1,22 @@
+-- What the steps of a sharing do to the value that waits at a shared flow.
+use Rattle.std.specs.Prelude.{◌≡◌, ◌≢◌, Bool, true, false, Option, Some, None}
+use Rattle.shared_core.specs.declared.config.Config.{Config}
+use Rattle.flow_sharing.specs.Destinations.{Steps}
+use Rattle.flow_sharing.specs.Offers.{Suspends, IsEmitRefusal}
+
+-- what was found of the waiting value: it waits still, or nothing waits any more
+abbrev pub Found : {T : Type 0} → Option T → Bool → Option T → Type 0
+Found before true after = (before ≢ None) × (after ≡ before)
+Found before false after = after ≡ None
+
+-- An emission waits only where the flow lets it. How many listen is known under the flow's lock alone
+abbrev pub emitting : {T : Type 0} → Option Config → Steps T (Option T)
+emitting flow = record {
+  Counts = λ before count after. after ≡ before;
+  Asks = Found;
+  Accepts = λ before x after. after ≡ None;
+  Delays = λ before x after. (after ≡ Some x) × Suspends flow;
+  Refuses = λ before x refusal after. (after ≡ None) × IsEmitRefusal refusal;
+  Withdraws = λ before after. after ≡ None;
+  Resets = λ before after. after ≡ before;
+}

@@ -1,0 +1,64 @@
+//! A shared flow as the place where the values of a sharing go.
+
+ghost use Rattle.std.specs.Prelude.{◌≡◌, ℕ, None, Option};
+ghost use Rattle.std.specs.Borrow.{GName};
+ghost use Rattle.shared_core.specs.declared.config.Config.{Config};
+ghost use Rattle.flow_sharing.specs.FlowDestinations.{emitting};
+
+use crate::destination::Destination;
+use crate::offer::Offer;
+use crate::outlet::Outlet;
+use cold_flow::Word;
+use futures::task::Context;
+use shared_flow::SharedFlow;
+use std::sync::Wait;
+
+/// A shared flow that is emitted into, for the time of one poll.
+#[derive(Drop)]
+pub(crate) struct FlowDestination<'a, T: Word, W> {
+    // An owner of the flow, which counts its subscriptions and resets its replay cache.
+    pub(crate) flow: &'a mut SharedFlow<T>,
+    pub(crate) outlet: &'a mut Outlet<T>,
+    pub(crate) rt: &'a W,
+}
+
+impl<'a, T: Word, W: Wait> Destination<T> for FlowDestination<'a, T, W> {
+    ghost Kept = { GName × Option Config × GName × Option Config × ℕ };
+
+    ghost kept = { λ d. (d.flow.ghost_name, d.flow.now, d.outlet.ghost_name, d.outlet.now.emitter.flow, d.outlet.now.emitter.id) };
+
+    ghost Seen = { Option T };
+
+    ghost seen = { λ d. d.outlet.now.waiting };
+
+    ghost steps = { λ kept. emitting kept.3 };
+
+    ghost free = { λ waiting. waiting ≡ None };
+
+    fn count(&mut self) -> u32 {
+        self.flow.subscription_count(self.rt)
+    }
+
+    fn still_waits(&mut self, cx: &mut Context<'_>) -> bool {
+        self.outlet.poll(self.rt, cx);
+        self.outlet.is_waiting()
+    }
+
+    fn offer(&mut self, value: T) -> Offer {
+        if let Err(refusal) = self.outlet.offer(self.rt, value) {
+            return Offer::Refused(refusal);
+        }
+        if self.outlet.is_waiting() {
+            return Offer::Waiting;
+        }
+        Offer::Accepted
+    }
+
+    fn withdraw(&mut self) {
+        self.outlet.withdraw(self.rt);
+    }
+
+    fn reset(&mut self) {
+        self.flow.reset_replay(self.rt);
+    }
+}
