@@ -63,7 +63,8 @@ module _ {T S : Type 0} (steps : Steps T S) {U E : Type 0} (may : U → Traces T
 
   pub takes_refused : ((run : U) → may run (so_far [])) → (from : Course U E) (before : S) (values : List T) (middle : Course U E) (between : S) (x : T)
       (asked_to to : Course U E) (after : S) (refusal : Refusal)
-      → length values < 32 → GoesOn may ended from values middle → AcceptsEach steps before values between → Asked may ended middle (Ready (Some x)) asked_to
+      → length values < 32 → GoesOn may ended from values middle → AcceptsEach steps before values between
+      → Asked may ended middle (Ready (Some x)) asked_to
       → steps.Refuses between x refusal after → to ≡ Broken (Refused refusal) → Takes steps may ended from before to after
   takes_refused begins from before values middle between x asked_to to after refusal few goes each asked refuses broken =
       Takes.is_refused values x between refusal few

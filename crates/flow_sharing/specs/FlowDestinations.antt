@@ -1,8 +1,18 @@
 -- What the steps of a sharing do to the value that waits at a shared flow.
-use Rattle.std.specs.Prelude.{◌≡◌, ◌≢◌, Bool, true, false, Option, Some, None}
+use Rattle.std.specs.Prelude.{◌≡◌, ◌≢◌, ◌⊎◌, Bool, true, false, Option, Some, None}
+use Rattle.flow_terms.specs.declared.policy.Policy.TheVariants.{Suspend}
+use Rattle.flow_terms.specs.declared.refusal.Refusal.{Refusal}
+use Rattle.flow_terms.specs.declared.refusal.Refusal.TheVariants.{Spent, EmitsFull}
 use Rattle.shared_core.specs.declared.config.Config.{Config}
 use Rattle.flow_sharing.specs.Destinations.{Steps}
-use Rattle.flow_sharing.specs.Offers.{Suspends, IsEmitRefusal}
+
+-- the flow lets emissions wait
+abbrev pub Suspends : Option Config → Type 0
+Suspends flow = (config : Config) → flow ≡ Some config → config.policy ≡ Suspend
+
+-- why an emission is refused
+abbrev pub IsEmitRefusal : Refusal → Type 0
+IsEmitRefusal refusal = (refusal ≡ Spent) ⊎ (refusal ≡ EmitsFull)
 
 -- what was found of the waiting value: it waits still, or nothing waits any more
 abbrev pub Found : {T : Type 0} → Option T → Bool → Option T → Type 0

@@ -4,7 +4,6 @@ pub mod Shown
 pub mod Polls
 pub mod Courses
 pub mod Destinations
-pub mod Offers
 pub mod FlowDestinations
 pub mod StateDestinations
 pub mod Sharings

@@ -32,7 +32,12 @@ answer (Some cause) started history = polled_over started history
 abbrev pub ShowsMore : Strategy → ℕ → ℕ → Strategy → Type 0
 ShowsMore before now count after = (history : History) → Shows before history → Shows after (record { moment = now; count = count } ∷ history)
 
--- this is what the poll answers
+-- this is what the poll answers, where the sharing hasn't ended for good
+abbrev pub PolledSo : Strategy → ℕ → ℕ → Polled → Type 0
+PolledSo before now count found = (history : History) → Shows before history
+    → found ≡ polled before.started (record { moment = now; count = count } ∷ history)
+
+-- this is what the poll answers, where the sharing ended for good before it by this cause, or hasn't
 abbrev pub Answers : {E : Type 0} → Strategy → Option (Cause E) → ℕ → Polled → Type 0
 Answers before cause now found = (history : History) → Shows before history
     → found ≡ answer cause before.started (record { moment = now; count = found.count } ∷ history)

@@ -26,12 +26,15 @@ module _ {T S : Type 0} (steps : Steps T S) {U E : Type 0} (may : U → Traces T
   -- What a poll takes of the upstream, at most 32 events, where nothing waits. Each value is offered before the next is asked for, so
   -- only the last one can wait, and a refused one is the last
   pub data Takes (from : Course U E) (before : S) (to : Course U E) (after : S) : Type 0 where
-    goes_on : (values : List T) → length values ≤ 32 → GoesOn may ended from values to → AcceptsEach steps before values after → Takes from before to after
+    goes_on : (values : List T) → length values ≤ 32 → GoesOn may ended from values to
+        → AcceptsEach steps before values after → Takes from before to after
     last_waits : (values : List T) (last : T) (between : S) → length values < 32 → GoesOn may ended from (values ++ last ∷ []) to
         → AcceptsEach steps before values between → steps.Delays between last after → Takes from before to after
-    ends : (values : List T) → length values < 32 → Ends may ended from values to → AcceptsEach steps before values after → Takes from before to after
-    is_refused : (values : List T) (last : T) (between : S) (refusal : Refusal) → length values < 32 → GaveAll may ended from (values ++ last ∷ [])
-        → AcceptsEach steps before values between → steps.Refuses between last refusal after → to ≡ Broken (Refused refusal) → Takes from before to after
+    ends : (values : List T) → length values < 32 → Ends may ended from values to
+        → AcceptsEach steps before values after → Takes from before to after
+    is_refused : (values : List T) (last : T) (between : S) (refusal : Refusal) → length values < 32
+        → GaveAll may ended from (values ++ last ∷ []) → AcceptsEach steps before values between → steps.Refuses between last refusal after
+        → to ≡ Broken (Refused refusal) → Takes from before to after
 
   -- a poll that is on asks the waiting value first, and takes events of the upstream unless that still waits
   abbrev pub Shares : Bool → Course U E → S → Course U E → S → Type 0

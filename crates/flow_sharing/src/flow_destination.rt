@@ -45,13 +45,7 @@ impl<'a, T: Word, W: Wait> Destination<T> for FlowDestination<'a, T, W> {
     }
 
     fn offer(&mut self, value: T) -> Offer {
-        if let Err(refusal) = self.outlet.offer(self.rt, value) {
-            return Offer::Refused(refusal);
-        }
-        if self.outlet.is_waiting() {
-            return Offer::Waiting;
-        }
-        Offer::Accepted
+        self.outlet.offer(self.rt, value)
     }
 
     fn withdraw(&mut self) {

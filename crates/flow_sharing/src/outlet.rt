@@ -4,9 +4,11 @@ ghost use Rattle.std.specs.Prelude.{◌≡◌, ◌≢◌, ◌⊎◌, None, false
 ghost use Rattle.futures.specs.Task.{IsArmed, Keeps};
 ghost use Rattle.flow_terms.specs.declared.answers.Withdrawn.TheVariants as withdrawn;
 ghost use Rattle.shared_flow.specs.Parties.{IfLeft};
-ghost use Rattle.flow_sharing.specs.Offers.{Offered};
+ghost use Rattle.flow_sharing.specs.Destinations.{Offered};
+ghost use Rattle.flow_sharing.specs.FlowDestinations.{emitting};
 
-use cold_flow::{Refusal, Word};
+use crate::offer::Offer;
+use cold_flow::Word;
 use futures::task::Context;
 use shared_core::{Begun, Withdrawn};
 use shared_flow::{Emitter, Receipt};
@@ -33,16 +35,19 @@ impl<T: Word> Outlet<T> {
     }
 
     // Offers a value to the flow, which accepts it, drops it or lets it wait.
-    pub(crate) fn offer(&mut self, rt: &impl Wait, value: T) -> Result<(), Refusal>
+    pub(crate) fn offer(&mut self, rt: &impl Wait, value: T) -> Offer
         requires free { self.old.waiting ≡ None }
-        ensures offered { Offered self.old.emitter.flow value result self.new.waiting }
+        ensures offered { Offered (emitting self.old.emitter.flow) self.old.waiting value result self.new.waiting }
         ensures same { (self.new.emitter.flow ≡ self.old.emitter.flow) × (self.new.emitter.id ≡ self.old.emitter.id) }
     {
-        match self.emitter.start_emit(rt, value)? {
-            Begun::Accepted(_) | Begun::Dropped => {}
-            Begun::Waiting(()) => self.waiting = Some(value),
+        match self.emitter.start_emit(rt, value) {
+            Ok(Begun::Accepted(_) | Begun::Dropped) => Offer::Accepted,
+            Ok(Begun::Waiting(())) => {
+                self.waiting = Some(value);
+                Offer::Waiting
+            }
+            Err(refusal) => Offer::Refused(refusal),
         }
-        Ok(())
     }
 
     pub(crate) fn is_waiting(&self) -> bool

@@ -58,9 +58,11 @@ impl<T: Word, F: Flow<Item = T>> Sharing<T, F> {
         ensures shows { IfOk result (λ polled. ShowsMore self.old.strategy now polled.count self.new.strategy) }
         ensures answers { IfOk result (Answers self.old.strategy (kept_cause self.old.upstream.course) now) }
         ensures acts { IfOk result (λ polled. ActsAt (emitting self.old.flow) (λ live. F.Running.may live.run) (λ live. F.Running.ended live.run)
-            (F.may self.old.upstream.flow) self.old.strategy now polled self.old.upstream.course self.old.outlet.waiting self.new.upstream.course self.new.outlet.waiting) }
+            (F.may self.old.upstream.flow) self.old.strategy now polled
+            self.old.upstream.course self.old.outlet.waiting self.new.upstream.course self.new.outlet.waiting) }
         ensures same { (self.new.flow ≡ self.old.flow) × (self.new.upstream.flow ≡ self.old.upstream.flow) }
-        ensures err { OnErr result ((self.new.strategy ≡ self.old.strategy) × (self.new.upstream.course ≡ self.old.upstream.course) × (self.new.outlet.waiting ≡ self.old.outlet.waiting)) }
+        ensures err { OnErr result ((self.new.strategy ≡ self.old.strategy) × (self.new.upstream.course ≡ self.old.upstream.course)
+            × (self.new.outlet.waiting ≡ self.old.outlet.waiting)) }
         ensures refused { IfErr result (λ refusal. (refusal ≡ NoMemory) × (kept_cause self.old.upstream.course ≡ None)) }
         ensures starts { IfErr result (λ _. IsRefusedAt (emitting self.old.flow) self.old.strategy now self.old.outlet.waiting self.new.outlet.waiting) }
         ensures armed { IfOk result (λ polled. IsTrue polled.on → IsTrue (is_running self.new.upstream.course) → IsArmed cx.new) }

@@ -70,8 +70,10 @@ impl<T: Word, F: Flow<Item = T>, A: Allocator> StateSharing<T, F, A> {
         ensures shows { IfOk result (λ polled. ShowsMore self.old.strategy now polled.count self.new.strategy) }
         ensures answers { IfOk result (Answers self.old.strategy (kept_cause self.old.upstream.course) now) }
         ensures acts { IfOk result (λ polled. ActsAt (setting self.old.initial) (λ live. F.Running.may live.run) (λ live. F.Running.ended live.run)
-            (F.may self.old.upstream.flow) self.old.strategy now polled self.old.upstream.course self.old.seat.view self.new.upstream.course self.new.seat.view) }
-        ensures same { (self.new.seat.flow ≡ self.old.seat.flow) × (self.new.initial ≡ self.old.initial) × (self.new.upstream.flow ≡ self.old.upstream.flow) }
+            (F.may self.old.upstream.flow) self.old.strategy now polled
+            self.old.upstream.course self.old.seat.view self.new.upstream.course self.new.seat.view) }
+        ensures same { (self.new.seat.flow ≡ self.old.seat.flow) × (self.new.initial ≡ self.old.initial)
+            × (self.new.upstream.flow ≡ self.old.upstream.flow) }
         ensures err { OnErr result ((self.new.strategy ≡ self.old.strategy) × (self.new.upstream.course ≡ self.old.upstream.course)) }
         ensures refused { IfErr result (λ refusal. (refusal ≡ NoMemory) × (kept_cause self.old.upstream.course ≡ None)) }
         ensures starts { IfErr result (λ _. IsRefusedAt (setting self.old.initial) self.old.strategy now self.old.seat.view self.new.seat.view) }

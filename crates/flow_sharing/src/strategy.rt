@@ -1,7 +1,8 @@
 //! A strategy of sharing, poll by poll.
-ghost use Rattle.std.specs.Prelude.{◌≡◌, ℕ, [], ◌∷◌};
-ghost use Rattle.flow_sharing.specs.Strategies.{History, Look, latest, is_on, command};
+ghost use Rattle.std.specs.Prelude.{◌≡◌, []};
+ghost use Rattle.flow_sharing.specs.Strategies.{History, latest, is_on};
 ghost use Rattle.flow_sharing.specs.Shown.{Shows};
+ghost use Rattle.flow_sharing.specs.Polls.{ShowsMore, Commands};
 
 use crate::audience::Audience;
 use crate::command::Command;
@@ -36,8 +37,8 @@ impl Strategy {
     /// One poll, at the moment `now`, which found `count` live subscriptions.
     pub fn step(&mut self, now: u64, count: u32) -> Option<Command>
         ensures started { self.new.started ≡ self.old.started }
-        ensures commands { (history : History) → Shows self.old history → result ≡ command self.old.started (record { moment = now; count = count } ∷ history) }
-        ensures shows { (history : History) → Shows self.old history → Shows self.new (record { moment = now; count = count } ∷ history) }
+        ensures commands { Commands self.old now count result }
+        ensures shows { ShowsMore self.old now count self.new }
     {
         let before = *self;
         let latest = before.latest.max(now);

@@ -1,8 +1,7 @@
 //! One poll of a sharing, as its strategy sees it.
-ghost use Rattle.std.specs.Prelude.{◌≡◌, ◌∷◌};
-ghost use Rattle.flow_sharing.specs.Strategies.{History, command, resets};
-ghost use Rattle.flow_sharing.specs.Shown.{Shows};
-ghost use Rattle.flow_sharing.specs.Polls.{polled};
+ghost use Rattle.std.specs.Prelude.{◌≡◌};
+ghost use Rattle.flow_sharing.specs.Strategies.{resets};
+ghost use Rattle.flow_sharing.specs.Polls.{ShowsMore, PolledSo, Commands};
 
 use crate::command::Command;
 use crate::polled::Polled;
@@ -24,9 +23,9 @@ impl Turn {
     pub(crate) fn of(mut strategy: Strategy, now: u64, count: u32) -> Turn
         ensures started { result.strategy.started ≡ strategy.started }
         ensures count { result.polled.count ≡ count }
-        ensures shows { (history : History) → Shows strategy history → Shows result.strategy (record { moment = now; count = count } ∷ history) }
-        ensures polled { (history : History) → Shows strategy history → result.polled ≡ polled strategy.started (record { moment = now; count = count } ∷ history) }
-        ensures command { (history : History) → Shows strategy history → result.command ≡ command strategy.started (record { moment = now; count = count } ∷ history) }
+        ensures shows { ShowsMore strategy now count result.strategy }
+        ensures polled { PolledSo strategy now count result.polled }
+        ensures command { Commands strategy now count result.command }
     {
         let command = strategy.step(now, count);
         let polled = Polled {
