@@ -17,7 +17,7 @@ use std::alloc::Allocator;
 #[derive(Drop)]
 pub(crate) struct StateDestination<'a, T: Word, A: Allocator> {
     pub(crate) seat: &'a mut StateSeat<T, A>,
-    // What a reset sets. By reference: over a value of a type parameter the final value of the seat isn't followed.
+    // What a reset sets. Behind a reference: beside a value of a type parameter, the seat's loan isn't followed to its end.
     pub(crate) initial: &'a T,
 }
 
