@@ -201,7 +201,7 @@ impl<'a> Runner<'a> {
         } = self;
         let mut closed = 0;
         while let Some(object) = objects.pop() {
-            object.close(rt);
+            let _remains = object.close(rt);
             closed += 1;
         }
         objects.destroy_empty();

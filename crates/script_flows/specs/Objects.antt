@@ -9,6 +9,8 @@ use Rattle.script_pipes.specs.Commands.{Made}
 use Rattle.script_flows.specs.declared.object.Object.{Object}
 use Rattle.script_flows.specs.declared.object.Object.TheVariants as objects
 use Rattle.script_flows.specs.declared.part.Part.{Part}
+use Rattle.script_flows.specs.declared.remains.Remains.{Remains}
+use Rattle.script_flows.specs.declared.remains.Remains.TheVariants.{Nothing, Seat, Seats, Flow}
 use Rattle.script_flows.specs.Buffered.{ShowsBuffer}
 use Rattle.script_flows.specs.Findings.{Finding, RefusedFor}
 use Rattle.script_flows.specs.Shares.{live}
@@ -40,3 +42,13 @@ Asks part request old answer new = Comes (λ finding. ask finding part request) 
 
 abbrev pub Joins : Part → Party → Object → Option Joined → Object → Type 0
 Joins part party old joined new = Comes (λ finding. join finding part party) old joined new
+
+-- What is left of an object that was closed: of a state the seat, to which all collectors gave theirs back, beside the one that
+-- set it from a source; of a flow that shared a source the flow
+abbrev pub Leaves : Object → Remains → Type 0
+Leaves (objects.State watched) (Seat seat) = seat.view.share ≡ 9
+Leaves (objects.Stated shown) (Seats setter seat) = (setter ≡ shown.sharing.seat) × (seat.view.share ≡ 9)
+Leaves (objects.Share shared) (Flow left) = left ≡ shared.flow
+Leaves (objects.Flow shown) Nothing = Unit {0}
+Leaves (objects.Buffer shown) Nothing = Unit {0}
+Leaves object remains = ⊥

@@ -8,6 +8,7 @@ mod buffer;
 mod flow;
 mod object;
 mod part;
+mod remains;
 mod share;
 mod stated;
 mod ticked;
@@ -15,3 +16,4 @@ mod watched;
 
 pub use object::Object;
 pub use part::Part;
+pub use remains::Remains;

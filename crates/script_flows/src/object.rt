@@ -4,11 +4,12 @@ ghost use Rattle.std.specs.Prelude.{IfOk, MatchResult};
 ghost use Rattle.script_pipes.specs.Commands.{made_in};
 ghost use Rattle.script_flows.specs.Findings.{RefusedFor};
 ghost use Rattle.script_flows.specs.Things.{refused_with, thing_of};
-ghost use Rattle.script_flows.specs.Objects.{Stands, Makes, Asks, Joins};
+ghost use Rattle.script_flows.specs.Objects.{Stands, Makes, Asks, Joins, Leaves};
 
 use crate::buffer::ScriptBuffer;
 use crate::flow::{ScriptFlow, config_of};
 use crate::part::Part;
+use crate::remains::Remains;
 use crate::share::Share;
 use crate::stated::Stated;
 use crate::watched::Watched;
@@ -118,19 +119,18 @@ impl<'a> Object<'a> {
         }
     }
 
-    /// Ends its collectors and subscriptions, and closes its sharing.
-    pub fn close(self, rt: &impl Wait) {
+    /// Ends its collectors and subscriptions, closes its sharing, and gives what is left.
+    pub fn close(self, rt: &impl Wait) -> Remains
+        ensures { Leaves self.entry result }
+    {
         match self {
-            Object::Flow(_) | Object::Buffer(_) => {}
-            Object::State(state) => {
-                let _seat = state.close();
-            }
+            Object::Flow(_) | Object::Buffer(_) => Remains::Nothing,
+            Object::State(state) => Remains::Seat(state.close()),
             Object::Stated(state) => {
-                let _seats = state.close();
+                let (setter, seat) = state.close();
+                Remains::Seats { setter, seat }
             }
-            Object::Share(share) => {
-                let _flow = share.close(rt);
-            }
+            Object::Share(share) => Remains::Flow(share.close(rt)),
         }
     }
 }
