@@ -1,4 +1,4 @@
-use Rattle.std.proofs.Common.{refl, sym, ap, ◌∙◌, ◌≡◌, is_some}
+use Rattle.std.proofs.Common.{rules, refl, sym, ap, ◌∙◌, ◌≡◌, is_some}
 use Rattle.flow_sharing.specs.Polls.{Commands}
 use Rattle.flow_sharing.proofs.Sharings.{acts_not, acts_so, shares_on, shares_off}
 use Rattle.flow_sharing.proofs.polling.poll_sharing.Goals as goal
@@ -30,3 +30,10 @@ returns-clause-acts g c =
             | else-turn w ↦ rw (w.upstream-is, w.destination-is) (shares_off steps _ _ _ _ _ _ _ w.if-turn.false refl refl)
           ]),
     )
+
+-- A wrong body makes these false: so answered, it is refused at once.
+pub returns-then-is_some-clause-answers : goal.returns-then-is_some-clause-answers
+returns-then-is_some-clause-answers g c = search rules
+
+pub returns-in_err-obey-clause-err : goal.returns-in_err-obey-clause-err
+returns-in_err-obey-clause-err g c = search rules
