@@ -28,7 +28,8 @@ pub record FoldsWhole {A E S : Type 0} (g : S × A → S) (state : S) (old : Tra
   pub came : old (ended_by values k)
 
 -- what a poll answers, and what it leaves: of a run that goes on, and of one that has ended
-abbrev pub FoldsTo : {A E S : Type 0} → (S × A → S) → Option (Cause E) → S → Traces A E → Poll (S × Cause E) → Option (Cause E) → S → Traces A E → Type 0
+abbrev pub FoldsTo : {A E S : Type 0} → (S × A → S) → Option (Cause E) → S → Traces A E → Poll (S × Cause E)
+    → Option (Cause E) → S → Traces A E → Type 0
 FoldsTo g (Some k) state old result cause next new = (result ≡ Ready (state, k)) × (cause ≡ Some k) × (next ≡ state)
 FoldsTo g None state old (Ready (last, k)) cause next new = (cause ≡ Some k) × (next ≡ last) × FoldsWhole g state old last k
 FoldsTo g None state old Pending cause next new = (cause ≡ None) × Folds g state old next new

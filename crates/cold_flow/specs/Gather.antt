@@ -25,7 +25,8 @@ IsAgain k Pending = ⊥
 
 -- What a poll answers, and what it leaves: of a run that goes on, of one that was gathered, and of one that memory lacked for.
 -- Before it, values were gathered, and the run could still give the traces of old.
-abbrev pub GathersTo : {A E : Type 0} → Gathering E → List A → Traces A E → Poll (Result (Collected A E) Refusal) → Gathering E → List A → Traces A E → Type 0
+abbrev pub GathersTo : {A E : Type 0} → Gathering E → List A → Traces A E → Poll (Result (Collected A E) Refusal)
+    → Gathering E → List A → Traces A E → Type 0
 GathersTo Going values old Pending state more new = (state ≡ Going) × Within (Gathered values old) (Gathered more new)
 GathersTo Going values old (Ready (Ok d)) state more new = (state ≡ Done d.cause) × (more ≡ []) × Gathered values old (ended_by d.values.items d.cause)
 GathersTo Going values old (Ready (Err e)) state more new = (state ≡ Lacking) × (e ≡ NoMemory) × Gathered values old (so_far more)

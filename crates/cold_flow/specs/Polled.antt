@@ -1,5 +1,6 @@
 -- Which polls were made of a run, as its `polled` and `cancelled` tell.
-use Rattle.std.specs.Prelude.{◌≡◌, ℕ, Bool, IsTrue, ◌+◌, ◌≤◌, ◌⊎◌, List, [], ◌∷◌, ◌++◌, length, Option, Some, None, Result, Ok, Err}
+use Rattle.std.specs.Prelude.{◌≡◌, ℕ, Bool, IsTrue, ◌+◌, ◌≤◌, ◌⊎◌, List, [], ◌∷◌, ◌++◌, length}
+use Rattle.std.specs.Prelude.{Option, Some, None, Result, Ok, Err, MatchResult}
 use Rattle.std.specs.Iterator.{Count, IsFinite, size}
 use Rattle.futures.specs.declared.task.Poll.{Poll}
 use Rattle.futures.specs.declared.task.Poll.TheVariants.{Ready, Pending}
@@ -41,11 +42,17 @@ module _ {R A E : Type 0} (polled : R → Poll (Event A E) → R → Type 0) whe
 
   -- these values were given, and then one more, with which the run was cancelled
   abbrev pub BreaksOff : (R → R → Type 0) → R → List A → R → Type 0
-  BreaksOff cancelled old xs new = (before : R) × (after : R) × (x : A) × Gave polled old xs before × polled before (Ready (Value x)) after × cancelled after new
+  BreaksOff cancelled old xs new =
+      (before : R) × (after : R) × (x : A) × Gave polled old xs before × polled before (Ready (Value x)) after × cancelled after new
 
   -- it was cancelled after some values, and no source of it is asked any more
   abbrev pub GivesUp : (R → R → Type 0) → (R → Bool) → R → Type 0
   GivesUp cancelled stopped old = (xs : List A) × (new : R) × BreaksOff cancelled old xs new × IsTrue (stopped new)
+
+  -- what `to_list` asked: the run until its end, all of whose values it has then, or the run was given up, where memory lacked
+  abbrev pub TakesAll : (R → R → Type 0) → (R → Bool) → R → Result (Collected A E) Refusal → Type 0
+  TakesAll cancelled stopped run result =
+      MatchResult result (λ d. (after : R) × GaveAll run d.values.items d.cause after) (λ _. GivesUp cancelled stopped run)
 
   -- What a poll of `collect` asked, and what it has then: all values that were given, behind the ones before. Nothing is asked once it is ready.
   abbrev pub Takes : (R → R → Type 0) → Gathering E → List A → R → Poll (Result (Collected A E) Refusal) → List A → R → Type 0

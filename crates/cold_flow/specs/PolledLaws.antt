@@ -13,14 +13,16 @@ use Rattle.cold_flow.specs.Polled.{Gave, Pauses, GaveAll, BreaksOff}
 use Rattle.cold_flow.specs.Polled.Gave.{nothing, one_more}
 
 -- so many values were given, and they stand behind the ones before
-pub record Took {R A E : Type 0} (polled : R → Poll (Event A E) → R → Type 0) (values : List A) (old : R) (more : List A) (new : R) (n : ℕ) : Type 0 where
+pub record Took {R A E : Type 0} (polled : R → Poll (Event A E) → R → Type 0)
+    (values : List A) (old : R) (more : List A) (new : R) (n : ℕ) : Type 0 where
   pub xs : List A
   pub is : more ≡ values ++ xs
   pub gave : Gave polled old xs new
   pub many : length xs ≡ n
 
 -- the same of a state that g makes of them
-pub record TookInto {R A E S : Type 0} (polled : R → Poll (Event A E) → R → Type 0) (g : S × A → S) (state : S) (old : R) (next : S) (new : R) (n : ℕ) : Type 0 where
+pub record TookInto {R A E S : Type 0} (polled : R → Poll (Event A E) → R → Type 0)
+    (g : S × A → S) (state : S) (old : R) (next : S) (new : R) (n : ℕ) : Type 0 where
   pub xs : List A
   pub is : next ≡ folded g state xs
   pub gave : Gave polled old xs new

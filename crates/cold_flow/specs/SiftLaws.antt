@@ -1,5 +1,6 @@
 -- Laws of the operators that leave values out.
-use Rattle.std.specs.Prelude.{◌≡◌, ℕ, ◌-◌, Bool, true, false, List, [], ◌∷◌, ◌++◌, Option, Some, None, refl, drop, filter, if◌then◌else◌}
+use Rattle.std.specs.Prelude.{◌≡◌, ℕ, ◌-◌, Bool, true, false, List, [], ◌∷◌, ◌++◌, Option, Some, None, refl}
+use Rattle.std.specs.Prelude.{drop, filter, if◌then◌else◌}
 use Rattle.std.proofs.Common.{zero, suc, ap, sym, ◌∙◌, inl, inr}
 use Rattle.std.proofs.Math.Numerals.{sub-one}
 use Rattle.std.specs.List.{cons_option}
@@ -45,7 +46,8 @@ module _ {S A B : Type 0} (passes : S → List A → List B) (keeps : S → A �
       )
 
 module _ {S A B E : Type 0} (passes : S → List A → List B) (keeps : S → A → Option B) (after : S → A → S) where
-  pub sift-monotone : ((s : S) → passes s [] ≡ []) → ((s : S) (x : A) (xs : List A) → passes s (x ∷ xs) ≡ cons_option (keeps s x) (passes (after s x) xs))
+  pub sift-monotone : ((s : S) → passes s [] ≡ [])
+      → ((s : S) (x : A) (xs : List A) → passes s (x ∷ xs) ≡ cons_option (keeps s x) (passes (after s x) xs))
       → (s : S) → Monotone {A = A} {B = B} {E = E} (on_values (passes s))
   sift-monotone none step s t u (inl e) = inl (ap (on_values (passes s)) e)
   sift-monotone none step s t u (inr h) =

@@ -1,5 +1,6 @@
 -- Laws of `take`.
-use Rattle.std.specs.Prelude.{◌≡◌, ℕ, ◌+◌, ◌<◌, ◌≤◌, Bool, true, false, List, [], ◌∷◌, ◌++◌, Option, Some, None, refl, take, length, if◌then◌else◌}
+use Rattle.std.specs.Prelude.{◌≡◌, ℕ, ◌+◌, ◌<◌, ◌≤◌, Bool, true, false, List, [], ◌∷◌, ◌++◌, Option, Some, None, refl}
+use Rattle.std.specs.Prelude.{take, length, if◌then◌else◌}
 use Rattle.std.proofs.Common.{zero, suc, ap, arith, sym, ◌∙◌, subst, inl, inr}
 use Rattle.std.proofs.Math.Dec.{leb, leb-zero, leb-suc-suc, leb-suc-zero}
 use Rattle.cold_flow.specs.declared.cause.Cause.{Cause}
@@ -43,7 +44,8 @@ module _ {A E : Type 0} where
   take_ends n source k positive h = record { given = ended_by [] k; came = h; begins = inl (sym (take-empty n (Some k) positive)) }
 
   take-all : (t : Trace A E) → take_trace 0 t ≡ ended_by [] Finished
-  take-all (xs, e) = ap (λ (b : Bool). (take 0 xs, (if b then Some Finished else e))) (leb-zero (length xs)) ∙ ap (λ (ys : List A). ended_by ys Finished) (take-none xs)
+  take-all (xs, e) =
+      ap (λ (b : Bool). (take 0 xs, (if b then Some Finished else e))) (leb-zero (length xs)) ∙ ap (λ (ys : List A). ended_by ys Finished) (take-none xs)
 
   take-grows : (n : ℕ) (xs ys rest : List A) (e : Option (Cause E)) → xs ++ rest ≡ ys → take_trace n (so_far xs) ⊑ take_trace n (ys, e)
   take-grows zero xs ys rest e is = inl (take-all (so_far xs) ∙ sym (take-all (ys, e)))

@@ -1,11 +1,11 @@
 //! `to_list`: all values of a finite run at once.
 
-ghost use Rattle.std.specs.Prelude.{◌≡◌, IfOk, IfErr, MatchResult};
+ghost use Rattle.std.specs.Prelude.{◌≡◌, IfOk, IfErr};
 ghost use Rattle.futures.specs.Task.{Keeps};
 ghost use Rattle.flow_terms.specs.declared.refusal.Refusal.TheVariants.{NoMemory};
 ghost use Rattle.cold_flow.specs.Trace.{ended_by};
 ghost use Rattle.cold_flow.specs.Poll.{Fixes};
-ghost use Rattle.cold_flow.specs.Polled.{GaveAll, GivesUp};
+ghost use Rattle.cold_flow.specs.Polled.{TakesAll};
 
 use crate::ends::collect::Collected;
 use crate::event::Event;
@@ -24,7 +24,7 @@ pub fn to_list<R: Finite>(
 ) -> Result<Collected<R::Item, R::Fault>, Refusal>
     ensures gave { IfOk result (λ d. R.may run (ended_by d.values.items d.cause)) }
     ensures exact { (whole : _) → Fixes whole (R.may run) → IfOk result (λ d. ended_by d.values.items d.cause ≡ whole) }
-    ensures took { MatchResult result (λ d. (after : R) × GaveAll R.polled run d.values.items d.cause after) (λ _. GivesUp R.polled R.cancelled R.stopped run) }
+    ensures took { TakesAll R.polled R.cancelled R.stopped run result }
     ensures refused { IfErr result (λ e. e ≡ NoMemory) }
     ensures kept { Keeps cx.old cx.new }
 {

@@ -89,7 +89,7 @@ pub struct CatchingRun<S: Run, G, E> {
     source: S,
     handler: G,
     closing: Closing<E>,
-    ghost settled: { IsTrue (is_open closing || S.stopped source) },
+    ghost stopped: { IsTrue (is_open closing || S.stopped source) },
 }
 
 impl<T: Copy, E: Copy, S: Run<Item = T, Fault = E>, G: Apply<E, Out = Caught<T, E>>> Run
@@ -114,7 +114,7 @@ impl<T: Copy, E: Copy, S: Run<Item = T, Fault = E>, G: Apply<E, Out = Caught<T, 
     ghost polled = { λ old answer new. OnPending answer (S.polled old.source Pending new.source) };
 
     fn poll_next(&mut self, cx: &mut Context<'_>) -> Poll<Event<T, E>> {
-        if let Some(cause) = self.closing.settle() {
+        if let Some(cause) = self.closing.answer() {
             return Poll::Ready(Event::End(cause));
         }
         let cause = match self.source.poll_next(cx) {

@@ -19,7 +19,7 @@ pub enum Closing<E> {
 
 impl<E: Copy> Closing<E> {
     /// The cause that a poll gives without asking the source.
-    pub fn settle(&mut self) -> Option<Cause<E>>
+    pub fn answer(&mut self) -> Option<Cause<E>>
         ensures cause { result ≡ answer self.old }
         ensures closed { self.new ≡ answered self.old }
         ensures going { IfNone result (self.old ≡ Open) }

@@ -85,7 +85,7 @@ pub struct CompletingRun<S: Run, G, E> {
     // The action was told `Cause::Finished` and answered with a last value, which was given.
     last_given: bool,
     ghost after: { IsTrue (is_after last_given closing) },
-    ghost settled: { IsTrue (is_open closing || S.stopped source) },
+    ghost stopped: { IsTrue (is_open closing || S.stopped source) },
 }
 
 impl<
@@ -136,7 +136,7 @@ impl<T: Copy, E: Copy, S: Run<Item = T, Fault = E>, G: Apply<Cause<E>, Out = Opt
     ghost polled = { λ old answer new. OnPending answer (S.polled old.source Pending new.source) };
 
     fn poll_next(&mut self, cx: &mut Context<'_>) -> Poll<Event<T, E>> {
-        if let Some(cause) = self.closing.settle() {
+        if let Some(cause) = self.closing.answer() {
             return Poll::Ready(Event::End(cause));
         }
         match self.source.poll_next(cx) {

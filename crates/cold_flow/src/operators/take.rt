@@ -81,7 +81,7 @@ pub struct TakenRun<S: Run, E> {
     left: u32,
     closing: Closing<E>,
     ghost positive: { 0 < left },
-    ghost settled: { IsTrue (is_open closing || S.stopped source) },
+    ghost stopped: { IsTrue (is_open closing || S.stopped source) },
 }
 
 impl<E: Copy, S: Run<Fault = E>> Run for TakenRun<S, E> {
@@ -105,7 +105,7 @@ impl<E: Copy, S: Run<Fault = E>> Run for TakenRun<S, E> {
     ghost polled = { λ old answer new. OnPending answer (S.polled old.source Pending new.source) };
 
     fn poll_next(&mut self, cx: &mut Context<'_>) -> Poll<Event<S::Item, E>> {
-        if let Some(cause) = self.closing.settle() {
+        if let Some(cause) = self.closing.answer() {
             return Poll::Ready(Event::End(cause));
         }
         match self.source.poll_next(cx) {

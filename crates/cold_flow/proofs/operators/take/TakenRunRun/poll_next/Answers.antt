@@ -7,7 +7,7 @@ pub returns-then-self-gt1-clause-narrows : goal.returns-then-self-gt1-clause-nar
 returns-then-self-gt1-clause-narrows g c =
     let e : c.args.self.now.closing ≡ Open = search rules in
     let after = rw c.in-Ready-Value.field-0-is at c.in-Ready-Value.ensures.narrows in
-    let stays : c.settle.new.self ≡ Open = search rules in
+    let stays : c.answer.new.self ≡ Open = search rules in
     rw (stays, e) (take_more _ _ _ _ _ (omega arith) after)
 
 pub returns-else-self-gt1-clause-narrows : goal.returns-else-self-gt1-clause-narrows
