@@ -37,17 +37,21 @@ with_result g (Some x) (Some y) t = led_by (g (x, y)) t
 -- What may come of two traces, from the latest values and the side whose turn it is. The arrivals of both sides are interleaved: the side at
 -- its turn gives a value, or the turn passes where it has nothing left and is finished, or may answer pending. A value gives one
 -- result where both sides have one. It finishes once both have, and another end of a side ends it.
-pub data Combines {A B C E : Type 0} (g : A × B → C) (left_prompt right_prompt : Bool) : Turn → Option A → Option B → Trace A E → Trace B E → Trace C E → Type 0 where
+pub data Combines {A B C E : Type 0} (g : A × B → C) (left_prompt right_prompt : Bool)
+    : Turn → Option A → Option B → Trace A E → Trace B E → Trace C E → Type 0 where
   stops : {turn : Turn} {l : Option A} {r : Option B} {t : Trace A E} {u : Trace B E} → Combines g left_prompt right_prompt turn l r t u (so_far [])
   left_gives : {l : Option A} {r : Option B} {t : Trace A E} {u : Trace B E} {out : Trace C E} (x : A)
-      → Combines g left_prompt right_prompt Right (Some x) r t u out → Combines g left_prompt right_prompt Left l r (led_by x t) u (with_result g (Some x) r out)
+      → Combines g left_prompt right_prompt Right (Some x) r t u out
+      → Combines g left_prompt right_prompt Left l r (led_by x t) u (with_result g (Some x) r out)
   right_gives : {l : Option A} {r : Option B} {t : Trace A E} {u : Trace B E} {out : Trace C E} (y : B)
-      → Combines g left_prompt right_prompt Left l (Some y) t u out → Combines g left_prompt right_prompt Right l r t (led_by y u) (with_result g l (Some y) out)
+      → Combines g left_prompt right_prompt Left l (Some y) t u out
+      → Combines g left_prompt right_prompt Right l r t (led_by y u) (with_result g l (Some y) out)
   left_passes : {l : Option A} {r : Option B} {t : Trace A E} {u : Trace B E} {out : Trace C E} → (IsTrue left_prompt → t ≡ ended_by [] Finished)
       → Combines g left_prompt right_prompt Right l r t u out → Combines g left_prompt right_prompt Left l r t u out
   right_passes : {l : Option A} {r : Option B} {t : Trace A E} {u : Trace B E} {out : Trace C E} → (IsTrue right_prompt → u ≡ ended_by [] Finished)
       → Combines g left_prompt right_prompt Left l r t u out → Combines g left_prompt right_prompt Right l r t u out
-  finishes : {turn : Turn} {l : Option A} {r : Option B} → Combines g left_prompt right_prompt turn l r (ended_by [] Finished) (ended_by [] Finished) (ended_by [] Finished)
+  finishes : {turn : Turn} {l : Option A} {r : Option B}
+      → Combines g left_prompt right_prompt turn l r (ended_by [] Finished) (ended_by [] Finished) (ended_by [] Finished)
   left_fails : {l : Option A} {r : Option B} {u : Trace B E} (k : Cause E) → (k ≡ Finished → ⊥)
       → Combines g left_prompt right_prompt Left l r (ended_by [] k) u (ended_by [] k)
   right_fails : {l : Option A} {r : Option B} {t : Trace A E} (k : Cause E) → (k ≡ Finished → ⊥)
@@ -96,7 +100,8 @@ after_end (Some Cancelled) rest = ended_by [] Cancelled
 after_end (Some (Refused why)) rest = ended_by [] (Refused why)
 
 -- What a combine makes of two traces whose values arrive in turn, the left first, a finished side left out.
-abbrev pub in_turn : {A B C E : Type 0} → (A × B → C) → Option A → Option B → List A → Option (Cause E) → List B → Option (Cause E) → Trace C E
+abbrev pub in_turn : {A B C E : Type 0} → (A × B → C) → Option A → Option B → List A → Option (Cause E)
+    → List B → Option (Cause E) → Trace C E
 in_turn g l r [] e ys f = after_end e (rest_of_right g l (ys, f))
 in_turn g l r (x ∷ xs) e [] f = with_result g (Some x) r (after_end f (rest_of_left g r (xs, e)))
 in_turn g l r (x ∷ xs) e (y ∷ ys) f = with_result g (Some x) r (with_result g (Some x) (Some y) (in_turn g (Some x) (Some y) xs e ys f))
@@ -107,8 +112,10 @@ combine_trace g t u = in_turn g None None t.0 t.1 u.0 u.1
 module _ {L R A B E : Type 0} (left_polled : L → Poll (Event A E) → L → Type 0) (right_polled : R → Poll (Event B E) → R → Type 0) where
   -- the side whose turn it was has answered pending, the turn has passed, and the other side stands as it did
   abbrev pub SideWaited : Turn → Turn → Bool → Bool → L → R → L → R → Type 0
-  SideWaited Left now left_finished right_finished l r l' r' = (left_finished ≡ false) × (now ≡ turn_to Right right_finished) × HasWaited left_polled l' × (r' ≡ r)
-  SideWaited Right now left_finished right_finished l r l' r' = (right_finished ≡ false) × (now ≡ turn_to Left left_finished) × HasWaited right_polled r' × (l' ≡ l)
+  SideWaited Left now left_finished right_finished l r l' r' =
+      (left_finished ≡ false) × (now ≡ turn_to Right right_finished) × HasWaited left_polled l' × (r' ≡ r)
+  SideWaited Right now left_finished right_finished l r l' r' =
+      (right_finished ≡ false) × (now ≡ turn_to Left left_finished) × HasWaited right_polled r' × (l' ≡ l)
 
   -- the side whose turn it is not has answered pending
   abbrev pub OtherWaited : Turn → L → R → Type 0

@@ -45,10 +45,14 @@ module _ {A B C E : Type 0} (g : A × B → C) where
   loosen : (p q p' q' : Bool) → Looser p p' → Looser q q' → (turn : Turn) (l : Option A) (r : Option B) (t : Trace A E) (u : Trace B E) (out : Trace C E)
       → Combines g p' q' turn l r t u out → Combines g p q turn l r t u out
   loosen p q p' q' h k _ _ _ _ _ _ stops = stops
-  loosen p q p' q' h k _ _ _ _ _ _ (left_gives {l = l} {r = r} {t = t} {u = u} {out = out} x c) = left_gives x (loosen p q p' q' h k Right (Some x) r t u out c)
-  loosen p q p' q' h k _ _ _ _ _ _ (right_gives {l = l} {r = r} {t = t} {u = u} {out = out} y c) = right_gives y (loosen p q p' q' h k Left l (Some y) t u out c)
-  loosen p q p' q' h k _ _ _ _ _ _ (left_passes {l = l} {r = r} {t = t} {u = u} {out = out} e c) = left_passes (λ is. e (h is)) (loosen p q p' q' h k Right l r t u out c)
-  loosen p q p' q' h k _ _ _ _ _ _ (right_passes {l = l} {r = r} {t = t} {u = u} {out = out} e c) = right_passes (λ is. e (k is)) (loosen p q p' q' h k Left l r t u out c)
+  loosen p q p' q' h k _ _ _ _ _ _ (left_gives {l = l} {r = r} {t = t} {u = u} {out = out} x c) =
+      left_gives x (loosen p q p' q' h k Right (Some x) r t u out c)
+  loosen p q p' q' h k _ _ _ _ _ _ (right_gives {l = l} {r = r} {t = t} {u = u} {out = out} y c) =
+      right_gives y (loosen p q p' q' h k Left l (Some y) t u out c)
+  loosen p q p' q' h k _ _ _ _ _ _ (left_passes {l = l} {r = r} {t = t} {u = u} {out = out} e c) =
+      left_passes (λ is. e (h is)) (loosen p q p' q' h k Right l r t u out c)
+  loosen p q p' q' h k _ _ _ _ _ _ (right_passes {l = l} {r = r} {t = t} {u = u} {out = out} e c) =
+      right_passes (λ is. e (k is)) (loosen p q p' q' h k Left l r t u out c)
   loosen p q p' q' h k _ _ _ _ _ _ finishes = finishes
   loosen p q p' q' h k _ _ _ _ _ _ (left_fails j e) = left_fails j e
   loosen p q p' q' h k _ _ _ _ _ _ (right_fails j e) = right_fails j e
@@ -92,7 +96,8 @@ module _ {A B C E : Type 0} (g : A × B → C) where
   cancelled-side p q _ _ _ _ _ _ (right_fails j h) e = inr e
 
   pub combine_uncancelled : (p q : Bool) (left : Traces A E) (right : Traces B E) → ((xs : List A) → left (ended_by xs Cancelled) → ⊥)
-      → ((ys : List B) → right (ended_by ys Cancelled) → ⊥) → (zs : List C) → MayCombine g p q Left None None left right (ended_by zs Cancelled) → ⊥
+      → ((ys : List B) → right (ended_by ys Cancelled) → ⊥) → (zs : List C)
+      → MayCombine g p q Left None None left right (ended_by zs Cancelled) → ⊥
   combine_uncancelled p q left right none_left none_right zs h =
       elim (cancelled-side p q Left None None h.of_left h.of_right (ended_by zs Cancelled) h.combines refl) [
         | inl k ↦ none_left h.of_left.0 (subst (λ (o : Option (Cause E)). left (h.of_left.0, o)) k h.left_came)
@@ -106,7 +111,8 @@ module _ {A B C E : Type 0} (g : A × B → C) where
       let b = side_begins rf right k in
       record { of_left = a.0; of_right = b.0; left_came = a.1; right_came = b.1; combines = stops }
 
-  pub combine_starts : (p q p' q' : Bool) (left left' : Traces A E) (right right' : Traces B E) → Looser p p' → Looser q q' → Within left left' → Within right right'
+  pub combine_starts : (p q p' q' : Bool) (left left' : Traces A E) (right right' : Traces B E)
+      → Looser p p' → Looser q q' → Within left left' → Within right right'
       → Within (MayCombine g p q Left None None left right) (MayCombine g p' q' Left None None left' right')
   combine_starts p q p' q' left left' right right' h k inside_left inside_right t c = record {
     of_left = c.of_left;
@@ -119,7 +125,8 @@ module _ {A B C E : Type 0} (g : A × B → C) where
   -- ---- a question to the left, at its turn
 
   left_came : (p q p' : Bool) (l : Option A) (r : Option B) (rf : Bool) (old new : Traces A E) (right : Traces B E) (x : A) → Looser p p' → After old x new
-      → AfterResult g (Some x) r (MayCombine g p q Left l r old (OrFinished rf right)) (MayCombine g p' q (turn_to Right rf) (Some x) r new (OrFinished rf right))
+      → AfterResult g (Some x) r (MayCombine g p q Left l r old (OrFinished rf right))
+      (MayCombine g p' q (turn_to Right rf) (Some x) r new (OrFinished rf right))
   left_came p q p' l r false old new right x h after t c = record {
     of_left = led_by x c.of_left;
     of_right = c.of_right;
@@ -217,7 +224,8 @@ module _ {A B C E : Type 0} (g : A × B → C) where
   with-mirrored (Some x) None t = refl
   with-mirrored (Some x) (Some y) t = refl
 
-  answer-mirrored : (arrival : Poll (Arrival E)) (both : Bool) (l : Option A) (r : Option B) → answer_to (mirror g) arrival both r l ≡ answer_to g arrival both l r
+  answer-mirrored : (arrival : Poll (Arrival E)) (both : Bool) (l : Option A) (r : Option B)
+      → answer_to (mirror g) arrival both r l ≡ answer_to g arrival both l r
   answer-mirrored (Ready Came) both None None = refl
   answer-mirrored (Ready Came) both None (Some y) = refl
   answer-mirrored (Ready Came) both (Some x) None = refl
@@ -327,10 +335,12 @@ module _ {A B C E : Type 0} (g : A × B → C) where
   alternates _ _ _ _ _ _ (right_gives {l = l} {r = r} {t = t} {u = u} {out = out} y c) =
       result-begins l (Some y) _ _ (alternates Left l (Some y) t u out c)
   alternates _ _ _ _ _ _ (left_passes {l = l} {r = r} {t = t} {u = u} {out = out} e c) =
-      let over : out ⊑ right_first l r (ended_by [] Finished) u.0 u.1 = subst (λ (w : Trace A E). out ⊑ right_first l r w u.0 u.1) (e refl) (alternates Right l r t u out c) in
+      let over : out ⊑ right_first l r (ended_by [] Finished) u.0 u.1 =
+      subst (λ (w : Trace A E). out ⊑ right_first l r w u.0 u.1) (e refl) (alternates Right l r t u out c) in
       subst (λ (w : Trace A E). out ⊑ in_turn g l r w.0 w.1 u.0 u.1) (sym (e refl)) (subst (λ (w : Trace C E). out ⊑ w) (left-over l r u.0 u.1) over)
   alternates _ _ _ _ _ _ (right_passes {l = l} {r = r} {t = t} {u = u} {out = out} e c) =
-      let over : out ⊑ in_turn g l r t.0 t.1 [] (Some Finished) = subst (λ (w : Trace B E). out ⊑ in_turn g l r t.0 t.1 w.0 w.1) (e refl) (alternates Left l r t u out c) in
+      let over : out ⊑ in_turn g l r t.0 t.1 [] (Some Finished) =
+      subst (λ (w : Trace B E). out ⊑ in_turn g l r t.0 t.1 w.0 w.1) (e refl) (alternates Left l r t u out c) in
       subst (λ (w : Trace B E). out ⊑ right_first l r t w.0 w.1) (sym (e refl)) (subst (λ (w : Trace C E). out ⊑ w) (right-over l r t.0 t.1) over)
   alternates Left _ _ _ _ _ (finishes {l = l} {r = r}) = inl (sym (no-more_right l (Some Finished)))
   alternates Right _ _ _ _ _ (finishes {l = l} {r = r}) = inl (sym (no-more_left r (Some Finished)))
@@ -341,7 +351,8 @@ module _ {A B C E : Type 0} (g : A × B → C) where
   combine_fixed : (left : Traces A E) (right : Traces B E) (a : Trace A E) (b : Trace B E) → Within (Beginnings a) left → Within (Beginnings b) right
       → Within (Beginnings (combine_trace g a b)) (MayCombine g true true Left None None left right)
   combine_fixed left right a b of_left of_right t h =
-      alternates Left None None a b t (extends g true true Left None None h.of_left h.of_right t a b h.combines (of_left _ h.left_came) (of_right _ h.right_came))
+      alternates Left None None a b t (extends g true true Left None None h.of_left h.of_right t a b h.combines
+      (of_left _ h.left_came) (of_right _ h.right_came))
 
   pub combine_exact : (p q : Bool) (left : Traces A E) (right : Traces B E) (a : Trace A E) (b : Trace B E) → IsTrue p → IsTrue q
       → Within (Beginnings a) left → Within (Beginnings b) right → Within (Beginnings (combine_trace g a b)) (MayCombine g p q Left None None left right)

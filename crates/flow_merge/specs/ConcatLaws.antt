@@ -49,7 +49,8 @@ module _ {A B E : Type 0} (starts : A → Bool) (inner : A → Traces B E) where
   all-refusable (x ∷ xs) [] all = absurd all
   all-refusable (x ∷ xs) (t ∷ ts) all = (may-refuse (starts x) (inner x) t all.0, all-refusable xs ts all.1)
 
-  all-started : ((x : A) → IsTrue (starts x)) → (xs : List A) (ts : List (Trace B E)) → AllZip (λ x. OrUnstarted (starts x) (inner x)) xs ts → AllZip inner xs ts
+  all-started : ((x : A) → IsTrue (starts x)) → (xs : List A) (ts : List (Trace B E))
+      → AllZip (λ x. OrUnstarted (starts x) (inner x)) xs ts → AllZip inner xs ts
   all-started each [] [] all = all
   all-started each [] (t ∷ ts) all = absurd all
   all-started each (x ∷ xs) [] all = absurd all
@@ -59,9 +60,25 @@ module _ {A B E R : Type 0} (starts : A → Bool) (inner : A → Traces B E) (ma
   pub concat_begins : (standing : Option R) (outer : Traces A E) → ((r : R) → may r (so_far [])) → outer (so_far [])
       → MayConcat starts inner may standing outer (so_far [])
   concat_begins None outer each begun =
-      record { of_standing = ended_by [] Finished; of_outer = so_far []; of_inner = []; standing_came = refl; outer_came = begun; inner_came = tt; begins = begins-any _ }
+      record {
+        of_standing = ended_by [] Finished;
+        of_outer = so_far [];
+        of_inner = [];
+        standing_came = refl;
+        outer_came = begun;
+        inner_came = tt;
+        begins = begins-any _;
+      }
   concat_begins (Some r) outer each begun =
-      record { of_standing = so_far []; of_outer = so_far []; of_inner = []; standing_came = each r; outer_came = begun; inner_came = tt; begins = begins-any _ }
+      record {
+        of_standing = so_far [];
+        of_outer = so_far [];
+        of_inner = [];
+        standing_came = each r;
+        outer_came = begun;
+        inner_came = tt;
+        begins = begins-any _;
+      }
 
   pub concat_gives : (r s : R) (outer : Traces A E) (v : B) → After (may r) v (may s)
       → After (MayConcat starts inner may (Some r) outer) v (MayConcat starts inner may (Some s) outer)
@@ -180,12 +197,16 @@ module _ {A B E : Type 0} (inner : A → Traces B E) (none_inner : (x : A) (xs :
   joined-uncancelled (x ∷ xs) ((ys, Some Cancelled) ∷ ts) last all e = absurd (inner-uncancelled x ys all.0)
   joined-uncancelled (x ∷ xs) ((ys, Some (Refused r)) ∷ ts) last all e = absurd (cc)
 
-  pub concat_uncancelled : {R : Type 0} (starts : A → Bool) (may : R → Traces B E) (outer : Traces A E) → ((xs : List A) → outer (ended_by xs Cancelled) → ⊥)
+  pub concat_uncancelled : {R : Type 0} (starts : A → Bool) (may : R → Traces B E) (outer : Traces A E)
+      → ((xs : List A) → outer (ended_by xs Cancelled) → ⊥)
       → (zs : List B) → MayConcat starts inner may None outer (ended_by zs Cancelled) → ⊥
   concat_uncancelled starts may outer none_outer zs h =
       let e : ended_by zs Cancelled ≡ followed_by h.of_standing (joined h.of_inner h.of_outer.1) = ended-begins zs Cancelled _ h.begins in
-      let f : ended_by zs Cancelled ≡ joined h.of_inner h.of_outer.1 = e ∙ ap (λ (t : Trace B E). followed_by t (joined h.of_inner h.of_outer.1)) h.standing_came in
-      let k : h.of_outer.1 ≡ Some Cancelled = joined-uncancelled h.of_outer.0 h.of_inner h.of_outer.1 (all-refusable starts inner _ _ h.inner_came) (sym (ap (λ (t : Trace B E). t.1) f)) in
+      let f : ended_by zs Cancelled ≡ joined h.of_inner h.of_outer.1 =
+      e ∙ ap (λ (t : Trace B E). followed_by t (joined h.of_inner h.of_outer.1)) h.standing_came in
+      let k : h.of_outer.1 ≡ Some Cancelled =
+      joined-uncancelled h.of_outer.0 h.of_inner h.of_outer.1 (all-refusable starts inner _ _ h.inner_came)
+      (sym (ap (λ (t : Trace B E). t.1) f)) in
       none_outer h.of_outer.0 (subst (λ (o : Option (Cause E)). outer (h.of_outer.0, o)) k h.outer_came)
 
 module _ {B E : Type 0} where
@@ -236,8 +257,10 @@ module _ {A B E : Type 0} (gives : A → Traces B E) (whole : A → Trace B E) (
       → (k ≡ Refused NoMemory) ⊎ (ended_by zs k ≡ joined (map whole o.0) o.1)
   concat_fixed starts may outer o of_outer zs k h =
       let e : ended_by zs k ≡ followed_by h.of_standing (joined h.of_inner h.of_outer.1) = ended-begins zs k _ h.begins in
-      let f : ended_by zs k ≡ joined h.of_inner h.of_outer.1 = e ∙ ap (λ (t : Trace B E). followed_by t (joined h.of_inner h.of_outer.1)) h.standing_came in
-      elim (outer-whole h.of_outer o h.of_inner k (of_outer _ h.outer_came) (all-refusable starts gives _ _ h.inner_came) (sym (ap (λ (t : Trace B E). t.1) f))) [
+      let f : ended_by zs k ≡ joined h.of_inner h.of_outer.1 =
+      e ∙ ap (λ (t : Trace B E). followed_by t (joined h.of_inner h.of_outer.1)) h.standing_came in
+      elim (outer-whole h.of_outer o h.of_inner k (of_outer _ h.outer_came)
+      (all-refusable starts gives _ _ h.inner_came) (sym (ap (λ (t : Trace B E). t.1) f))) [
         | inl refused ↦ inl refused
         | inr is ↦ inr (f ∙ is)
       ]
@@ -292,7 +315,8 @@ module _ {A B E : Type 0} (gives : A → Traces B E) (whole : A → Trace B E) (
   outer-begins : (t o : Trace A E) (ts : List (Trace B E)) → t ⊑ o → AllZip gives t.0 ts → joined ts t.1 ⊑ joined (map whole o.0) o.1
   outer-begins t o ts (inl is) all = rw (← is) (rw append-nil at (joined-begins t.0 [] ts t.1 t.1 (inl refl) all))
   outer-begins t o ts (inr h) all =
-      rw (← h.1.1) (joined-begins t.0 h.1.0 ts t.1 o.1 (subst (λ (k : Option (Cause E)). ([], k) ⊑ joined (map whole h.1.0) o.1) (sym h.0) (begins-any _)) all)
+      rw (← h.1.1) (joined-begins t.0 h.1.0 ts t.1 o.1
+      (subst (λ (k : Option (Cause E)). ([], k) ⊑ joined (map whole h.1.0) o.1) (sym h.0) (begins-any _)) all)
 
   -- Where no inner start can be refused, a concatenation of flows of one trace each gives the beginnings of those, joined.
   pub concat_joins : {R : Type 0} (starts : A → Bool) (may : R → Traces B E) (outer : Traces A E) (o : Trace A E) → ((x : A) → IsTrue (starts x))
@@ -300,5 +324,6 @@ module _ {A B E : Type 0} (gives : A → Traces B E) (whole : A → Trace B E) (
   concat_joins starts may outer o each of_outer t h =
       let all = all-started starts gives each _ _ h.inner_came in
       let whole_begins = outer-begins h.of_outer o h.of_inner (of_outer _ h.outer_came) all in
-      let begins : t ⊑ joined h.of_inner h.of_outer.1 = subst (λ (s : Trace B E). t ⊑ followed_by s (joined h.of_inner h.of_outer.1)) h.standing_came h.begins in
+      let begins : t ⊑ joined h.of_inner h.of_outer.1 =
+      subst (λ (s : Trace B E). t ⊑ followed_by s (joined h.of_inner h.of_outer.1)) h.standing_came h.begins in
       begins-after t _ _ begins whole_begins

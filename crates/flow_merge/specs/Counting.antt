@@ -86,7 +86,8 @@ fewer-rounds less more most h =
 -- a value of the outer that starts an inner run
 pub start_approaches : (outer left most of_flow of_run : Count) → IsFewer outer left → IsBoundedBy most of_flow
     → IsWithinPolls of_flow of_run → IsFinite (count_add (rounds outer most) (at_most 0))
-    → IsFinite (count_add (rounds left most) (with_end of_run)) × (size (count_add (rounds left most) (with_end of_run)) < size (count_add (rounds outer most) (at_most 0)))
+    → IsFinite (count_add (rounds left most) (with_end of_run))
+    × (size (count_add (rounds left most) (with_end of_run)) < size (count_add (rounds outer most) (at_most 0)))
 start_approaches outer left most of_flow of_run fewer bounded within h =
     let whole : T (cond outer.bounded most.bounded false) = both-first (cond outer.bounded most.bounded false) true h in
     let known : T most.bounded = both-second outer.bounded most.bounded whole in
@@ -99,7 +100,8 @@ start_approaches outer left most of_flow of_run fewer bounded within h =
 
 -- a pending answer of the outer
 pub wait_approaches : (outer left most : Count) → IsFewer outer left → IsFinite (count_add (rounds outer most) (at_most 0))
-    → IsFinite (count_add (rounds left most) (at_most 0)) × (size (count_add (rounds left most) (at_most 0)) < size (count_add (rounds outer most) (at_most 0)))
+    → IsFinite (count_add (rounds left most) (at_most 0))
+    × (size (count_add (rounds left most) (at_most 0)) < size (count_add (rounds outer most) (at_most 0)))
 wait_approaches outer left most fewer h =
     let whole : T (cond outer.bounded most.bounded false) = both-first (cond outer.bounded most.bounded false) true h in
     let known : T most.bounded = both-second outer.bounded most.bounded whole in
@@ -118,7 +120,9 @@ rounds_within outer left most within h =
       fewer-rounds (size left) (size outer) (size most) now.1,
     )
 
-pub rounds_finite : {R : Type 0} (outer most : Count) (polls : R → Count) → IsFinite outer → IsFinite most → ((r : R) → IsFinite (polls r)) → (standing : Option R)
+pub rounds_finite : {R : Type 0} (outer most : Count) (polls : R → Count) → IsFinite outer → IsFinite most
+    → ((r : R) → IsFinite (polls r)) → (standing : Option R)
     → IsFinite (count_add (rounds outer most) (standing_polls polls standing))
 rounds_finite outer most polls h k each None = both-true (cond outer.bounded most.bounded false) true (both-true outer.bounded most.bounded h k) tt
-rounds_finite outer most polls h k each (Some r) = both-true (cond outer.bounded most.bounded false) (polls r).bounded (both-true outer.bounded most.bounded h k) (each r)
+rounds_finite outer most polls h k each (Some r) =
+    both-true (cond outer.bounded most.bounded false) (polls r).bounded (both-true outer.bounded most.bounded h k) (each r)

@@ -53,7 +53,8 @@ module _ {B E R : Type 0} (may : R → Traces B E) where
 
 module _ {A B E R : Type 0} (limit : ℕ) (inner : A → Traces B E) (may : R → Traces B E) where
   pub merge_gives : (old new : List R) (outer : Traces A E) (at : ℕ) (v : B)
-      → ((ts : List (Trace B E)) → AllZip may new ts → Gave may old at v ts) → After (MayMerge limit inner may old outer) v (MayMerge limit inner may new outer)
+      → ((ts : List (Trace B E)) → AllZip may new ts → Gave may old at v ts)
+      → After (MayMerge limit inner may old outer) v (MayMerge limit inner may new outer)
   merge_gives old new outer at v answered t h =
       let g = answered h.standing h.stand in
       record {
@@ -65,7 +66,8 @@ module _ {A B E R : Type 0} (limit : ℕ) (inner : A → Traces B E) (may : R �
       }
 
   pub merge_leaves : (old new : List R) (outer : Traces A E) (at : ℕ)
-      → ((ts : List (Trace B E)) → AllZip may new ts → Ended may old at Finished ts) → Within (MayMerge limit inner may old outer) (MayMerge limit inner may new outer)
+      → ((ts : List (Trace B E)) → AllZip may new ts → Ended may old at Finished ts)
+      → Within (MayMerge limit inner may old outer) (MayMerge limit inner may new outer)
   merge_leaves old new outer at answered t h =
       let g = answered h.standing h.stand in
       record {
@@ -77,12 +79,14 @@ module _ {A B E R : Type 0} (limit : ℕ) (inner : A → Traces B E) (may : R �
       }
 
   pub merge_waits : (old new : List R) (outer : Traces A E)
-      → ((ts : List (Trace B E)) → AllZip may new ts → AllZip may old ts) → Within (MayMerge limit inner may old outer) (MayMerge limit inner may new outer)
+      → ((ts : List (Trace B E)) → AllZip may new ts → AllZip may old ts)
+      → Within (MayMerge limit inner may old outer) (MayMerge limit inner may new outer)
   merge_waits old new outer answered t h =
       record { standing = h.standing; of_outer = h.of_outer; stand = answered h.standing h.stand; outer_came = h.outer_came; merges = h.merges }
 
   pub merge_fails : (old new : List R) (outer : Traces A E) (at : ℕ) (k : Cause E) → ((r : R) → may r (so_far [])) → (t : Trace A E) × outer t
-      → ((ts : List (Trace B E)) → AllZip may new ts → Ended may old at k ts) → (k ≡ Finished → ⊥) → MayMerge limit inner may old outer (ended_by [] k)
+      → ((ts : List (Trace B E)) → AllZip may new ts → Ended may old at k ts) → (k ≡ Finished → ⊥)
+      → MayMerge limit inner may old outer (ended_by [] k)
   merge_fails old new outer at k begun outer_begun answered fails =
       let all = all_begin may begun new in
       let g = answered all.0 all.1 in
@@ -102,7 +106,8 @@ module _ {A B E R : Type 0} (limit : ℕ) (inner : A → Traces B E) (may : R �
             (subst (λ (ts : List (Trace B E)). Merges limit inner ts h.of_outer t) (sym l.is) h.merges);
       }
 
-  pub merge_outer_waits : (runs : List R) (old new : Traces A E) → Within old new → Within (MayMerge limit inner may runs old) (MayMerge limit inner may runs new)
+  pub merge_outer_waits : (runs : List R) (old new : Traces A E) → Within old new
+      → Within (MayMerge limit inner may runs old) (MayMerge limit inner may runs new)
   merge_outer_waits runs old new within t h =
       record { standing = h.standing; of_outer = h.of_outer; stand = h.stand; outer_came = within h.of_outer h.outer_came; merges = h.merges }
 

@@ -2,7 +2,7 @@
 use Rattle.std.specs.Prelude.{List, [], ◌∷◌, Option, Some, None}
 use Rattle.cold_flow.specs.declared.cause.Cause.{Cause}
 use Rattle.cold_flow.specs.Trace.{Trace, ◌⊑◌, led_by}
-use Rattle.cold_flow.specs.Poll.{Traces}
+use Rattle.cold_flow.specs.Poll.{Traces, Fixes}
 
 -- g of the pairs, up to the shorter list
 abbrev pub zip_values : {A B C : Type 0} → (A × B → C) → List A → List B → List C
@@ -19,6 +19,10 @@ zip_end (x ∷ xs) left (y ∷ ys) right = zip_end xs left ys right
 -- what a zip makes of two traces
 abbrev pub zip_trace : {A B C E : Type 0} → (A × B → C) → Trace A E → Trace B E → Trace C E
 zip_trace g t u = (zip_values g t.0 u.0, zip_end t.0 t.1 u.0 u.1)
+
+-- where each side can give one whole trace alone, what is made can give the zip of both alone
+abbrev pub ZipsExactly : {A B C E : Type 0} → (A × B → C) → Traces A E → Traces B E → Traces C E → Type 0
+ZipsExactly {A} {B} {C} {E} g left right made = (l : Trace A E) (r : Trace B E) → Fixes l left → Fixes r right → Fixes (zip_trace g l r) made
 
 -- the value that is held, if any, and then t
 abbrev pub with_held : {A E : Type 0} → Option A → Trace A E → Trace A E

@@ -59,7 +59,8 @@ module _ {A B C E : Type 0} (g : A × B → C) where
   left-more (x ∷ xs) rest e ([], f) = inl refl
   left-more (x ∷ xs) rest e (y ∷ ys, f) = led-begins (g (x, y)) _ _ (left-more xs rest e (ys, f))
 
-  right-more : (xs : List A) (e : Option (Cause E)) (ys rest : List B) (f : Option (Cause E)) → zip_trace g (xs, e) (so_far ys) ⊑ zip_trace g (xs, e) (ys ++ rest, f)
+  right-more : (xs : List A) (e : Option (Cause E)) (ys rest : List B) (f : Option (Cause E))
+      → zip_trace g (xs, e) (so_far ys) ⊑ zip_trace g (xs, e) (ys ++ rest, f)
   right-more [] e ys rest f = inl refl
   right-more (x ∷ xs) e [] rest f = begins-any _
   right-more (x ∷ xs) e (y ∷ ys) rest f = led-begins (g (x, y)) _ _ (right-more xs e ys rest f)

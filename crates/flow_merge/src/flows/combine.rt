@@ -58,7 +58,7 @@ pub struct CombinedRun<A: Run, B: Run, G> {
     // The side that is asked next. It has not finished, unless both have.
     turn: Turn,
     ended: Option<Cause<A::Fault>>,
-    ghost settled: { IsSome ended → IsTrue (A.stopped left.run && B.stopped right.run) },
+    ghost stopped: { IsSome ended → IsTrue (A.stopped left.run && B.stopped right.run) },
     ghost at_turn: { IsTrue (is_due turn left.finished right.finished) },
 }
 

@@ -1,14 +1,14 @@
 //! Inner flows one after the other.
 
-ghost use Rattle.std.specs.Prelude.{◌≡◌, ◌⊎◌, map, Option, None, IsSome, IsTrue, ◌&&◌};
+ghost use Rattle.std.specs.Prelude.{◌≡◌, ◌⊎◌, Option, None, IsSome, IsTrue, ◌&&◌};
 ghost use Rattle.futures.specs.Poll.{OnPending};
 ghost use Rattle.futures.specs.Task.{IsArmed, Keeps};
 ghost use Rattle.cold_flow.specs.Polled.{IsNearer};
-ghost use Rattle.cold_flow.specs.Poll.{Unless, Within, Fixes, IsWithinPolls};
+ghost use Rattle.cold_flow.specs.Poll.{Unless, Within, IsWithinPolls};
 ghost use Rattle.std.specs.Iterator.{at_most, count_add};
 ghost use Rattle.flow_merge.specs.Asking.{Asks, AsksApproach, OnEnd, standing_stopped};
 ghost use Rattle.flow_merge.specs.Counting.{IsBoundedBy, rounds, standing_polls};
-ghost use Rattle.flow_merge.specs.Concat.{MayConcat, JoinsOrRefused, StandingWaited, joined};
+ghost use Rattle.flow_merge.specs.Concat.{MayConcat, JoinsExactlyOrRefused, JoinsExactly, StandingWaited};
 
 use crate::flows::bound::{Bound, KnownBound, Unbounded};
 use cold_flow::{Apply, BUDGET, Cause, Event, Finite, Flow, Refusal, Run};
@@ -40,11 +40,11 @@ pub fn flat_map_concat<
     ensures made { (result.outer ≡ outer) × (result.function ≡ function) }
 
     // What is collected is fixed where no inner start is refused.
-    ensures exact { (o : _) (whole : _) → Fixes o (S.may outer) → ((x : _) → Fixes (whole x) (F.may (G.gives function x))) → JoinsOrRefused whole o (⟦<Concatenated<S, F, G, Unbounded> as Flow>⟧.may result) }
+    ensures exact { JoinsExactlyOrRefused (λ x. F.may (G.gives function x)) (S.may outer) (⟦<Concatenated<S, F, G, Unbounded> as Flow>⟧.may result) }
 
     // Where none can be refused, it is fixed whole.
-    ensures fixed { (o : _) (whole : _) → ((x : _) → IsTrue (F.starts (G.gives function x))) → Fixes o (S.may outer)
-        → ((x : _) → Fixes (whole x) (F.may (G.gives function x))) → Fixes (joined (map whole o.0) o.1) (⟦<Concatenated<S, F, G, Unbounded> as Flow>⟧.may result) }
+    ensures fixed { JoinsExactly (λ x. F.starts (G.gives function x)) (λ x. F.may (G.gives function x)) (S.may outer)
+        (⟦<Concatenated<S, F, G, Unbounded> as Flow>⟧.may result) }
     ensures starts { IsTrue (S.starts outer) → IsTrue (⟦<Concatenated<S, F, G, Unbounded> as Flow>⟧.starts result) }
 {
     Concatenated {
@@ -64,7 +64,7 @@ pub struct ConcatenatedRun<O: Run, F: Flow, G: Apply<O::Item, Out = F>, E, N: Bo
     inner: Option<F::Running>,
     ended: Option<Cause<E>>,
     ghost bounded: { (x : _) → IsBoundedBy N.most (F.polls (G.gives function x)) },
-    ghost settled: { IsSome ended → IsTrue (O.stopped outer && standing_stopped F.Running.stopped inner) },
+    ghost stopped: { IsSome ended → IsTrue (O.stopped outer && standing_stopped F.Running.stopped inner) },
 }
 
 impl<
@@ -78,9 +78,9 @@ impl<
     // Asks the inner run that stands, or the outer where none does.
     fn ask(&mut self, cx: &mut Context<'_>) -> Poll<Option<Event<B, E>>>
         requires { self.old.ended ≡ None }
-        ensures asked { Asks (MayConcat (λ x. F.starts (G.gives self.old.function x)) (λ x. F.may (G.gives self.old.function x)) F.Running.may self.old.inner (O.may self.old.outer)) result
-            (MayConcat (λ x. F.starts (G.gives self.new.function x)) (λ x. F.may (G.gives self.new.function x)) F.Running.may self.new.inner (O.may self.new.outer)) }
-        ensures approaches { AsksApproach (count_add (rounds (O.polls self.old.outer) N.most) (standing_polls F.Running.polls self.old.inner)) result (count_add (rounds (O.polls self.new.outer) N.most) (standing_polls F.Running.polls self.new.inner)) }
+        ensures asked { Asks (⟦<ConcatenatedRun<O, F, G, E, N> as Run>⟧.may self.old) result (⟦<ConcatenatedRun<O, F, G, E, N> as Run>⟧.may self.new) }
+        ensures approaches { AsksApproach (⟦<ConcatenatedRun<O, F, G, E, N> as Run>⟧.polls self.old) result
+            (⟦<ConcatenatedRun<O, F, G, E, N> as Run>⟧.polls self.new) }
         ensures same { (self.new.ended ≡ self.old.ended) × (self.new.function ≡ self.old.function) }
         ensures stops { OnEnd result (IsTrue (standing_stopped F.Running.stopped self.new.inner)) }
         ensures waits { OnPending result (StandingWaited O.polled F.Running.polled self.new.outer self.new.inner) }
@@ -237,7 +237,7 @@ impl<
     G: Apply<S::Item, Out = F>,
 > Concatenated<S, F, G, Unbounded> {
     /// The same flow, of which it is known that no inner run takes more polls than `N` says: over sources that end within a number of polls
-    /// its runs do so too. Nothing is done when it runs.
+    /// its runs do so too. The call itself does nothing.
     pub fn within<N: Bound>(self) -> Concatenated<S, F, G, N>
         requires { (x : _) → IsWithinPolls N.most (F.polls (G.gives self.function x)) }
         ensures gives { Within (⟦<Concatenated<S, F, G, Unbounded> as Flow>⟧.may self) (⟦<Concatenated<S, F, G, N> as Flow>⟧.may result) }

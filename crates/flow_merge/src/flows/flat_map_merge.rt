@@ -1,14 +1,14 @@
 //! Several inner flows at once.
 
-ghost use Rattle.std.specs.Prelude.{◌≡◌, ◌+◌, ◌<◌, ◌≤◌, ◌↔◌, ◌⊎◌, true, false, [], None, IsSome, IsTrue, IfOk, IsOk, Err, ◌&&◌, vec_len};
+ghost use Rattle.std.specs.Prelude.{◌≡◌, ◌+◌, ◌<◌, ◌≤◌, ◌↔◌, ◌⊎◌, ◌&&◌};
+ghost use Rattle.std.specs.Prelude.{true, false, [], None, IsSome, IsTrue, IfOk, IsOk, Err, vec_len};
 ghost use Rattle.futures.specs.Poll.{OnPending};
 ghost use Rattle.futures.specs.Task.{IsArmed, Keeps};
 ghost use Rattle.flow_terms.specs.declared.refusal.Refusal.TheVariants.{NotPositive, TooManyWorkers};
-ghost use Rattle.cold_flow.specs.Poll.{Unless, Within, Narrows};
-ghost use Rattle.flow_merge.specs.Combine.{OrFinished};
+ghost use Rattle.cold_flow.specs.Poll.{Narrows};
 ghost use Rattle.flow_merge.specs.Asking.{Asks};
 ghost use Rattle.flow_merge.specs.Standing.{all_stopped, StandAfter};
-ghost use Rattle.flow_merge.specs.Merge.{MayMerge, AsksOuter};
+ghost use Rattle.flow_merge.specs.Merge.{MayMerge, MakesMerge, MayStillMerge, AsksOuter};
 
 use crate::flows::standing::{ask_at, cancel_all};
 use cold_flow::{Apply, BUDGET, Cause, Event, Flow, Refusal, Run};
@@ -42,7 +42,7 @@ pub fn flat_map_merge<
     F: Flow<Item = B, Fault = E>,
     G: Apply<S::Item, Out = F>,
 >(alloc: Global, outer: S, function: G, limit: u32) -> Result<Merged<S, G>, Refusal>
-    ensures gives { IfOk result (λ f. Within (MayMerge limit (λ x. F.may (G.gives function x)) F.Running.may [] (S.may outer)) (⟦<Merged<S, G> as Flow>⟧.may f)) }
+    ensures gives { IfOk result (λ f. MakesMerge limit (λ x. F.may (G.gives function x)) F.Running.may (S.may outer) (⟦<Merged<S, G> as Flow>⟧.may f)) }
     ensures starts { IfOk result (λ f. IsTrue (S.starts outer) → IsTrue (⟦<Merged<S, G> as Flow>⟧.starts f)) }
     ensures not_positive { (result ≡ Err NotPositive) ↔ (limit ≡ 0) }
     ensures too_many { (result ≡ Err TooManyWorkers) ↔ (MAX_WORKERS < limit) }
@@ -76,7 +76,7 @@ pub struct MergedRun<O: Run, F: Flow, G, E> {
     ended: Option<Cause<E>>,
     ghost positive: { 0 < limit },
     ghost few: { vec_len runs ≤ limit },
-    ghost settled: { IsSome ended → IsTrue (O.stopped outer && all_stopped F.Running.stopped runs.items) },
+    ghost stopped: { IsSome ended → IsTrue (O.stopped outer && all_stopped F.Running.stopped runs.items) },
 }
 
 impl<
@@ -111,7 +111,8 @@ impl<
         })
     }
 
-    ghost uncancelled = { λ f. merge_uncancelled f.limit _ (λ x. F.uncancelled (G.gives f.function x)) F.Running.may (S.may f.outer) (S.uncancelled f.outer) };
+    ghost uncancelled = { λ f. merge_uncancelled f.limit _ (λ x. F.uncancelled (G.gives f.function x)) F.Running.may
+        (S.may f.outer) (S.uncancelled f.outer) };
 }
 
 impl<
@@ -128,7 +129,7 @@ impl<
 
     type Fault = E;
 
-    ghost may = { λ r. Unless r.ended (MayMerge r.limit (λ x. F.may (G.gives r.function x)) F.Running.may r.runs.items (OrFinished r.outer_finished (O.may r.outer))) };
+    ghost may = { λ r. MayStillMerge r.ended r.limit (λ x. F.may (G.gives r.function x)) F.Running.may r.runs.items r.outer_finished (O.may r.outer) };
 
     ghost ended = { λ r. r.ended };
 
@@ -158,7 +159,8 @@ impl<
         }
     }
 
-    ghost begins = { λ r. Unless-begins r.ended _ (merge_begun r.limit _ _ r.runs.items _ F.Running.begins (outer_begins r.outer_finished (O.may r.outer) (O.begins r.outer))) };
+    ghost begins = { λ r. Unless-begins r.ended _ (merge_begun r.limit _ _ r.runs.items _ F.Running.begins
+        (outer_begins r.outer_finished (O.may r.outer) (O.begins r.outer))) };
 
     ghost over = { λ r. Unless-over r.ended _ };
 }
@@ -175,7 +177,7 @@ impl<
         requires going { self.old.ended ≡ None }
         requires unfinished { self.old.outer_finished ≡ false }
         requires room { vec_len self.old.runs < self.old.limit }
-        ensures asked { AsksOuter (MayMerge self.old.limit (λ x. F.may (G.gives self.old.function x)) F.Running.may self.old.runs.items (OrFinished self.old.outer_finished (O.may self.old.outer))) result (MayMerge self.new.limit (λ x. F.may (G.gives self.new.function x)) F.Running.may self.new.runs.items (OrFinished self.new.outer_finished (O.may self.new.outer))) }
+        ensures asked { AsksOuter (⟦<MergedRun<O, F, G, E> as Run>⟧.may self.old) result (⟦<MergedRun<O, F, G, E> as Run>⟧.may self.new) }
         ensures going { self.new.ended ≡ None }
         ensures limit { self.new.limit ≡ self.old.limit }
         ensures standing { (vec_len self.old.runs ≤ vec_len self.new.runs) × (vec_len self.new.runs ≤ vec_len self.old.runs + 1) }
@@ -210,7 +212,7 @@ impl<
     // Asks the outer while fewer than `limit` inner runs stand, and each inner run that stands at most once.
     fn ask_all(&mut self, cx: &mut Context<'_>) -> Poll<Event<B, E>>
         requires { self.old.ended ≡ None }
-        ensures narrows { Narrows (MayMerge self.old.limit (λ x. F.may (G.gives self.old.function x)) F.Running.may self.old.runs.items (OrFinished self.old.outer_finished (O.may self.old.outer))) result (MayMerge self.new.limit (λ x. F.may (G.gives self.new.function x)) F.Running.may self.new.runs.items (OrFinished self.new.outer_finished (O.may self.new.outer))) }
+        ensures narrows { Narrows (⟦<MergedRun<O, F, G, E> as Run>⟧.may self.old) result (⟦<MergedRun<O, F, G, E> as Run>⟧.may self.new) }
         ensures going { self.new.ended ≡ None }
         ensures armed { OnPending result (IsArmed cx.new) }
         ensures kept { Keeps cx.old cx.new }
@@ -285,7 +287,7 @@ impl<
     fn ask_next(&mut self, cx: &mut Context<'_>) -> Poll<Option<Event<B, E>>>
         requires going { self.old.ended ≡ None }
         requires stands { 0 < vec_len self.old.runs }
-        ensures asked { Asks (MayMerge self.old.limit (λ x. F.may (G.gives self.old.function x)) F.Running.may self.old.runs.items (OrFinished self.old.outer_finished (O.may self.old.outer))) result (MayMerge self.new.limit (λ x. F.may (G.gives self.new.function x)) F.Running.may self.new.runs.items (OrFinished self.new.outer_finished (O.may self.new.outer))) }
+        ensures asked { Asks (⟦<MergedRun<O, F, G, E> as Run>⟧.may self.old) result (⟦<MergedRun<O, F, G, E> as Run>⟧.may self.new) }
         ensures going { self.new.ended ≡ None }
         ensures limit { self.new.limit ≡ self.old.limit }
         ensures standing { StandAfter result (vec_len self.old.runs) (vec_len self.new.runs) }

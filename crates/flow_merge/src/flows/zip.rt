@@ -4,8 +4,8 @@ ghost use Rattle.std.specs.Prelude.{◌≡◌, Option, None, IsSome, IsTrue, is_
 ghost use Rattle.std.specs.Iterator.{count_add};
 ghost use Rattle.futures.specs.Poll.{OnPending};
 ghost use Rattle.futures.specs.declared.task.Poll.TheVariants.{Pending};
-ghost use Rattle.cold_flow.specs.Poll.{Unless, Within, Fixes, IsWithinPolls};
-ghost use Rattle.flow_merge.specs.Zip.{MayZip, zip_trace};
+ghost use Rattle.cold_flow.specs.Poll.{Unless, Within, IsWithinPolls};
+ghost use Rattle.flow_merge.specs.Zip.{MayZip, ZipsExactly};
 
 use cold_flow::{Apply, Cause, Event, Finite, Flow, Refusal, Run};
 use futures::task::{Context, Poll};
@@ -29,7 +29,7 @@ pub fn zip<C: Copy, A: Flow, B: Flow<Fault = A::Fault>, G: Apply<(A::Item, B::It
     function: G,
 ) -> Zipped<A, B, G>
     ensures gives { Within (MayZip (G.gives function) None (A.may left) (B.may right)) (⟦<Zipped<A, B, G> as Flow>⟧.may result) }
-    ensures exact { (l : _) (r : _) → Fixes l (A.may left) → Fixes r (B.may right) → Fixes (zip_trace (G.gives function) l r) (⟦<Zipped<A, B, G> as Flow>⟧.may result) }
+    ensures exact { ZipsExactly (G.gives function) (A.may left) (B.may right) (⟦<Zipped<A, B, G> as Flow>⟧.may result) }
     ensures lasts { IsWithinPolls (count_add (A.polls left) (B.polls right)) (⟦<Zipped<A, B, G> as Flow>⟧.polls result) }
     ensures prompt { IsTrue (A.prompt left && B.prompt right) → IsTrue (⟦<Zipped<A, B, G> as Flow>⟧.prompt result) }
     ensures starts { IsTrue (A.starts left && B.starts right) → IsTrue (⟦<Zipped<A, B, G> as Flow>⟧.starts result) }
@@ -50,7 +50,7 @@ pub struct ZippedRun<A: Run, B: Run, G> {
     // A value of the left that waits for one of the right.
     held: Option<A::Item>,
     ended: Option<Cause<A::Fault>>,
-    ghost settled: { IsSome ended → IsTrue (A.stopped left && B.stopped right) },
+    ghost stopped: { IsSome ended → IsTrue (A.stopped left && B.stopped right) },
 }
 
 impl<C: Copy, A: Flow, B: Flow<Fault = A::Fault>, G: Apply<(A::Item, B::Item), Out = C>> Flow

@@ -1,22 +1,20 @@
-use Rattle.std.proofs.Common.{rules, ◌≡◌, ◌∙◌, None}
+use Rattle.std.proofs.Common.{rules, ◌∙◌}
 use Rattle.flow_merge.specs.Counting.{after_question, no_more_questions}
 use Rattle.flow_merge.proofs.flows.flat_map_concat.ConcatenatedRunRun.poll_next.Goals as goal
 
 pub returns-in-Ready-Some-Value-clause-narrows : goal.returns-in-Ready-Some-Value-clause-narrows
 returns-in-Ready-Some-Value-clause-narrows g c =
     let asked = rw (c.in-Ready-Some-Value.field-0-is, c.in-Ready-Some-Value.field-0-0-is) at c.in-Ready-Some-Value.ensures.asked in
-    let going : c.ask.new.self.ended ≡ None = c.in-Ready-Some-Value.ensures.same.0 ∙ c.loop-asked.invariant.going in
-    rw (going, c.loop-asked.invariant.begun) (λ t h. c.loop-asked.invariant.within _ (asked t h))
+    λ t h. c.loop-asked.invariant.within _ (asked t h)
 
 pub returns-in-Ready-Some-End-clause-narrows : goal.returns-in-Ready-Some-End-clause-narrows
 returns-in-Ready-Some-End-clause-narrows g c =
     let asked = rw (c.in-Ready-Some-End.field-0-is, c.in-Ready-Some-End.field-0-0-is) at c.in-Ready-Some-End.ensures.asked in
-    rw c.loop-asked.invariant.begun (c.loop-asked.invariant.within _ asked)
+    c.loop-asked.invariant.within _ asked
 
 pub returns-in-Pending-clause-narrows : goal.returns-in-Pending-clause-narrows
 returns-in-Pending-clause-narrows g c =
-    let going : c.ask.new.self.ended ≡ None = c.in-Pending.ensures.same.0 ∙ c.loop-asked.invariant.going in
-    rw (going, c.loop-asked.invariant.begun) (λ t h. c.loop-asked.invariant.within _ (c.in-Pending.ensures.asked t h))
+    λ t h. c.loop-asked.invariant.within _ (c.in-Pending.ensures.asked t h)
 
 pub loop-asked-preserved : goal.loop-asked-preserved
 loop-asked-preserved g c =
@@ -32,7 +30,7 @@ loop-asked-preserved g c =
 
 pub returns-clause-narrows : goal.returns-clause-narrows
 returns-clause-narrows g c =
-    rw (c.yield_now.ensures.pending, c.loop-asked.invariant.begun, c.loop-asked.invariant.going) c.loop-asked.invariant.within
+    rw c.yield_now.ensures.pending c.loop-asked.invariant.within
 
 pub returns-clause-approaches : goal.returns-clause-approaches
 returns-clause-approaches g c =

@@ -6,13 +6,13 @@ use Rattle.flow_merge.proofs.flows.flat_map_merge.MergedRun.ask_next.Goals as go
 pub returns-in-Ready-Value-clause-asked : goal.returns-in-Ready-Value-clause-asked
 returns-in-Ready-Value-clause-asked g c =
     let answered = rw c.in-Ready-Value.field-0-is at c.in-Ready-Value.ensures.answered in
-    merge_gives _ _ _ _ _ _ _ _ answered
+    rw c.requires.going (merge_gives _ _ _ _ _ _ _ _ answered)
 
 pub returns-in-Finished-clause-asked : goal.returns-in-Finished-clause-asked
 returns-in-Finished-clause-asked g c =
     let answered = rw c.in-Ready-End.field-0-is at c.in-Ready-End.ensures.answered in
     let finished = rw c.in-Finished.is at answered in
-    merge_leaves _ _ _ _ _ _ _ finished
+    rw c.requires.going (merge_leaves _ _ _ _ _ _ _ finished)
 
 pub returns-in_default : goal.returns-in_default
 returns-in_default g c =
@@ -20,8 +20,8 @@ returns-in_default g c =
     let answered = rw c.in-Ready-End.field-0-is at c.in-Ready-End.ensures.answered in
     record {
       asked =
-          merge_fails _ _ _ _ _ (OrFinished self.outer_finished (g.O.Run.may self.outer)) _ _ g.met.F.Running.Run.begins
-          (outer_begins self.outer_finished (g.O.Run.may self.outer) (g.met.O.Run.begins _)) answered c.in_default.not-Finished;
+          rw c.requires.going (merge_fails _ _ _ _ _ (OrFinished self.outer_finished (g.O.Run.may self.outer)) _ _ g.met.F.Running.Run.begins
+          (outer_begins self.outer_finished (g.O.Run.may self.outer) (g.met.O.Run.begins _)) answered c.in_default.not-Finished);
       going = search rules;
       limit = search rules;
       standing = tt;

@@ -7,7 +7,7 @@ returns-then-is_err-clause-asked g c =
     let self = c.args.self.now in
     let after = rw c.in-Ready-Value.field-0-is at c.in-Ready-Value.ensures.narrows in
     let room : length self.runs.items < self.limit = omega (arith, self.runs.ok.0) in
-    rw c.requires.unfinished (merge_refused _ _ _ _ _ _ _ after (g.met.O.Run.begins _) room g.met.F.Running.Run.begins)
+    rw (c.requires.going, c.requires.unfinished) (merge_refused _ _ _ _ _ _ _ after (g.met.O.Run.begins _) room g.met.F.Running.Run.begins)
 
 pub returns-in-Ok-clause-asked : goal.returns-in-Ok-clause-asked
 returns-in-Ok-clause-asked g c =
@@ -15,7 +15,7 @@ returns-in-Ok-clause-asked g c =
     let after = rw c.in-Ready-Value.field-0-is at c.in-Ready-Value.ensures.narrows in
     let gives = rw c.apply.ensures at c.in-Ok.ensures.gives in
     let room : length self.runs.items < self.limit = omega (arith, self.runs.ok.0) in
-    rw (c.requires.unfinished, c.push_reserved.ensures.items, c.reserve.ensures.items)
+    rw (c.requires.going, c.requires.unfinished, c.push_reserved.ensures.items, c.reserve.ensures.items)
     (merge_begins _ _ _ _ _ _ _ _ after room gives)
 
 pub returns-in-Ready-Value-clause-asked : goal.returns-in-Ready-Value-clause-asked
@@ -23,7 +23,7 @@ returns-in-Ready-Value-clause-asked g c =
     let self = c.args.self.now in
     let after = rw c.in-Ready-Value.field-0-is at c.in-Ready-Value.ensures.narrows in
     let room : length self.runs.items < self.limit = omega (arith, self.runs.ok.0) in
-    rw (c.requires.unfinished, c.in-Err.ensures.refused) (merge_refused _ _ _ _ _ _ _ after (g.met.O.Run.begins _) room g.met.F.Running.Run.begins)
+    rw (c.requires.going, c.requires.unfinished, c.in-Err.ensures.refused) (merge_refused _ _ _ _ _ _ _ after (g.met.O.Run.begins _) room g.met.F.Running.Run.begins)
 
 pub returns-in-Ready-End : goal.returns-in-Ready-End
 returns-in-Ready-End g c =
@@ -31,7 +31,7 @@ returns-in-Ready-End g c =
     let came = rw c.in-Ready-End.field-0-is at c.in-Ready-End.ensures.narrows in
     let room : length self.runs.items < self.limit = omega (arith, self.runs.ok.0) in
     record {
-      asked = rw c.requires.unfinished (merge_outer_fails _ _ _ _ _ _ g.met.F.Running.Run.begins room came c.in_default.not-Finished);
+      asked = rw (c.requires.going, c.requires.unfinished) (merge_outer_fails _ _ _ _ _ _ g.met.F.Running.Run.begins room came c.in_default.not-Finished);
       going = search rules;
       limit = search rules;
       standing = search rules;
