@@ -1,4 +1,5 @@
 pub mod Countdown
 pub mod Halves
+pub mod Lists
 pub mod Lights
 pub mod LightLaws

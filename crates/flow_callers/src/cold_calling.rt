@@ -1,13 +1,12 @@
 //! Callers of cold flows: what comes out of a chain is fixed by its contract, also over a flow of one's own.
 
-ghost use Rattle.std.specs.Prelude.{◌≡◌, ◌-◌, ◌<◌, Some, None, true, is_some, drop, filter as kept_values, IfOk};
+ghost use Rattle.std.specs.Prelude.{◌≡◌, ◌<◌, Some, None, true, is_some, IfOk};
 ghost use Rattle.std.specs.Iterator.{at_most};
-ghost use Rattle.std.specs.List.{range_with_len};
 ghost use Rattle.cold_flow.specs.declared.cause.Cause.TheVariants.{Finished};
-ghost use Rattle.cold_flow.specs.Trace.{ended_by, map_trace, take_trace, on_values};
+ghost use Rattle.cold_flow.specs.Trace.{ended_by, map_trace, take_trace};
 ghost use Rattle.cold_flow.specs.Poll.{Beginnings, Unless};
-ghost use Rattle.cold_flow.specs.Distinct.{distinct_after};
 ghost use Rattle.flow_callers.specs.Countdown.{down_from};
+ghost use Rattle.flow_callers.specs.Lists.{trace_of, whole_list, chain_trace};
 
 use cold_flow::{
     Apply, Cause, Collected, Event, Finite, Flow, Refusal, Run, distinct, drop_first, filter, map,
@@ -23,7 +22,7 @@ pub fn mapped_list<T: Copy, U: Copy, E: Copy, G: Apply<T, Out = U>>(
     function: G,
     cx: &mut Context<'_>,
 ) -> Result<Collected<U, E>, Refusal>
-    ensures { IfOk result (λ list. ended_by list.values.items list.cause ≡ map_trace (G.gives function) (ended_by values.items Finished)) }
+    ensures { IfOk result (λ list. trace_of list ≡ map_trace (G.gives function) (whole_list values.items)) }
 {
     let flow = map(of::<T, E>(values), function);
     to_list(alloc, flow.start()?, cx)
@@ -37,7 +36,7 @@ pub fn chain<E: Copy, G: Apply<u64, Out = u64>, H: Apply<u64, Out = bool>>(
     test: H,
     cx: &mut Context<'_>,
 ) -> Result<Collected<u64, E>, Refusal>
-    ensures { IfOk result (λ list. ended_by list.values.items list.cause ≡ take_trace 3 (on_values (distinct_after ⟦<u64 as PartialEq>⟧.eq None) (on_values (kept_values (H.gives test)) (map_trace (G.gives function) (on_values (drop 1) (ended_by (range_with_len 0 (to - 0)) Finished)))))) }
+    ensures { IfOk result (λ list. trace_of list ≡ chain_trace ⟦<u64 as PartialEq>⟧.eq (G.gives function) (H.gives test) to) }
 {
     let numbers = drop_first(range::<E>(0, to), 1);
     let flow = take(distinct(filter(map(numbers, function), test)), 3)?;
@@ -136,7 +135,7 @@ pub fn taken_down(
     count: u32,
     cx: &mut Context<'_>,
 ) -> Result<Collected<u32, u8>, Refusal>
-    ensures { IfOk result (λ list. ended_by list.values.items list.cause ≡ take_trace count (ended_by (down_from from) Finished)) }
+    ensures { IfOk result (λ list. trace_of list ≡ take_trace count (whole_list (down_from from))) }
 {
     let flow = take(Countdown { from }, count)?;
     to_list(alloc, flow.start()?, cx)

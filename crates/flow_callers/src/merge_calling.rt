@@ -1,12 +1,9 @@
 //! Callers of flows of several sources: what is collected is fixed by the contracts of the flows.
 
-ghost use Rattle.std.specs.Prelude.{◌≡◌, ◌⊎◌, Some, IfOk, map};
-ghost use Rattle.cold_flow.specs.declared.cause.Cause.TheVariants.{Finished, Refused};
-ghost use Rattle.flow_terms.specs.declared.refusal.Refusal.TheVariants.{NoMemory};
-ghost use Rattle.cold_flow.specs.Poll.{Fixes, IsWithinPolls};
-ghost use Rattle.cold_flow.specs.Trace.{ended_by};
-ghost use Rattle.flow_merge.specs.Concat.{joined};
+ghost use Rattle.std.specs.Prelude.{◌≡◌, IfOk};
+ghost use Rattle.cold_flow.specs.Poll.{IsWithinPolls};
 ghost use Rattle.flow_merge.specs.Zip.{zip_trace};
+ghost use Rattle.flow_callers.specs.Lists.{trace_of, whole_list, CollectsJoined};
 
 use cold_flow::{Apply, Collected, Finite, Flow, Refusal, of, to_list};
 use flow_merge::{KnownBound, flat_map_concat, zip};
@@ -21,7 +18,7 @@ pub fn zipped_lists<T: Copy, U: Copy, V: Copy, E: Copy, G: Apply<(T, U), Out = V
     function: G,
     cx: &mut Context<'_>,
 ) -> Result<Collected<V, E>, Refusal>
-    ensures { IfOk result (λ list. ended_by list.values.items list.cause ≡ zip_trace (G.gives function) (ended_by left.items Finished) (ended_by right.items Finished)) }
+    ensures { IfOk result (λ list. trace_of list ≡ zip_trace (G.gives function) (whole_list left.items) (whole_list right.items)) }
 {
     let flow = zip(of::<T, E>(left), of::<U, E>(right), function);
     to_list(alloc, flow.start()?, cx)
@@ -44,7 +41,7 @@ pub fn joined_list<
 where
     F::Running: Finite,
     requires { (x : T) → IsWithinPolls N.most (F.polls (G.gives function x)) }
-    ensures { (whole : _) → ((x : T) → Fixes (whole x) (F.may (G.gives function x))) → IfOk result (λ list. (list.cause ≡ Refused NoMemory) ⊎ (ended_by list.values.items list.cause ≡ joined (map whole values.items) (Some Finished))) }
+    ensures { CollectsJoined (λ x. F.may (G.gives function x)) values.items result }
 {
     let flow = flat_map_concat(of::<T, E>(values), function).within::<N>();
     to_list(alloc, flow.start()?, cx)

@@ -8,6 +8,7 @@ ghost use Rattle.cold_flow.specs.Trace.{ended_by, map_trace};
 ghost use Rattle.cold_flow.specs.Poll.{Beginnings, Makes};
 ghost use Rattle.cold_flow.specs.Unfolds.{Unfolds};
 ghost use Rattle.flow_callers.specs.Halves.{half_on, AreHalves};
+ghost use Rattle.flow_callers.specs.Lists.{trace_of, whole_list};
 
 use cold_flow::{
     Apply, Collected, EndingRun, FiniteSteps, Flow, Mapped, Refusal, Step, Steps, Unfolded,
@@ -127,7 +128,7 @@ pub fn repeated_list<T: Copy>(
     times: u32,
     cx: &mut Context<'_>,
 ) -> Result<Collected<T, u8>, Refusal>
-    ensures { IfOk result (λ list. ended_by list.values.items list.cause ≡ ended_by (replicate times value) Finished) }
+    ensures { IfOk result (λ list. trace_of list ≡ whole_list (replicate times value)) }
 {
     let flow = Repeated { value, times };
     to_list(alloc, flow.start()?, cx)
