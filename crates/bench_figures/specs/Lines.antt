@@ -25,7 +25,9 @@ unit_name MillionsASecond = codes "M/s"
 -- The line of a figure: columns parted by tabs.
 abbrev pub line_of : Figure → List ℕ
 line_of figure =
-    codes "raw\thillgauze-" ++ (part_name figure.part ++ (codes "\t" ++ (figure.scenario.now ++ (codes "\t" ++ (figure.name.now ++ (codes "\t" ++ (unit_name figure.unit ++ (codes "\t" ++ (decimal figure.operations ++ (codes "\t" ++ decimal figure.nanoseconds))))))))))
+    codes "raw\thillgauze-" ++ (part_name figure.part ++ (codes "\t" ++ (figure.scenario.now ++ (codes "\t" ++ (figure.name.now
+    ++ (codes "\t" ++ (unit_name figure.unit ++ (codes "\t" ++ (decimal figure.operations
+    ++ (codes "\t" ++ decimal figure.nanoseconds))))))))))
 
 -- Tenths of a percent, as a percent.
 abbrev pub percent : ℕ → List ℕ
@@ -34,4 +36,6 @@ percent tenths = decimal (tenths / 10) ++ (codes "." ++ decimal (tenths % 10))
 -- The line of a share: columns parted by tabs.
 abbrev pub share_line_of : Share → List ℕ
 share_line_of share =
-    codes "hillgauze-" ++ (part_name share.part ++ (codes "\t" ++ (share.scenario.now ++ (codes "\t" ++ (share.name.now ++ (codes "\t%\t" ++ (percent share.tenths ++ (codes "\t" ++ (percent share.tenths ++ (codes "\t" ++ decimal share.sent))))))))))
+    codes "hillgauze-" ++ (part_name share.part ++ (codes "\t" ++ (share.scenario.now ++ (codes "\t" ++ (share.name.now
+    ++ (codes "\t%\t" ++ (percent share.tenths ++ (codes "\t" ++ (percent share.tenths
+    ++ (codes "\t" ++ decimal share.sent))))))))))

@@ -16,7 +16,7 @@ pub enum Fault {
     /// A call was refused.
     #[error("refused {0}")]
     Refused(u8),
-    /// The script was not run to its end.
+    /// The script was not answered to its end.
     #[error("{0}")]
     Script(ScriptFault),
     #[error("out of memory")]

@@ -20,7 +20,7 @@ use std::time::Instant;
 /// How many values are emitted.
 const VALUES: u64 = 2_000_000;
 
-/// What was counted in one run.
+/// What one measurement counted.
 #[derive(Clone, Copy)]
 struct Counts {
     emitted: u64,
@@ -93,7 +93,7 @@ fn kept(scenario: &'static str, counts: Counts, sent: u64) -> Share {
     }
 }
 
-/// Counts a run of a new lane with so many readers.
+/// Counts with a new lane and so many readers.
 fn measured<R>(rt: &R, count: u32, values: u64) -> Result<Counts, Fault>
 where
     R: Clock + AllocGlobal + Threads + Wait + Sync,

@@ -1,7 +1,7 @@
 //! Measures what the flows cost: `flow_bench [SCENARIO..]`.
 //!
 //! With scenarios it makes each of their measurements five times, and writes a line for each figure. Without one it makes
-//! every measurement a thousandth of its size, once, and writes only what never varies: that is what the gate runs.
+//! every measurement a thousandth of its size, once, and writes only what never varies: that is what the gate asks for.
 //!
 //! The status is 0 where every check held, 1 for a fault, which is named on standard error, and 2, with nothing written,
 //! where the command line names no scenario.

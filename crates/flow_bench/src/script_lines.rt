@@ -35,7 +35,7 @@ where
     report(rt, lines(rt, &script)?.checked(script.lines)?, size)
 }
 
-/// Measures the run of a script. The total is the number of its lines, where each was answered as it should be.
+/// Measures how long the answers to a script take. The total is the number of its lines, where each was answered as it should be.
 fn lines<R>(rt: &R, script: &Script) -> Result<Figure, Fault>
 where
     R: Clock + AllocGlobal + RandomSource + Wait,
