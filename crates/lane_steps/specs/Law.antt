@@ -103,7 +103,8 @@ pub record Law {S : Type 0} (key : Shape) (s : State S View) : Type 0 where
   pub some_cell : 0 < key.cells
   pub bounded : key.first + length log ≤ 4611686018427387904
   pub tail : slice_index s.words tail_word ≡ key.first + length log
-  pub each_cell : (i : ℕ) (e x : ℕ) → get_elem? log i ≡ some (e, x) → length log ≤ i + key.cells → (flying ≡ true → length log < i + key.cells)
+  pub each_cell : (i : ℕ) (e x : ℕ) → get_elem? log i ≡ some (e, x)
+      → length log ≤ i + key.cells → (flying ≡ true → length log < i + key.cells)
       → slice_index s.words (cell_word key (key.first + i)) ≡ x
   pub in_flight : flying ≡ true → slice_index s.words (cell_word key (key.first + length log)) ≡ entry.1
   pub each_place : (p : ℕ) → p < key.places → PlaceOk key flying (key.first + length log) (place p) (slice_index s.words (cursor_word p))
@@ -121,7 +122,14 @@ abbrev pub no_reading : Reading
 no_reading = record { active = false; place = 0; start = 0; story = []; picked = false; number = 0; word = 0 }
 
 abbrev pub opening_view : Shape → View
-opening_view key = record { shape = key; seen = []; told = []; loads = []; sequencing = record no_sequencing { active = true; places = replicate key.places shut_place }; reading = no_reading }
+opening_view key = record {
+  shape = key;
+  seen = [];
+  told = [];
+  loads = [];
+  sequencing = record no_sequencing { active = true; places = replicate key.places shut_place };
+  reading = no_reading;
+}
 
 -- what a lane can be made with
 abbrev pub IsShape : Shape → Type 0

@@ -8,5 +8,6 @@ use Rattle.lane_steps.specs.Law.{Law, HasWord, cursor}
 
 -- between any two steps, each accepted value that an open cursor has still to read stands in its cell
 abbrev pub UnreadValuesStay : Type 0
-UnreadValuesStay = (key : Shape) (s : State (Unit {0}) View) (law : Law key s) (p n x : ℕ) → p < key.places → (law.place p).is_open ≡ true → cursor (law.place p) ≤ n → HasWord key.first law.log n x
+UnreadValuesStay = (key : Shape) (s : State (Unit {0}) View) (law : Law key s) (p n x : ℕ)
+    → p < key.places → (law.place p).is_open ≡ true → cursor (law.place p) ≤ n → HasWord key.first law.log n x
     → slice_index s.words (cell_word key n) ≡ x

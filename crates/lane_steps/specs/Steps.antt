@@ -1,5 +1,6 @@
 -- What each step does to the view of the seat that makes it, and what it tells.
-use Rattle.std.specs.Prelude.{◌≡◌, ◌≢◌, ℕ, suc, ◌+◌, ◌-◌, ◌<◌, ◌≤◌, List, [], ◌∷◌, ◌++◌, length, replicate, take, cond, eqb, slice_index_or, slice_set, true, false}
+use Rattle.std.specs.Prelude.{◌≡◌, ◌≢◌, ℕ, suc, ◌+◌, ◌-◌, ◌<◌, ◌≤◌, List, [], ◌∷◌}
+use Rattle.std.specs.Prelude.{◌++◌, length, replicate, take, cond, eqb, slice_index_or, slice_set, true, false}
 use mathlib.Core.Option.{some}
 use lib.ListN.{get_elem?}
 use Rattle.atomic_table.specs.Table.{Me, Step}
@@ -55,7 +56,8 @@ known_from n = record { is_open = true; unread = true; start = n; floor = n; los
 
 -- a load of the tail
 abbrev pub Noticed : View → ℕ → View → Type 0
-Noticed v n v' = (v' ≡ record v { seen = v'.seen; told = []; loads = v.loads ++ (tail_word, n) ∷ [] }) × Begins v'.seen v.seen × Begins v'.seen v.told × (n ≡ next_number v') × (position v.reading ≤ n)
+Noticed v n v' = (v' ≡ record v { seen = v'.seen; told = []; loads = v.loads ++ (tail_word, n) ∷ [] })
+    × Begins v'.seen v.seen × Begins v'.seen v.told × (n ≡ next_number v') × (position v.reading ≤ n)
 
 -- the reader's load of the cell of its position, the word i
 abbrev pub Picked : ℕ → View → ℕ → View → Type 0
@@ -68,7 +70,8 @@ Took old v n v' = (n ≡ old → (v' ≡ record v { reading = got v.reading }) �
 
 -- the reader's load of its cursor
 abbrev pub Looked : ℕ → View → ℕ → View → Type 0
-Looked i v n v' = (v' ≡ record v { loads = v.loads ++ (i, n) ∷ []; reading = found_at n v.reading }) × (position v.reading ≤ n) × (v.shape.drops ≡ false → n ≡ position v.reading)
+Looked i v n v' = (v' ≡ record v { loads = v.loads ++ (i, n) ∷ []; reading = found_at n v.reading })
+    × (position v.reading ≤ n) × (v.shape.drops ≡ false → n ≡ position v.reading)
 
 -- the reader closes its cursor
 abbrev pub HasQuit : View → View → Type 0
@@ -76,15 +79,31 @@ HasQuit v v' = v' ≡ record v { reading = ended v.reading }
 
 -- what a cursor found at n says of the place p, to the sequencer
 abbrev pub Standing : View → ℕ → ℕ → Type 0
-Standing v p n = n ≢ closed → ((known_of v.sequencing p).is_open ≡ true) × ((known_of v.sequencing p).floor ≤ n) × (n ≤ next_number v) × (next_number v ≤ n + v.shape.cells)
+Standing v p n = n ≢ closed
+    → ((known_of v.sequencing p).is_open ≡ true) × ((known_of v.sequencing p).floor ≤ n)
+    × (n ≤ next_number v) × (next_number v ≤ n + v.shape.cells)
+
+-- the sequencer found the cursor of the place p at n
+abbrev pub place_found_at : ℕ → ℕ → Sequencing → Sequencing
+place_found_at p n q = with_known p (known_at n (known_of q p)) q
+
+-- the sequencer moved the cursor of the place p past n
+abbrev pub place_moved_past : ℕ → ℕ → Sequencing → Sequencing
+place_moved_past p n q = with_known p (known_past n (known_of q p)) q
 
 -- the sequencer's load of the cursor of the place p
 abbrev pub Surveyed : ℕ → View → ℕ → View → Type 0
-Surveyed p v n v' = (v' ≡ record v { told = []; loads = v.loads ++ (cursor_word p, n) ∷ []; sequencing = with_known p (known_at n (known_of v.sequencing p)) v.sequencing }) × Begins v.seen v.told × Standing v p n
+Surveyed p v n v' =
+    (v' ≡ record v { told = []; loads = v.loads ++ (cursor_word p, n) ∷ []; sequencing = place_found_at p n v.sequencing })
+    × Begins v.seen v.told × Standing v p n
 
 -- each place that may be open has read the cell of the next number
 abbrev pub IsRoomy : ℕ → View → Type 0
 IsRoomy cells v = (p : ℕ) (k : Known) → get_elem? v.sequencing.places p ≡ some k → k.is_open ≡ true → next_number v < k.floor + cells
+
+-- a cursor may be opened at this number: the cells hold all from there on
+abbrev pub MayOpenAt : Shape → View → ℕ → Type 0
+MayOpenAt key v start = (key.first ≤ start) × (start ≤ next_number v) × (next_number v ≤ start + key.cells)
 
 -- the store of x in a cell, for the emitter e
 abbrev pub Filled : ℕ → ℕ → View → View → Type 0
@@ -96,17 +115,27 @@ Accepted v v' = v' ≡ record v { seen = v.seen ++ v.sequencing.entry ∷ []; se
 
 -- the sequencer's exchange of the cursor of the place p, at old
 abbrev pub Dropped : ℕ → ℕ → View → ℕ → View → Type 0
-Dropped p old v n v' = (n ≡ old → (v' ≡ record v { sequencing = with_known p (known_past n (known_of v.sequencing p)) v.sequencing }) × ((known_of v.sequencing p).is_open ≡ true))
-    × (n ≢ old → (v' ≡ record v { sequencing = with_known p (known_at n (known_of v.sequencing p)) v.sequencing }) × Standing v p n)
+Dropped p old v n v' =
+    (n ≡ old → (v' ≡ record v { sequencing = place_moved_past p n v.sequencing }) × ((known_of v.sequencing p).is_open ≡ true))
+    × (n ≢ old → (v' ≡ record v { sequencing = place_found_at p n v.sequencing }) × Standing v p n)
 
 -- the store that opens the place p at the number n
 abbrev pub Opened : ℕ → ℕ → View → View → Type 0
 Opened p n v v' = v' ≡ record v { sequencing = with_known p (known_from n) v.sequencing }
 
+-- the cursor of the place p stands at n
+abbrev pub place_stands_at : ℕ → ℕ → Sequencing → Sequencing
+place_stands_at p n q = with_known p (record (known_of q p) { floor = n }) q
+
 -- a load of the reader's cursor, by a seat that is the sequencer's and the reader's
 abbrev pub Met : ℕ → View → ℕ → View → Type 0
 Met i v n v' =
-    (v' ≡ record v { told = []; loads = v.loads ++ (i, n) ∷ []; reading = found_at n v.reading; sequencing = with_known v.reading.place (record (known_of v.sequencing v.reading.place) { floor = n }) v.sequencing })
+    (v' ≡ record v {
+      told = [];
+      loads = v.loads ++ (i, n) ∷ [];
+      reading = found_at n v.reading;
+      sequencing = place_stands_at v.reading.place n v.sequencing;
+    })
     × Begins v.seen v.told × ((known_of v.sequencing v.reading.place).lost ≡ lost v.reading.start (found_at n v.reading).story)
     × (position (found_at n v.reading) ≡ n) × (position v.reading ≤ n) × (n ≤ next_number v) × (v.shape.drops ≡ false → n ≡ position v.reading)
 

@@ -1,7 +1,7 @@
 //! The steps of a reader.
 ghost use Rattle.std.specs.Prelude.{◌≡◌, ◌+◌, ◌%◌, ◌<◌, true};
 ghost use Rattle.lane_steps.specs.Layout.{cursor_word, cell_index, cell_word};
-ghost use Rattle.lane_steps.specs.Seats.{IsSeatOf, IsSameSeat};
+ghost use Rattle.lane_steps.specs.Seats.{IsSeatOf, IsReaderAt, IsSameSeat};
 ghost use Rattle.lane_steps.specs.Steps.{position, next_number, Noticed, Picked, Took, Looked, HasQuit};
 
 use crate::layout::{cell_at, cursor_at};
@@ -34,7 +34,7 @@ impl<A: Allocator> Words<A> {
 
     /// Moves the reader's cursor from `at` up by one, where it still stands there, and returns what it found.
     pub fn receive(&self, seat: &mut Place, place: usize, at: u64) -> u64
-        requires seat { IsSeatOf self.now seat.old × (seat.old.me.0.reading.active ≡ true) × (seat.old.me.0.reading.place ≡ place) × (place < self.now.shape.places) }
+        requires seat { IsReaderAt self.now seat.old place }
         requires position { (at ≡ position seat.old.me.0.reading) × (at < next_number seat.old.me.0) × (at < 18446744073709551615) }
         requires picked { (seat.old.me.0.reading.picked ≡ true) × (seat.old.me.0.reading.number ≡ at) }
         ensures seat { IsSameSeat seat.old seat.new }
@@ -47,7 +47,7 @@ impl<A: Allocator> Words<A> {
 
     /// Loads the reader's cursor.
     pub fn load_own(&self, seat: &mut Place, place: usize) -> u64
-        requires seat { IsSeatOf self.now seat.old × (seat.old.me.0.reading.active ≡ true) × (seat.old.me.0.reading.place ≡ place) × (place < self.now.shape.places) }
+        requires seat { IsReaderAt self.now seat.old place }
         ensures seat { IsSameSeat seat.old seat.new }
         ensures view { Looked (cursor_word place) seat.old.me.0 result seat.new.me.0 }
     {
@@ -56,7 +56,7 @@ impl<A: Allocator> Words<A> {
 
     /// Closes the reader's cursor.
     pub fn quit(&self, seat: &mut Place, place: usize)
-        requires seat { IsSeatOf self.now seat.old × (seat.old.me.0.reading.active ≡ true) × (seat.old.me.0.reading.place ≡ place) × (place < self.now.shape.places) }
+        requires seat { IsReaderAt self.now seat.old place }
         ensures seat { IsSameSeat seat.old seat.new }
         ensures view { HasQuit seat.old.me.0 seat.new.me.0 }
     {

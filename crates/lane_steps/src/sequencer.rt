@@ -3,8 +3,8 @@ ghost use Rattle.std.specs.Prelude.{◌≡◌, ℕ, ◌+◌, ◌%◌, ◌<◌, �
 ghost use mathlib.Core.Option.{some};
 ghost use lib.ListN.{get_elem?};
 ghost use Rattle.lane_steps.specs.Layout.{cursor_word, cell_index};
-ghost use Rattle.lane_steps.specs.Seats.{IsSeatOf, IsSameSeat};
-ghost use Rattle.lane_steps.specs.Steps.{next_number, known_of, IsRoomy, Surveyed, Filled, Accepted, Dropped, Opened, Met};
+ghost use Rattle.lane_steps.specs.Seats.{IsSeatOf, IsMeetingAt, IsSameSeat};
+ghost use Rattle.lane_steps.specs.Steps.{next_number, known_of, IsRoomy, MayOpenAt, Surveyed, Filled, Accepted, Dropped, Opened, Met};
 
 use crate::layout::{cell_at, cursor_at};
 use crate::plays::{Accept, Fill, Lose, Meet, Open, Survey, Told};
@@ -73,7 +73,7 @@ impl<A: Allocator> Words<A> {
     pub fn open(&self, seat: &mut Place, place: usize, start: u64)
         requires seat { IsSeatOf self.now seat.old × (seat.old.me.0.sequencing.active ≡ true) × (place < self.now.shape.places) }
         requires closed { ((known_of seat.old.me.0.sequencing place).is_open ≡ false) × (seat.old.me.0.sequencing.flying ≡ false) }
-        requires start { (self.now.shape.first ≤ start) × (start ≤ next_number seat.old.me.0) × (next_number seat.old.me.0 ≤ start + self.now.shape.cells) }
+        requires start { MayOpenAt self.now.shape seat.old.me.0 start }
         ensures seat { IsSameSeat seat.old seat.new }
         ensures view { Opened place start seat.old.me.0 seat.new.me.0 }
     {
@@ -84,7 +84,7 @@ impl<A: Allocator> Words<A> {
 
     /// Loads the cursor of the reader that the seat has taken in.
     pub fn meet_cursor(&self, seat: &mut Place, place: usize) -> u64
-        requires seat { IsSeatOf self.now seat.old × (seat.old.me.0.sequencing.active ≡ true) × (seat.old.me.0.reading.active ≡ true) × (seat.old.me.0.reading.place ≡ place) × (place < self.now.shape.places) }
+        requires seat { IsMeetingAt self.now seat.old place }
         ensures seat { IsSameSeat seat.old seat.new }
         ensures view { Met (cursor_word place) seat.old.me.0 result seat.new.me.0 }
     {

@@ -30,6 +30,21 @@ WaitsWith q ticket i w = (slice_get q.waiting i ≡ Some w) × (w.ticket ≡ tic
 abbrev pub HasTicket : SequencerSeen → ℕ → ℕ → Standing → Type 0
 HasTicket q ticket i s = (slice_get q.standing i ≡ Some s) × (s.ticket ≡ ticket) × IsFirst q.standing ticket i
 
+-- the first of these with this ticket is the i-th
+abbrev pub FoundStanding : List Standing → ℕ → ℕ → Type 0
+FoundStanding l ticket i = (i < length l) × ((s : Standing) × (slice_get l i ≡ Some s) × (s.ticket ≡ ticket) × IsFirst l ticket i)
+
+-- the i-th of these has this ticket
+abbrev pub FoundWaiting : List Waiting → ℕ → ℕ → Type 0
+FoundWaiting l ticket i = (i < length l) × ((w : Waiting) × (slice_get l i ≡ Some w) × (w.ticket ≡ ticket))
+
+-- the same of the sequencer's own
+abbrev pub StandsAt : SequencerSeen → ℕ → ℕ → Type 0
+StandsAt q ticket i = (i < length q.standing) × ((s : Standing) × HasTicket q ticket i s)
+
+abbrev pub WaitsAt : SequencerSeen → ℕ → ℕ → Type 0
+WaitsAt q ticket i = (i < length q.waiting) × ((w : Waiting) × WaitsWith q ticket i w)
+
 -- the ticket is out no more
 abbrev pub given_back : ℕ → SequencerSeen → SequencerSeen
 given_back i q = record q { standing = remove q.standing i }
@@ -42,20 +57,24 @@ Loaded q ns t = (length ns ≡ q.view.shape.places) × Round FoundAt q.view ns t
 
 abbrev pub PolledOn : SequencerSeen → ℕ → Emit → SequencerSeen → Type 0
 -- every cursor was closed or above the number, where there is no buffer
-PolledOn q ticket (emit.Done n) t = (i : ℕ) × (s : Standing) × HasTicket q ticket i s × (n ≡ s.number) × IsAccepted t s.emitter n × (t ≡ record (given_back i q) { view = t.view })
+PolledOn q ticket (emit.Done n) t = (i : ℕ) × (s : Standing) × HasTicket q ticket i s
+    × (n ≡ s.number) × IsAccepted t s.emitter n × (t ≡ record (given_back i q) { view = t.view })
     × ((0 < q.capacity) ⊎ ((ns : List ℕ) × Loaded q ns t × Behind n 0 ns false))
 PolledOn q ticket emit.Waiting t = (t ≡ record q { view = t.view })
-    × (((i : ℕ) × (w : Waiting) × WaitsWith q ticket i w) ⊎ ((i : ℕ) × (s : Standing) × (ns : List ℕ) × HasTicket q ticket i s × (q.capacity ≡ 0) × Loaded q ns t × Behind s.number 0 ns true))
+    × (((i : ℕ) × (w : Waiting) × WaitsWith q ticket i w)
+    ⊎ ((i : ℕ) × (s : Standing) × (ns : List ℕ) × HasTicket q ticket i s × (q.capacity ≡ 0) × Loaded q ns t × Behind s.number 0 ns true))
 PolledOn q ticket emit.Gone t = (t ≡ q) × NoneWaits q.waiting ticket × NoneStands q.standing ticket
 
 abbrev pub WithdrawnFrom : SequencerSeen → ℕ → Withdrawn ℕ → SequencerSeen → Type 0
 WithdrawnFrom q ticket withdrawn.Removed t = (i : ℕ) × (w : Waiting) × WaitsWith q ticket i w × (t ≡ withdrawn_from i q)
-WithdrawnFrom q ticket (withdrawn.Left n) t = (i : ℕ) × (s : Standing) × HasTicket q ticket i s × (n ≡ s.number) × IsAccepted t s.emitter n × (t ≡ given_back i q)
+WithdrawnFrom q ticket (withdrawn.Left n) t = (i : ℕ) × (s : Standing) × HasTicket q ticket i s
+    × (n ≡ s.number) × IsAccepted t s.emitter n × (t ≡ given_back i q)
 WithdrawnFrom q ticket withdrawn.Gone t = (t ≡ q) × NoneWaits q.waiting ticket × NoneStands q.standing ticket
 
 -- the ticket is out for an emission of this emitter: it stands, or it waits and none that stands has it
 abbrev pub IsOutFor : SequencerSeen → ℕ → ℕ → Type 0
-IsOutFor q ticket e = ((i : ℕ) × (w : Waiting) × WaitsWith q ticket i w × (w.emitter ≡ e) × NoneStands q.standing ticket) ⊎ ((i : ℕ) × (s : Standing) × HasTicket q ticket i s × (s.emitter ≡ e))
+IsOutFor q ticket e = ((i : ℕ) × (w : Waiting) × WaitsWith q ticket i w × (w.emitter ≡ e) × NoneStands q.standing ticket)
+    ⊎ ((i : ℕ) × (s : Standing) × HasTicket q ticket i s × (s.emitter ≡ e))
 
 abbrev pub IsNotOut : SequencerSeen → ℕ → Type 0
 IsNotOut q ticket = NoneWaits q.waiting ticket × NoneStands q.standing ticket

@@ -43,5 +43,6 @@ WentTo n r t = (at r ≤ n) × IsKept n r × (t.story ≡ story_to n r)
 abbrev pub TookNext : ReaderSeen → Taken ℕ → ReaderSeen → Type 0
 TookNext r (Value w) t = (n : ℕ) × (at r ≤ n) × IsKept n r × (t.story ≡ story_to n r ++ true ∷ []) × HasWord r.shape.first t.seen n w
 -- the tail that was loaded last is the position
-TookNext r Nothing t = (n : ℕ) × WentTo n r t × (n ≡ r.shape.first + length t.seen) × (t.loads ≡ r.loads ++ (cursor_word r.place, n) ∷ (tail_word, n) ∷ [])
+TookNext r Nothing t = (n : ℕ) × WentTo n r t × (n ≡ r.shape.first + length t.seen)
+    × (t.loads ≡ r.loads ++ (cursor_word r.place, n) ∷ (tail_word, n) ∷ [])
 TookNext r Overtaken t = (n : ℕ) × (at r < n) × (r.shape.drops ≡ true) × (t.story ≡ story_to n r)

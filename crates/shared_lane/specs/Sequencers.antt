@@ -55,7 +55,8 @@ IsSameTickets q t = (t.waiting ≡ q.waiting) × (t.standing ≡ q.standing) × 
 
 -- it is the same sequencer, of the same flow
 abbrev pub IsSameSequencer : SequencerSeen → SequencerSeen → Type 0
-IsSameSequencer q t = (t.table ≡ q.table) × (t.view.shape ≡ q.view.shape) × (t.policy ≡ q.policy) × (t.capacity ≡ q.capacity) × (t.replay ≡ q.replay) × (t.emits ≡ q.emits)
+IsSameSequencer q t = (t.table ≡ q.table) × (t.view.shape ≡ q.view.shape)
+    × (t.policy ≡ q.policy) × (t.capacity ≡ q.capacity) × (t.replay ≡ q.replay) × (t.emits ≡ q.emits)
 
 -- nothing changed but what it has loaded, and what it knows of the places by that
 abbrev pub OnlyLoaded : SequencerSeen → SequencerSeen → Type 0
@@ -63,7 +64,8 @@ OnlyLoaded q t = (t ≡ record q { view = t.view }) × (t.view.shape ≡ q.view.
 
 -- one round over the cursors, which found room or not
 abbrev pub RoundedBy : Policy → ℕ → SequencerSeen → Bool → View → Type 0
-RoundedBy DropOldest lag q room v = (room ≡ true) × ((ns : List ℕ) × (length ns ≡ q.view.shape.places) × Round (Cleared (next q) q.view.shape.cells) q.view ns v)
+RoundedBy DropOldest lag q room v = (room ≡ true)
+    × ((ns : List ℕ) × (length ns ≡ q.view.shape.places) × Round (Cleared (next q) q.view.shape.cells) q.view ns v)
 RoundedBy Suspend lag q room v = (ns : List ℕ) × (length ns ≡ q.view.shape.places) × Round FoundAt q.view ns v × Behind (next q) lag ns (not room)
 RoundedBy DropLatest lag q room v = (ns : List ℕ) × (length ns ≡ q.view.shape.places) × Round FoundAt q.view ns v × Behind (next q) lag ns (not room)
 
@@ -85,7 +87,8 @@ pub record Settled (k : ℕ) (q t : SequencerSeen) : Type 0 where
 
 -- since q, a round over the cursors found one that stood as far behind as there are cells
 abbrev pub IsStuck : SequencerSeen → SequencerSeen → Type 0
-IsStuck q t = (v : View) × (ns : List ℕ) × Begins v.loads q.view.loads × (length ns ≡ t.view.shape.places) × Round FoundAt v ns t.view × Behind (next t) t.view.shape.cells ns true
+IsStuck q t = (v : View) × (ns : List ℕ) × Begins v.loads q.view.loads
+    × (length ns ≡ t.view.shape.places) × Round FoundAt v ns t.view × Behind (next t) t.view.shape.cells ns true
 
 -- the call first accepted waiting emissions, as many as it could, and `then` says what it did after that
 abbrev pub AfterScan : SequencerSeen → (SequencerSeen → Type 0) → Type 0
@@ -93,7 +96,8 @@ AfterScan q then = (m : SequencerSeen) × (k : ℕ) × IsSameSequencer q m × Se
 
 -- the emission was accepted, after a round over the cursors that found room
 abbrev pub AcceptedOn : SequencerSeen → Entry → ℕ → SequencerSeen → Type 0
-AcceptedOn q e n t = (q.waiting ≡ []) × (n ≡ next q) × (seen t ≡ seen q ++ e ∷ []) × (t.cache ≡ keep_last q.replay (q.cache ++ e.1 ∷ [])) × IsSameTickets q t × (t.subscription ≡ q.subscription)
+AcceptedOn q e n t = (q.waiting ≡ []) × (n ≡ next q) × (seen t ≡ seen q ++ e ∷ [])
+    × (t.cache ≡ keep_last q.replay (q.cache ++ e.1 ∷ [])) × IsSameTickets q t × (t.subscription ≡ q.subscription)
     × ((v : View) × RoundedBy q.policy q.capacity q true v × (t.view.loads ≡ v.loads) × (t.view.sequencing.places ≡ v.sequencing.places))
 
 -- the emission is the last of those accepted, and in the cache
@@ -107,11 +111,19 @@ accepted_on e q = record q {
 abbrev pub stood_on : ℕ → ℕ → ℕ → SequencerSeen → SequencerSeen
 stood_on ticket emitter number q = record q { standing = q.standing ++ record { ticket = ticket; emitter = emitter; number = number } ∷ [] }
 
+-- the emission was accepted, and stands with the next ticket
+abbrev pub accepted_with_ticket : Entry → SequencerSeen → SequencerSeen
+accepted_with_ticket e q = stood_on q.ticket e.0 (next q) (record (accepted_on e q) { ticket = q.ticket + 1 })
+
+-- there was no room: an emission waits, or a round over the cursors found none
+abbrev pub FoundNoRoom : SequencerSeen → SequencerSeen → Type 0
+FoundNoRoom q t = ((q.waiting ≢ []) × (t ≡ q)) ⊎ (OnlyLoaded q t × Rounded q.capacity q false t)
+
 -- an attempt to emit: what is answered, by cursors that were loaded in the call
 abbrev pub TriedOn : SequencerSeen → Entry → Tried ℕ → SequencerSeen → Type 0
 TriedOn q e (Accepted n) t = AcceptedOn q e n t
 TriedOn q e Dropped t = (q.policy ≡ DropLatest) × OnlyLoaded q t × Rounded q.capacity q false t
-TriedOn q e Full t = (q.policy ≡ Suspend) × (((q.waiting ≢ []) × (t ≡ q)) ⊎ (OnlyLoaded q t × Rounded q.capacity q false t))
+TriedOn q e Full t = (q.policy ≡ Suspend) × FoundNoRoom q t
 
 -- a number is left for one more emission, and for one more ticket
 abbrev pub HasNumber : SequencerSeen → Type 0
@@ -133,7 +145,8 @@ waited e q = record q { waiting = q.waiting ++ record { ticket = q.ticket; emitt
 
 -- the emission was accepted, and its ticket stands at its number
 abbrev pub HasStood : SequencerSeen → Entry → SequencerSeen → Type 0
-HasStood q e t = (t.ticket ≡ q.ticket + 1) × (t.waiting ≡ q.waiting) × (t.standing ≡ q.standing ++ record { ticket = q.ticket; emitter = e.0; number = next q } ∷ [])
+HasStood q e t = (t.ticket ≡ q.ticket + 1) × (t.waiting ≡ q.waiting)
+    × (t.standing ≡ q.standing ++ record { ticket = q.ticket; emitter = e.0; number = next q } ∷ [])
     × (seen t ≡ seen q ++ e ∷ []) × (t.cache ≡ keep_last q.replay (q.cache ++ e.1 ∷ [])) × (t.subscription ≡ q.subscription)
 
 -- some cursor was open, as the call loaded them where there is no buffer
@@ -151,10 +164,11 @@ BegunOn q e (begun.Waiting ticket) t = (q.policy ≡ Suspend) × (ticket.0 ≡ q
 
 abbrev pub RefusedStart : SequencerSeen → Refusal → SequencerSeen → Type 0
 RefusedStart q Spent t = ((next q + length q.waiting ≡ 4611686018427387904) ⊎ (q.ticket ≡ 4611686018427387904)) × (t ≡ q)
-RefusedStart q EmitsFull t = HasNumber q × HasTicketNumber q × (length q.waiting + length q.standing ≡ q.emits) × (((q.waiting ≢ []) × (t ≡ q)) ⊎ (OnlyLoaded q t × Rounded q.capacity q false t))
+RefusedStart q EmitsFull t = HasNumber q × HasTicketNumber q × (length q.waiting + length q.standing ≡ q.emits) × FoundNoRoom q t
 RefusedStart _ _ _ = ⊥
 
 -- nothing was accepted, and no place was opened
 abbrev pub IsFresh : Config → SequencerSeen → Type 0
-IsFresh config q = (seen q ≡ []) × (q.cache ≡ []) × (q.view.shape ≡ shape_of config) × (q.policy ≡ config.policy) × (q.capacity ≡ config.replay + config.extra) × (q.replay ≡ config.replay) × (q.emits ≡ config.emits)
+IsFresh config q = (seen q ≡ []) × (q.cache ≡ []) × (q.view.shape ≡ shape_of config) × (q.policy ≡ config.policy)
+    × (q.capacity ≡ config.replay + config.extra) × (q.replay ≡ config.replay) × (q.emits ≡ config.emits)
     × (q.waiting ≡ []) × (q.standing ≡ []) × (q.ticket ≡ config.first) × (q.subscription ≡ config.first)

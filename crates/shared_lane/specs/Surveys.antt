@@ -1,10 +1,12 @@
 -- One round over the cursors.
 use Rattle.std.specs.Prelude.{◌≡◌, ◌≢◌, ◌⊎◌, ℕ, suc, ◌+◌, ◌<◌, ◌≤◌, List, [], ◌∷◌, ◌++◌, length, cond, eqb, slice_index, Bool, true, false}
+use Rattle.lane_steps.specs.declared.view.Shape.{Shape}
 use Rattle.lane_steps.specs.declared.view.Known.{Known}
 use Rattle.lane_steps.specs.declared.view.View.{View}
 use Rattle.lane_steps.specs.Layout.{cursor_word}
 use Rattle.lane_steps.specs.Law.{closed}
 use Rattle.lane_steps.specs.Steps.{next_number, known_of, known_at, known_past}
+use Rattle.shared_lane.specs.declared.survey.Survey.{Survey}
 
 -- the loads of the cursors from the place p on, which found these
 abbrev pub cursor_loads : ℕ → List ℕ → List (ℕ × ℕ)
@@ -14,6 +16,18 @@ cursor_loads p (n ∷ ns) = (cursor_word p, n) ∷ cursor_loads (suc p) ns
 abbrev pub open_count : List ℕ → ℕ
 open_count [] = 0
 open_count (n ∷ ns) = cond (eqb n closed) (open_count ns) (suc (open_count ns))
+
+-- the view is of a lane of this shape, and knows of each place
+abbrev pub KnowsPlaces : Shape → View → Type 0
+KnowsPlaces key v = (v.shape ≡ key) × (length v.sequencing.places ≡ key.places)
+
+-- it does, and the lane may drop values
+abbrev pub MayDrop : Shape → View → Type 0
+MayDrop key v = (v.shape ≡ key) × (length v.sequencing.places ≡ key.places) × (key.drops ≡ true)
+
+-- it does, and the lane may drop values of this place
+abbrev pub MayDropAt : Shape → View → ℕ → Type 0
+MayDropAt key v place = (v.shape ≡ key) × (length v.sequencing.places ≡ key.places) × (place < key.places) × (key.drops ≡ true)
 
 -- the sequencer goes on with what it knows of the places alone
 pub record OnlyPlaces (v v' : View) : Type 0 where
@@ -58,10 +72,16 @@ pub record Behind (tail lag : ℕ) (ns : List ℕ) (flag : Bool) : Type 0 where
   pub some : flag ≡ true → (p : ℕ) × (p < length ns) × (slice_index ns p ≢ closed) × (slice_index ns p + lag ≤ tail)
   pub none : flag ≡ false → (p : ℕ) → p < length ns → slice_index ns p ≢ closed → tail < slice_index ns p + lag
 
+-- every cursor was loaded, and the survey says how many were open, and whether one of them stood `lag` or more behind the tail
+abbrev pub IsSurvey : ℕ → ℕ → ℕ → View → Survey → View → Type 0
+IsSurvey places tail lag v survey v' = (ns : List ℕ) × (length ns ≡ places) × Round FoundAt v ns v'
+    × Behind tail lag ns survey.behind × (survey.open ≡ open_count ns)
+
 -- every cursor was loaded, and found open
 abbrev pub FoundAllOpen : ℕ → View → View → Type 0
 FoundAllOpen places v v' = (ns : List ℕ) × (length ns ≡ places) × Round FoundAt v ns v' × ((p : ℕ) → p < length ns → slice_index ns p ≢ closed)
 
 -- the cursor of the place p was the first that was found closed
 abbrev pub FoundClosed : ℕ → View → View → Type 0
-FoundClosed p v v' = (ns : List ℕ) × (length ns ≡ p) × Round FoundAt v (ns ++ closed ∷ []) v' × ((x : ℕ) → x < length ns → slice_index ns x ≢ closed) × ((known_of v'.sequencing p).is_open ≡ false)
+FoundClosed p v v' = (ns : List ℕ) × (length ns ≡ p) × Round FoundAt v (ns ++ closed ∷ []) v'
+    × ((x : ℕ) → x < length ns → slice_index ns x ≢ closed) × ((known_of v'.sequencing p).is_open ≡ false)

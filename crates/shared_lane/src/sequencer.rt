@@ -51,7 +51,13 @@ impl<A: Allocator> Model for Sequencer<A> {
 
     ghost Value = { SequencerSeen };
 
-    ghost view = { λ q. sequencer_of q.seat q.policy q.capacity q.cache.capacity q.emits q.cache.items q.waiting.items q.standing.items q.ticket q.subscription };
+    ghost view = { λ q.
+        sequencer_of q.seat q.policy q.capacity q.cache.capacity q.emits q.cache.items
+        q.waiting.items q.standing.items q.ticket q.subscription };
 
-    ghost invariant = { λ q. IsSequencing (sequencer_of q.seat q.policy q.capacity q.cache.capacity q.emits q.cache.items q.waiting.items q.standing.items q.ticket q.subscription) q.seat q.tail q.cell (vec_capacity q.waiting) (vec_capacity q.standing) };
+    ghost invariant = { λ q.
+        IsSequencing
+        (sequencer_of q.seat q.policy q.capacity q.cache.capacity q.emits q.cache.items
+        q.waiting.items q.standing.items q.ticket q.subscription)
+        q.seat q.tail q.cell (vec_capacity q.waiting) (vec_capacity q.standing) };
 }

@@ -3,7 +3,7 @@ ghost use Rattle.std.specs.Prelude.{◌≡◌, ◌≢◌, ◌⊎◌, ℕ, ◌+�
 ghost use Rattle.lane_steps.specs.Law.{closed};
 ghost use Rattle.lane_steps.specs.Seats.{IsSeatOf, IsSameSeat};
 ghost use Rattle.lane_steps.specs.Steps.{next_number, IsRoomy};
-ghost use Rattle.shared_lane.specs.Surveys.{Round, FoundAt, FoundAllOpen, FoundClosed, Cleared, Visit, Behind, open_count};
+ghost use Rattle.shared_lane.specs.Surveys.{KnowsPlaces, MayDrop, MayDropAt, IsSurvey, Round, FoundAllOpen, FoundClosed, Cleared, Visit};
 
 use lane_steps::{CLOSED, Place, Words};
 use std::alloc::Allocator;
@@ -21,7 +21,8 @@ impl Survey {
         requires { self.open < 1024 }
         ensures open { result.open ≡ cond (eqb at closed) self.open (self.open + 1) }
         ensures behind { at ≢ closed → at + lag ≤ tail → result.behind ≡ true }
-        ensures kept { (self.behind ≡ true → result.behind ≡ true) × (result.behind ≡ true → (self.behind ≡ true) ⊎ ((at ≢ closed) × (at + lag ≤ tail))) }
+        ensures kept { (self.behind ≡ true → result.behind ≡ true)
+            × (result.behind ≡ true → (self.behind ≡ true) ⊎ ((at ≢ closed) × (at + lag ≤ tail))) }
     {
         if at == CLOSED {
             return self;
@@ -41,9 +42,9 @@ pub(crate) fn load_cursors<A: Allocator>(
     lag: u64,
 ) -> Survey
     requires seat { IsSeatOf words.now seat.old × (seat.old.me.0.sequencing.active ≡ true) }
-    requires sized { (seat.old.me.0.shape ≡ words.now.shape) × (length seat.old.me.0.sequencing.places ≡ words.now.shape.places) }
+    requires sized { KnowsPlaces words.now.shape seat.old.me.0 }
     ensures seat { IsSameSeat seat.old seat.new }
-    ensures found { (ns : List ℕ) × (length ns ≡ words.now.shape.places) × Round FoundAt seat.old.me.0 ns seat.new.me.0 × Behind tail lag ns result.behind × (result.open ≡ open_count ns) }
+    ensures found { IsSurvey words.now.shape.places tail lag seat.old.me.0 result seat.new.me.0 }
 {
     let mut found = Survey {
         open: 0,
@@ -59,7 +60,7 @@ pub(crate) fn load_cursors<A: Allocator>(
 /// Loads the cursors from the first place on, until one is closed, and returns its place.
 pub(crate) fn find_closed<A: Allocator>(words: &Words<A>, seat: &mut Place) -> Option<usize>
     requires seat { IsSeatOf words.now seat.old × (seat.old.me.0.sequencing.active ≡ true) }
-    requires sized { (seat.old.me.0.shape ≡ words.now.shape) × (length seat.old.me.0.sequencing.places ≡ words.now.shape.places) }
+    requires sized { KnowsPlaces words.now.shape seat.old.me.0 }
     ensures seat { IsSameSeat seat.old seat.new }
     ensures none { IfNone result (FoundAllOpen words.now.shape.places seat.old.me.0 seat.new.me.0) }
     ensures some { IfSome result (λ p. (p < words.now.shape.places) × FoundClosed p seat.old.me.0 seat.new.me.0) }
@@ -75,7 +76,7 @@ pub(crate) fn find_closed<A: Allocator>(words: &Words<A>, seat: &mut Place) -> O
 // Loads a cursor, and moves it by one if it stands too far behind the tail.
 fn clear_one<A: Allocator>(words: &Words<A>, seat: &mut Place, place: usize, tail: u64)
     requires seat { IsSeatOf words.now seat.old × (seat.old.me.0.sequencing.active ≡ true) × (tail ≡ next_number seat.old.me.0) }
-    requires sized { (seat.old.me.0.shape ≡ words.now.shape) × (length seat.old.me.0.sequencing.places ≡ words.now.shape.places) × (place < words.now.shape.places) × (words.now.shape.drops ≡ true) }
+    requires sized { MayDropAt words.now.shape seat.old.me.0 place }
     ensures seat { IsSameSeat seat.old seat.new }
     ensures visited { (n : ℕ) × Visit (Cleared tail words.now.shape.cells) seat.old.me.0 place n seat.new.me.0 }
 {
@@ -88,7 +89,7 @@ fn clear_one<A: Allocator>(words: &Words<A>, seat: &mut Place, place: usize, tai
 /// Loads every cursor, and moves those that stand too far behind the tail.
 pub(crate) fn make_room<A: Allocator>(words: &Words<A>, seat: &mut Place, tail: u64)
     requires seat { IsSeatOf words.now seat.old × (seat.old.me.0.sequencing.active ≡ true) × (tail ≡ next_number seat.old.me.0) }
-    requires sized { (seat.old.me.0.shape ≡ words.now.shape) × (length seat.old.me.0.sequencing.places ≡ words.now.shape.places) × (words.now.shape.drops ≡ true) }
+    requires sized { MayDrop words.now.shape seat.old.me.0 }
     ensures seat { IsSameSeat seat.old seat.new }
     ensures found { (ns : List ℕ) × (length ns ≡ words.now.shape.places) × Round (Cleared tail words.now.shape.cells) seat.old.me.0 ns seat.new.me.0 }
 {

@@ -1,8 +1,6 @@
 //! Emissions whose tickets are out: those that wait, and those that were accepted.
-ghost use Rattle.std.specs.Prelude.{◌≡◌, ◌≢◌, ◌<◌, ℕ, length, slice_get, Some, MatchOption};
-ghost use Rattle.shared_lane.specs.Polls.{IsFirst, NoneStands, NoneWaits};
-ghost use Rattle.shared_lane.specs.declared.tickets.Waiting.{Waiting};
-ghost use Rattle.shared_lane.specs.declared.tickets.Standing.{Standing};
+ghost use Rattle.std.specs.Prelude.{MatchOption};
+ghost use Rattle.shared_lane.specs.Polls.{NoneStands, NoneWaits, FoundStanding, FoundWaiting};
 
 /// An emission that waits for room.
 #[derive(Clone, Copy, Drop)]
@@ -28,7 +26,7 @@ pub struct Standing {
 
 /// The index of the first with a ticket.
 pub(crate) fn find_standing(list: &[Standing], ticket: u64) -> Option<usize>
-    ensures { MatchOption result (NoneStands list.now ticket) (λ i. (i < length list.now) × ((s : Standing) × (slice_get list.now i ≡ Some s) × (s.ticket ≡ ticket) × IsFirst list.now ticket i)) }
+    ensures { MatchOption result (NoneStands list.now ticket) (FoundStanding list.now ticket) }
 {
     let mut i = 0;
     while i < list.len() {
@@ -42,7 +40,7 @@ pub(crate) fn find_standing(list: &[Standing], ticket: u64) -> Option<usize>
 
 /// The index of the first with a ticket.
 pub(crate) fn find_waiting(list: &[Waiting], ticket: u64) -> Option<usize>
-    ensures { MatchOption result (NoneWaits list.now ticket) (λ i. (i < length list.now) × ((w : Waiting) × (slice_get list.now i ≡ Some w) × (w.ticket ≡ ticket))) }
+    ensures { MatchOption result (NoneWaits list.now ticket) (FoundWaiting list.now ticket) }
 {
     let mut i = 0;
     while i < list.len() {

@@ -3,7 +3,9 @@ ghost use Rattle.std.specs.Prelude.{◌≡◌, ◌≢◌, ◌+◌, ◌<◌, ◌�
 ghost use Rattle.flow_terms.specs.declared.policy.Policy.TheVariants.{Suspend};
 ghost use Rattle.lane_steps.specs.Steps.{IsRoomy};
 ghost use Rattle.shared_lane.specs.Caches.{emitter_at};
-ghost use Rattle.shared_lane.specs.Sequencers.{IsSequencerOf, IsSameSequencer, OnlyLoaded, Rounded, HasNumber, HasTicketNumber, HasFreeTicket, next, seen, accepted_on, stood_on, waited, Settled, IsStuck};
+ghost use Rattle.shared_lane.specs.Sequencers.{IsSequencerOf, IsSameSequencer, OnlyLoaded, Rounded, HasNumber};
+ghost use Rattle.shared_lane.specs.Sequencers.{HasTicketNumber, HasFreeTicket, next, seen, accepted_on};
+ghost use Rattle.shared_lane.specs.Sequencers.{stood_on, accepted_with_ticket, waited, Settled, IsStuck};
 
 use super::Sequencer;
 use crate::lane::Lane;
@@ -128,7 +130,7 @@ impl<A: Allocator> Sequencer<A> {
         requires number { HasNumber self.old }
         requires ticket { HasTicketNumber self.old }
         ensures ticket { result ≡ self.old.ticket }
-        ensures stands { self.new ≡ stood_on self.old.ticket emitter (next self.old) (record (accepted_on (emitter, word) self.old) { ticket = self.old.ticket + 1 }) }
+        ensures stands { self.new ≡ accepted_with_ticket (emitter, word) self.old }
     {
         let ticket = self.take_ticket();
         let number = self.accept(lane, emitter, word);

@@ -1,7 +1,8 @@
 //! Emissions begin.
 ghost use Rattle.std.specs.Prelude.{◌≡◌, ◌≢◌, ◌+◌, ◌<◌, [], length, IfOk, IfErr};
 ghost use Rattle.flow_terms.specs.declared.policy.Policy.TheVariants.{Suspend};
-ghost use Rattle.shared_lane.specs.Sequencers.{IsSequencerOf, IsSameSequencer, HasNumber, HasTicketNumber, TriedOn, RefusedTry, BegunOn, RefusedStart, AfterScan};
+ghost use Rattle.shared_lane.specs.Sequencers.{IsSequencerOf, IsSameSequencer, HasNumber, HasTicketNumber, TriedOn};
+ghost use Rattle.shared_lane.specs.Sequencers.{RefusedTry, BegunOn, RefusedStart, AfterScan};
 
 use super::Sequencer;
 use crate::lane::Lane;

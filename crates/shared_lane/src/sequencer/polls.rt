@@ -2,8 +2,8 @@
 ghost use Rattle.std.specs.Prelude.{◌≡◌, ◌<◌, ◌+◌, ℕ, List, length, slice_get, Some, MatchOption, IfSome, IfNone};
 ghost use Rattle.shared_lane.specs.declared.tickets.Standing.{Standing};
 ghost use Rattle.shared_lane.specs.Sequencers.{IsSequencerOf, IsSameSequencer, OnlyLoaded, seen};
-ghost use Rattle.shared_lane.specs.Polls.{given_back, withdrawn_from, Loaded, PolledOn, WithdrawnFrom, HasTicket, NoneStands, NoneWaits, WaitsWith, IsNotOut, IsOutFor};
-ghost use Rattle.shared_lane.specs.declared.tickets.Waiting.{Waiting};
+ghost use Rattle.shared_lane.specs.Polls.{given_back, withdrawn_from, Loaded, PolledOn, WithdrawnFrom, NoneStands};
+ghost use Rattle.shared_lane.specs.Polls.{NoneWaits, StandsAt, WaitsAt, IsNotOut, IsOutFor};
 ghost use Rattle.shared_lane.specs.Places.{IsAccepted};
 ghost use Rattle.shared_lane.specs.Surveys.{Behind};
 
@@ -17,14 +17,14 @@ use std::alloc::Allocator;
 impl<A: Allocator> Sequencer<A> {
     // Where the accepted emission with a ticket stands.
     fn standing_with(&self, ticket: u64) -> Option<usize>
-        ensures { MatchOption result (NoneStands self.now.standing ticket) (λ i. (i < length self.now.standing) × ((s : Standing) × HasTicket self.now ticket i s)) }
+        ensures { MatchOption result (NoneStands self.now.standing ticket) (StandsAt self.now ticket) }
     {
         find_standing(self.standing.as_slice(), ticket)
     }
 
     // Where the emission with a ticket waits.
     fn waiting_with(&self, ticket: u64) -> Option<usize>
-        ensures { MatchOption result (NoneWaits self.now.waiting ticket) (λ i. (i < length self.now.waiting) × ((w : Waiting) × WaitsWith self.now ticket i w)) }
+        ensures { MatchOption result (NoneWaits self.now.waiting ticket) (WaitsAt self.now ticket) }
     {
         find_waiting(self.waiting.as_slice(), ticket)
     }
