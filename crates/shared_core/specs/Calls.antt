@@ -1,5 +1,6 @@
 -- The calls of a shared flow: what each answers and what state it leaves. A refused call leaves the state as it was.
-use Rattle.std.specs.Prelude.{ℕ, ◌+◌, Bool, true, false, not, ◌||◌, ◌==◌, nat_lt, if◌then◌else◌, List, [], ◌∷◌, length, Option, None, Some, Result, Ok, Err, slice_get}
+use Rattle.std.specs.Prelude.{ℕ, ◌+◌, Bool, true, false, not, ◌||◌, ◌==◌, nat_lt, if◌then◌else◌, List}
+use Rattle.std.specs.Prelude.{[], ◌∷◌, length, Option, None, Some, Result, Ok, Err, slice_get}
 use Rattle.std.specs.List.{list_all}
 use Rattle.flow_terms.specs.declared.refusal.Refusal.{Refusal}
 use Rattle.flow_terms.specs.declared.refusal.Refusal.TheVariants.{EmitsFull, Spent, SubscribersFull}
@@ -15,7 +16,10 @@ use Rattle.flow_terms.specs.declared.answers.Withdrawn.{Withdrawn}
 use Rattle.flow_terms.specs.declared.answers.Withdrawn.TheVariants as withdrawn
 use Rattle.flow_terms.specs.declared.answers.Next.{Next}
 use Rattle.flow_terms.specs.declared.answers.Next.TheVariants as next
-use Rattle.shared_core.specs.Flow.{Overflow, suspend, drop_oldest, drop_latest, number_limit, capacity, State, Standing, waits, stands, gone, Subscription, contains, pending, pending_values, has_room, live_count, waiting_count, out_count, number, index, accept, receive, lose_oldest, open_next, close_at, give, put, settle}
+use Rattle.shared_core.specs.Flow.{Overflow, suspend, drop_oldest, drop_latest, number_limit, capacity, State}
+use Rattle.shared_core.specs.Flow.{Standing, waits, stands, gone, Subscription, contains, pending, pending_values}
+use Rattle.shared_core.specs.Flow.{has_room, live_count, waiting_count, out_count, number, index}
+use Rattle.shared_core.specs.Flow.{accept, receive, lose_oldest, open_next, close_at, give, put, settle}
 
 -- ---- emissions
 

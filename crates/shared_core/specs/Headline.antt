@@ -1,12 +1,14 @@
 -- What each subscription receives in every run of calls on a new flow, told by the calls, the replies to them, and what
 -- contracts see.
-use Rattle.std.specs.Prelude.{◌≡◌, ◌≢◌, ℕ, ◌+◌, ◌-◌, ◌<◌, ◌≤◌, ◌⊎◌, Bool, true, false, List, [], ◌∷◌, ◌++◌, length, take, drop, Option, None, Some, Ok, IsSome, slice_get}
+use Rattle.std.specs.Prelude.{◌≡◌, ◌≢◌, ℕ, ◌+◌, ◌-◌, ◌<◌, ◌≤◌, ◌⊎◌, Bool, true, false, List, [], ◌∷◌}
+use Rattle.std.specs.Prelude.{◌++◌, length, take, drop, Option, None, Some, Ok, IsSome, slice_get}
 use Rattle.std.specs.List.{filter_map, list_any, range_with_len, Contains, All}
 use Rattle.flow_terms.specs.declared.answers.Tried.TheVariants as tried
 use Rattle.flow_terms.specs.declared.answers.Begun.TheVariants as begun
 use Rattle.flow_terms.specs.declared.answers.Next.TheVariants.{Closed}
 use Rattle.shared_core.specs.Flow.{Parameters, suspend, drop_oldest, capacity, places, empty, values, values_at}
-use Rattle.shared_core.specs.Calls.{Call, trying, starting, subscribing, receiving, cancelling, resetting, Reply, to_try, to_start, to_subscribe, to_receive, to_cancel, to_reset, replies, after}
+use Rattle.shared_core.specs.Calls.{Call, trying, starting, subscribing, receiving, cancelling, resetting, Reply, to_try}
+use Rattle.shared_core.specs.Calls.{to_start, to_subscribe, to_receive, to_cancel, to_reset, replies, after}
 use Rattle.shared_core.specs.Shown.{Seen, seen_of}
 use Rattle.shared_core.specs.Story.{Interleaves, BeginsWith, given_to, emitted, if_waiting, by_emitter}
 

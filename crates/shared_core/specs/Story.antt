@@ -1,7 +1,9 @@
 -- What a subscription received and lost, over any list of calls.
-use Rattle.std.specs.Prelude.{◌≡◌, ℕ, ◌+◌, ◌-◌, ◌≤◌, Bool, false, not, ◌||◌, ◌==◌, if◌then◌else◌, List, [], ◌∷◌, ◌++◌, length, drop, Option, Some, None, Ok, slice_get, IsTrue}
+use Rattle.std.specs.Prelude.{◌≡◌, ℕ, ◌+◌, ◌-◌, ◌≤◌, Bool, false, not, ◌||◌, ◌==◌, if◌then◌else◌, List}
+use Rattle.std.specs.Prelude.{[], ◌∷◌, ◌++◌, length, drop, Option, Some, None, Ok, slice_get, IsTrue}
 use Rattle.std.specs.List.{AllByRecursion, filter, filter_map, range_with_len}
-use Rattle.shared_core.specs.Flow.{State, Standing, waits, stands, gone, Subscription, Parameters, contains, empty, pending, pending_values, values, values_at, cache, open_next}
+use Rattle.shared_core.specs.Flow.{State, Standing, waits, stands, gone, Subscription, Parameters, contains}
+use Rattle.shared_core.specs.Flow.{empty, pending, pending_values, values, values_at, cache, open_next}
 use Rattle.flow_terms.specs.declared.answers.Next.TheVariants.{Value}
 use Rattle.flow_terms.specs.declared.answers.Withdrawn.TheVariants.{Removed}
 use Rattle.flow_terms.specs.declared.answers.Tried.TheVariants as tried
@@ -38,7 +40,8 @@ pub record HasStory {T : Type 0} (M : State T) (s : Subscription) : Type 0 where
   pub told : IsTold (length M.accepted) s
   pub in_order : IsTrue s.live → s.received ++ pending (length M.accepted) s ≡ without s.lost (story (length M.accepted) s)
   pub as_values : IsTrue s.live
-      → values_at (values M.accepted) s.received ++ pending_values M.accepted s ≡ values_at (values M.accepted) (without s.lost (story (length M.accepted) s))
+      → values_at (values M.accepted) s.received ++ pending_values M.accepted s
+      ≡ values_at (values M.accepted) (without s.lost (story (length M.accepted) s))
 
 -- whatever calls are made, each subscription has its story
 abbrev pub StoryLaw : (T : Type 0) → Type 0

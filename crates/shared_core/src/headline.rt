@@ -1,6 +1,9 @@
 //! What each subscription receives.
 
-ghost use Rattle.shared_core.specs.Headline.{OfEveryRun, EachReceivesCacheThenLater, EachEmitterInItsOwnOrder, NumbersCountWhatWasAccepted, EachLiveWasOpened, LiveUntilCancelled, NothingAfterCancellation, NothingWithoutOpening, AtMostItsPlacesPending, NoneWaitsBesideRoom, CachesTheLatest};
+ghost use Rattle.shared_core.specs.Headline.{OfEveryRun, EachReceivesCacheThenLater, EachEmitterInItsOwnOrder};
+ghost use Rattle.shared_core.specs.Headline.{NumbersCountWhatWasAccepted, EachLiveWasOpened, LiveUntilCancelled};
+ghost use Rattle.shared_core.specs.Headline.{NothingAfterCancellation, NothingWithoutOpening};
+ghost use Rattle.shared_core.specs.Headline.{AtMostItsPlacesPending, NoneWaitsBesideRoom, CachesTheLatest};
 
 /// For every list of calls on a new flow, what a subscription received, then what is pending for it, is the replay cache at
 /// its start followed by all later accepted emissions, in order and once, each emitter's in its own order, less just the
