@@ -9,7 +9,7 @@ use Rattle.flow_terms.specs.declared.ids.SubId.{SubId}
 use Rattle.flow_terms.specs.declared.answers.Next.{Next}
 use Rattle.flow_terms.specs.declared.answers.Next.TheVariants as next
 use Rattle.shared_core.specs.Ringed.{Ringed, empty_ring}
-use Rattle.shared_core.specs.declared.tickets.Held.{Held}
+use Rattle.shared_core.specs.declared.tickets.OutTicket.{OutTicket}
 use Rattle.shared_core.specs.declared.tickets.Accepted.{Accepted}
 use Rattle.shared_core.specs.declared.tickets.Waiting.{Waiting}
 use Rattle.shared_core.specs.Kept.{shown_accepted, shown_waiting}
@@ -112,7 +112,7 @@ module _ {T : Type 0} (old : Seen T) where
       )
 
 -- a flow that was just made
-pub shows_empty : {T : Type 0} (p : Parameters) (ring : Ringed T) (us : List (Held Accepted)) (ws : List (Held (Waiting T))) → ring ≡ empty_ring p → us ≡ [] → ws ≡ []
+pub shows_empty : {T : Type 0} (p : Parameters) (ring : Ringed T) (us : List (OutTicket Accepted)) (ws : List (OutTicket (Waiting T))) → ring ≡ empty_ring p → us ≡ [] → ws ≡ []
     → Shows (record { parameters = p; next_number = ring.next_number; cache = ring.cache; live = ring.live; subscriptions = 0; tickets = 0; out = map shown_accepted us ++ map shown_waiting ws }) (empty p)
 unfolding seen_of
 shows_empty {T = T} p ring us ws no_values no_accepted no_waiting =

@@ -12,7 +12,7 @@ use Rattle.std.proofs.lemmas.List.Elements.{All-append, All-take, All-drop, All-
 use Rattle.std.specs.List.{All, filter, list_any, remove}
 use Rattle.flow_terms.specs.declared.answers.Emit.TheVariants as emit
 use Rattle.flow_terms.specs.declared.answers.Withdrawn.TheVariants as withdrawn
-use Rattle.shared_core.specs.declared.tickets.Held.{Held}
+use Rattle.shared_core.specs.declared.tickets.OutTicket.{OutTicket}
 use Rattle.shared_core.specs.declared.tickets.Accepted.{Accepted}
 use Rattle.shared_core.specs.declared.tickets.Waiting.{Waiting}
 use Rattle.shared_core.specs.Flow.{State, Standing, waits, stands, gone, does_wait, is_out, accept, put, change, has_room, number, index}
@@ -43,7 +43,7 @@ module _ {X : Type 0} where
   take_left [] (y ∷ ys) = refl
   take_left (x ∷ xs) ys = ap (λ r. x ∷ r) (take_left xs ys)
 
--- what holds of each held ticket holds of those that are left
+-- what holds of each ticket that is out holds of those that are left
 pub still_indexes : {X : Type 0} (P : X → Type 0) (xs ys : List X) (at : ℕ) → ys ≡ remove xs at → All P xs → All P ys
 still_indexes P xs ys at is all = All-same P ys (remove xs at) is (All-append P (take at xs) (drop (suc at) xs) (All-take P at xs all) (All-drop P (suc at) xs all))
 
@@ -51,7 +51,7 @@ pub holds_there : {X : Type 0} (P : X → Type 0) (xs : List X) (at : ℕ) (x : 
 holds_there P xs at x all gets = subst P (get_or_from_slice_get xs at x x gets) (all at x (slice_get_within xs at x gets))
 
 -- the ticket of an emission that waited, now that it was accepted
-abbrev pub landed : {T : Type 0} → ℕ → Held (Waiting T) → Held Accepted
+abbrev pub landed : {T : Type 0} → ℕ → OutTicket (Waiting T) → OutTicket Accepted
 landed i w = record { ticket = w.ticket; emission = record { index = i } }
 
 gone_unless_out : {T : Type 0} (t : Standing T) → is_out t ≡ false → t ≡ gone
@@ -59,7 +59,7 @@ gone_unless_out (waits emitter v) fails = absurd (cc)
 gone_unless_out (stands i) fails = absurd (cc)
 gone_unless_out gone fails = refl
 
-none_wait : (T : Type 0) (us : List (Held Accepted)) → list_any (λ (e : ℕ × Standing T). does_wait e.1) (map shown_accepted us) ≡ false
+none_wait : (T : Type 0) (us : List (OutTicket Accepted)) → list_any (λ (e : ℕ × Standing T). does_wait e.1) (map shown_accepted us) ≡ false
 none_wait T [] = refl
 none_wait T (u ∷ us) = none_wait T us
 
@@ -173,25 +173,25 @@ module _ {T : Type 0} where
 
   -- ---- the two lists of tickets
 
-  abbrev pub shown_out : List (Held Accepted) → List (Held (Waiting T)) → List (ℕ × Standing T)
+  abbrev pub shown_out : List (OutTicket Accepted) → List (OutTicket (Waiting T)) → List (ℕ × Standing T)
   shown_out us ws = map shown_accepted us ++ map shown_waiting ws
 
-  all_wait : (ws : List (Held (Waiting T))) → length (filter (λ (e : ℕ × Standing T). does_wait e.1) (map shown_waiting ws)) ≡ length ws
+  all_wait : (ws : List (OutTicket (Waiting T))) → length (filter (λ (e : ℕ × Standing T). does_wait e.1) (map shown_waiting ws)) ≡ length ws
   all_wait [] = refl
   all_wait (w ∷ ws) = ap suc (all_wait ws)
 
-  accepted_part : (us : List (Held Accepted)) (ws : List (Held (Waiting T))) → filter (λ e. not (does_wait e.1)) (shown_out us ws) ≡ map shown_accepted us
+  accepted_part : (us : List (OutTicket Accepted)) (ws : List (OutTicket (Waiting T))) → filter (λ e. not (does_wait e.1)) (shown_out us ws) ≡ map shown_accepted us
   accepted_part [] [] = refl
   accepted_part [] (w ∷ ws) = accepted_part [] ws
   accepted_part (u ∷ us) ws = ap (λ xs. shown_accepted u ∷ xs) (accepted_part us ws)
 
-  waiting_part : (us : List (Held Accepted)) (ws : List (Held (Waiting T))) → filter (λ e. does_wait e.1) (shown_out us ws) ≡ map shown_waiting ws
+  waiting_part : (us : List (OutTicket Accepted)) (ws : List (OutTicket (Waiting T))) → filter (λ e. does_wait e.1) (shown_out us ws) ≡ map shown_waiting ws
   waiting_part [] [] = refl
   waiting_part [] (w ∷ ws) = ap (λ xs. shown_waiting w ∷ xs) (waiting_part [] ws)
   waiting_part (u ∷ us) ws = waiting_part us ws
 
   -- one more accepted emission beside lists that contracts see alike
-  pub one_more_accepted : (us vs : List (Held Accepted)) (ws xs : List (Held (Waiting T))) (h : Held Accepted) → shown_out us ws ≡ shown_out vs xs → shown_out (us ++ h ∷ []) ws ≡ shown_out (vs ++ h ∷ []) xs
+  pub one_more_accepted : (us vs : List (OutTicket Accepted)) (ws xs : List (OutTicket (Waiting T))) (h : OutTicket Accepted) → shown_out us ws ≡ shown_out vs xs → shown_out (us ++ h ∷ []) ws ≡ shown_out (vs ++ h ∷ []) xs
   one_more_accepted us vs ws xs h same =
       let accepted = sym (accepted_part us ws) ∙ ap (filter (λ e. not (does_wait e.1))) same ∙ accepted_part vs xs in
       let waiting = sym (waiting_part us ws) ∙ ap (filter (λ e. does_wait e.1)) same ∙ waiting_part vs xs in
@@ -200,19 +200,19 @@ module _ {T : Type 0} where
       ∙ ap (λ es. (map shown_accepted vs ++ shown_accepted h ∷ []) ++ es) waiting
       ∙ ap (λ es. es ++ map shown_waiting xs) (sym (map-append (shown_accepted {T = T}) vs (h ∷ [])))
 
-  pub count_waiting : (us : List (Held Accepted)) (ws : List (Held (Waiting T))) → length (filter (λ e. does_wait e.1) (shown_out us ws)) ≡ length ws
+  pub count_waiting : (us : List (OutTicket Accepted)) (ws : List (OutTicket (Waiting T))) → length (filter (λ e. does_wait e.1) (shown_out us ws)) ≡ length ws
   count_waiting [] ws = all_wait ws
   count_waiting (u ∷ us) ws = count_waiting us ws
 
-  pub length-out : (us : List (Held Accepted)) (ws : List (Held (Waiting T))) → length (shown_out us ws) ≡ length us + length ws
+  pub length-out : (us : List (OutTicket Accepted)) (ws : List (OutTicket (Waiting T))) → length (shown_out us ws) ≡ length us + length ws
   length-out us ws = omega (arith, length-append (map (shown_accepted {T = T}) us) (map shown_waiting ws), length-map us (shown_accepted {T = T}), length-map ws (shown_waiting {T = T}))
 
-  out_waiting : (us : List (Held Accepted)) (ws : List (Held (Waiting T))) (at : ℕ) (h : Held (Waiting T)) → slice_get ws at ≡ Some h → slice_get (shown_out us ws) (length us + at) ≡ Some (shown_waiting h)
+  out_waiting : (us : List (OutTicket Accepted)) (ws : List (OutTicket (Waiting T))) (at : ℕ) (h : OutTicket (Waiting T)) → slice_get ws at ≡ Some h → slice_get (shown_out us ws) (length us + at) ≡ Some (shown_waiting h)
   out_waiting us ws at h gets =
       ap (λ n. slice_get (shown_out us ws) (n + at)) (sym (length-map us (shown_accepted {T = T})))
       ∙ get_right (map shown_accepted us) (map shown_waiting ws) at ∙ slice_get-map shown_waiting ws at ∙ ap (option_map shown_waiting) gets
 
-  module _ (old : Seen T) (us : List (Held Accepted)) (ws : List (Held (Waiting T))) (out : old.out ≡ shown_out us ws) where
+  module _ (old : Seen T) (us : List (OutTicket Accepted)) (ws : List (OutTicket (Waiting T))) (out : old.out ≡ shown_out us ws) where
     pub held_nowhere : (n : ℕ) → list_any (λ h. eqb h.ticket n) us ≡ false → list_any (λ h. eqb h.ticket n) ws ≡ false → list_any (λ e. eqb e.0 n) old.out ≡ false
     held_nowhere n no_accepted no_waiting =
         ap (list_any (λ e. eqb e.0 n)) out
@@ -220,24 +220,24 @@ module _ {T : Type 0} where
         ∙ ap (λ b. b || list_any (λ e. eqb e.0 n) (map (shown_waiting {T = T}) ws)) (list_any-map (λ (e : ℕ × Standing T). eqb e.0 n) shown_accepted us ∙ no_accepted)
         ∙ list_any-map (λ (e : ℕ × Standing T). eqb e.0 n) shown_waiting ws ∙ no_waiting
 
-    pub held_accepted : (at n : ℕ) (h : Held Accepted) → slice_get us at ≡ Some h → (p : Held Accepted) × (slice_get us at ≡ Some p) × (p.ticket ≡ n) → slice_get old.out at ≡ Some (n, stands h.emission.index)
+    pub held_accepted : (at n : ℕ) (h : OutTicket Accepted) → slice_get us at ≡ Some h → (p : OutTicket Accepted) × (slice_get us at ≡ Some p) × (p.ticket ≡ n) → slice_get old.out at ≡ Some (n, stands h.emission.index)
     held_accepted at n h gets found =
         ap (λ xs. slice_get xs at) out
         ∙ get_left (map shown_accepted us) (map shown_waiting ws) at (shown_accepted h) (slice_get-map shown_accepted us at ∙ ap (option_map shown_accepted) gets)
-        ∙ ap (λ m. Some (m, stands h.emission.index)) (ap (λ (p : Held Accepted). p.ticket) (same_Some h found.0 (sym gets ∙ found.1)) ∙ found.2)
+        ∙ ap (λ m. Some (m, stands h.emission.index)) (ap (λ (p : OutTicket Accepted). p.ticket) (same_Some h found.0 (sym gets ∙ found.1)) ∙ found.2)
 
-    pub held_waiting : (at n : ℕ) (found : (p : Held (Waiting T)) × (slice_get ws at ≡ Some p) × (p.ticket ≡ n)) → slice_get old.out (length us + at) ≡ Some (n, waits found.0.emission.emitter found.0.emission.value)
+    pub held_waiting : (at n : ℕ) (found : (p : OutTicket (Waiting T)) × (slice_get ws at ≡ Some p) × (p.ticket ≡ n)) → slice_get old.out (length us + at) ≡ Some (n, waits found.0.emission.emitter found.0.emission.value)
     held_waiting at n found =
         ap (λ xs. slice_get xs (length us + at)) out ∙ out_waiting us ws at found.0 found.1 ∙ ap (λ m. Some (m, waits found.0.emission.emitter found.0.emission.value)) found.2
 
-    pub without_accepted : (at : ℕ) (rest : List (Held Accepted)) → at < length us → rest ≡ remove us at → record old { out = shown_out rest ws } ≡ record old { out = remove old.out at }
+    pub without_accepted : (at : ℕ) (rest : List (OutTicket Accepted)) → at < length us → rest ≡ remove us at → record old { out = shown_out rest ws } ≡ record old { out = remove old.out at }
     without_accepted at rest within is =
         ap (λ vs. record old { out = shown_out vs ws }) is
         ∙ ap (λ xs. record old { out = xs })
         (ap (λ xs. xs ++ map shown_waiting ws) (map-remove shown_accepted us at)
         ∙ sym (remove-append_left (map shown_accepted us) (map shown_waiting ws) at (omega (arith, length-map us (shown_accepted {T = T})))) ∙ ap (λ xs. remove xs at) (sym out))
 
-    pub without_waiting : (at : ℕ) (rest : List (Held (Waiting T))) → rest ≡ remove ws at → record old { out = shown_out us rest } ≡ record old { out = remove old.out (length us + at) }
+    pub without_waiting : (at : ℕ) (rest : List (OutTicket (Waiting T))) → rest ≡ remove ws at → record old { out = shown_out us rest } ≡ record old { out = remove old.out (length us + at) }
     without_waiting at rest is =
         let back : (length us + at) - length us ≡ at = omega arith in
         ap (λ vs. record old { out = shown_out us vs }) is
@@ -251,7 +251,7 @@ module _ {T : Type 0} where
   pub settles_full : (old : Seen T) → room_in old ≡ false → Settles old old
   settles_full old full M sound same = same ∙ ap seen_of (sym (settle-full M (has_room-seen M sound ∙ ap room_in (sym same) ∙ full)))
 
-  pub settles_none : (old : Seen T) (us : List (Held Accepted)) → old.out ≡ shown_out us [] → Settles old old
+  pub settles_none : (old : Seen T) (us : List (OutTicket Accepted)) → old.out ≡ shown_out us [] → Settles old old
   unfolding seen_of
   settles_none old us out M sound same =
       let none : list_any does_wait M.tickets ≡ false =
@@ -264,7 +264,7 @@ module _ {T : Type 0} where
       ap (λ k. record (seen_of M) { tickets = k; out = out_from M.parameters.first (change e.k (λ _. stands i) M.tickets) }) (length-change e.k (λ _. stands i) M.tickets)
       ∙ ap (λ xs. record (seen_of M) { out = xs }) (e.kept (λ _. stands i) refl)
 
-  module _ (old new : Seen T) (us : List (Held Accepted)) (w : Held (Waiting T)) (ws : List (Held (Waiting T))) (i : ℕ) (index_is : i ≡ old.next_number - old.parameters.first) where
+  module _ (old new : Seen T) (us : List (OutTicket Accepted)) (w : OutTicket (Waiting T)) (ws : List (OutTicket (Waiting T))) (i : ℕ) (index_is : i ≡ old.next_number - old.parameters.first) where
     out_landed : set (shown_out us (w ∷ ws)) (length us) (w.ticket, stands i) ≡ shown_out (us ++ landed i w ∷ []) ws
     out_landed =
         ap (λ k. set (shown_out us (w ∷ ws)) k (w.ticket, stands i)) (sym (length-map us (shown_accepted {T = T})))

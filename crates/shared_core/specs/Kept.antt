@@ -8,7 +8,7 @@ use Rattle.flow_terms.specs.declared.policy.Policy.TheVariants.{Suspend, DropOld
 use Rattle.shared_core.specs.declared.config.Config.{Config}
 use Rattle.shared_core.specs.Queues.{Queued}
 use Rattle.shared_core.specs.Ringed.{Ringed}
-use Rattle.shared_core.specs.declared.tickets.Held.{Held}
+use Rattle.shared_core.specs.declared.tickets.OutTicket.{OutTicket}
 use Rattle.shared_core.specs.declared.tickets.Accepted.{Accepted}
 use Rattle.shared_core.specs.declared.tickets.Waiting.{Waiting}
 use Rattle.shared_core.specs.Flow.{Standing, waits, stands, Overflow, suspend, drop_oldest, drop_latest, Parameters, places, number_limit}
@@ -44,10 +44,10 @@ making_refusal c =
     else None
 
 -- a ticket of an accepted emission, and one of a waiting emission, as contracts see them
-abbrev pub shown_accepted : {T : Type 0} → Held Accepted → ℕ × Standing T
+abbrev pub shown_accepted : {T : Type 0} → OutTicket Accepted → ℕ × Standing T
 shown_accepted h = (h.ticket, stands h.emission.index)
 
-abbrev pub shown_waiting : {T : Type 0} → Held (Waiting T) → ℕ × Standing T
+abbrev pub shown_waiting : {T : Type 0} → OutTicket (Waiting T) → ℕ × Standing T
 shown_waiting h = (h.ticket, waits h.emission.emitter h.emission.value)
 
 -- numbers count up from the first one, and there is one left for each emission that waits
@@ -65,7 +65,8 @@ pub record IsRingOf {T : Type 0} (config : Config) (ring : Ringed T) : Type 0 wh
   pub subscribers : ring.subscribers ≡ config.subscribers
 
 -- no more tickets are out than may be, and those of accepted emissions name emissions that were accepted
-pub record AreTickets {T : Type 0} (config : Config) (next_number : ℕ) (accepted : Queued (Held Accepted)) (waiting : Queued (Held (Waiting T))) : Type 0 where
+pub record AreTickets {T : Type 0} (config : Config) (next_number : ℕ)
+    (accepted : Queued (OutTicket Accepted)) (waiting : Queued (OutTicket (Waiting T))) : Type 0 where
   pub emits : config.emits ≤ 1024
   pub accepted_limit : accepted.limit ≡ config.emits
   pub waiting_limit : waiting.limit ≡ config.emits

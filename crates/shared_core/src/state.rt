@@ -50,7 +50,7 @@ use crate::call::{Call, Reply};
 use crate::config::Config;
 use crate::queue::Queue;
 use crate::ring::Ring;
-use crate::tickets::{Accepted, Held, Waiting};
+use crate::tickets::{Accepted, OutTicket, Waiting};
 use flow_terms::Refusal;
 use std::alloc::Global;
 use std::marker::Model;
@@ -71,9 +71,9 @@ pub struct SharedState<T: Copy> {
     /// How many tickets were given.
     given: u64,
     /// The accepted emissions whose ticket is out, the oldest ticket first.
-    accepted: Queue<Held<Accepted>>,
+    accepted: Queue<OutTicket<Accepted>>,
     /// The emissions that wait for room, the oldest first. Their tickets are later than those of accepted ones.
-    waiting: Queue<Held<Waiting<T>>>,
+    waiting: Queue<OutTicket<Waiting<T>>>,
 }
 
 impl<T: Copy> Model for SharedState<T> {

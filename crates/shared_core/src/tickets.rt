@@ -7,7 +7,7 @@ use crate::queue::Queue;
 
 /// A ticket that is out, and what became of its emission.
 #[derive(Clone, Copy)]
-pub struct Held<E> {
+pub struct OutTicket<E> {
     /// The number of the ticket.
     pub ticket: u64,
     /// `Accepted` or `Waiting`.
@@ -28,13 +28,13 @@ pub struct Waiting<T> {
     pub value: T,
 }
 
-/// Where the ticket with this number is held.
-pub fn held_at<E: Copy>(held: &Queue<Held<E>>, ticket: u64) -> Option<usize>
-    ensures found { IfSome result (λ i. (h : _) × (slice_get held.now.values i ≡ Some h) × (h.ticket ≡ ticket)) }
-    ensures none { IfNone result (list_any (λ h. h.ticket == ticket) held.now.values ≡ false) }
+/// Where the ticket with this number stands among those that are out.
+pub fn out_at<E: Copy>(out: &Queue<OutTicket<E>>, ticket: u64) -> Option<usize>
+    ensures found { IfSome result (λ i. (h : _) × (slice_get out.now.values i ≡ Some h) × (h.ticket ≡ ticket)) }
+    ensures none { IfNone result (list_any (λ h. h.ticket == ticket) out.now.values ≡ false) }
 {
-    for i in 0..held.len() {
-        if held.get(i).ticket == ticket {
+    for i in 0..out.len() {
+        if out.get(i).ticket == ticket {
             return Some(i);
         }
     }

@@ -8,7 +8,7 @@ ghost use Rattle.shared_core.specs.Shown.{Follows, Reads};
 
 use crate::config::NUMBER_LIMIT;
 use crate::state::SharedState;
-use crate::tickets::{Accepted, Held, Waiting, held_at};
+use crate::tickets::{Accepted, OutTicket, Waiting, out_at};
 use flow_terms::{Begun, Emit, Policy, Refusal, Ticket, Tried, Withdrawn};
 
 /// What an emission comes to, before it is asked whether it may wait.
@@ -111,7 +111,7 @@ impl<T: Copy> SharedState<T> {
         ensures given { self.new ≡ with_ticket (stands index) self.old }
     {
         let ticket = self.config.first + self.given;
-        self.accepted.push(Held {
+        self.accepted.push(OutTicket {
             ticket,
             emission: Accepted { index },
         });
@@ -128,7 +128,7 @@ impl<T: Copy> SharedState<T> {
         ensures given { self.new ≡ with_ticket (waits emitter value) self.old }
     {
         let ticket = self.config.first + self.given;
-        self.waiting.push(Held {
+        self.waiting.push(OutTicket {
             ticket,
             emission: Waiting { emitter, value },
         });
@@ -148,7 +148,7 @@ impl<T: Copy> SharedState<T> {
         }
         let _oldest = self.waiting.pop();
         let index = self.accept(oldest.emission.value) - self.config.first;
-        self.accepted.push(Held {
+        self.accepted.push(OutTicket {
             ticket: oldest.ticket,
             emission: Accepted { index },
         });
@@ -229,8 +229,8 @@ impl<T: Copy> SharedState<T> {
     pub fn poll_emit(&mut self, ticket: Ticket) -> Emit
         ensures { Follows (calls.poll_emit ticket.0) self.old result self.new }
     {
-        let Some(at) = held_at(&self.accepted, ticket.0) else {
-            return match held_at(&self.waiting, ticket.0) {
+        let Some(at) = out_at(&self.accepted, ticket.0) else {
+            return match out_at(&self.waiting, ticket.0) {
                 None => Emit::Gone,
                 Some(_) => Emit::Waiting,
             };
@@ -248,7 +248,7 @@ impl<T: Copy> SharedState<T> {
     pub fn is_done(&self, ticket: Ticket) -> bool
         ensures { Reads (calls.would_be_done ticket.0) self.now result }
     {
-        match held_at(&self.accepted, ticket.0) {
+        match out_at(&self.accepted, ticket.0) {
             None => false,
             Some(at) => self.is_finished(self.accepted.get(at).emission.index),
         }
@@ -261,11 +261,11 @@ impl<T: Copy> SharedState<T> {
     pub fn cancel_emit(&mut self, ticket: Ticket) -> Withdrawn<u64>
         ensures { Follows (calls.cancel_emit ticket.0) self.old result self.new }
     {
-        if let Some(at) = held_at(&self.accepted, ticket.0) {
+        if let Some(at) = out_at(&self.accepted, ticket.0) {
             let accepted = self.accepted.remove(at);
             return Withdrawn::Left(self.config.first + accepted.emission.index);
         }
-        match held_at(&self.waiting, ticket.0) {
+        match out_at(&self.waiting, ticket.0) {
             None => Withdrawn::Gone,
             Some(at) => {
                 let _waiting = self.waiting.remove(at);

@@ -1,7 +1,7 @@
 use Rattle.std.proofs.Common.{◌≡◌, ◌∙◌, ◌+◌, ◌-◌, ◌<◌, [], ◌∷◌, ◌++◌, length, drop, ap, sym, arith}
 use Rattle.std.proofs.lemmas.List.{length_push}
 use Rattle.std.proofs.lemmas.List.Elements.{All-push, All-same}
-use Rattle.shared_core.specs.declared.tickets.Held.{Held}
+use Rattle.shared_core.specs.declared.tickets.OutTicket.{OutTicket}
 use Rattle.shared_core.specs.declared.tickets.Accepted.{Accepted}
 use Rattle.shared_core.specs.Queues.{Queued}
 use Rattle.shared_core.specs.Shown.{Seen}
@@ -38,7 +38,7 @@ invariant_of-self-2 g c =
     let config = c.self-2.inside.config in
     let i = c.accept.result - c.self-2.inside.config.first in
     let pushed : c.push.new.self.values ≡ c.self-2.inside.accepted.values ++ landed i c.in-Some.oldest ∷ [] = ap (λ (q : Queued _). q.values) c.push.ensures in
-    let is_index = λ (h : Held Accepted). config.first + h.emission.index < c.self-2.inside.ring.next_number in
+    let is_index = λ (h : OutTicket Accepted). config.first + h.emission.index < c.self-2.inside.ring.next_number in
     record {
       numbers = c.self-2.invariant.numbers;
       ring = c.self-2.invariant.ring;

@@ -2,7 +2,7 @@ use Rattle.std.proofs.Common.{◌∙◌, ◌+◌, ◌<◌, ap, sym, subst, arith
 use Rattle.std.proofs.lemmas.List.Edits.{length-remove}
 use Rattle.std.proofs.lemmas.Option.{slice_get_within}
 use Rattle.std.specs.List.{remove}
-use Rattle.shared_core.specs.declared.tickets.Held.{Held}
+use Rattle.shared_core.specs.declared.tickets.OutTicket.{OutTicket}
 use Rattle.shared_core.specs.declared.tickets.Accepted.{Accepted}
 use Rattle.flow_terms.specs.declared.answers.Withdrawn.TheVariants as withdrawn
 use Rattle.shared_core.specs.Calls.{cancel_emit}
@@ -25,7 +25,7 @@ invariant_of-self g c =
         accepted_limit = ap (λ (q : Queued _). q.limit) c.remove-accepted.ensures.rest ∙ kept.accepted_limit;
         waiting_limit = kept.waiting_limit;
         within = omega (arith, kept.within, ap length rest, shorter);
-        indexes = still_indexes (λ (h : Held Accepted). c.self.inside.config.first + h.emission.index < c.self.inside.ring.next_number) us c.remove-accepted.new.self.values c.in-Some.at rest kept.indexes;
+        indexes = still_indexes (λ (h : OutTicket Accepted). c.self.inside.config.first + h.emission.index < c.self.inside.ring.next_number) us c.remove-accepted.new.self.values c.in-Some.at rest kept.indexes;
       };
     }
 
@@ -44,20 +44,20 @@ returns-in-Some g c =
     ∙ without_accepted now us ws out at c.remove-accepted.new.self.values (slice_get_within us at held c.remove-accepted.ensures.value) (ap (λ (q : Queued _). q.values) c.remove-accepted.ensures.rest))) numbered
 
 pub remove-waiting-requires : goal.remove-waiting-requires
-remove-waiting-requires g c = let found = c.in-Some-held_at.ensures.found in slice_get_within c.self.inside.waiting.values c.in-Some-held_at.at found.0 found.1
+remove-waiting-requires g c = let found = c.in-Some-out_at.ensures.found in slice_get_within c.self.inside.waiting.values c.in-Some-out_at.at found.0 found.1
 
 pub returns-in-None : goal.returns-in-None
 returns-in-None g c =
     withdraw_missing c.args.self.now c.args.ticket.0
     (held_nowhere c.args.self.now c.self.inside.accepted.values c.self.inside.waiting.values (ap (λ (seen : Seen _). seen.out) (sym c.self.view_is)) c.args.ticket.0 c.in_default.ensures.none c.in-None.ensures.none)
 
-pub returns-in-Some-held_at : goal.returns-in-Some-held_at
-returns-in-Some-held_at g c =
+pub returns-in-Some-out_at : goal.returns-in-Some-out_at
+returns-in-Some-out_at g c =
     let now = c.args.self.now in
     let us = c.self.inside.accepted.values in
     let ws = c.self.inside.waiting.values in
-    let at = c.in-Some-held_at.at in
-    let found = c.in-Some-held_at.ensures.found in
+    let at = c.in-Some-out_at.at in
+    let found = c.in-Some-out_at.ensures.found in
     let out = ap (λ (seen : Seen _). seen.out) (sym c.self.view_is) in
     subst (Follows (cancel_emit c.args.ticket.0) now withdrawn.Removed)
     (sym (ap (λ (seen : Seen _). record seen { out = shown_out us c.remove-waiting.new.self.values }) c.self.view_is

@@ -1,5 +1,5 @@
 use Rattle.std.proofs.Common.{◌+◌, ◌<◌, sym, ap, subst}
-use Rattle.shared_core.specs.declared.tickets.Held.{Held}
+use Rattle.shared_core.specs.declared.tickets.OutTicket.{OutTicket}
 use Rattle.shared_core.specs.Shown.{Seen}
 use Rattle.shared_core.proofs.Ticketing.{holds_there, held_accepted}
 use Rattle.shared_core.proofs.Asking.{done_where, done_nowhere}
@@ -17,7 +17,7 @@ returns-in-Some g c =
     let us = c.self.inside.accepted.values in
     let ws = c.self.inside.waiting.values in
     let held = c.get.result in
-    let accepted = holds_there (λ (h : Held _). c.self.inside.config.first + h.emission.index < c.self.inside.ring.next_number) us c.in-Some.at held c.self.invariant.tickets.indexes c.get.ensures in
+    let accepted = holds_there (λ (h : OutTicket _). c.self.inside.config.first + h.emission.index < c.self.inside.ring.next_number) us c.in-Some.at held c.self.invariant.tickets.indexes c.get.ensures in
     done_where now c.args.ticket.0 c.in-Some.at held.emission.index
     (held_accepted now us ws (ap (λ (seen : Seen _). seen.out) (sym c.self.view_is)) c.in-Some.at c.args.ticket.0 held c.get.ensures c.in-Some.ensures.found)
     (subst (λ (seen : Seen _). seen.parameters.first + held.emission.index < seen.next_number) c.self.view_is accepted)

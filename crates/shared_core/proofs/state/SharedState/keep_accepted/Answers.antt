@@ -1,6 +1,6 @@
 use Rattle.std.proofs.Common.{◌≡◌, ◌∙◌, ◌+◌, [], ◌∷◌, ◌++◌, List, length, ap, sym, arith, refl}
 use Rattle.std.proofs.lemmas.List.{append-nil, map-append}
-use Rattle.shared_core.specs.declared.tickets.Held.{Held}
+use Rattle.shared_core.specs.declared.tickets.OutTicket.{OutTicket}
 use Rattle.shared_core.specs.declared.tickets.Accepted.{Accepted}
 use Rattle.shared_core.specs.declared.tickets.Waiting.{Waiting}
 use Rattle.shared_core.specs.Flow.{stands}
@@ -15,7 +15,7 @@ none_left [] none = refl
 none_left (x ∷ xs) none = absurd (omega arith)
 
 -- where none waits, one more accepted emission has the last ticket
-last_ticket : {T : Type 0} (us : List (Held Accepted)) (ws : List (Held (Waiting T))) (h : Held Accepted) → ws ≡ [] → shown_out (us ++ h ∷ []) ws ≡ shown_out us ws ++ shown_accepted h ∷ []
+last_ticket : {T : Type 0} (us : List (OutTicket Accepted)) (ws : List (OutTicket (Waiting T))) (h : OutTicket Accepted) → ws ≡ [] → shown_out (us ++ h ∷ []) ws ≡ shown_out us ws ++ shown_accepted h ∷ []
 last_ticket us ws h none =
     ap (shown_out (us ++ h ∷ [])) none ∙ append-nil _ ∙ map-append shown_accepted us (h ∷ []) ∙ ap (λ xs. xs ++ shown_accepted h ∷ []) (sym (append-nil _) ∙ ap (shown_out us) (sym none))
 
@@ -24,7 +24,7 @@ returns-clause-given g c =
     let now = c.args.self.now in
     let us = c.self.inside.accepted.values in
     let ws = c.self.inside.waiting.values in
-    let h : Held Accepted = record { ticket = c.self.inside.config.first + c.self.inside.given; emission = record { index = c.args.index } } in
+    let h : OutTicket Accepted = record { ticket = c.self.inside.config.first + c.self.inside.given; emission = record { index = c.args.index } } in
     let none : ws ≡ [] = none_left ws (sym (count_waiting us ws) ∙ rw (← c.self.view_is) at c.requires.alone) in
     let out = ap (λ vs. shown_out vs ws) (ap (λ (q : Queued _). q.values) c.push.ensures) ∙ last_ticket us ws h none in
     ap (λ (seen : Seen _). record seen { tickets = seen.tickets + 1; out = shown_out c.push.new.self.values ws }) c.self.view_is

@@ -3,7 +3,7 @@ use Rattle.std.proofs.lemmas.List.Edits.{length-remove}
 use Rattle.std.proofs.lemmas.Option.{slice_get_within}
 use Rattle.std.specs.List.{All, remove}
 use Rattle.shared_core.specs.declared.config.Config.{Config}
-use Rattle.shared_core.specs.declared.tickets.Held.{Held}
+use Rattle.shared_core.specs.declared.tickets.OutTicket.{OutTicket}
 use Rattle.shared_core.specs.declared.tickets.Accepted.{Accepted}
 use Rattle.flow_terms.specs.declared.answers.Emit.TheVariants as emit
 use Rattle.shared_core.specs.Calls.{poll_emit}
@@ -11,7 +11,7 @@ use Rattle.shared_core.specs.Queues.{Queued}
 use Rattle.shared_core.specs.Shown.{Seen, Follows}
 use Rattle.shared_core.proofs.Ticketing.{shown_out, still_indexes, holds_there, held_nowhere, held_accepted, held_waiting, without_accepted, poll_missing, poll_waiting, poll_unfinished, poll_done}
 use Rattle.shared_core.proofs.state.SharedState.poll_emit.Goals as goal
-use Rattle.shared_core.proofs.state.SharedState.poll_emit.Goals.{in-None, in-Some-held_at}
+use Rattle.shared_core.proofs.state.SharedState.poll_emit.Goals.{in-None, in-Some-out_at}
 
 pub returns-in_default : goal.returns-in_default
 returns-in_default g c =
@@ -19,12 +19,12 @@ returns-in_default g c =
     let us = c.self.inside.accepted.values in
     let ws = c.self.inside.waiting.values in
     let out = ap (λ (seen : Seen _). seen.out) (sym c.self.view_is) in
-    elim c.match-held_at-2.branch [
+    elim c.match-out_at-2.branch [
       | in-None w ↦ subst (λ answer. Follows (poll_emit c.args.ticket.0) now answer now) (sym w.result-is)
           (poll_missing now c.args.ticket.0 (held_nowhere now us ws out c.args.ticket.0 c.in_default.ensures.none w.in-None.ensures.none))
-      | in-Some-held_at w ↦ let found = w.in-Some-held_at.ensures.found in
+      | in-Some-out_at w ↦ let found = w.in-Some-out_at.ensures.found in
           subst (λ answer. Follows (poll_emit c.args.ticket.0) now answer now) (sym w.result-is)
-          (poll_waiting now (length us + w.in-Some-held_at.field-0) c.args.ticket.0 found.0.emission.emitter found.0.emission.value (held_waiting now us ws out w.in-Some-held_at.field-0 c.args.ticket.0 found))
+          (poll_waiting now (length us + w.in-Some-out_at.field-0) c.args.ticket.0 found.0.emission.emitter found.0.emission.value (held_waiting now us ws out w.in-Some-out_at.field-0 c.args.ticket.0 found))
     ]
 
 pub get-index-requires : goal.get-index-requires
@@ -34,8 +34,8 @@ pub remove-done-requires : goal.remove-done-requires
 remove-done-requires g c = let found = c.in-Some.ensures.found in slice_get_within c.self.inside.accepted.values c.in-Some.at found.0 found.1
 
 -- the emission was accepted
-is_accepted : (config : Config) (next : ℕ) (us : List (Held Accepted)) (at : ℕ) (h : Held Accepted) → All (λ h. config.first + h.emission.index < next) us → slice_get us at ≡ Some h → config.first + h.emission.index < next
-is_accepted config next us at h indexes gets = holds_there (λ (h : Held Accepted). config.first + h.emission.index < next) us at h indexes gets
+is_accepted : (config : Config) (next : ℕ) (us : List (OutTicket Accepted)) (at : ℕ) (h : OutTicket Accepted) → All (λ h. config.first + h.emission.index < next) us → slice_get us at ≡ Some h → config.first + h.emission.index < next
+is_accepted config next us at h indexes gets = holds_there (λ (h : OutTicket Accepted). config.first + h.emission.index < next) us at h indexes gets
 
 pub is_finished-requires : goal.is_finished-requires
 is_finished-requires g c =
@@ -60,7 +60,7 @@ invariant_of-self g c =
         accepted_limit = ap (λ (q : Queued _). q.limit) c.remove-done.ensures.rest ∙ kept.accepted_limit;
         waiting_limit = kept.waiting_limit;
         within = omega (arith, kept.within, ap length rest, shorter);
-        indexes = still_indexes (λ (h : Held Accepted). c.self.inside.config.first + h.emission.index < c.self.inside.ring.next_number) us c.remove-done.new.self.values c.in-Some.at rest kept.indexes;
+        indexes = still_indexes (λ (h : OutTicket Accepted). c.self.inside.config.first + h.emission.index < c.self.inside.ring.next_number) us c.remove-done.new.self.values c.in-Some.at rest kept.indexes;
       };
     }
 

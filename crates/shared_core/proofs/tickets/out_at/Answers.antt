@@ -4,8 +4,8 @@ use Rattle.std.proofs.lemmas.List.Folds.{list_any-append}
 use Rattle.std.proofs.lemmas.Bool.{ne_eqb}
 use Rattle.std.proofs.lemmas.Option.{get_or_from_slice_get}
 use Rattle.std.specs.List.{list_any}
-use Rattle.shared_core.specs.declared.tickets.Held.{Held}
-use Rattle.shared_core.proofs.tickets.held_at.Goals as goal
+use Rattle.shared_core.specs.declared.tickets.OutTicket.{OutTicket}
+use Rattle.shared_core.proofs.tickets.out_at.Goals as goal
 
 -- one more that fails the test
 none_more : {X : Type 0} (test : X → Bool) (xs : List X) (i : ℕ) (x : X) → i < length xs → slice_get xs i ≡ Some x → list_any test (take i xs) ≡ false → test x ≡ false → list_any test (take (i + 1) xs) ≡ false
@@ -15,5 +15,5 @@ none_more test xs i x within gets none fails =
 
 pub loop-i-preserved : goal.loop-i-preserved
 loop-i-preserved g c =
-    none_more (λ (h : Held _). eqb h.ticket c.args.ticket) c.args.held.now.values c.loop-i.i c.get.result (omega (arith, c.len-i-end.ensures.count)) c.get.ensures c.loop-i.invariant
+    none_more (λ (h : OutTicket _). eqb h.ticket c.args.ticket) c.args.out.now.values c.loop-i.i c.get.result (omega (arith, c.len-i-end.ensures.count)) c.get.ensures c.loop-i.invariant
     (ne_eqb c.get.result.ticket c.args.ticket c.if-get-ticket.false)
