@@ -4,7 +4,7 @@ use Rattle.std.specs.Option.{option_map}
 use Rattle.std.proofs.lemmas.List.{map-set}
 use Rattle.std.proofs.lemmas.Option.{slice_get_past, slice_get-map, slice_get-get_or}
 use Rattle.std.proofs.Math.Seq.{map-set_same}
-use Rattle.state_flow.specs.Views.{Place}
+use Rattle.state_flow.specs.Views.{SeatSeen}
 use Rattle.state_flow.specs.Calls.{Collects, Ends, TakesBack}
 use Rattle.state_flow.specs.declared.view.View.{View}
 use Rattle.script_flows.specs.Watching.{SeatedBeside, IsWatch, LoadsWhere, TakesOne, collecting}
@@ -14,24 +14,24 @@ pub past_end : (index size : ℕ) → (index < size → false ≡ true) → size
 past_end index size none = grind arith
 
 -- the seat made a step
-pub moved : (seat seat' : Place ℕ) (places : List (Option (Place ℕ))) → seat'.flow ≡ seat.flow → SeatedBeside seat places → SeatedBeside seat' places
+pub moved : (seat seat' : SeatSeen ℕ) (places : List (Option (SeatSeen ℕ))) → seat'.flow ≡ seat.flow → SeatedBeside seat places → SeatedBeside seat' places
 moved seat seat' [] same seated = tt
 moved seat seat' (None ∷ rest) same seated = moved seat seat' rest same seated
 moved seat seat' (Some place ∷ rest) same seated = (seated.0 ∙ sym same, seated.1, moved seat seat' rest same seated.2)
 
 -- one more collector
-pub pushed : (seat : Place ℕ) (places : List (Option (Place ℕ))) (place : Place ℕ) → SeatedBeside seat places → place.flow ≡ seat.flow → place.view.share ≡ 1 → SeatedBeside seat (places ++ (Some place ∷ []))
+pub pushed : (seat : SeatSeen ℕ) (places : List (Option (SeatSeen ℕ))) (place : SeatSeen ℕ) → SeatedBeside seat places → place.flow ≡ seat.flow → place.view.share ≡ 1 → SeatedBeside seat (places ++ (Some place ∷ []))
 pushed seat [] place seated same share = (same, share, tt)
 pushed seat (None ∷ rest) place seated same share = pushed seat rest place seated same share
 pushed seat (Some first ∷ rest) place seated same share = (seated.0, seated.1, pushed seat rest place seated.2 same share)
 
-pub one_more : (places : List (Option (Place ℕ))) (place : Place ℕ) → collecting (map is_some (places ++ (Some place ∷ []))) ≡ suc (collecting (map is_some places))
+pub one_more : (places : List (Option (SeatSeen ℕ))) (place : SeatSeen ℕ) → collecting (map is_some (places ++ (Some place ∷ []))) ≡ suc (collecting (map is_some places))
 one_more [] place = refl
 one_more (None ∷ rest) place = one_more rest place
 one_more (Some first ∷ rest) place = ap suc (one_more rest place)
 
 -- a collector made a step
-pub put : (seat : Place ℕ) (places : List (Option (Place ℕ))) (index : ℕ) (place : Place ℕ) → SeatedBeside seat places → place.flow ≡ seat.flow → place.view.share ≡ 1 → SeatedBeside seat (set places index (Some place))
+pub put : (seat : SeatSeen ℕ) (places : List (Option (SeatSeen ℕ))) (index : ℕ) (place : SeatSeen ℕ) → SeatedBeside seat places → place.flow ≡ seat.flow → place.view.share ≡ 1 → SeatedBeside seat (set places index (Some place))
 put seat [] index place seated same share = tt
 put seat (None ∷ rest) zero place seated same share = (same, share, seated)
 put seat (Some first ∷ rest) zero place seated same share = (same, share, seated.2)
@@ -39,7 +39,7 @@ put seat (None ∷ rest) (suc index) place seated same share = put seat rest ind
 put seat (Some first ∷ rest) (suc index) place seated same share = (seated.0, seated.1, put seat rest index place seated.2 same share)
 
 -- a collector was taken away, or had been
-pub removed : (seat : Place ℕ) (places : List (Option (Place ℕ))) (index : ℕ) → SeatedBeside seat places → SeatedBeside seat (set places index None)
+pub removed : (seat : SeatSeen ℕ) (places : List (Option (SeatSeen ℕ))) (index : ℕ) → SeatedBeside seat places → SeatedBeside seat (set places index None)
 removed seat [] index seated = tt
 removed seat (None ∷ rest) zero seated = seated
 removed seat (Some first ∷ rest) zero seated = seated.2
@@ -49,7 +49,7 @@ removed seat (Some first ∷ rest) (suc index) seated = (seated.0, seated.1, rem
 less : {A : Type 0} (x : A) (rest : List A) (index : ℕ) → suc index < length (x ∷ rest) → index < length rest
 less x rest index small = omega arith
 
-pub one_fewer : (places : List (Option (Place ℕ))) (index : ℕ) (place : Place ℕ) → index < length places → Some place ≡ get_or places index (Some place) → suc (collecting (map is_some (set places index None))) ≡ collecting (map is_some places)
+pub one_fewer : (places : List (Option (SeatSeen ℕ))) (index : ℕ) (place : SeatSeen ℕ) → index < length places → Some place ≡ get_or places index (Some place) → suc (collecting (map is_some (set places index None))) ≡ collecting (map is_some places)
 one_fewer [] index place small is = absurd (omega arith)
 one_fewer (None ∷ rest) zero place small is = cc
 one_fewer (Some first ∷ rest) zero place small is = refl
@@ -57,7 +57,7 @@ one_fewer (None ∷ rest) (suc index) place small is = one_fewer rest index plac
 one_fewer (Some first ∷ rest) (suc index) place small is = ap suc (one_fewer rest index place (less (Some first) rest index small) is)
 
 -- the collector with this index
-pub found : (seat : Place ℕ) (places : List (Option (Place ℕ))) (index : ℕ) (place : Place ℕ) → SeatedBeside seat places → index < length places → Some place ≡ get_or places index (Some place) → (place.flow ≡ seat.flow) × (place.view.share ≡ 1)
+pub found : (seat : SeatSeen ℕ) (places : List (Option (SeatSeen ℕ))) (index : ℕ) (place : SeatSeen ℕ) → SeatedBeside seat places → index < length places → Some place ≡ get_or places index (Some place) → (place.flow ≡ seat.flow) × (place.view.share ≡ 1)
 found seat [] index place seated small is = absurd (omega arith)
 found seat (None ∷ rest) zero place seated small is = cc
 found seat (Some first ∷ rest) zero place seated small is = (let same : place ≡ first = cc in (ap (λ p. p.flow) same ∙ seated.0, ap (λ p. p.view.share) same ∙ seated.1))
@@ -65,7 +65,7 @@ found seat (None ∷ rest) (suc index) place seated small is = found seat rest i
 found seat (Some first ∷ rest) (suc index) place seated small is = found seat rest index place seated.2 (less (Some first) rest index small) is
 
 -- the seat made a step, and its share stays
-pub stepped : (seat seat' : Place ℕ) (places : List (Option (Place ℕ))) → IsWatch seat places → seat'.flow ≡ seat.flow → seat'.view.share ≡ seat.view.share → IsWatch seat' places
+pub stepped : (seat seat' : SeatSeen ℕ) (places : List (Option (SeatSeen ℕ))) → IsWatch seat places → seat'.flow ≡ seat.flow → seat'.view.share ≡ seat.view.share → IsWatch seat' places
 stepped seat seat' places watch same share = record { seated = moved seat seat' places same watch.seated; shares = ap (λ s. s + collecting (map is_some places)) share ∙ watch.shares }
 
 -- ---- one place, as a list has it
@@ -73,7 +73,7 @@ stepped seat seat' places watch same share = record { seated = moved seat seat' 
 pub within : (index size count : ℕ) → size ≡ count → index < size → index < count
 within index size count same small = omega arith
 
-pub collector_at : (seat : Place ℕ) (places : List (Option (Place ℕ))) (index : ℕ) (place : Place ℕ) (now : Option (Place ℕ)) → IsWatch seat places → index < length places → now ≡ get_or places index now → Some place ≡ now → (place.flow ≡ seat.flow) × (place.view.share ≡ 1)
+pub collector_at : (seat : SeatSeen ℕ) (places : List (Option (SeatSeen ℕ))) (index : ℕ) (place : SeatSeen ℕ) (now : Option (SeatSeen ℕ)) → IsWatch seat places → index < length places → now ≡ get_or places index now → Some place ≡ now → (place.flow ≡ seat.flow) × (place.view.share ≡ 1)
 collector_at seat places index place now watch small is held = found seat places index place watch.seated small (rw held is)
 
 -- whether the collector with this index collects
@@ -84,7 +84,7 @@ collects_at places index now small is = sym (slice_get-map is_some places index 
 pub still : {A : Type 0} (places : List (Option A)) (index : ℕ) (place place' : A) (now : Option A) → now ≡ get_or places index now → Some place ≡ now → map is_some (set places index (Some place')) ≡ map is_some places
 still places index place place' now is held = map-set_same is_some places index (Some place') now (ap is_some held ∙ ap is_some is)
 
-pub asked : (seat : Place ℕ) (places : List (Option (Place ℕ))) (index : ℕ) (place place' : Place ℕ) (now : Option (Place ℕ)) → IsWatch seat places → index < length places → now ≡ get_or places index now → Some place ≡ now → place'.flow ≡ place.flow → place'.view.share ≡ place.view.share
+pub asked : (seat : SeatSeen ℕ) (places : List (Option (SeatSeen ℕ))) (index : ℕ) (place place' : SeatSeen ℕ) (now : Option (SeatSeen ℕ)) → IsWatch seat places → index < length places → now ≡ get_or places index now → Some place ≡ now → place'.flow ≡ place.flow → place'.view.share ≡ place.view.share
     → IsWatch seat (set places index (Some place'))
 asked seat places index place place' now watch small is held same share =
     let at = collector_at seat places index place now watch small is held in
@@ -94,7 +94,7 @@ asked seat places index place place' now watch small is held same share =
     }
 
 -- a collector made a load, which gave what was found
-pub loads : (places : List (Option (Place ℕ))) (index : ℕ) (place place' : Place ℕ) (given found' : Option ℕ) (now : Option (Place ℕ)) → index < length places → now ≡ get_or places index now → Some place ≡ now → place'.flow ≡ place.flow → given ≡ found' → Collects place.view given place'.view
+pub loads : (places : List (Option (SeatSeen ℕ))) (index : ℕ) (place place' : SeatSeen ℕ) (given found' : Option ℕ) (now : Option (SeatSeen ℕ)) → index < length places → now ≡ get_or places index now → Some place ≡ now → place'.flow ≡ place.flow → given ≡ found' → Collects place.view given place'.view
     → LoadsWhere (slice_get places index) places index found' (set places index (Some place'))
 loads places index place place' given found' now small is held same gave received =
     rw (slice_get-get_or places index now small ∙ ap (λ o. Some o) (sym is ∙ sym held)) (record { loaded = place'; same_flow = same; received = subst (λ g. Collects place.view g place'.view) gave received; only = refl })
@@ -105,7 +105,7 @@ set_same (y ∷ ys) zero x is = ap (λ first. first ∷ ys) is
 set_same (y ∷ ys) (suc index) x is = ap (λ rest. y ∷ rest) (set_same ys index x is)
 
 -- a cancelled collector makes no load
-pub loads_none : (places : List (Option (Place ℕ))) (index : ℕ) (given : Option ℕ) (now : Option (Place ℕ)) → index < length places → now ≡ get_or places index now → now ≡ None → LoadsWhere (slice_get places index) places index given (set places index now)
+pub loads_none : (places : List (Option (SeatSeen ℕ))) (index : ℕ) (given : Option ℕ) (now : Option (SeatSeen ℕ)) → index < length places → now ≡ get_or places index now → now ≡ None → LoadsWhere (slice_get places index) places index given (set places index now)
 loads_none places index given now small is none = rw (slice_get-get_or places index now small ∙ ap (λ o. Some o) (sym is ∙ none)) (set_same places index now is)
 
 -- a collector's place is empty now
@@ -113,7 +113,7 @@ pub marks : {A : Type 0} (places : List (Option A)) (index : ℕ) (left : Option
 marks places index left none = rw none (map-set is_some places index None)
 
 -- its seat was given back
-pub taken_away : (seat seat' : Place ℕ) (places : List (Option (Place ℕ))) (index : ℕ) (place : Place ℕ) (now left : Option (Place ℕ)) (share : ℕ) → IsWatch seat places → index < length places → now ≡ get_or places index now → Some place ≡ now → left ≡ None → seat'.flow ≡ seat.flow → seat'.view.share ≡ seat.view.share + share → share ≡ 1
+pub taken_away : (seat seat' : SeatSeen ℕ) (places : List (Option (SeatSeen ℕ))) (index : ℕ) (place : SeatSeen ℕ) (now left : Option (SeatSeen ℕ)) (share : ℕ) → IsWatch seat places → index < length places → now ≡ get_or places index now → Some place ≡ now → left ≡ None → seat'.flow ≡ seat.flow → seat'.view.share ≡ seat.view.share + share → share ≡ 1
     → IsWatch seat' (set places index left)
 taken_away seat seat' places index place now left share watch small is held none same joined one =
     let fewer : suc (collecting (map is_some (set places index None))) ≡ collecting (map is_some places) = one_fewer places index place small (rw held is) in
@@ -121,7 +121,7 @@ taken_away seat seat' places index place now left share watch small is held none
     rw none (record { seated = moved seat seat' (set places index None) same (removed seat places index watch.seated); shares = omega arith })
 
 -- a collector ended
-pub takes_one : (seat seat' : Place ℕ) (places : List (Option (Place ℕ))) (index : ℕ) (place : Place ℕ) (now left : Option (Place ℕ)) (spent : View ℕ) → index < length places → now ≡ get_or places index now → Some place ≡ now → left ≡ None → Ends place.view spent → TakesBack seat.view spent seat'.view
+pub takes_one : (seat seat' : SeatSeen ℕ) (places : List (Option (SeatSeen ℕ))) (index : ℕ) (place : SeatSeen ℕ) (now left : Option (SeatSeen ℕ)) (spent : View ℕ) → index < length places → now ≡ get_or places index now → Some place ≡ now → left ≡ None → Ends place.view spent → TakesBack seat.view spent seat'.view
     → TakesOne (record { seat = seat; collectors = places }) index (record { seat = seat'; collectors = set places index left })
 takes_one seat seat' places index place now left spent small is held none ends joined = record {
   left = ap (set places index) none;
@@ -129,7 +129,7 @@ takes_one seat seat' places index place now left spent small is held none ends j
 }
 
 -- it had been cancelled
-pub takes_empty : (seat : Place ℕ) (places : List (Option (Place ℕ))) (index : ℕ) (now left : Option (Place ℕ)) → index < length places → now ≡ get_or places index now → None ≡ now → left ≡ None → TakesOne (record { seat = seat; collectors = places }) index (record { seat = seat; collectors = set places index left })
+pub takes_empty : (seat : SeatSeen ℕ) (places : List (Option (SeatSeen ℕ))) (index : ℕ) (now left : Option (SeatSeen ℕ)) → index < length places → now ≡ get_or places index now → None ≡ now → left ≡ None → TakesOne (record { seat = seat; collectors = places }) index (record { seat = seat; collectors = set places index left })
 takes_empty seat places index now left small is held none = record {
   left = ap (set places index) none;
   gives_back = rw (slice_get-get_or places index now small ∙ ap (λ o. Some o) (sym is ∙ sym held)) refl;
@@ -141,14 +141,14 @@ set_past (y ∷ ys) zero x past = absurd (omega arith)
 set_past (y ∷ ys) (suc index) x past = ap (λ rest. y ∷ rest) (set_past ys index x (omega arith))
 
 -- no collector has this index
-pub takes_none : (seat : Place ℕ) (places : List (Option (Place ℕ))) (index size : ℕ) → size ≡ length places → (index < size → false ≡ true) → TakesOne (record { seat = seat; collectors = places }) index (record { seat = seat; collectors = places })
+pub takes_none : (seat : SeatSeen ℕ) (places : List (Option (SeatSeen ℕ))) (index size : ℕ) → size ≡ length places → (index < size → false ≡ true) → TakesOne (record { seat = seat; collectors = places }) index (record { seat = seat; collectors = places })
 takes_none seat places index size same past =
     let end : size ≤ index = past_end index size past in
     let beyond : length places ≤ index = omega arith in
     record { left = sym (set_past places index None beyond); gives_back = rw (slice_get_past places index beyond) refl }
 
 -- a collector was made of a seat that was taken
-pub added : (seat seat' : Place ℕ) (places : List (Option (Place ℕ))) (place : Place ℕ) → IsWatch seat places → seat'.flow ≡ seat.flow → seat'.view.share ≡ seat.view.share - 1 → 1 < seat.view.share → place.flow ≡ seat.flow → place.view.share ≡ 1 → IsWatch seat' (places ++ (Some place ∷ []))
+pub added : (seat seat' : SeatSeen ℕ) (places : List (Option (SeatSeen ℕ))) (place : SeatSeen ℕ) → IsWatch seat places → seat'.flow ≡ seat.flow → seat'.view.share ≡ seat.view.share - 1 → 1 < seat.view.share → place.flow ≡ seat.flow → place.view.share ≡ 1 → IsWatch seat' (places ++ (Some place ∷ []))
 added seat seat' places place watch same left enough beside one =
     let more : collecting (map is_some (places ++ (Some place ∷ []))) ≡ suc (collecting (map is_some places)) = one_more places place in
     let all : seat.view.share + collecting (map is_some places) ≡ 9 = watch.shares in
@@ -156,26 +156,26 @@ added seat seat' places place watch same left enough beside one =
 
 -- ---- the last place
 
-last_seated : (seat : Place ℕ) (places : List (Option (Place ℕ))) (place : Place ℕ) → SeatedBeside seat (places ++ (Some place ∷ [])) → (place.flow ≡ seat.flow) × (place.view.share ≡ 1)
+last_seated : (seat : SeatSeen ℕ) (places : List (Option (SeatSeen ℕ))) (place : SeatSeen ℕ) → SeatedBeside seat (places ++ (Some place ∷ [])) → (place.flow ≡ seat.flow) × (place.view.share ≡ 1)
 last_seated seat [] place seated = (seated.0, seated.1)
 last_seated seat (None ∷ rest) place seated = last_seated seat rest place seated
 last_seated seat (Some first ∷ rest) place seated = last_seated seat rest place seated.2
 
-before_last : (seat : Place ℕ) (places : List (Option (Place ℕ))) (last : Option (Place ℕ)) → SeatedBeside seat (places ++ (last ∷ [])) → SeatedBeside seat places
+before_last : (seat : SeatSeen ℕ) (places : List (Option (SeatSeen ℕ))) (last : Option (SeatSeen ℕ)) → SeatedBeside seat (places ++ (last ∷ [])) → SeatedBeside seat places
 before_last seat [] last seated = tt
 before_last seat (None ∷ rest) last seated = before_last seat rest last seated
 before_last seat (Some first ∷ rest) last seated = (seated.0, seated.1, before_last seat rest last seated.2)
 
-none_more : (places : List (Option (Place ℕ))) → collecting (map is_some (places ++ (None ∷ []))) ≡ collecting (map is_some places)
+none_more : (places : List (Option (SeatSeen ℕ))) → collecting (map is_some (places ++ (None ∷ []))) ≡ collecting (map is_some places)
 none_more [] = refl
 none_more (None ∷ rest) = none_more rest
 none_more (Some first ∷ rest) = ap suc (none_more rest)
 
-pub last_collector : (seat : Place ℕ) (all places : List (Option (Place ℕ))) (last : Option (Place ℕ)) (place : Place ℕ) → IsWatch seat all → all ≡ places ++ (last ∷ []) → last ≡ Some place → (place.flow ≡ seat.flow) × (place.view.share ≡ 1)
+pub last_collector : (seat : SeatSeen ℕ) (all places : List (Option (SeatSeen ℕ))) (last : Option (SeatSeen ℕ)) (place : SeatSeen ℕ) → IsWatch seat all → all ≡ places ++ (last ∷ []) → last ≡ Some place → (place.flow ≡ seat.flow) × (place.view.share ≡ 1)
 last_collector seat all places last place watch ends is = last_seated seat places place (subst (SeatedBeside seat) (ends ∙ ap (λ o. places ++ (o ∷ [])) is) watch.seated)
 
 -- the last collector's seat was given back
-pub last_given_back : (seat seat' : Place ℕ) (all places : List (Option (Place ℕ))) (last : Option (Place ℕ)) (place : Place ℕ) (share : ℕ) → IsWatch seat all → all ≡ places ++ (last ∷ []) → last ≡ Some place → seat'.flow ≡ seat.flow → seat'.view.share ≡ seat.view.share + share → share ≡ 1 → IsWatch seat' places
+pub last_given_back : (seat seat' : SeatSeen ℕ) (all places : List (Option (SeatSeen ℕ))) (last : Option (SeatSeen ℕ)) (place : SeatSeen ℕ) (share : ℕ) → IsWatch seat all → all ≡ places ++ (last ∷ []) → last ≡ Some place → seat'.flow ≡ seat.flow → seat'.view.share ≡ seat.view.share + share → share ≡ 1 → IsWatch seat' places
 last_given_back seat seat' all places last place share watch ends is same joined one =
     let list : all ≡ places ++ (Some place ∷ []) = ends ∙ ap (λ o. places ++ (o ∷ [])) is in
     let counted : seat.view.share + collecting (map is_some (places ++ (Some place ∷ []))) ≡ 9 = subst (λ xs. seat.view.share + collecting (map is_some xs) ≡ 9) list watch.shares in
@@ -183,7 +183,7 @@ last_given_back seat seat' all places last place share watch ends is same joined
     record { seated = moved seat seat' places same (before_last seat places (Some place) (subst (SeatedBeside seat) list watch.seated)); shares = omega arith }
 
 -- the last place was empty
-pub last_left_out : (seat : Place ℕ) (all places : List (Option (Place ℕ))) (last : Option (Place ℕ)) → IsWatch seat all → all ≡ places ++ (last ∷ []) → last ≡ None → IsWatch seat places
+pub last_left_out : (seat : SeatSeen ℕ) (all places : List (Option (SeatSeen ℕ))) (last : Option (SeatSeen ℕ)) → IsWatch seat all → all ≡ places ++ (last ∷ []) → last ≡ None → IsWatch seat places
 last_left_out seat all places last watch ends is =
     let list : all ≡ places ++ (None ∷ []) = ends ∙ ap (λ o. places ++ (o ∷ [])) is in
     record {

@@ -23,7 +23,7 @@ const STATED_SEATS: u32 = 10;
 
 /// A state flow with the collectors that a script made of it. It must be spent, by [`close`](Watched::close).
 ///
-/// Contracts see the place of its seat and those of its collectors, the cancelled ones as nothing.
+/// Contracts see what its seat and its collectors have seen, the cancelled ones as nothing.
 pub struct Watched {
     seat: StateSeat<u64>,
     // Each collector keeps its index; a cancelled one gave its seat back.

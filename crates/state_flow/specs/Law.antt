@@ -66,6 +66,11 @@ module _ {T : Type 0} where
   abbrev pub Rule : (T → ℕ) → (T → Type 0) → T × ℕ → State (Unit {0}) (View T) → Type 0
   Rule word fits key s = StateLaw word fits key.0 key.1 s.words s.views
 
+  -- of two seats the one with the later step has seen all that the other has
+  abbrev pub LaterHasSeenAll : State (Unit {0}) (View T) → Type 0
+  LaterHasSeenAll s = (i j : ℕ) (v w : View T) → get_elem? s.views i ≡ some v → get_elem? s.views j ≡ some w
+      → v.turn ≤ w.turn → Continues w.seen v.seen
+
   -- What follows for a reader. All seats have seen the one value history, each as it was after its last step on the value;
   -- what a collector received is a subsequence of that history without equal neighbours; and the second word is the number
   -- of seats that collect, which is at most `seats`

@@ -33,12 +33,15 @@ module _ {T : Type 0} (word : T → ℕ) (fits : T → Type 0) where
   -- a load by a collector, which collects the value where it is not the last one that it has
   abbrev pub gathered : At → Sat T → ℕ → Sat T → Type 0
   gathered st m found m' = (history : List T) × ((turn : ℕ) × ((now : Moment word fits m.0 history turn found)
-      × (Writes m.0.collected now.value m'.0.collected × Picks m'.0.collected history × ((y : T) → last_of m.0.collected ≡ Some y → fits y) × (m' ≡ (record (stepped_to history turn m.0) { collected = m'.0.collected }, m.1)))))
+      × (Writes m.0.collected now.value m'.0.collected × Picks m'.0.collected history
+      × ((y : T) → last_of m.0.collected ≡ Some y → fits y)
+      × (m' ≡ (record (stepped_to history turn m.0) { collected = m'.0.collected }, m.1)))))
 
   -- a swap
   abbrev pub put : At → Sat T → ℕ → Sat T → Type 0
   put st m found m' = (x : T) → fits x → st.first ≡ word x
-      → (before : List T) × ((after : List T) × ((turn : ℕ) × (Moment word fits m.0 before turn found × Writes before x after × (m' ≡ (stepped_to after turn m.0, m.1)))))
+      → (before : List T) × ((after : List T) × ((turn : ℕ) × (Moment word fits m.0 before turn found × Writes before x after
+      × (m' ≡ (stepped_to after turn m.0, m.1)))))
 
   -- a compare_exchange
   abbrev pub compared : At → Sat T → ℕ → Sat T → Type 0

@@ -4,14 +4,14 @@ use Rattle.atomic_table.specs.Seated.{TableId}
 use Rattle.atomic_table.specs.declared.shared.Seat.{Seat}
 use Rattle.state_flow.specs.declared.view.View.{View}
 
--- a place at a flow: which flow it is, and what the place knows
-pub record Place (T : Type 0) : Type 0 where
+-- a seat or a collector: which flow it is at, and what it has seen
+pub record SeatSeen (T : Type 0) : Type 0 where
   pub flow : TableId
   pub view : View T
 
 module _ {T : Type 0} where
-  abbrev pub place_of : Seat (Unit {0}) (View T) → Place T
-  place_of seat = record { flow = seat.table_id; view = seat.me.0 }
+  abbrev pub seen_by : Seat (Unit {0}) (View T) → SeatSeen T
+  seen_by seat = record { flow = seat.table_id; view = seat.me.0 }
 
   -- what the code keeps beside an atomic seat: the flow's words, the share, whether it collects; there is nothing left to be told
   pub record IsSeated (seat : Seat (Unit {0}) (View T)) (flow : TableId) (share : ℕ) (collects : Bool) : Type 0 where
@@ -64,8 +64,26 @@ module _ {T : Type 0} where
 
   -- A seat that took back another, with its share. It is told what that one had seen, and that one's steps count as its own
   abbrev pub keeper : View T → View T → View T
-  keeper v other = record v { told = other.seen; told_turn = other.turn; steps = v.steps + other.steps; count_steps = v.count_steps + other.count_steps; share = v.share + other.share }
+  keeper v other = record v {
+    told = other.seen;
+    told_turn = other.turn;
+    steps = v.steps + other.steps;
+    count_steps = v.count_steps + other.count_steps;
+    share = v.share + other.share;
+  }
 
   -- what is left of a seat that was given back
   abbrev pub spent : View T
-  spent = record { seen = []; turn = 0; told = []; told_turn = 0; steps = 0; counted = 0; count_turn = 0; count_steps = 0; collects = false; collected = []; share = 0 }
+  spent = record {
+    seen = [];
+    turn = 0;
+    told = [];
+    told_turn = 0;
+    steps = 0;
+    counted = 0;
+    count_turn = 0;
+    count_steps = 0;
+    collects = false;
+    collected = [];
+    share = 0;
+  }

@@ -3,7 +3,7 @@ ghost use Rattle.std.specs.Prelude.{◌≡◌, [], true};
 ghost use Rattle.std.specs.Arc.{arc_value};
 ghost use Rattle.futures.specs.Poll.{OnPending};
 ghost use Rattle.futures.specs.Task.{IsArmed, Keeps};
-ghost use Rattle.state_flow.specs.Views.{place_of, IsSeated};
+ghost use Rattle.state_flow.specs.Views.{seen_by, IsSeated};
 ghost use Rattle.state_flow.specs.Calls.{Collects, Ends, taken};
 
 use crate::flow::StateFlow;
@@ -34,11 +34,11 @@ impl<T: Word, A: Allocator> Model for Collector<T, A> {
     ghost use Rattle.std.specs.Prelude.{◌≡◌, true};
     ghost use Rattle.std.specs.Arc.{arc_value};
     ghost use Rattle.state_flow.specs.History.{last_of};
-    ghost use Rattle.state_flow.specs.Views.{Place, place_of, IsSeated};
+    ghost use Rattle.state_flow.specs.Views.{SeatSeen, seen_by, IsSeated};
 
-    ghost Value = { Place T };
+    ghost Value = { SeatSeen T };
 
-    ghost view = { λ s. place_of s.seat };
+    ghost view = { λ s. seen_by s.seat };
 
     ghost invariant = { λ s. IsSeated s.seat (arc_value s.flow).table.shared.table_id s.share true × (last_of s.seat.me.0.collected ≡ s.last) };
 }
@@ -51,7 +51,7 @@ impl<T: Word, A: Allocator> Collector<T, A> {
     ) -> Collector<T, A>
         requires seated { IsSeated seat (arc_value flow).table.shared.table_id share true }
         requires fresh { seat.me.0.collected ≡ [] }
-        ensures { result ≡ place_of seat }
+        ensures { result ≡ seen_by seat }
     {
         Collector {
             flow,

@@ -55,7 +55,7 @@
 
 mod collector;
 mod flow;
-mod law;
+mod laws;
 mod plays;
 mod seat;
 mod view;
@@ -63,6 +63,6 @@ mod view;
 pub use collector::Collector;
 pub use flow::StateFlow;
 pub use flow_terms::{Refusal, Word};
-pub use law::one_history;
+pub use laws::one_history;
 pub use seat::StateSeat;
 pub use view::View;

@@ -1,7 +1,7 @@
-//! A place at a state flow: it reads the value, sets it, and can begin to collect.
+//! A seat at a state flow: it reads the value, sets it, and can begin to collect.
 ghost use Rattle.std.specs.Prelude.{◌≡◌, ◌+◌, ◌<◌, ◌≤◌, ◌⊎◌, false, IfOk, IfErr, OnErr};
 ghost use Rattle.std.specs.Arc.{arc_value};
-ghost use Rattle.state_flow.specs.Views.{place_of, IsSeated, giver, taker};
+ghost use Rattle.state_flow.specs.Views.{seen_by, IsSeated, giver, taker};
 ghost use Rattle.state_flow.specs.Calls.{Reads, Sets, Compares, TakesBack, Counts, Begins};
 ghost use Rattle.flow_terms.specs.declared.refusal.Refusal.TheVariants.{SubscribersFull, NoMemory};
 
@@ -14,7 +14,7 @@ use std::alloc::{Allocator, Global};
 use std::marker::{Brand, Model};
 use std::sync::Arc;
 
-/// A place at a state flow, from which one thread at a time reads and sets the value. Another thread gets a seat of its
+/// A seat at a state flow, from which one thread at a time reads and sets the value. Another thread gets a seat of its
 /// own by [`take_seat`](StateSeat::take_seat). No call of a seat takes a lock or waits. A seat that is dropped takes its
 /// share with it.
 ///
@@ -31,11 +31,11 @@ pub struct StateSeat<T: Word, A: Allocator = Global> {
 impl<T: Word, A: Allocator> Model for StateSeat<T, A> {
     ghost use Rattle.std.specs.Prelude.{false};
     ghost use Rattle.std.specs.Arc.{arc_value};
-    ghost use Rattle.state_flow.specs.Views.{Place, place_of, IsSeated};
+    ghost use Rattle.state_flow.specs.Views.{SeatSeen, seen_by, IsSeated};
 
-    ghost Value = { Place T };
+    ghost Value = { SeatSeen T };
 
-    ghost view = { λ s. place_of s.seat };
+    ghost view = { λ s. seen_by s.seat };
 
     ghost invariant = { λ s. IsSeated s.seat (arc_value s.flow).table.shared.table_id s.share false };
 }
@@ -47,7 +47,7 @@ impl<T: Word, A: Allocator> StateSeat<T, A> {
         share: u32,
     ) -> StateSeat<T, A>
         requires { IsSeated seat (arc_value flow).table.shared.table_id share false }
-        ensures { result ≡ place_of seat }
+        ensures { result ≡ seen_by seat }
     {
         StateSeat { flow, seat, share }
     }

@@ -1,11 +1,8 @@
 //! What the law says of all seats of a flow at once, whatever steps were made.
-ghost use Rattle.std.specs.Prelude.{◌≡◌, ◌≤◌, ℕ};
-ghost use lib.ListN.{get_elem?};
-ghost use mathlib.Core.Option.{some};
+ghost use Rattle.std.specs.Prelude.{ℕ};
 ghost use Rattle.atomic_table.specs.Table.{State};
 ghost use Rattle.state_flow.specs.declared.view.View.{View};
-ghost use Rattle.state_flow.specs.History.{Continues};
-ghost use Rattle.state_flow.specs.Law.{Rule, HasOneHistory};
+ghost use Rattle.state_flow.specs.Law.{Rule, LaterHasSeenAll, HasOneHistory};
 
 use flow_terms::Word;
 
@@ -15,5 +12,5 @@ use flow_terms::Word;
 /// that collect.
 pub fn one_history<T: Word>()
     ensures history { (key : T × ℕ) (s : State (Unit {0}) (View T)) → Rule T.word T.fits key s → HasOneHistory key.0 key.1 s }
-    ensures two_seats { (key : T × ℕ) (s : State (Unit {0}) (View T)) → Rule T.word T.fits key s → (i j : ℕ) (v w : View T) → get_elem? s.views i ≡ some v → get_elem? s.views j ≡ some w → v.turn ≤ w.turn → Continues w.seen v.seen }
+    ensures two_seats { (key : T × ℕ) (s : State (Unit {0}) (View T)) → Rule T.word T.fits key s → LaterHasSeenAll s }
 {}

@@ -2,7 +2,7 @@ use Rattle.std.proofs.Common.{sym, subst, arith}
 use Rattle.state_flow.specs.History.{Continues}
 use Rattle.state_flow.proofs.Lists.{picks_on}
 use Rattle.state_flow.proofs.Sums.{collectors_in-le-shares_in}
-use Rattle.state_flow.proofs.law.one_history.Goals as goal
+use Rattle.state_flow.proofs.laws.one_history.Goals as goal
 
 pub returns : goal.returns
 returns g c = record {
