@@ -38,10 +38,11 @@ FoundStanding l ticket i = (i < length l) × ((s : Standing) × (slice_get l i �
 abbrev pub FoundWaiting : List Waiting → ℕ → ℕ → Type 0
 FoundWaiting l ticket i = (i < length l) × ((w : Waiting) × (slice_get l i ≡ Some w) × (w.ticket ≡ ticket))
 
--- the same of the sequencer's own
+-- the first of the sequencer's standing emissions with this ticket is the i-th
 abbrev pub StandsAt : SequencerSeen → ℕ → ℕ → Type 0
 StandsAt q ticket i = (i < length q.standing) × ((s : Standing) × HasTicket q ticket i s)
 
+-- the i-th of its waiting emissions has this ticket
 abbrev pub WaitsAt : SequencerSeen → ℕ → ℕ → Type 0
 WaitsAt q ticket i = (i < length q.waiting) × ((w : Waiting) × WaitsWith q ticket i w)
 

@@ -21,11 +21,11 @@ open_count (n ∷ ns) = cond (eqb n closed) (open_count ns) (suc (open_count ns)
 abbrev pub KnowsPlaces : Shape → View → Type 0
 KnowsPlaces key v = (v.shape ≡ key) × (length v.sequencing.places ≡ key.places)
 
--- it does, and the lane may drop values
+-- the view is of a lane of this shape, which may drop values, and knows of each place
 abbrev pub MayDrop : Shape → View → Type 0
 MayDrop key v = (v.shape ≡ key) × (length v.sequencing.places ≡ key.places) × (key.drops ≡ true)
 
--- it does, and the lane may drop values of this place
+-- the same, and this is one of the places
 abbrev pub MayDropAt : Shape → View → ℕ → Type 0
 MayDropAt key v place = (v.shape ≡ key) × (length v.sequencing.places ≡ key.places) × (place < key.places) × (key.drops ≡ true)
 
