@@ -3,7 +3,7 @@
 ghost use Rattle.std.specs.Prelude.{◌≡◌, [], IfOk, IfSome, IfNone, IsOkUnless, OnErr};
 ghost use Rattle.shared_core.specs.Kept.{making_refusal, parameters_of};
 ghost use Rattle.shared_core.specs.Headline.{Headline};
-ghost use Rattle.shared_core.specs.Made.{trace_made, IsTraceOf};
+ghost use Rattle.shared_core.specs.Made.{execution_made, IsExecutionOf};
 
 use cold_flow::Refusal;
 use shared_core::{Call, Config, Reply, SharedState, each_subscription_receives_cache_then_later};
@@ -24,8 +24,8 @@ pub fn run_new_flow<T: Copy>(
     ensures refused { IfSome (making_refusal config) (λ refusal. result ≡ Err refusal) }
     ensures made { IfNone (making_refusal config) (IsOkUnless result Refusal.NoMemory) }
     ensures err { OnErr result (replies.new.items ≡ replies.old.items) }
-    ensures trace { IfOk result (λ flow. IsTraceOf (parameters_of config) (trace_made calls.now replies.new.items flow)) }
-    ensures headline { IfOk result (λ flow. Headline (trace_made calls.now replies.new.items flow)) }
+    ensures execution { IfOk result (λ flow. IsExecutionOf (parameters_of config) (execution_made calls.now replies.new.items flow)) }
+    ensures headline { IfOk result (λ flow. Headline (execution_made calls.now replies.new.items flow)) }
 {
     each_subscription_receives_cache_then_later::<T>();
     let mut flow = SharedState::new(alloc, config)?;

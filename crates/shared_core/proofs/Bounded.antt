@@ -7,7 +7,7 @@ use Rattle.shared_core.specs.Flow.{cache_start, Parameters, State, Subscription,
 use Rattle.shared_core.specs.Calls.{Call, after, reset}
 use Rattle.shared_core.specs.Shown.{seen_of, live_from}
 use Rattle.shared_core.specs.Story.{IsTold, if_waiting}
-use Rattle.shared_core.specs.Headline.{OfEveryTrace, AtMostItsPlacesPending, NoneWaitsBesideRoom}
+use Rattle.shared_core.specs.Headline.{OfEveryExecution, AtMostItsPlacesPending, NoneWaitsBesideRoom}
 use Rattle.shared_core.proofs.Emissions.{waiting_is}
 use Rattle.shared_core.proofs.Pending.{position, length-pending, pending-closed, pending-live, none_left, pending_values-live, received_next-some, received_next-none, lost_next-some, IsTold-received, IsTold-received_next, IsTold-lost, IsTold-later, IsTold-opened}
 use Rattle.shared_core.proofs.Receiving.{at_contains, contains_at, shown_at, shown_one}
@@ -198,7 +198,7 @@ module _ {T : Type 0} where
       ] refl in
       (found.0, s, found.2, live, length-pending_values M.accepted s fits.told live ∙ omega (arith, fits.at_most, found.3))
 
-pub at_most_its_places_pending : (T : Type 0) → OfEveryTrace T AtMostItsPlacesPending
+pub at_most_its_places_pending : (T : Type 0) → OfEveryExecution T AtMostItsPlacesPending
 unfolding seen_of
 at_most_its_places_pending T p calls n pending has =
     let N = after calls (empty p) in
@@ -208,7 +208,7 @@ at_most_its_places_pending T p calls n pending has =
     let count = ap length e.shows ∙ length-pending_values N.accepted e.s fits.told e.lives in
     omega (arith, count, fits.at_most)
 
-pub none_waits_beside_room : (T : Type 0) → OfEveryTrace T NoneWaitsBesideRoom
+pub none_waits_beside_room : (T : Type 0) → OfEveryExecution T NoneWaitsBesideRoom
 unfolding seen_of
 none_waits_beside_room T p calls some =
     let N = after calls (empty p) in

@@ -5,7 +5,7 @@ use Rattle.std.specs.List.{list_any}
 use Rattle.shared_core.specs.Flow.{Parameters, State, empty, values, cache, cache_start}
 use Rattle.shared_core.specs.Calls.{Call, resetting, reset, to_reset, after}
 use Rattle.shared_core.specs.Shown.{seen_of}
-use Rattle.shared_core.specs.Headline.{trace_of, Moment, until, accepted, latest, is_reset, CachesTheLatest, OfEveryTrace}
+use Rattle.shared_core.specs.Headline.{execution_of, Moment, until, accepted, latest, is_reset, CachesTheLatest, OfEveryExecution}
 use Rattle.shared_core.proofs.Emissions.{accepted_is}
 use Rattle.shared_core.proofs.Moments.{until_is, ends_as}
 use Rattle.shared_core.proofs.Receiving.{drop-drop}
@@ -58,14 +58,14 @@ module _ {T : Type 0} (p : Parameters) (calls : List (Call T)) where
   never : list_any is_reset calls ≡ false → cache N ≡ latest p.replay (values N.accepted)
   never calm = caches_since calls (empty p) calm refl
 
-  since : (moment : Moment (trace_of p calls) resetting to_reset) → list_any is_reset moment.later ≡ false
+  since : (moment : Moment (execution_of p calls) resetting to_reset) → list_any is_reset moment.later ≡ false
       → cache N ≡ latest (after moment.before (empty {T = T} p)).parameters.replay (drop (length (after moment.before (empty {T = T} p)).accepted) (values N.accepted))
   since moment calm =
       let M = after moment.before (empty {T = T} p) in
       let is : N ≡ after moment.later (reset M) = ends_as p calls moment in
       subst (λ (K : State T). cache K ≡ latest M.parameters.replay (drop (length M.accepted) (values K.accepted))) (sym is) (caches_since moment.later (reset M) calm refl)
 
-pub caches_the_latest : (T : Type 0) → OfEveryTrace T CachesTheLatest
+pub caches_the_latest : (T : Type 0) → OfEveryExecution T CachesTheLatest
 unfolding seen_of
 caches_the_latest T p calls =
     let N = after calls (empty {T = T} p) in

@@ -9,7 +9,7 @@ use Rattle.shared_core.specs.Flow.{Parameters, State, Standing, waits, stands, g
 use Rattle.shared_core.specs.Calls.{Call, trying, starting, polling, withdrawing, subscribing, receiving, cancelling, resetting, counting, Reply, to_receive, to_cancel, step, replies, after, next_value, next_at, cancel, cancel_at, live_one}
 use Rattle.shared_core.specs.Shown.{seen_of}
 use Rattle.shared_core.specs.Story.{given_to}
-use Rattle.shared_core.specs.Headline.{trace_of, IsClosedFrom, received, NothingWithoutOpening, OfEveryTrace, until, Cancellation}
+use Rattle.shared_core.specs.Headline.{execution_of, IsClosedFrom, received, NothingWithoutOpening, OfEveryExecution, until, Cancellation}
 use Rattle.shared_core.proofs.Moments.{slice_get-after, replies-append, length-replies, given-append, until_is, answered}
 use Rattle.shared_core.proofs.Given.{IsFound, found_one, given_append}
 use Rattle.shared_core.proofs.Growing.{growth_law}
@@ -148,8 +148,8 @@ module _ {T : Type 0} where
   closed_after n later M over zero called = absurd (let same = same_Some (cancelling n) (receiving n) called in cc)
   closed_after n later M over (suc j) called = over_closed n later (step (cancelling n) M).1 over j called
 
-pub nothing_more : (T : Type 0) (p : Parameters) (calls : List (Call T)) (n : ℕ) (end : Cancellation (trace_of p calls) n)
-    → IsClosedFrom (length end.before) n (trace_of p calls) × (received n (trace_of p calls) ≡ received n (until end))
+pub nothing_more : (T : Type 0) (p : Parameters) (calls : List (Call T)) (n : ℕ) (end : Cancellation (execution_of p calls) n)
+    → IsClosedFrom (length end.before) n (execution_of p calls) × (received n (execution_of p calls) ≡ received n (until end))
 nothing_more T p calls n end =
     let M = after end.before (empty p) in
     let over = over_when_cancelled n end.later M (answered p calls end) in
@@ -173,7 +173,7 @@ nothing_more T p calls n end =
           ∙ ap (received n) (sym (until_is p calls end)),
     )
 
-pub nothing_without_opening : (T : Type 0) → OfEveryTrace T NothingWithoutOpening
+pub nothing_without_opening : (T : Type 0) → OfEveryExecution T NothingWithoutOpening
 unfolding seen_of
 nothing_without_opening T p calls n outside =
     let over = over_outside n calls (empty p) (subst (λ q. (n < q.first) ⊎ (q.first + length (after calls (empty p)).subscriptions ≤ n)) (after_over fixed_parameters calls (empty p)) outside) in

@@ -11,7 +11,7 @@ use Rattle.shared_core.specs.Flow.{Parameters, State, Standing, waits, stands, g
 use Rattle.shared_core.specs.Calls.{Fate, enters, pushes_in, handed_over, dropped, held_up, fate, try_by, try_emit, start_by, start_emit, numbers_spent, tickets_spent, Call, trying, starting, polling, withdrawing, subscribing, receiving, cancelling, resetting, counting, Reply, to_try, to_start, replied, step, replies, after}
 use Rattle.shared_core.specs.Shown.{out_from, seen_of}
 use Rattle.shared_core.specs.Story.{if_waiting, emitted, by_emitter}
-use Rattle.shared_core.specs.Headline.{trace_of, accepted, waiting, acceptance, EachEmitterInItsOwnOrder, NumbersCountWhatWasAccepted, OfEveryTrace}
+use Rattle.shared_core.specs.Headline.{execution_of, accepted, waiting, acceptance, EachEmitterInItsOwnOrder, NumbersCountWhatWasAccepted, OfEveryExecution}
 use Rattle.shared_core.proofs.Sequence.{order_law, fixed_parameters}
 use Rattle.shared_core.proofs.Walks.{step_over, after_over}
 use Rattle.shared_core.proofs.Growing.{growth_law}
@@ -25,11 +25,11 @@ module _ {T : Type 0} where
   waiting_shown n (stands i ∷ rest) = waiting_shown (n + 1) rest
   waiting_shown n (gone ∷ rest) = waiting_shown (n + 1) rest
 
-  pub waiting_is : (p : Parameters) (calls : List (Call T)) → waiting (trace_of p calls) ≡ filter_map if_waiting (after calls (empty p)).tickets
+  pub waiting_is : (p : Parameters) (calls : List (Call T)) → waiting (execution_of p calls) ≡ filter_map if_waiting (after calls (empty p)).tickets
   unfolding seen_of
   waiting_is p calls = let M = after calls (empty p) in waiting_shown M.parameters.first M.tickets
 
-  pub accepted_is : (p : Parameters) (calls : List (Call T)) → accepted (trace_of p calls) ≡ (after calls (empty p)).accepted
+  pub accepted_is : (p : Parameters) (calls : List (Call T)) → accepted (execution_of p calls) ≡ (after calls (empty p)).accepted
   unfolding seen_of
   accepted_is p calls =
       let M = after calls (empty p) in
@@ -38,15 +38,15 @@ module _ {T : Type 0} where
       ∙ ap (take (length M.accepted)) (sym (order_law T p calls).0)
       ∙ take-append_seam M.accepted (filter_map if_waiting M.tickets)
 
-pub each_emitter_in_its_own_order : (T : Type 0) → OfEveryTrace T EachEmitterInItsOwnOrder
+pub each_emitter_in_its_own_order : (T : Type 0) → OfEveryExecution T EachEmitterInItsOwnOrder
 each_emitter_in_its_own_order T p calls =
     let law = order_law T p calls in
     let A = accepted_is p calls in
     let W = waiting_is p calls in
     record {
-      all = ap (λ xs. xs ++ waiting (trace_of p calls)) A ∙ ap (λ ws. (after calls (empty p)).accepted ++ ws) W ∙ law.0;
+      all = ap (λ xs. xs ++ waiting (execution_of p calls)) A ∙ ap (λ ws. (after calls (empty p)).accepted ++ ws) W ∙ law.0;
       of_each = λ e.
-          ap (λ xs. by_emitter e xs ++ by_emitter e (waiting (trace_of p calls))) A
+          ap (λ xs. by_emitter e xs ++ by_emitter e (waiting (execution_of p calls))) A
           ∙ ap (λ ws. by_emitter e (after calls (empty p)).accepted ++ by_emitter e ws) W
           ∙ law.1 e;
     }
@@ -129,7 +129,7 @@ module _ {T : Type 0} where
       let found = numbered calls (step this M).1 k call reply number emission is called replied in
       (found.0, found.1 ∙ ap (λ p. p.first + found.0) (step_over fixed_parameters this M), found.2)
 
-pub numbers_count_what_was_accepted : (T : Type 0) → OfEveryTrace T NumbersCountWhatWasAccepted
+pub numbers_count_what_was_accepted : (T : Type 0) → OfEveryExecution T NumbersCountWhatWasAccepted
 unfolding seen_of
 numbers_count_what_was_accepted T p calls call reply number emission is moment =
     let found = numbered calls (empty p) (length moment.before) call reply number emission is

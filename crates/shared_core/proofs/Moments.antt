@@ -1,11 +1,11 @@
--- A trace before and after one of its calls.
+-- An execution before and after one of its calls.
 use Rattle.std.proofs.Common.{◌≡◌, ℕ, suc, ◌+◌, List, [], ◌∷◌, ◌++◌, length, Some, slice_get, refl, sym, ap, ◌∙◌, arith, append_assoc}
 use Rattle.std.proofs.lemmas.Option.{same_Some}
 use Rattle.shared_core.specs.Flow.{Parameters, State, empty}
 use Rattle.shared_core.specs.Calls.{Call, Reply, step, replies, after}
 use Rattle.shared_core.specs.Shown.{seen_of}
 use Rattle.shared_core.specs.Story.{given_to}
-use Rattle.shared_core.specs.Headline.{trace_of, Moment, until}
+use Rattle.shared_core.specs.Headline.{execution_of, Moment, until}
 use Rattle.shared_core.proofs.Given.{given_append}
 use Rattle.shared_core.proofs.Sequence.{fixed_parameters}
 use Rattle.shared_core.proofs.Walks.{after_over}
@@ -44,13 +44,13 @@ module _ {T : Type 0} where
       ∙ sym (append_assoc (given_to n (call ∷ []) ((step call M).0 ∷ [])) (given_to n before (replies before N)) (given_to n later (replies later (after before N))))
       ∙ ap (λ xs. xs ++ given_to n later (replies later (after before N))) (sym (given_append n call (step call M).0 before (replies before N)))
 
-  -- a moment of a trace of the model
+  -- a moment of an execution of the model
   module _ (p : Parameters) (calls : List (Call T)) where
-    pub until_is : {call : Call T} {reply : Reply T} (moment : Moment (trace_of p calls) call reply) → until moment ≡ trace_of p moment.before
+    pub until_is : {call : Call T} {reply : Reply T} (moment : Moment (execution_of p calls) call reply) → until moment ≡ execution_of p moment.before
     unfolding seen_of
-    until_is moment = ap (λ q. trace_of q moment.before) (after_over fixed_parameters calls (empty p))
+    until_is moment = ap (λ q. execution_of q moment.before) (after_over fixed_parameters calls (empty p))
 
-    pub answered : {call : Call T} {reply : Reply T} (moment : Moment (trace_of p calls) call reply) → (step call (after moment.before (empty p))).0 ≡ reply
+    pub answered : {call : Call T} {reply : Reply T} (moment : Moment (execution_of p calls) call reply) → (step call (after moment.before (empty p))).0 ≡ reply
     answered {call = call} {reply = reply} moment =
         let M = after moment.before (empty p) in
         let rs = replies moment.before (empty p) in
@@ -60,11 +60,11 @@ module _ {T : Type 0} where
         ∙ slice_get-seam rs (step call M).0 (replies moment.later (step call M).1) in
         same_Some (step call M).0 reply (sym there ∙ ap (λ cs. slice_get (replies cs (empty p)) (length moment.before)) (sym moment.called) ∙ moment.replied)
 
-    pub ends_as : {call : Call T} {reply : Reply T} (moment : Moment (trace_of p calls) call reply) → after calls (empty p) ≡ after moment.later (step call (after moment.before (empty p))).1
+    pub ends_as : {call : Call T} {reply : Reply T} (moment : Moment (execution_of p calls) call reply) → after calls (empty p) ≡ after moment.later (step call (after moment.before (empty p))).1
     ends_as {call = call} moment = ap (λ cs. after cs (empty p)) moment.called ∙ after-append moment.before (call ∷ moment.later) (empty p)
 
-    -- any call of the trace, at its moment
-    abbrev pub moment_at : (before : List (Call T)) (call : Call T) (later : List (Call T)) (M : State T) → calls ≡ before ++ call ∷ later → after before (empty p) ≡ M → Moment (trace_of p calls) call (step call M).0
+    -- any call of the execution, at its moment
+    abbrev pub moment_at : (before : List (Call T)) (call : Call T) (later : List (Call T)) (M : State T) → calls ≡ before ++ call ∷ later → after before (empty p) ≡ M → Moment (execution_of p calls) call (step call M).0
     moment_at before call later M called reached = record {
       before = before;
       later = later;

@@ -15,7 +15,7 @@ use Rattle.shared_core.specs.Flow.{cache_start, Parameters, State, Subscription,
 use Rattle.shared_core.specs.Calls.{Call, subscribing, subscribe, Reply, to_subscribe, step, replies, after, cancelling, to_cancel}
 use Rattle.shared_core.specs.Shown.{seen_of, live_from, Seen}
 use Rattle.shared_core.specs.Story.{Interleaves, none, left, right, IsTold, told_count, BeginsWith, GoesOn, Grows, given_to}
-use Rattle.shared_core.specs.Headline.{Trace, trace_of, Moment, until, accepted, Opening, cache_then_later, IsDropped, ReceivesCacheThenLater, Cancellation, EachReceivesCacheThenLater, LiveUntilCancelled, OfEveryTrace, EachLiveWasOpened, NothingAfterCancellation}
+use Rattle.shared_core.specs.Headline.{Execution, execution_of, Moment, until, accepted, Opening, cache_then_later, IsDropped, ReceivesCacheThenLater, Cancellation, EachReceivesCacheThenLater, LiveUntilCancelled, OfEveryExecution, EachLiveWasOpened, NothingAfterCancellation}
 use Rattle.shared_core.proofs.Emissions.{accepted_is}
 use Rattle.shared_core.proofs.Growing.{growth_law}
 use Rattle.shared_core.proofs.Losing.{Once, Loses, lost_once, IsCancelled, live_until}
@@ -186,7 +186,7 @@ module _ {T : Type 0} where
         ]
       ] answered
 
-  module _ (p : Parameters) (calls : List (Call T)) (n : ℕ) (opening : Opening (trace_of p calls) n) where
+  module _ (p : Parameters) (calls : List (Call T)) (n : ℕ) (opening : Opening (execution_of p calls) n) where
     abbrev M : State T
     M = after opening.before (empty p)
 
@@ -219,14 +219,14 @@ module _ {T : Type 0} where
     same_first = ap (λ (q : Parameters). q.first) (after_over fixed_parameters opening.before (empty p) ∙ sym (after_over fixed_parameters calls (empty p)))
 
     -- the list of the subscription, at any later moment
-    story_at : (later : Trace T) (all : List (ℕ × T)) → accepted later ≡ all → BeginsWith M.accepted all → cache_then_later (until opening) later ≡ drop new.start (values all)
+    story_at : (later : Execution T) (all : List (ℕ × T)) → accepted later ≡ all → BeginsWith M.accepted all → cache_then_later (until opening) later ≡ drop new.start (values all)
     unfolding seen_of
     story_at later all is begins =
         let before : accepted (until opening) ≡ M.accepted = ap accepted (until_is p calls opening) ∙ accepted_is p opening.before in
         let parts : values all ≡ values M.accepted ++ values begins.0 = ap values begins.1 ∙ map-append (λ (e : ℕ × T). e.1) M.accepted begins.0 in
         let sound = sound-after opening.before (empty {T = T} p) (sound-empty p) in
         let within : new.start ≤ length (values M.accepted) = omega (arith, sound.reset, length-map M.accepted (λ (e : ℕ × T). e.1)) in
-        ap (λ (r : Trace T). r.seen.cache ++ drop (length (accepted (until opening))) (values (accepted later))) (until_is p calls opening)
+        ap (λ (r : Execution T). r.seen.cache ++ drop (length (accepted (until opening))) (values (accepted later))) (until_is p calls opening)
         ∙ ap (λ xs. cache M ++ drop (length xs) (values (accepted later))) before
         ∙ ap (λ xs. cache M ++ drop (length M.accepted) (values xs)) is
         ∙ ap (λ i. cache M ++ drop i (values all)) (sym (length-map M.accepted (λ (e : ℕ × T). e.1)))
@@ -234,13 +234,13 @@ module _ {T : Type 0} where
         ∙ ap (λ xs. cache M ++ xs) (drop-append_seam (values M.accepted) (values begins.0))
         ∙ sym (ap (drop new.start) parts ∙ drop-append-le new.start (values M.accepted) (values begins.0) within)
 
-    story_is : cache_then_later (until opening) (trace_of p calls) ≡ drop new.start (values N.accepted)
-    story_is = story_at (trace_of p calls) N.accepted (accepted_is p calls) grown.accepted
+    story_is : cache_then_later (until opening) (execution_of p calls) ≡ drop new.start (values N.accepted)
+    story_is = story_at (execution_of p calls) N.accepted (accepted_is p calls) grown.accepted
 
     n_is : n ≡ N.parameters.first + k
     n_is = opened.1 ∙ ap (λ f. f + k) same_first
 
-    -- a later call, in the whole trace
+    -- a later call, in the whole execution
     module _ {P : State T → Call T → Reply T → Type 0} (once : Once opening.later (open_next M) P) where
       abbrev K : State T
       K = after once.before (open_next M)
@@ -251,13 +251,13 @@ module _ {T : Type 0} where
       reached : after before_it (empty p) ≡ K
       reached = after-append opening.before (subscribing ∷ once.before) (empty p) ∙ ap (after once.before) opened.0
 
-      abbrev moment : Moment (trace_of p calls) once.call (step once.call K).0
+      abbrev moment : Moment (execution_of p calls) once.call (step once.call K).0
       moment = moment_at p calls before_it once.call once.later K
           (opening.called ∙ ap (λ cs. opening.before ++ subscribing ∷ cs) once.called ∙ sym (append_assoc opening.before (subscribing ∷ once.before) (once.call ∷ once.later)))
           reached
 
       seen_there : (until moment).seen ≡ seen_of K
-      seen_there = ap (λ (r : Trace T). r.seen) (until_is p calls moment) ∙ ap seen_of reached
+      seen_there = ap (λ (r : Execution T). r.seen) (until_is p calls moment) ∙ ap seen_of reached
 
       same_parameters : K.parameters ≡ N.parameters
       same_parameters = ap (λ (L : State T). L.parameters) (sym reached) ∙ after_over fixed_parameters before_it (empty p) ∙ sym (after_over fixed_parameters calls (empty p))
@@ -270,7 +270,7 @@ module _ {T : Type 0} where
         (lost_once opening.later (open_next M) k new now.0 new_there (ap (λ (L : State T). slice_get L.subscriptions k) (sym N_is) ∙ now.1) i has)
 
     -- each lost value was the oldest one pending when an emission was accepted and all places were taken
-    is_dropped : (i : ℕ) → contains now.0.lost i ≡ true → IsDropped (trace_of p calls) n opening (i - new.start)
+    is_dropped : (i : ℕ) → contains now.0.lost i ≡ true → IsDropped (execution_of p calls) n opening (i - new.start)
     unfolding seen_of
     is_dropped i has =
         let once = dropped_once i has in
@@ -310,7 +310,7 @@ module _ {T : Type 0} where
     none_dropped keeps = none_contained now.0.lost (λ i has.
         let once = dropped_once i has in keeps (ap (λ q. q.overflow) (sym (same_parameters once)) ∙ once.holds.drops.policy))
 
-    receives : (pending : List T) → Contains (trace_of p calls).seen.live (n, pending) → ReceivesCacheThenLater (trace_of p calls) n opening pending
+    receives : (pending : List T) → Contains (execution_of p calls).seen.live (n, pending) → ReceivesCacheThenLater (execution_of p calls) n opening pending
     unfolding seen_of
     receives waits has =
         let t = now.0 in
@@ -328,7 +328,7 @@ module _ {T : Type 0} where
         let whole : Interleaves kept t.lost (range_with_len new.start (total - new.start)) =
         subst (λ a. Interleaves kept t.lost (range_with_len a (total - a))) now.2.start (kept_whole total t told live) in
         let first : p.first + k ≡ n = ap (λ (q : Parameters). q.first + k) (sym (after_over fixed_parameters calls (empty p))) ∙ sym n_is in
-        let count : length (cache_then_later (until opening) (trace_of p calls)) ≡ total - new.start =
+        let count : length (cache_then_later (until opening) (execution_of p calls)) ≡ total - new.start =
         ap length story_is ∙ length-drop new.start all ∙ ap (λ m. m - new.start) (length-map N.accepted (λ (x : ℕ × T). x.1)) in
         record {
           kept = map low kept;
@@ -345,10 +345,10 @@ module _ {T : Type 0} where
             ap values (accepted_is p calls) ∙ sym (take-append-drop new.start all) ∙ ap (λ xs. take new.start all ++ xs) (sym story_is),
           );
           only_drop_oldest_drops = λ keeps. ap (map low) (none_dropped keeps);
-          only_the_oldest_when_full = All-lowered (IsDropped (trace_of p calls) n opening) low t.lost is_dropped;
+          only_the_oldest_when_full = All-lowered (IsDropped (execution_of p calls) n opening) low t.lost is_dropped;
         }
 
-    lasts : ((pending : List T) × Contains (trace_of p calls).seen.live (n, pending)) ⊎ Cancellation (trace_of p calls) n
+    lasts : ((pending : List T) × Contains (execution_of p calls).seen.live (n, pending)) ⊎ Cancellation (execution_of p calls) n
     unfolding seen_of
     lasts =
         ⊎_elim
@@ -360,18 +360,18 @@ module _ {T : Type 0} where
         ))
         (λ (once : Once opening.later (open_next M) (IsCancelled k)).
         let named : number (K once) k ≡ n = ap (λ q. q.first + k) (same_parameters once) ∙ sym n_is in
-        inr (subst (λ call. Moment (trace_of p calls) call (to_cancel true)) (once.holds.0 ∙ ap (λ m. cancelling m) named)
-        (subst (Moment (trace_of p calls) once.call) once.holds.1 (moment once))))
+        inr (subst (λ call. Moment (execution_of p calls) call (to_cancel true)) (once.holds.0 ∙ ap (λ m. cancelling m) named)
+        (subst (Moment (execution_of p calls) once.call) once.holds.1 (moment once))))
         (live_until opening.later (open_next M) k new new_there refl)
 
-pub each_receives_cache_then_later : (T : Type 0) → OfEveryTrace T EachReceivesCacheThenLater
+pub each_receives_cache_then_later : (T : Type 0) → OfEveryExecution T EachReceivesCacheThenLater
 each_receives_cache_then_later T p calls n opening pending has = receives p calls n opening pending has
 
-pub live_until_cancelled : (T : Type 0) → OfEveryTrace T LiveUntilCancelled
+pub live_until_cancelled : (T : Type 0) → OfEveryExecution T LiveUntilCancelled
 live_until_cancelled T p calls n opening = lasts p calls n opening
 
 module _ {T : Type 0} (p : Parameters) (calls : List (Call T)) where
-  was_opened : (n : ℕ) (waits : List T) → Contains (trace_of p calls).seen.live (n, waits) → Opening (trace_of p calls) n
+  was_opened : (n : ℕ) (waits : List T) → Contains (execution_of p calls).seen.live (n, waits) → Opening (execution_of p calls) n
   unfolding seen_of
   was_opened n waits has =
       let N = after calls (empty p) in
@@ -384,11 +384,11 @@ module _ {T : Type 0} (p : Parameters) (calls : List (Call T)) where
       let L = after once.before (empty p) in
       let named : number L e.k ≡ n =
       ap (λ (q : Parameters). q.first + e.k) (after_over fixed_parameters once.before (empty p) ∙ sym (after_over fixed_parameters calls (empty p))) ∙ sym e.numbered in
-      subst (λ call. Moment (trace_of p calls) call (asked n)) once.holds.0
-      (subst (Moment (trace_of p calls) once.call) (once.holds.1 ∙ ap asked named) (moment_at p calls once.before once.call once.later L once.called refl)))
+      subst (λ call. Moment (execution_of p calls) call (asked n)) once.holds.0
+      (subst (Moment (execution_of p calls) once.call) (once.holds.1 ∙ ap asked named) (moment_at p calls once.before once.call once.later L once.called refl)))
       (opened_once calls (empty p) e.k (slice_get_within N.subscriptions e.k e.s e.gets))
 
-  was_live : (n : ℕ) (end : Cancellation (trace_of p calls) n) → (pending : List T) × Contains (until end).seen.live (n, pending)
+  was_live : (n : ℕ) (end : Cancellation (execution_of p calls) n) → (pending : List T) × Contains (until end).seen.live (n, pending)
   unfolding seen_of
   was_live n end =
       let M = after end.before (empty p) in
@@ -397,21 +397,21 @@ module _ {T : Type 0} (p : Parameters) (calls : List (Call T)) where
       let waits = pending_values M.accepted cancelled.1 in
       let entry = shown_at M.accepted M.parameters.first M.subscriptions cancelled.0 cancelled.1 found.gets found.lives in (
         waits,
-        subst (λ (trace : Trace T). Contains trace.seen.live (n, waits)) (sym (until_is p calls end))
+        subst (λ (execution : Execution T). Contains execution.seen.live (n, waits)) (sym (until_is p calls end))
             (contains_at (live_from M.accepted M.parameters.first M.subscriptions) entry.0 (n, waits) (entry.1 ∙ ap (λ m. Some (m, waits)) (sym found.named))),
       )
 
-pub each_live_was_opened : (T : Type 0) → OfEveryTrace T EachLiveWasOpened
+pub each_live_was_opened : (T : Type 0) → OfEveryExecution T EachLiveWasOpened
 each_live_was_opened T p calls n pending has = was_opened p calls n pending has
 
--- a trace up to a moment is a trace, of which all this holds
-pub nothing_after_cancellation : (T : Type 0) → OfEveryTrace T NothingAfterCancellation
+-- an execution up to a moment is an execution, of which all this holds
+pub nothing_after_cancellation : (T : Type 0) → OfEveryExecution T NothingAfterCancellation
 nothing_after_cancellation T p calls n end =
     let more = nothing_more T p calls n end in
     let lived = was_live p calls n end in
     let is = until_is p calls end in
     let opening : Opening (until end) n =
-    subst (λ (trace : Trace T). Opening trace n) (sym is) (was_opened p end.before n lived.0 (subst (λ (trace : Trace T). Contains trace.seen.live (n, lived.0)) is lived.1)) in
+    subst (λ (execution : Execution T). Opening execution n) (sym is) (was_opened p end.before n lived.0 (subst (λ (execution : Execution T). Contains execution.seen.live (n, lived.0)) is lived.1)) in
     let before : EachReceivesCacheThenLater (until end) = subst EachReceivesCacheThenLater (sym is) (each_receives_cache_then_later T p end.before) in
     let would = before n opening lived.0 lived.1 in
     record {

@@ -1,6 +1,6 @@
 //! What each subscription receives.
 
-ghost use Rattle.shared_core.specs.Headline.{OfEveryTrace, EachReceivesCacheThenLater, EachEmitterInItsOwnOrder};
+ghost use Rattle.shared_core.specs.Headline.{OfEveryExecution, EachReceivesCacheThenLater, EachEmitterInItsOwnOrder};
 ghost use Rattle.shared_core.specs.Headline.{NumbersCountWhatWasAccepted, EachLiveWasOpened, LiveUntilCancelled};
 ghost use Rattle.shared_core.specs.Headline.{NothingAfterCancellation, NothingWithoutOpening};
 ghost use Rattle.shared_core.specs.Headline.{AtMostItsPlacesPending, NoneWaitsBesideRoom, CachesTheLatest};
@@ -18,14 +18,14 @@ ghost use Rattle.shared_core.specs.Headline.{AtMostItsPlacesPending, NoneWaitsBe
 ///
 /// Not claimed: that any call is made.
 pub fn each_subscription_receives_cache_then_later<T: Copy>()
-    ensures each_receives_cache_then_later { OfEveryTrace T EachReceivesCacheThenLater }
-    ensures each_emitter_in_its_own_order { OfEveryTrace T EachEmitterInItsOwnOrder }
-    ensures numbers_count_what_was_accepted { OfEveryTrace T NumbersCountWhatWasAccepted }
-    ensures each_live_was_opened { OfEveryTrace T EachLiveWasOpened }
-    ensures live_until_cancelled { OfEveryTrace T LiveUntilCancelled }
-    ensures nothing_after_cancellation { OfEveryTrace T NothingAfterCancellation }
-    ensures nothing_without_opening { OfEveryTrace T NothingWithoutOpening }
-    ensures at_most_its_places_pending { OfEveryTrace T AtMostItsPlacesPending }
-    ensures none_waits_beside_room { OfEveryTrace T NoneWaitsBesideRoom }
-    ensures caches_the_latest { OfEveryTrace T CachesTheLatest }
+    ensures each_receives_cache_then_later { OfEveryExecution T EachReceivesCacheThenLater }
+    ensures each_emitter_in_its_own_order { OfEveryExecution T EachEmitterInItsOwnOrder }
+    ensures numbers_count_what_was_accepted { OfEveryExecution T NumbersCountWhatWasAccepted }
+    ensures each_live_was_opened { OfEveryExecution T EachLiveWasOpened }
+    ensures live_until_cancelled { OfEveryExecution T LiveUntilCancelled }
+    ensures nothing_after_cancellation { OfEveryExecution T NothingAfterCancellation }
+    ensures nothing_without_opening { OfEveryExecution T NothingWithoutOpening }
+    ensures at_most_its_places_pending { OfEveryExecution T AtMostItsPlacesPending }
+    ensures none_waits_beside_room { OfEveryExecution T NoneWaitsBesideRoom }
+    ensures caches_the_latest { OfEveryExecution T CachesTheLatest }
 {}

@@ -19,8 +19,8 @@ returns-in_err-run-clause-made g c = whatever (making_refusal c.args.config) _ (
 pub returns-clause-refused : goal.returns-clause-refused
 returns-clause-refused g c = none_if_ok (making_refusal c.args.config) c.in_ok-flow.flow _ c.in_ok-flow.ensures.refused
 
-pub returns-clause-trace : goal.returns-clause-trace
-returns-clause-trace g c =
+pub returns-clause-execution : goal.returns-clause-execution
+returns-clause-execution g c =
     let calls = c.args.calls.now in
     let runs = subst (λ before. Runs calls c.in_ok-flow.flow before c.run.new.out.items c.run.new.self) c.requires c.in_ok-run.ensures.ok in
     made_is (parameters_of c.args.config) calls c.run.new.out.items c.in_ok-flow.flow c.run.new.self c.in_ok-flow.ensures.shows runs

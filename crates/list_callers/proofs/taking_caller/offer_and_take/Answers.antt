@@ -5,7 +5,7 @@ use Rattle.shared_core.specs.Calls.{after}
 use Rattle.shared_core.specs.Flow.{empty}
 use Rattle.shared_core.specs.Kept.{making_refusal, parameters_of}
 use Rattle.shared_core.specs.Shown.{Shows}
-use Rattle.shared_core.proofs.Continuing.{trace_shows}
+use Rattle.shared_core.proofs.Continuing.{execution_shows}
 use Rattle.list_callers.specs.Taking.{Took}
 use Rattle.list_callers.proofs.Refusals.{first_spent, not_refused, none_if_ok, whatever}
 use Rattle.list_callers.proofs.Taking.{took_first, took_all}
@@ -51,7 +51,7 @@ pub returns-in_err-offer-clause-otherwise : goal.returns-in_err-offer-clause-oth
 returns-in_err-offer-clause-otherwise g c =
     let config = c.args.config in
     let took = c.loop-value.invariant in
-    let shows = subst (λ seen. Shows seen (after took.trace.calls (empty (parameters_of config)))) took.left (trace_shows (parameters_of config) took.trace took.is_trace) in
+    let shows = subst (λ seen. Shows seen (after took.execution.calls (empty (parameters_of config)))) took.left (execution_shows (parameters_of config) took.execution took.is_execution) in
     let p = err_from_is_err_and c.from_residual-in_err-offer.result c.from_residual-in_err-offer.ensures.1 in
     rw (p.1, p.2) (whatever (making_refusal config) _ (c.in_err-offer.ensures.refused _ shows))
 
