@@ -6,12 +6,12 @@ use lib.ListN.{get_elem?}
 use Rattle.crossbeam_channel.specs.Fifo.{Pushes, Pops, Forks, Merges, Learns, Held as HeldAt}
 use Rattle.atomic_table.proofs.Lists.{at_set, at_snoc}
 use Rattle.flow_buffer.specs.declared.side.Fate.{Fate}
-use Rattle.flow_buffer.specs.declared.side.Fate.TheVariants.{Taken, Held, Dropped}
+use Rattle.flow_buffer.specs.declared.side.Fate.TheVariants.{Taken, Stored, Dropped}
 use Rattle.cold_flow.specs.declared.cause.Cause.{Cause}
 use Rattle.cold_flow.specs.declared.event.Event.{Event}
 use Rattle.cold_flow.specs.declared.event.Event.TheVariants.{Value, End}
 use Rattle.flow_buffer.specs.declared.side.Side.{Side}
-use Rattle.flow_buffer.specs.History.{is_taken, is_held, is_dropped, picked, marked, Rises}
+use Rattle.flow_buffer.specs.History.{is_taken, is_stored, is_dropped, picked, marked, Rises}
 use Rattle.flow_buffer.specs.Sides.{WasFull}
 use Rattle.flow_buffer.specs.Channel.{Buffers, FitsFeed, FitsDrain, IsLast, Sends, Overwrites, Takes, Looks, feed_side, drain_side, fresh_side, spare_side, missed_side, joined_side, Agree}
 use Rattle.flow_buffer.proofs.Histories.{append_left, append_right, picked-append, picked_same, picked-rises, picked-alike, marked-middle, Front, first_held, turned, turned-length, turned-parts, turned-picked}
@@ -22,11 +22,11 @@ module _ {T : Type 0} where
   unmarked (x ∷ l) e = cc
 
   -- one entry more
-  marked_more : (settled pending : List (Fate × T)) (e : Fate × T) → marked (settled ++ (pending ++ e ∷ [])) ≡ marked (settled ++ pending) ++ (is_dropped e.0, e.1) ∷ []
-  marked_more settled pending e = ap marked (sym (append_assoc settled pending (e ∷ []))) ∙ marked-middle (settled ++ pending) e []
+  marked_more : (decided pending : List (Fate × T)) (e : Fate × T) → marked (decided ++ (pending ++ e ∷ [])) ≡ marked (decided ++ pending) ++ (is_dropped e.0, e.1) ∷ []
+  marked_more decided pending e = ap marked (sym (append_assoc decided pending (e ∷ []))) ∙ marked-middle (decided ++ pending) e []
 
-  picked_more : (p : Fate → Bool) (settled pending : List (Fate × T)) (e : Fate × T) → p e.0 ≡ false → picked p 0 (settled ++ (pending ++ e ∷ [])) ≡ picked p 0 (settled ++ pending)
-  picked_more p settled pending e without = ap (picked p 0) (sym (append_assoc settled pending (e ∷ []))) ∙ picked_same p 0 (settled ++ pending) e without
+  picked_more : (p : Fate → Bool) (decided pending : List (Fate × T)) (e : Fate × T) → p e.0 ≡ false → picked p 0 (decided ++ (pending ++ e ∷ [])) ≡ picked p 0 (decided ++ pending)
+  picked_more p decided pending e without = ap (picked p 0) (sym (append_assoc decided pending (e ∷ []))) ∙ picked_same p 0 (decided ++ pending) e without
 
 module _ {T E : Type 0} where
   at_end : (l : List (Side T E)) (a b : Side T E) (j : ℕ) → get_elem? l j ≢ some b → get_elem? (l ++ a ∷ []) j ≡ some b → j ≡ length l
@@ -105,7 +105,7 @@ module _ {T E : Type 0} where
     drain = 0;
     lossy = false;
     sent = None;
-    settled = [];
+    decided = [];
     pending = [];
     last = [];
     holds = refl;
@@ -117,9 +117,9 @@ module _ {T E : Type 0} where
     drains = λ pass v e does. let o = only pass fresh_side v e in (o.0, ap (λ (s : Side T E). s.lossy) (sym o.1), ap (λ (s : Side T E). s.taken) (sym o.1), λ known. absurd (known (ap (λ (s : Side T E). s.got) (sym o.1))));
   }
 
-  held_more : (n : ℕ) (pending : List (Fate × T)) (x : T) → values (picked is_held n (pending ++ (Held, x) ∷ [])) ≡ values (picked is_held n pending) ++ Value x ∷ []
+  held_more : (n : ℕ) (pending : List (Fate × T)) (x : T) → values (picked is_stored n (pending ++ (Stored, x) ∷ [])) ≡ values (picked is_stored n pending) ++ Value x ∷ []
   unfolding values
-  held_more n pending x = ap values (picked-append is_held n pending ((Held, x) ∷ [])) ∙ map-append (λ (e : ℕ × T). Value e.1) (picked is_held n pending) ((n + length pending, x) ∷ [])
+  held_more n pending x = ap values (picked-append is_stored n pending ((Stored, x) ∷ [])) ∙ map-append (λ (e : ℕ × T). Value e.1) (picked is_stored n pending) ((n + length pending, x) ∷ [])
 
   -- steps of the feed before the end
   module _ (pass : ℕ) (v : Side T E) (is : v ≡ feed_side v.lossy None v.produced) where
@@ -130,9 +130,9 @@ module _ {T E : Type 0} where
       nothing_last : h.last ≡ []
       nothing_last = no_end h.sent h.last unsent h.ends
 
-      all_values : items ≡ values (picked is_held (length h.settled) h.pending)
+      all_values : items ≡ values (picked is_stored (length h.decided) h.pending)
       unfolding values
-      all_values = h.holds ∙ (ap (λ l. values (picked is_held (length h.settled) h.pending) ++ l) nothing_last ∙ append-nil (values (picked is_held (length h.settled) h.pending)))
+      all_values = h.holds ∙ (ap (λ l. values (picked is_stored (length h.decided) h.pending) ++ l) nothing_last ∙ append-nil (values (picked is_stored (length h.decided) h.pending)))
 
     -- a value joins at the back
     pub sends : (n : ℕ) (x : T) → Pushes (Buffers {T = T} {E = E}) n pass v (Value x) (Sends {E = E} v (Value x))
@@ -140,25 +140,25 @@ module _ {T E : Type 0} where
     sends n x items views room h at =
         let mine = h.feeds pass v at (feeds_is v is) in
         let w : Side T E = feed_side v.lossy None (v.produced ++ (false, x) ∷ []) in
-        let pending : List (Fate × T) = h.pending ++ (Held, x) ∷ [] in (
+        let pending : List (Fate × T) = h.pending ++ (Stored, x) ∷ [] in (
           w,
           record {
             feed = h.feed;
             drain = h.drain;
             lossy = h.lossy;
             sent = None;
-            settled = h.settled;
+            decided = h.decided;
             pending = pending;
             last = [];
-            holds = ap (λ t. t ++ Value x ∷ []) (all_values items views h at) ∙ (sym (held_more (length h.settled) h.pending x) ∙ sym (append-nil (values (picked is_held (length h.settled) pending))));
+            holds = ap (λ t. t ++ Value x ∷ []) (all_values items views h at) ∙ (sym (held_more (length h.decided) h.pending x) ∙ sym (append-nil (values (picked is_stored (length h.decided) pending))));
             ends = inl refl;
             below = h.below;
-            above = picked_same is_taken (length h.settled) h.pending (Held, x) refl ∙ h.above;
-            lossless = λ free. picked_more is_dropped h.settled h.pending (Held, x) refl ∙ h.lossless free;
-            feeds = fed views pass v w at h.feed h.lossy h.sent None (marked (h.settled ++ h.pending)) (marked (h.settled ++ pending)) (feeds_is v is) h.feeds
-                (λ _. (refl, mine.1, refl, ap (λ t. t ++ (false, x) ∷ []) mine.3 ∙ sym (marked_more h.settled h.pending (Held, x))));
-            drains = reopens h.drain h.lossy h.sent None (picked is_taken 0 h.settled) (h.settled ++ h.pending) (h.settled ++ pending) (set views pass w) (unsent items views h at)
-                (others_drain views pass v w at h.drain h.lossy h.sent (picked is_taken 0 h.settled) (h.settled ++ h.pending) refl h.drains);
+            above = picked_same is_taken (length h.decided) h.pending (Stored, x) refl ∙ h.above;
+            lossless = λ free. picked_more is_dropped h.decided h.pending (Stored, x) refl ∙ h.lossless free;
+            feeds = fed views pass v w at h.feed h.lossy h.sent None (marked (h.decided ++ h.pending)) (marked (h.decided ++ pending)) (feeds_is v is) h.feeds
+                (λ _. (refl, mine.1, refl, ap (λ t. t ++ (false, x) ∷ []) mine.3 ∙ sym (marked_more h.decided h.pending (Stored, x))));
+            drains = reopens h.drain h.lossy h.sent None (picked is_taken 0 h.decided) (h.decided ++ h.pending) (h.decided ++ pending) (set views pass w) (unsent items views h at)
+                (others_drain views pass v w at h.drain h.lossy h.sent (picked is_taken 0 h.decided) (h.decided ++ h.pending) refl h.drains);
           },
           refl,
         )
@@ -175,7 +175,7 @@ module _ {T E : Type 0} where
             drain = h.drain;
             lossy = h.lossy;
             sent = Some cause;
-            settled = h.settled;
+            decided = h.decided;
             pending = h.pending;
             last = End cause ∷ [];
             holds = ap (λ t. t ++ End cause ∷ []) (all_values items views h at);
@@ -183,9 +183,9 @@ module _ {T E : Type 0} where
             below = h.below;
             above = h.above;
             lossless = h.lossless;
-            feeds = fed views pass v w at h.feed h.lossy h.sent (Some cause) (marked (h.settled ++ h.pending)) (marked (h.settled ++ h.pending)) (feeds_is v is) h.feeds (λ _. (refl, mine.1, refl, mine.3));
-            drains = reopens h.drain h.lossy h.sent (Some cause) (picked is_taken 0 h.settled) (h.settled ++ h.pending) (h.settled ++ h.pending) (set views pass w) (unsent items views h at)
-                (others_drain views pass v w at h.drain h.lossy h.sent (picked is_taken 0 h.settled) (h.settled ++ h.pending) refl h.drains);
+            feeds = fed views pass v w at h.feed h.lossy h.sent (Some cause) (marked (h.decided ++ h.pending)) (marked (h.decided ++ h.pending)) (feeds_is v is) h.feeds (λ _. (refl, mine.1, refl, mine.3));
+            drains = reopens h.drain h.lossy h.sent (Some cause) (picked is_taken 0 h.decided) (h.decided ++ h.pending) (h.decided ++ h.pending) (set views pass w) (unsent items views h at)
+                (others_drain views pass v w at h.drain h.lossy h.sent (picked is_taken 0 h.decided) (h.decided ++ h.pending) refl h.drains);
           },
           refl,
         )
@@ -194,11 +194,11 @@ module _ {T E : Type 0} where
     pub looks : Learns (Buffers {T = T} {E = E}) pass v (Looks v)
     unfolding values
     looks items views h at = let mine = h.feeds pass v at (feeds_is v is) in (
-      h.settled ++ h.pending,
+      h.decided ++ h.pending,
       sym mine.3,
       all_values items views h at
-          ∙ sym (ap values (picked-append is_held 0 h.settled h.pending
-          ∙ (ap (λ t. t ++ picked is_held (0 + length h.settled) h.pending) h.below ∙ ap (λ n. picked is_held n h.pending) (zero-add (length h.settled))))),
+          ∙ sym (ap values (picked-append is_stored 0 h.decided h.pending
+          ∙ (ap (λ t. t ++ picked is_stored (0 + length h.decided) h.pending) h.below ∙ ap (λ n. picked is_stored n h.pending) (zero-add (length h.decided))))),
     )
 
     -- a new value is dropped
@@ -208,25 +208,25 @@ module _ {T E : Type 0} where
         let mine = h.feeds pass v at (feeds_is v is) in
         let w : Side T E = feed_side v.lossy None (v.produced ++ (true, x) ∷ []) in
         let pending : List (Fate × T) = h.pending ++ (Dropped, x) ∷ [] in
-        let made = marked (h.settled ++ pending) in record {
+        let made = marked (h.decided ++ pending) in record {
           feed = h.feed;
           drain = h.drain;
           lossy = h.lossy;
           sent = None;
-          settled = h.settled;
+          decided = h.decided;
           pending = pending;
           last = [];
-          holds = all_values items views h at ∙ (sym (ap values (picked_same is_held (length h.settled) h.pending (Dropped, x) refl)) ∙ sym (append-nil (values (picked is_held (length h.settled) pending))));
+          holds = all_values items views h at ∙ (sym (ap values (picked_same is_stored (length h.decided) h.pending (Dropped, x) refl)) ∙ sym (append-nil (values (picked is_stored (length h.decided) pending))));
           ends = inl refl;
           below = h.below;
-          above = picked_same is_taken (length h.settled) h.pending (Dropped, x) refl ∙ h.above;
+          above = picked_same is_taken (length h.decided) h.pending (Dropped, x) refl ∙ h.above;
           lossless = λ free. absurd (true≢false (sym may ∙ (mine.1 ∙ free)));
           feeds = all_snoc (FitsFeed h.feed h.lossy None made) (set views pass w) spare_side (λ j. no_feed h.feed h.lossy None made j spare_side refl)
-              (fed views pass v w at h.feed h.lossy h.sent None (marked (h.settled ++ h.pending)) made (feeds_is v is) h.feeds
-              (λ _. (refl, mine.1, refl, ap (λ t. t ++ (true, x) ∷ []) mine.3 ∙ sym (marked_more h.settled h.pending (Dropped, x)))));
-          drains = all_snoc (FitsDrain h.drain h.lossy None (picked is_taken 0 h.settled) (h.settled ++ pending)) (set views pass w) spare_side (λ j. no_drain h.drain h.lossy None (picked is_taken 0 h.settled) (h.settled ++ pending) j spare_side refl)
-              (reopens h.drain h.lossy h.sent None (picked is_taken 0 h.settled) (h.settled ++ h.pending) (h.settled ++ pending) (set views pass w) (unsent items views h at)
-              (others_drain views pass v w at h.drain h.lossy h.sent (picked is_taken 0 h.settled) (h.settled ++ h.pending) refl h.drains));
+              (fed views pass v w at h.feed h.lossy h.sent None (marked (h.decided ++ h.pending)) made (feeds_is v is) h.feeds
+              (λ _. (refl, mine.1, refl, ap (λ t. t ++ (true, x) ∷ []) mine.3 ∙ sym (marked_more h.decided h.pending (Dropped, x)))));
+          drains = all_snoc (FitsDrain h.drain h.lossy None (picked is_taken 0 h.decided) (h.decided ++ pending)) (set views pass w) spare_side (λ j. no_drain h.drain h.lossy None (picked is_taken 0 h.decided) (h.decided ++ pending) j spare_side refl)
+              (reopens h.drain h.lossy h.sent None (picked is_taken 0 h.decided) (h.decided ++ h.pending) (h.decided ++ pending) (set views pass w) (unsent items views h at)
+              (others_drain views pass v w at h.drain h.lossy h.sent (picked is_taken 0 h.decided) (h.decided ++ h.pending) refl h.drains));
         }
 
   -- a message leaves at the front: a value, or the end after the last value
@@ -234,18 +234,18 @@ module _ {T E : Type 0} where
     record Leaves (i : ℕ) (x : T) (rest : List (ℕ × T)) : Type 0 where
       item_is : item ≡ Value x
       items_are : items ≡ values rest ++ h.last
-      front : Front (length h.settled) h.pending i x rest
+      front : Front (length h.decided) h.pending i x rest
 
-    leaves : (i : ℕ) (x : T) (rest : List (ℕ × T)) → picked is_held (length h.settled) h.pending ≡ (i, x) ∷ rest → Leaves i x rest
+    leaves : (i : ℕ) (x : T) (rest : List (ℕ × T)) → picked is_stored (length h.decided) h.pending ≡ (i, x) ∷ rest → Leaves i x rest
     unfolding values
     leaves i x rest is =
         let all : item ∷ items ≡ Value x ∷ (values rest ++ h.last) = h.holds ∙ ap (λ t. values t ++ h.last) is in record {
           item_is = cc;
           items_are = cc;
-          front = first_held (length h.settled) h.pending i x rest is;
+          front = first_held (length h.decided) h.pending i x rest is;
         }
 
-    only_last : picked is_held (length h.settled) h.pending ≡ [] → item ∷ items ≡ h.last
+    only_last : picked is_stored (length h.decided) h.pending ≡ [] → item ∷ items ≡ h.last
     unfolding values
     only_last is = h.holds ∙ ap (λ t. values t ++ h.last) is
 
@@ -256,70 +256,70 @@ module _ {T E : Type 0} where
     ended_is : item ∷ items ≡ h.last → (cause : Cause E) × (h.sent ≡ Some cause) × (item ≡ End cause) × (items ≡ [])
     ended_is is = end_cases is h.ends
 
-    -- the value that leaves gets the fate, and is settled
-    module _ (i : ℕ) (x : T) (rest : List (ℕ × T)) (l : Leaves i x rest) (f : Fate) (fate_is : is_held f ≡ false) where
-      now_settled : List (Fate × T)
-      now_settled = turned h.settled l.front.before f x
+    -- the value that leaves gets the fate, and is decided
+    module _ (i : ℕ) (x : T) (rest : List (ℕ × T)) (l : Leaves i x rest) (f : Fate) (fate_is : is_stored f ≡ false) where
+      now_decided : List (Fate × T)
+      now_decided = turned h.decided l.front.before f x
 
-      settled_length : length now_settled ≡ i + 1
-      unfolding now_settled
-      settled_length = turned-length h.settled l.front.before f x ∙ ap (λ n. n + 1) (sym l.front.at)
+      decided_length : length now_decided ≡ i + 1
+      unfolding now_decided
+      decided_length = turned-length h.decided l.front.before f x ∙ ap (λ n. n + 1) (sym l.front.at)
 
-      nothing_before : picked is_taken (length h.settled) l.front.before ≡ []
-      nothing_before = append_left (picked is_taken (length h.settled) l.front.before) (picked is_taken (length h.settled + length l.front.before) ((Held, x) ∷ l.front.after))
-          (sym (picked-append is_taken (length h.settled) l.front.before ((Held, x) ∷ l.front.after)) ∙ (ap (picked is_taken (length h.settled)) (sym l.front.parts) ∙ h.above))
+      nothing_before : picked is_taken (length h.decided) l.front.before ≡ []
+      nothing_before = append_left (picked is_taken (length h.decided) l.front.before) (picked is_taken (length h.decided + length l.front.before) ((Stored, x) ∷ l.front.after))
+          (sym (picked-append is_taken (length h.decided) l.front.before ((Stored, x) ∷ l.front.after)) ∙ (ap (picked is_taken (length h.decided)) (sym l.front.parts) ∙ h.above))
 
       nothing_after : picked is_taken (i + 1) l.front.after ≡ []
       nothing_after = ap (λ n. picked is_taken (n + 1) l.front.after) l.front.at
-          ∙ append_right (picked is_taken (length h.settled) l.front.before) (picked is_taken (length h.settled + length l.front.before) ((Held, x) ∷ l.front.after))
-          (sym (picked-append is_taken (length h.settled) l.front.before ((Held, x) ∷ l.front.after)) ∙ (ap (picked is_taken (length h.settled)) (sym l.front.parts) ∙ h.above))
+          ∙ append_right (picked is_taken (length h.decided) l.front.before) (picked is_taken (length h.decided + length l.front.before) ((Stored, x) ∷ l.front.after))
+          (sym (picked-append is_taken (length h.decided) l.front.before ((Stored, x) ∷ l.front.after)) ∙ (ap (picked is_taken (length h.decided)) (sym l.front.parts) ∙ h.above))
 
-      now_holds : items ≡ values (picked is_held (length now_settled) l.front.after) ++ h.last
+      now_holds : items ≡ values (picked is_stored (length now_decided) l.front.after) ++ h.last
       unfolding values
-      now_holds = l.items_are ∙ ap (λ t. values t ++ h.last) (sym l.front.others ∙ ap (λ n. picked is_held n l.front.after) (sym settled_length))
+      now_holds = l.items_are ∙ ap (λ t. values t ++ h.last) (sym l.front.others ∙ ap (λ n. picked is_stored n l.front.after) (sym decided_length))
 
-      now_below : picked is_held 0 now_settled ≡ []
-      unfolding now_settled
-      now_below = turned-picked h.settled l.front.before f x is_held ∙ rw (h.below, l.front.none, fate_is) refl
+      now_below : picked is_stored 0 now_decided ≡ []
+      unfolding now_decided
+      now_below = turned-picked h.decided l.front.before f x is_stored ∙ rw (h.below, l.front.none, fate_is) refl
 
-      now_above : picked is_taken (length now_settled) l.front.after ≡ []
-      now_above = ap (λ n. picked is_taken n l.front.after) settled_length ∙ nothing_after
+      now_above : picked is_taken (length now_decided) l.front.after ≡ []
+      now_above = ap (λ n. picked is_taken n l.front.after) decided_length ∙ nothing_after
 
-      now_parts : now_settled ++ l.front.after ≡ h.settled ++ (l.front.before ++ (f, x) ∷ l.front.after)
-      unfolding now_settled
-      now_parts = turned-parts h.settled l.front.before f x l.front.after
+      now_parts : now_decided ++ l.front.after ≡ h.decided ++ (l.front.before ++ (f, x) ∷ l.front.after)
+      unfolding now_decided
+      now_parts = turned-parts h.decided l.front.before f x l.front.after
 
-      were_parts : h.settled ++ h.pending ≡ h.settled ++ (l.front.before ++ (Held, x) ∷ l.front.after)
-      were_parts = ap (λ t. h.settled ++ t) l.front.parts
+      were_parts : h.decided ++ h.pending ≡ h.decided ++ (l.front.before ++ (Stored, x) ∷ l.front.after)
+      were_parts = ap (λ t. h.decided ++ t) l.front.parts
 
-      now_taken : picked is_taken 0 now_settled ≡ picked is_taken 0 h.settled ++ cond (is_taken f) ((i, x) ∷ []) []
-      unfolding now_settled
-      now_taken = turned-picked h.settled l.front.before f x is_taken
-          ∙ (ap (λ t. picked is_taken 0 h.settled ++ (t ++ cond (is_taken f) ((length h.settled + length l.front.before, x) ∷ []) [])) nothing_before
-          ∙ ap (λ n. picked is_taken 0 h.settled ++ cond (is_taken f) ((n, x) ∷ []) []) (sym l.front.at))
+      now_taken : picked is_taken 0 now_decided ≡ picked is_taken 0 h.decided ++ cond (is_taken f) ((i, x) ∷ []) []
+      unfolding now_decided
+      now_taken = turned-picked h.decided l.front.before f x is_taken
+          ∙ (ap (λ t. picked is_taken 0 h.decided ++ (t ++ cond (is_taken f) ((length h.decided + length l.front.before, x) ∷ []) [])) nothing_before
+          ∙ ap (λ n. picked is_taken 0 h.decided ++ cond (is_taken f) ((n, x) ∷ []) []) (sym l.front.at))
 
       -- where the fate is no drop, what was dropped stays
-      alike : (p : Fate → Bool) → p f ≡ p Held → picked p 0 (now_settled ++ l.front.after) ≡ picked p 0 (h.settled ++ h.pending)
-      alike p same = ap (picked p 0) (now_parts ∙ sym (append_assoc h.settled l.front.before ((f, x) ∷ l.front.after)))
-          ∙ (picked-alike p f Held same 0 (h.settled ++ l.front.before) x l.front.after
-          ∙ ap (picked p 0) (append_assoc h.settled l.front.before ((Held, x) ∷ l.front.after) ∙ sym were_parts))
+      alike : (p : Fate → Bool) → p f ≡ p Stored → picked p 0 (now_decided ++ l.front.after) ≡ picked p 0 (h.decided ++ h.pending)
+      alike p same = ap (picked p 0) (now_parts ∙ sym (append_assoc h.decided l.front.before ((f, x) ∷ l.front.after)))
+          ∙ (picked-alike p f Stored same 0 (h.decided ++ l.front.before) x l.front.after
+          ∙ ap (picked p 0) (append_assoc h.decided l.front.before ((Stored, x) ∷ l.front.after) ∙ sym were_parts))
 
-      now_marked : marked (now_settled ++ l.front.after) ≡ marked (h.settled ++ l.front.before) ++ (is_dropped f, x) ∷ marked l.front.after
-      now_marked = ap marked (now_parts ∙ sym (append_assoc h.settled l.front.before ((f, x) ∷ l.front.after))) ∙ marked-middle (h.settled ++ l.front.before) (f, x) l.front.after
+      now_marked : marked (now_decided ++ l.front.after) ≡ marked (h.decided ++ l.front.before) ++ (is_dropped f, x) ∷ marked l.front.after
+      now_marked = ap marked (now_parts ∙ sym (append_assoc h.decided l.front.before ((f, x) ∷ l.front.after))) ∙ marked-middle (h.decided ++ l.front.before) (f, x) l.front.after
 
-      were_marked : marked (h.settled ++ h.pending) ≡ marked (h.settled ++ l.front.before) ++ (false, x) ∷ marked l.front.after
-      were_marked = ap marked (were_parts ∙ sym (append_assoc h.settled l.front.before ((Held, x) ∷ l.front.after))) ∙ marked-middle (h.settled ++ l.front.before) (Held, x) l.front.after
+      were_marked : marked (h.decided ++ h.pending) ≡ marked (h.decided ++ l.front.before) ++ (false, x) ∷ marked l.front.after
+      were_marked = ap marked (were_parts ∙ sym (append_assoc h.decided l.front.before ((Stored, x) ∷ l.front.after))) ∙ marked-middle (h.decided ++ l.front.before) (Stored, x) l.front.after
 
       -- the record after the step, from what the sides know then
-      after_leaving : (views' : List (Side T E)) (lossless : h.lossy ≡ false → picked is_dropped 0 (now_settled ++ l.front.after) ≡ []) → All (FitsFeed h.feed h.lossy h.sent (marked (now_settled ++ l.front.after))) views'
-          → All (FitsDrain h.drain h.lossy h.sent (picked is_taken 0 now_settled) (now_settled ++ l.front.after)) views' → Buffers items views'
+      after_leaving : (views' : List (Side T E)) (lossless : h.lossy ≡ false → picked is_dropped 0 (now_decided ++ l.front.after) ≡ []) → All (FitsFeed h.feed h.lossy h.sent (marked (now_decided ++ l.front.after))) views'
+          → All (FitsDrain h.drain h.lossy h.sent (picked is_taken 0 now_decided) (now_decided ++ l.front.after)) views' → Buffers items views'
       unfolding values
       after_leaving views' lossless feeds drains = record {
         feed = h.feed;
         drain = h.drain;
         lossy = h.lossy;
         sent = h.sent;
-        settled = now_settled;
+        decided = now_decided;
         pending = l.front.after;
         last = h.last;
         holds = now_holds;
@@ -331,38 +331,38 @@ module _ {T E : Type 0} where
         drains = drains;
       }
 
-    halves : (p : Fate → Bool) → picked p 0 (h.settled ++ h.pending) ≡ picked p 0 h.settled ++ picked p (length h.settled) h.pending
-    halves p = picked-append p 0 h.settled h.pending ∙ ap (λ n. picked p 0 h.settled ++ picked p n h.pending) (zero-add (length h.settled))
+    halves : (p : Fate → Bool) → picked p 0 (h.decided ++ h.pending) ≡ picked p 0 h.decided ++ picked p (length h.decided) h.pending
+    halves p = picked-append p 0 h.decided h.pending ∙ ap (λ n. picked p 0 h.decided ++ picked p n h.pending) (zero-add (length h.decided))
 
     -- the drain takes it
     module _ (pass : ℕ) (v : Side T E) (is : v ≡ drain_side v.lossy None v.taken v.history) (at : get_elem? views pass ≡ some v) where
       drains_is : v.drains ≡ true
       drains_is = ap (λ (s : Side T E). s.drains) is
 
-      mine_is : (pass ≡ h.drain) × (v.lossy ≡ h.lossy) × (v.taken ≡ picked is_taken 0 h.settled)
+      mine_is : (pass ≡ h.drain) × (v.lossy ≡ h.lossy) × (v.taken ≡ picked is_taken 0 h.decided)
       mine_is = let mine = h.drains pass v at drains_is in (mine.0, mine.1, mine.2)
 
       takes_value : (i : ℕ) (x : T) (rest : List (ℕ × T)) → Leaves i x rest → (w : Side T E) × Buffers items (set views pass w) × Takes v item w
       takes_value i x rest l =
           let w : Side T E = drain_side v.lossy None (v.taken ++ (i, x) ∷ []) v.history in
-          let settled = now_settled i x rest l Taken refl in
-          let taken_is : picked is_taken 0 settled ≡ w.taken = now_taken i x rest l Taken refl ∙ ap (λ t. t ++ (i, x) ∷ []) (sym mine_is.2) in
+          let decided = now_decided i x rest l Taken refl in
+          let taken_is : picked is_taken 0 decided ≡ w.taken = now_taken i x rest l Taken refl ∙ ap (λ t. t ++ (i, x) ∷ []) (sym mine_is.2) in
           let P : Event T E → Type 0 = λ y. (w : Side T E) × Buffers items (set views pass w) × Takes v y w in
           subst P (sym l.item_is) (
             w,
             after_leaving i x rest l Taken refl (set views pass w)
                 (λ free. alike i x rest l Taken refl is_dropped refl ∙ h.lossless free)
                 (subst (λ (t : List (Bool × T)). All (FitsFeed h.feed h.lossy h.sent t) (set views pass w)) (were_marked i x rest l Taken refl ∙ sym (now_marked i x rest l Taken refl))
-                (others_feed views pass v w at h.feed h.lossy h.sent (marked (h.settled ++ h.pending)) refl h.feeds))
-                (drained views pass v w at h.drain h.lossy h.sent (picked is_taken 0 h.settled) (picked is_taken 0 settled) (h.settled ++ h.pending) (settled ++ l.front.after) drains_is h.drains (λ _. (refl, mine_is.1, sym taken_is, λ known. absurd (known refl)))),
-            ((i, refl), subst (λ (t : List (ℕ × T)). Rises 0 t) taken_is (picked-rises is_taken 0 settled)),
+                (others_feed views pass v w at h.feed h.lossy h.sent (marked (h.decided ++ h.pending)) refl h.feeds))
+                (drained views pass v w at h.drain h.lossy h.sent (picked is_taken 0 h.decided) (picked is_taken 0 decided) (h.decided ++ h.pending) (decided ++ l.front.after) drains_is h.drains (λ _. (refl, mine_is.1, sym taken_is, λ known. absurd (known refl)))),
+            ((i, refl), subst (λ (t : List (ℕ × T)). Rises 0 t) taken_is (picked-rises is_taken 0 decided)),
           )
 
-      takes_end : picked is_held (length h.settled) h.pending ≡ [] → (w : Side T E) × Buffers items (set views pass w) × Takes v item w
+      takes_end : picked is_stored (length h.decided) h.pending ≡ [] → (w : Side T E) × Buffers items (set views pass w) × Takes v item w
       unfolding values
       takes_end none =
           let e = ended_is (only_last none) in
-          let history : List (Fate × T) = h.settled ++ h.pending in
+          let history : List (Fate × T) = h.decided ++ h.pending in
           let w : Side T E = drain_side v.lossy (Some e.0) v.taken history in
           let P : Event T E → Type 0 = λ y. (w : Side T E) × Buffers items (set views pass w) × Takes v y w in
           subst P (sym e.2) (
@@ -372,7 +372,7 @@ module _ {T E : Type 0} where
               drain = h.drain;
               lossy = h.lossy;
               sent = h.sent;
-              settled = h.settled;
+              decided = h.decided;
               pending = h.pending;
               last = [];
               holds = e.3 ∙ sym (ap (λ t. values t ++ []) none);
@@ -381,19 +381,19 @@ module _ {T E : Type 0} where
               above = h.above;
               lossless = h.lossless;
               feeds = others_feed views pass v w at h.feed h.lossy h.sent (marked history) refl h.feeds;
-              drains = drained views pass v w at h.drain h.lossy h.sent (picked is_taken 0 h.settled) (picked is_taken 0 h.settled) history history drains_is h.drains (λ _. (refl, mine_is.1, mine_is.2, λ _. (sym e.1, refl)));
+              drains = drained views pass v w at h.drain h.lossy h.sent (picked is_taken 0 h.decided) (picked is_taken 0 h.decided) history history drains_is h.drains (λ _. (refl, mine_is.1, mine_is.2, λ _. (sym e.1, refl)));
             },
             (
               refl,
               (
-                halves is_held ∙ rw (h.below, none) refl,
-                halves is_taken ∙ (ap (λ t. picked is_taken 0 h.settled ++ t) h.above ∙ (append-nil (picked is_taken 0 h.settled) ∙ sym mine_is.2)),
+                halves is_stored ∙ rw (h.below, none) refl,
+                halves is_taken ∙ (ap (λ t. picked is_taken 0 h.decided ++ t) h.above ∙ (append-nil (picked is_taken 0 h.decided) ∙ sym mine_is.2)),
                 λ free. h.lossless (sym mine_is.1 ∙ free),
               ),
             ),
           )
 
-      takes_by : (front : List (ℕ × T)) → picked is_held (length h.settled) h.pending ≡ front → (w : Side T E) × Buffers items (set views pass w) × Takes v item w
+      takes_by : (front : List (ℕ × T)) → picked is_stored (length h.decided) h.pending ≡ front → (w : Side T E) × Buffers items (set views pass w) × Takes v item w
       takes_by [] is = takes_end is
       takes_by ((i, x) ∷ rest) is = takes_value i x rest (leaves i x rest is)
 
@@ -402,30 +402,30 @@ module _ {T E : Type 0} where
       overwrites_value : (i : ℕ) (x : T) (rest : List (ℕ × T)) → Leaves i x rest → (w : Side T E) × Buffers items (set views pass w) × Overwrites v item w
       overwrites_value i x rest l =
           let mine = h.feeds pass v at (feeds_is v is) in
-          let settled = now_settled i x rest l Dropped refl in
-          let w : Side T E = feed_side v.lossy None (marked (settled ++ l.front.after)) in (
+          let decided = now_decided i x rest l Dropped refl in
+          let w : Side T E = feed_side v.lossy None (marked (decided ++ l.front.after)) in (
             w,
             after_leaving i x rest l Dropped refl (set views pass w)
                 (λ free. absurd (true≢false (sym may ∙ (mine.1 ∙ free))))
-                (fed views pass v w at h.feed h.lossy h.sent h.sent (marked (h.settled ++ h.pending)) (marked (settled ++ l.front.after)) (feeds_is v is) h.feeds (λ _. (refl, mine.1, sym (open_is v is) ∙ mine.2, refl)))
-                (reopens h.drain h.lossy h.sent h.sent (picked is_taken 0 settled) (h.settled ++ h.pending) (settled ++ l.front.after) (set views pass w) (sym mine.2 ∙ open_is v is)
-                (subst (λ (t : List (ℕ × T)). All (FitsDrain h.drain h.lossy h.sent t (h.settled ++ h.pending)) (set views pass w)) (sym (now_taken i x rest l Dropped refl ∙ append-nil (picked is_taken 0 h.settled)))
-                (others_drain views pass v w at h.drain h.lossy h.sent (picked is_taken 0 h.settled) (h.settled ++ h.pending) refl h.drains))),
+                (fed views pass v w at h.feed h.lossy h.sent h.sent (marked (h.decided ++ h.pending)) (marked (decided ++ l.front.after)) (feeds_is v is) h.feeds (λ _. (refl, mine.1, sym (open_is v is) ∙ mine.2, refl)))
+                (reopens h.drain h.lossy h.sent h.sent (picked is_taken 0 decided) (h.decided ++ h.pending) (decided ++ l.front.after) (set views pass w) (sym mine.2 ∙ open_is v is)
+                (subst (λ (t : List (ℕ × T)). All (FitsDrain h.drain h.lossy h.sent t (h.decided ++ h.pending)) (set views pass w)) (sym (now_taken i x rest l Dropped refl ∙ append-nil (picked is_taken 0 h.decided)))
+                (others_drain views pass v w at h.drain h.lossy h.sent (picked is_taken 0 h.decided) (h.decided ++ h.pending) refl h.drains))),
             (
-              (marked (h.settled ++ l.front.before), x, marked l.front.after, mine.3 ∙ were_marked i x rest l Dropped refl, now_marked i x rest l Dropped refl),
+              (marked (h.decided ++ l.front.before), x, marked l.front.after, mine.3 ∙ were_marked i x rest l Dropped refl, now_marked i x rest l Dropped refl),
               refl,
             ),
           )
 
-      overwrites_by : (front : List (ℕ × T)) → picked is_held (length h.settled) h.pending ≡ front → (w : Side T E) × Buffers items (set views pass w) × Overwrites v item w
+      overwrites_by : (front : List (ℕ × T)) → picked is_stored (length h.decided) h.pending ≡ front → (w : Side T E) × Buffers items (set views pass w) × Overwrites v item w
       overwrites_by [] none = let mine = h.feeds pass v at (feeds_is v is) in let e = ended_is (only_last none) in let both : Some e.0 ≡ None = sym e.1 ∙ (sym mine.2 ∙ open_is v is) in cc
       overwrites_by ((i, x) ∷ rest) is = overwrites_value i x rest (leaves i x rest is)
 
   pub takes : (pass : ℕ) (v : Side T E) → v ≡ drain_side v.lossy None v.taken v.history → Pops (Buffers {T = T} {E = E}) pass v (Takes v)
-  takes pass v is item items views h at = takes_by items views item h pass v is at (picked is_held (length h.settled) h.pending) refl
+  takes pass v is item items views h at = takes_by items views item h pass v is at (picked is_stored (length h.decided) h.pending) refl
 
   pub overwrites : (pass : ℕ) (v : Side T E) → v ≡ feed_side v.lossy None v.produced → v.lossy ≡ true → Pops (Buffers {T = T} {E = E}) pass v (Overwrites v)
-  overwrites pass v is may item items views h at = overwrites_by items views item h pass v is may at (picked is_held (length h.settled) h.pending) refl
+  overwrites pass v is may item items views h at = overwrites_by items views item h pass v is may at (picked is_stored (length h.decided) h.pending) refl
 
   -- the first pass becomes the feed's, and a new one is the drain's
   pub cuts : (pass : ℕ) (lossy : Bool) → Forks (Buffers {T = T} {E = E}) pass fresh_side (feed_side lossy None []) (drain_side lossy None [] [])
@@ -435,22 +435,22 @@ module _ {T E : Type 0} where
       let mine = h.feeds pass fresh_side at refl in
       let mine' = h.drains pass fresh_side at refl in
       let vs : List (Side T E) = set views pass l in
-      let produced = marked (h.settled ++ h.pending) in
-      let taken = picked is_taken 0 h.settled in
+      let produced = marked (h.decided ++ h.pending) in
+      let taken = picked is_taken 0 h.decided in
       let Old : ℕ → Side T E → Type 0 = λ j u. u.drains ≢ true in
       let old : All Old vs = all_set Old views pass l (λ e. true≢false (sym e)) (λ j u other e does. other ((h.drains j u e does).0 ∙ sym mine'.0)) in record {
         feed = h.feed;
         drain = length vs;
         lossy = lossy;
         sent = None;
-        settled = h.settled;
+        decided = h.decided;
         pending = h.pending;
         last = h.last;
         holds = h.holds;
         ends = inl (no_end h.sent h.last (sym mine.2) h.ends);
         below = h.below;
         above = h.above;
-        lossless = λ _. ap (picked is_dropped 0) (unmarked (h.settled ++ h.pending) (sym mine.3));
+        lossless = λ _. ap (picked is_dropped 0) (unmarked (h.decided ++ h.pending) (sym mine.3));
         feeds = all_snoc (FitsFeed h.feed lossy None produced) vs r (λ j. no_feed h.feed lossy None produced j r refl)
             (all_set (FitsFeed h.feed lossy None produced) views pass l (λ _. (mine.0, refl, refl, mine.3)) (λ j u other e does. absurd (other ((h.feeds j u e does).0 ∙ sym mine.0))));
         drains = λ j u e. ⊎_elim (λ (was : get_elem? vs j ≡ some u). λ does. absurd (old j u was does))
@@ -464,7 +464,7 @@ module _ {T E : Type 0} where
   -- a channel that was full held as many values as it has places
   pub was_full : (k : ℕ) (v : Side T E) → HeldAt k (Looks {E = E} v) → WasFull k v.produced
   was_full k v held = let h = held.2 in
-      let value : ℕ × T → Event T E = λ e. Value e.1 in (h.0, h.1, sym (length-map (picked is_held 0 h.0) value) ∙ (ap length (sym h.2) ∙ held.1))
+      let value : ℕ × T → Event T E = λ e. Value e.1 in (h.0, h.1, sym (length-map (picked is_stored 0 h.0) value) ∙ (ap length (sym h.2) ∙ held.1))
 
   pub overwrites_as : (pass : ℕ) (v : Side T E) → v ≡ feed_side true None v.produced → Pops (Buffers {T = T} {E = E}) pass v (Overwrites v)
   overwrites_as pass v is = let l = lossy_is v is in overwrites pass v l.0 l.1
@@ -486,9 +486,9 @@ module _ {T E : Type 0} where
       let mine = h.feeds pass v at feeds in
       let was : get_elem? views other ≡ some u = ⊎_elim (λ x. absurd (two x.0)) (λ x. x.1) (at_set views pass other both u at') in
       let theirs = h.drains other u was drains in
-      let produced = marked (h.settled ++ h.pending) in
-      let taken = picked is_taken 0 h.settled in
-      let history = h.settled ++ h.pending in
+      let produced = marked (h.decided ++ h.pending) in
+      let taken = picked is_taken 0 h.decided in
+      let history = h.decided ++ h.pending in
       let Now : ℕ → Side T E → Type 0 = λ j y. j ≢ other → FitsDrain pass h.lossy h.sent taken history j y in
       let now : All Now vs = all_set Now views pass both (λ _. λ _. (refl, mine.1, theirs.2, theirs.3)) (λ j y _ e apart. λ does. absurd (apart ((h.drains j y e does).0 ∙ sym theirs.0))) in
       let fits : FitsFeed h.feed h.lossy h.sent produced h.feed both = λ _. (refl, mine.1, mine.2, mine.3) in record {
@@ -496,7 +496,7 @@ module _ {T E : Type 0} where
         drain = pass;
         lossy = h.lossy;
         sent = h.sent;
-        settled = h.settled;
+        decided = h.decided;
         pending = h.pending;
         last = h.last;
         holds = h.holds;
@@ -514,10 +514,10 @@ module _ {T E : Type 0} where
   agrees pass v feeds drains items views h at =
       let mine = h.feeds pass v at feeds in
       let theirs = h.drains pass v at drains in (
-        h.settled ++ h.pending,
+        h.decided ++ h.pending,
         sym mine.3,
-        picked-append is_taken 0 h.settled h.pending
-            ∙ (ap (λ n. picked is_taken 0 h.settled ++ picked is_taken n h.pending) (zero-add (length h.settled))
-            ∙ (ap (λ t. picked is_taken 0 h.settled ++ t) h.above ∙ (append-nil (picked is_taken 0 h.settled) ∙ sym theirs.2))),
+        picked-append is_taken 0 h.decided h.pending
+            ∙ (ap (λ n. picked is_taken 0 h.decided ++ picked is_taken n h.pending) (zero-add (length h.decided))
+            ∙ (ap (λ t. picked is_taken 0 h.decided ++ t) h.above ∙ (append-nil (picked is_taken 0 h.decided) ∙ sym theirs.2))),
         λ known. ((theirs.3 known).0 ∙ sym mine.2, (theirs.3 known).1),
       )

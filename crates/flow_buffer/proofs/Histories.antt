@@ -2,8 +2,8 @@
 use Rattle.std.proofs.Common.{◌≡◌, ◌≤◌, ℕ, ◌+◌, Bool, true, false, cond, List, [], ◌∷◌, ◌++◌, length, sym, refl, ap, ◌∙◌, append_assoc, append-nil, add-zero, zero-add, arith, length-append}
 use Rattle.std.proofs.lemmas.List.{map-append}
 use Rattle.flow_buffer.specs.declared.side.Fate.{Fate}
-use Rattle.flow_buffer.specs.declared.side.Fate.TheVariants.{Taken, Held, Dropped}
-use Rattle.flow_buffer.specs.History.{is_held, is_dropped, picked, marked, Rises}
+use Rattle.flow_buffer.specs.declared.side.Fate.TheVariants.{Taken, Stored, Dropped}
+use Rattle.flow_buffer.specs.History.{is_stored, is_dropped, picked, marked, Rises}
 
 pub append_left : {A : Type 0} (xs ys : List A) → xs ++ ys ≡ [] → xs ≡ []
 append_left [] ys e = refl
@@ -40,12 +40,12 @@ module _ {T : Type 0} where
   pub record Front (n : ℕ) (l : List (Fate × T)) (i : ℕ) (x : T) (rest : List (ℕ × T)) : Type 0 where
     pub before : List (Fate × T)
     pub after : List (Fate × T)
-    pub parts : l ≡ before ++ (Held, x) ∷ after
+    pub parts : l ≡ before ++ (Stored, x) ∷ after
     pub at : i ≡ n + length before
-    pub none : picked is_held n before ≡ []
-    pub others : picked is_held (i + 1) after ≡ rest
+    pub none : picked is_stored n before ≡ []
+    pub others : picked is_stored (i + 1) after ≡ rest
 
-  behind : (n : ℕ) (e : Fate × T) (l : List (Fate × T)) (i : ℕ) (x : T) (rest : List (ℕ × T)) → is_held e.0 ≡ false → Front (n + 1) l i x rest → Front n (e ∷ l) i x rest
+  behind : (n : ℕ) (e : Fate × T) (l : List (Fate × T)) (i : ℕ) (x : T) (rest : List (ℕ × T)) → is_stored e.0 ≡ false → Front (n + 1) l i x rest → Front n (e ∷ l) i x rest
   behind n e l i x rest free f = record {
     before = e ∷ f.before;
     after = f.after;
@@ -55,19 +55,19 @@ module _ {T : Type 0} where
     others = f.others;
   }
 
-  pub first_held : (n : ℕ) (l : List (Fate × T)) (i : ℕ) (x : T) (rest : List (ℕ × T)) → picked is_held n l ≡ (i, x) ∷ rest → Front n l i x rest
+  pub first_held : (n : ℕ) (l : List (Fate × T)) (i : ℕ) (x : T) (rest : List (ℕ × T)) → picked is_stored n l ≡ (i, x) ∷ rest → Front n l i x rest
   first_held n [] i x rest is = cc
-  first_held n ((Held, y) ∷ l) i x rest is =
+  first_held n ((Stored, y) ∷ l) i x rest is =
       let pair : ◌≡◌ {A = ℕ × T} (n, y) (i, x) = cc in
       let same : y ≡ x = ap (λ (p : ℕ × T). p.1) pair in
       let at : n ≡ i = ap (λ (p : ℕ × T). p.0) pair in
-      let others : picked is_held (n + 1) l ≡ rest = cc in record {
+      let others : picked is_stored (n + 1) l ≡ rest = cc in record {
         before = [];
         after = l;
-        parts = ap (λ z. (Held, z) ∷ l) same;
+        parts = ap (λ z. (Stored, z) ∷ l) same;
         at = sym at ∙ sym (add-zero n);
         none = refl;
-        others = ap (λ k. picked is_held (k + 1) l) (sym at) ∙ others;
+        others = ap (λ k. picked is_stored (k + 1) l) (sym at) ∙ others;
       }
   first_held n ((Taken, y) ∷ l) i x rest is = behind n (Taken, y) l i x rest refl (first_held (n + 1) l i x rest is)
   first_held n ((Dropped, y) ∷ l) i x rest is = behind n (Dropped, y) l i x rest refl (first_held (n + 1) l i x rest is)
@@ -81,24 +81,24 @@ module _ {T : Type 0} where
       → picked p n (before ++ e ∷ after) ≡ picked p n before ++ (cond (p e.0) ((n + length before, e.1) ∷ []) [] ++ picked p (n + length before + 1) after)
   picked-middle p n before e after = picked-append p n before (e ∷ after) ∙ ap (λ t. picked p n before ++ t) (split_cond (p e.0) (n + length before, e.1) (picked p (n + length before + 1) after))
 
-  -- the first held value gets a fate, and is settled
+  -- the first held value gets a fate, and is decided
   abbrev pub turned : List (Fate × T) → List (Fate × T) → Fate → T → List (Fate × T)
-  turned settled before f x = settled ++ (before ++ (f, x) ∷ [])
+  turned decided before f x = decided ++ (before ++ (f, x) ∷ [])
 
-  module _ (settled before : List (Fate × T)) (f : Fate) (x : T) where
-    pub turned-length : length (turned settled before f x) ≡ length settled + length before + 1
-    turned-length = omega (arith, length-append settled (before ++ (f, x) ∷ []), length-append before ((f, x) ∷ []))
+  module _ (decided before : List (Fate × T)) (f : Fate) (x : T) where
+    pub turned-length : length (turned decided before f x) ≡ length decided + length before + 1
+    turned-length = omega (arith, length-append decided (before ++ (f, x) ∷ []), length-append before ((f, x) ∷ []))
 
-    pub turned-parts : (after : List (Fate × T)) → turned settled before f x ++ after ≡ settled ++ (before ++ (f, x) ∷ after)
-    turned-parts after = append_assoc settled (before ++ (f, x) ∷ []) after ∙ ap (λ t. settled ++ t) (append_assoc before ((f, x) ∷ []) after)
+    pub turned-parts : (after : List (Fate × T)) → turned decided before f x ++ after ≡ decided ++ (before ++ (f, x) ∷ after)
+    turned-parts after = append_assoc decided (before ++ (f, x) ∷ []) after ∙ ap (λ t. decided ++ t) (append_assoc before ((f, x) ∷ []) after)
 
     picked-last : (p : Fate → Bool) (n : ℕ) → picked p n (before ++ (f, x) ∷ []) ≡ picked p n before ++ cond (p f) ((n + length before, x) ∷ []) []
     picked-last p n = picked-append p n before ((f, x) ∷ [])
 
-    pub turned-picked : (p : Fate → Bool) → picked p 0 (turned settled before f x) ≡ picked p 0 settled ++ (picked p (length settled) before ++ cond (p f) ((length settled + length before, x) ∷ []) [])
+    pub turned-picked : (p : Fate → Bool) → picked p 0 (turned decided before f x) ≡ picked p 0 decided ++ (picked p (length decided) before ++ cond (p f) ((length decided + length before, x) ∷ []) [])
     turned-picked p =
-        picked-append p 0 settled (before ++ (f, x) ∷ [])
-        ∙ ap (λ t. picked p 0 settled ++ t) (ap (λ n. picked p n (before ++ (f, x) ∷ [])) (zero-add (length settled)) ∙ picked-last p (length settled))
+        picked-append p 0 decided (before ++ (f, x) ∷ [])
+        ∙ ap (λ t. picked p 0 decided ++ t) (ap (λ n. picked p n (before ++ (f, x) ∷ [])) (zero-add (length decided)) ∙ picked-last p (length decided))
 
   -- one entry more that doesn't pass
   pub picked_same : (p : Fate → Bool) (n : ℕ) (l : List (Fate × T)) (e : Fate × T) → p e.0 ≡ false → picked p n (l ++ e ∷ []) ≡ picked p n l

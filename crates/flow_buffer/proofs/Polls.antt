@@ -10,7 +10,7 @@ use Rattle.flow_buffer.specs.declared.ending.Ending.TheVariants.{Going, Kept, Gi
 use Rattle.flow_terms.specs.declared.fill.Fill.{Fill}
 use Rattle.flow_terms.specs.declared.fill.Fill.TheVariants.{Took, Overwrote, Dropped, Full, Pending, Ended}
 use Rattle.flow_buffer.specs.declared.store.Store.{Store}
-use Rattle.flow_buffer.specs.Endings.{is_going, given, seen, settled}
+use Rattle.flow_buffer.specs.Endings.{is_going, given, seen, given_now}
 use Rattle.flow_buffer.specs.Contents.{IsAllTold}
 use Rattle.flow_buffer.specs.Stored.{Shows, Becomes, Puts, Gets, one_more}
 use Rattle.flow_buffer.specs.Buffered.{Fills, Takes}
@@ -64,7 +64,7 @@ module _ {U T E : Type 0} (may : U → Traces T E) where
     told_still : old.held.items ≡ [] → new ≡ old → Becomes old (λ c d. (d ≡ c) × IsAllTold c) new
     told_still empty same c shows = (c, (refl, all_told old c empty shows), subst (λ s. Shows s c) (sym same) shows)
 
-    takes_ending : (from : U) (k : Cause E) (e : Ending E) → old.ending ≡ e → seen e ≡ Some k → old.held.items ≡ [] → new ≡ record old { ending = settled e } → Takes may from old (Ready (End k)) from new
+    takes_ending : (from : U) (k : Cause E) (e : Ending E) → old.ending ≡ e → seen e ≡ Some k → old.held.items ≡ [] → new ≡ record old { ending = given_now e } → Takes may from old (Ready (End k)) from new
     takes_ending from k Going was is empty ends = cc
     takes_ending from k (Kept cause) was is empty ends =
         let same : cause ≡ k = cc in
@@ -76,7 +76,7 @@ module _ {U T E : Type 0} (may : U → Traces T E) where
         let still : new ≡ old = ends ∙ ap (λ i. record old { ending = i }) (ap Given (sym same) ∙ sym was) in
         (ends, empty, told_still empty still, inr (ap seen was ∙ is, refl))
 
-    pub takes_seen : (from : U) (k : Cause E) → seen old.ending ≡ Some k → old.held.items ≡ [] → new ≡ record old { ending = settled old.ending } → Takes may from old (Ready (End k)) from new
+    pub takes_seen : (from : U) (k : Cause E) → seen old.ending ≡ Some k → old.held.items ≡ [] → new ≡ record old { ending = given_now old.ending } → Takes may from old (Ready (End k)) from new
     takes_seen from k = takes_ending from k old.ending refl
 
 module _ {T E : Type 0} (source : Traces T E) where

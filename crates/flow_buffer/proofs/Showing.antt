@@ -8,12 +8,12 @@ use Rattle.flow_buffer.specs.declared.ending.Ending.TheVariants.{Given}
 use Rattle.flow_terms.specs.declared.fill.Fill.{Fill}
 use Rattle.flow_terms.specs.declared.fill.Fill.TheVariants.{Took, Overwrote, Dropped as DroppedIt, Full, Pending, Ended}
 use Rattle.flow_buffer.specs.declared.side.Fate.{Fate}
-use Rattle.flow_buffer.specs.declared.side.Fate.TheVariants.{Taken, Held, Dropped}
+use Rattle.flow_buffer.specs.declared.side.Fate.TheVariants.{Taken, Stored, Dropped}
 use Rattle.flow_buffer.specs.declared.store.Store.{Store}
-use Rattle.flow_buffer.specs.History.{is_taken, is_held, is_dropped, picked, Rises}
+use Rattle.flow_buffer.specs.History.{is_taken, is_stored, is_dropped, picked, Rises}
 use Rattle.flow_buffer.specs.Sides.{saturated}
 use Rattle.flow_buffer.specs.Endings.{given}
-use Rattle.flow_buffer.specs.Contents.{Contents, nothing, taken_of, held_of, dropped_of, IsRising, IsOrdered, oldest, turned, produced, FillsTo, TakesTo, PassesTo, GivesUp, IsAllTold}
+use Rattle.flow_buffer.specs.Contents.{Contents, nothing, taken_of, stored_of, dropped_of, IsRising, IsOrdered, oldest, turned, produced, FillsTo, TakesTo, PassesTo, GivesUp, IsAllTold}
 use Rattle.flow_buffer.specs.Stored.{Shows, Becomes, Puts, Gets, one_more}
 use Rattle.flow_buffer.proofs.Histories.{picked_same, picked-rises}
 use Rattle.flow_buffer.proofs.Oldest.{picked_last, oldest_held, oldest_counts, oldest_same, oldest_ordered, ordered_last, all_fates}
@@ -29,9 +29,9 @@ counts_one count n m was is = omega arith
 abbrev values : {T : Type 0} → List (ℕ × T) → List T
 values = map (λ e. e.1)
 
-rising_held : {T : Type 0} (given_up : Bool) (l : List (Fate × T)) → Rises 0 (cond given_up [] (picked is_held 0 l))
+rising_held : {T : Type 0} (given_up : Bool) (l : List (Fate × T)) → Rises 0 (cond given_up [] (picked is_stored 0 l))
 rising_held true l = tt
-rising_held false l = picked-rises is_held 0 l
+rising_held false l = picked-rises is_stored 0 l
 
 all_rise : {T : Type 0} (c : Contents T) → IsRising c
 all_rise c = (picked-rises is_taken 0 c.history, rising_held c.given_up c.history, picked-rises is_dropped 0 c.history)
@@ -54,18 +54,18 @@ module _ {T E : Type 0} where
     not_given_up : c.given_up ≡ false
     not_given_up = not_true c.given_up (λ is. let e : given s.ending ≡ Some Cancelled = ap given (shows.gave_up is) in cc)
 
-    held_is : (history : List (Fate × T)) → held_of (record c { history = history }) ≡ picked is_held 0 history
-    held_is history = ap (λ b. cond b [] (picked is_held 0 history)) not_given_up
+    held_is : (history : List (Fate × T)) → stored_of (record c { history = history }) ≡ picked is_stored 0 history
+    held_is history = ap (λ b. cond b [] (picked is_stored 0 history)) not_given_up
 
-    long : length (held_of c) ≡ length s.held.items
-    long = sym (length-map (held_of c) (λ (e : ℕ × T). e.1)) ∙ ap length shows.values
+    long : length (stored_of c) ≡ length s.held.items
+    long = sym (length-map (stored_of c) (λ (e : ℕ × T). e.1)) ∙ ap length shows.values
 
-    items_are : values (picked is_held 0 c.history) ≡ s.held.items
+    items_are : values (picked is_stored 0 c.history) ≡ s.held.items
     items_are = ap values (sym (held_is c.history)) ∙ shows.values
 
     -- the contents with another history, where the store holds its held values
     pub shows_still : (r : Store T E) (history : List (Fate × T)) → r.held.capacity ≡ s.held.capacity → r.policy ≡ s.policy → r.ending ≡ s.ending
-        → values (picked is_held 0 history) ≡ r.held.items → length r.held.items ≤ s.held.capacity
+        → values (picked is_stored 0 history) ≡ r.held.items → length r.held.items ≤ s.held.capacity
         → r.taken ≡ saturated (length (picked is_taken 0 history)) → r.dropped ≡ saturated (length (picked is_dropped 0 history)) → IsOrdered history
         → Shows r (record c { history = history })
     shows_still r history same_capacity same_policy same_ending holds within took lost ordered = record {
@@ -76,36 +76,36 @@ module _ {T E : Type 0} where
       dropped = lost;
       rising = all_rise (record c { history = history });
       within =
-          let many : length (held_of (record c { history = history })) ≡ length r.held.items = sym (length-map (held_of (record c { history = history })) (λ (e : ℕ × T). e.1)) ∙ ap length (ap values (held_is history) ∙ holds) in
+          let many : length (stored_of (record c { history = history })) ≡ length r.held.items = sym (length-map (stored_of (record c { history = history })) (λ (e : ℕ × T). e.1)) ∙ ap length (ap values (held_is history) ∙ holds) in
           let wide = shows.capacity in omega arith;
       ordered = ordered;
       gave_up = λ is. same_ending ∙ shows.gave_up is;
     }
 
     -- x comes to the end, and is held
-    pub shows_more : (x : T) → length s.held.items < s.held.capacity → Shows (record s { held = buffer (s.held.items ++ x ∷ []) s.held.capacity }) (produced Held x c)
-    shows_more x room = shows_still (record s { held = buffer (s.held.items ++ x ∷ []) s.held.capacity }) (c.history ++ (Held, x) ∷ []) refl refl refl
-        (ap values (picked_last is_held c.history Held x refl) ∙ (map-append (λ (e : ℕ × T). e.1) (picked is_held 0 c.history) ((0 + length c.history, x) ∷ []) ∙ ap (λ t. t ++ x ∷ []) items_are))
+    pub shows_more : (x : T) → length s.held.items < s.held.capacity → Shows (record s { held = buffer (s.held.items ++ x ∷ []) s.held.capacity }) (produced Stored x c)
+    shows_more x room = shows_still (record s { held = buffer (s.held.items ++ x ∷ []) s.held.capacity }) (c.history ++ (Stored, x) ∷ []) refl refl refl
+        (ap values (picked_last is_stored c.history Stored x refl) ∙ (map-append (λ (e : ℕ × T). e.1) (picked is_stored 0 c.history) ((0 + length c.history, x) ∷ []) ∙ ap (λ t. t ++ x ∷ []) items_are))
         (omega (arith, length-append s.held.items (x ∷ [])))
-        (shows.taken ∙ ap (λ l. saturated (length l)) (sym (picked_same is_taken 0 c.history (Held, x) refl)))
-        (shows.dropped ∙ ap (λ l. saturated (length l)) (sym (picked_same is_dropped 0 c.history (Held, x) refl)))
-        (ordered_last Held refl c.history x shows.ordered)
+        (shows.taken ∙ ap (λ l. saturated (length l)) (sym (picked_same is_taken 0 c.history (Stored, x) refl)))
+        (shows.dropped ∙ ap (λ l. saturated (length l)) (sym (picked_same is_dropped 0 c.history (Stored, x) refl)))
+        (ordered_last Stored refl c.history x shows.ordered)
 
     -- x comes to the end, and is dropped
     pub shows_loss : (x : T) → Shows (record s { dropped = one_more s.dropped }) (produced Dropped x c)
     shows_loss x = shows_still (record s { dropped = one_more s.dropped }) (c.history ++ (Dropped, x) ∷ []) refl refl refl
-        (ap values (picked_same is_held 0 c.history (Dropped, x) refl) ∙ items_are)
+        (ap values (picked_same is_stored 0 c.history (Dropped, x) refl) ∙ items_are)
         (let within = shows.within in let wide = shows.capacity in omega (arith, long))
         (shows.taken ∙ ap (λ l. saturated (length l)) (sym (picked_same is_taken 0 c.history (Dropped, x) refl)))
         (counts_one s.dropped (length (dropped_of c)) (length (picked is_dropped 0 (c.history ++ (Dropped, x) ∷ []))) shows.dropped
         (ap length (picked_last is_dropped c.history Dropped x refl) ∙ length-append (dropped_of c) ((0 + length c.history, x) ∷ [])))
         (ordered_last Dropped refl c.history x shows.ordered)
 
-    some_held : 0 < length s.held.items → 0 < length (picked is_held 0 c.history)
-    some_held some = let same : length (picked is_held 0 c.history) ≡ length (held_of c) = ap length (sym (held_is c.history)) in omega (arith, long)
+    some_held : 0 < length s.held.items → 0 < length (picked is_stored 0 c.history)
+    some_held some = let same : length (picked is_stored 0 c.history) ≡ length (stored_of c) = ap length (sym (held_is c.history)) in omega (arith, long)
 
-    first_gone : (f : Fate) → is_held f ≡ false → values (picked is_held 0 (oldest f c.history)) ≡ drop 1 s.held.items
-    first_gone f free = ap values (oldest_held f free 0 c.history) ∙ (sym (drop-map (λ (e : ℕ × T). e.1) 1 (picked is_held 0 c.history)) ∙ ap (drop 1) items_are)
+    first_gone : (f : Fate) → is_stored f ≡ false → values (picked is_stored 0 (oldest f c.history)) ≡ drop 1 s.held.items
+    first_gone f free = ap values (oldest_held f free 0 c.history) ∙ (sym (drop-map (λ (e : ℕ × T). e.1) 1 (picked is_stored 0 c.history)) ∙ ap (drop 1) items_are)
 
     fewer : length (drop 1 s.held.items) ≤ s.held.capacity
     fewer = let within = shows.within in let wide = shows.capacity in omega (arith, long, length-drop 1 s.held.items)
@@ -129,14 +129,14 @@ module _ {T E : Type 0} where
   module _ (old new : Store T E) (alive : given old.ending ≡ None) where
     -- a value was put in
     pub puts_become : (x : T) (fill : Fill) → 0 < old.held.capacity → Puts old x fill new → Becomes old (FillsTo x fill) new
-    puts_become x Took some puts c shows = (produced Held x c, (let wide = shows.capacity in omega (arith, long old alive c shows, puts.0), refl), subst (λ r. Shows r (produced Held x c)) (sym puts.1) (shows_more old alive c shows x puts.0))
+    puts_become x Took some puts c shows = (produced Stored x c, (let wide = shows.capacity in omega (arith, long old alive c shows, puts.0), refl), subst (λ r. Shows r (produced Stored x c)) (sym puts.1) (shows_more old alive c shows x puts.0))
     puts_become x Overwrote some puts c shows =
         let d = turned Dropped c in
         let r : Store T E = record old { held = buffer (drop 1 old.held.items) old.held.capacity; dropped = one_more old.dropped } in
         let lost : Shows r d = shows_lost old alive c shows (omega (arith, puts.1)) in (
-          produced Held x d,
+          produced Stored x d,
           (shows.policy ∙ puts.0, long old alive c shows ∙ (puts.1 ∙ sym shows.capacity), refl),
-          subst (λ r. Shows r (produced Held x d)) (sym puts.2) (shows_more r alive d lost x (omega (arith, length-drop 1 old.held.items, puts.1))),
+          subst (λ r. Shows r (produced Stored x d)) (sym puts.2) (shows_more r alive d lost x (omega (arith, length-drop 1 old.held.items, puts.1))),
         )
     puts_become x DroppedIt some puts c shows =
         (produced Dropped x c, (shows.policy ∙ puts.0, long old alive c shows ∙ (puts.1 ∙ sym shows.capacity), refl), subst (λ r. Shows r (produced Dropped x c)) (sym puts.2) (shows_loss old alive c shows x))
@@ -155,7 +155,7 @@ module _ {T E : Type 0} where
         let r : Store T E = record old { held = buffer (drop 1 old.held.items) old.held.capacity; taken = one_more old.taken } in
         let taken : Shows r d = shows_taken old alive c shows (let some : length old.held.items ≡ length (x ∷ new.held.items) = ap length gets.0 in omega arith) in
         let same : r ≡ new = ap (λ l. record old { held = buffer (drop 1 l) old.held.capacity; taken = one_more old.taken }) gets.0 ∙ sym gets.1 in
-        (d, (nonempty (held_of c) x new.held.items (shows.values ∙ gets.0), refl), subst (λ r. Shows r d) same taken)
+        (d, (nonempty (stored_of c) x new.held.items (shows.values ∙ gets.0), refl), subst (λ r. Shows r d) same taken)
 
     none_held : (l : List (ℕ × T)) → values l ≡ [] → l ≡ []
     none_held [] is = refl
@@ -172,7 +172,7 @@ module _ {T E : Type 0} where
       let gone : new.held.items ≡ [] = ap (λ r. r.held.items) is in
       let same : new ≡ record filled { held = buffer new.held.items old.held.capacity; taken = one_more old.taken } = is ∙ ap (λ l. record filled { held = buffer l old.held.capacity; taken = one_more old.taken }) (sym gone) in
       let take = gets_become filled new alive x (holds ∙ ap (λ l. x ∷ l) (sym gone), same) fill.0 fill.2 in
-      (take.0, (none_held old new alive (held_of c) (shows.values ∙ empty), (fill.0, fill.1, take.1)), take.2)
+      (take.0, (none_held old new alive (stored_of c) (shows.values ∙ empty), (fill.0, fill.1, take.1)), take.2)
 
   -- an end was seen, or was given
   pub ends_become : (old new : Store T E) (ending : Ending E) → given old.ending ≡ None → new ≡ record old { ending = ending } → Becomes old (λ c d. d ≡ c) new
@@ -209,7 +209,7 @@ module _ {T E : Type 0} where
   -- once none is held, each produced value was taken or dropped
   pub all_told : (s : Store T E) (c : Contents T) → s.held.items ≡ [] → Shows s c → IsAllTold c
   all_told s c empty shows alive =
-      let many : length (held_of c) ≡ 0 = sym (length-map (held_of c) (λ (e : ℕ × T). e.1)) ∙ ap length (shows.values ∙ empty) in
-      let same : held_of c ≡ picked is_held 0 c.history = ap (λ b. cond b [] (picked is_held 0 c.history)) alive in
-      let none : length (picked is_held 0 c.history) ≡ 0 = ap length (sym same) ∙ many in
+      let many : length (stored_of c) ≡ 0 = sym (length-map (stored_of c) (λ (e : ℕ × T). e.1)) ∙ ap length (shows.values ∙ empty) in
+      let same : stored_of c ≡ picked is_stored 0 c.history = ap (λ b. cond b [] (picked is_stored 0 c.history)) alive in
+      let none : length (picked is_stored 0 c.history) ≡ 0 = ap length (sym same) ∙ many in
       omega (arith, all_fates 0 c.history)

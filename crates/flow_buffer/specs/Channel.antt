@@ -1,5 +1,5 @@
 -- What the channel holds, and what its two sides know.
-use Rattle.std.specs.Prelude.{◌≡◌, ◌≢◌, ℕ, Bool, true, false, Option, Some, None, List, [], ◌∷◌, ◌++◌, ◌⊎◌, map, length}
+use Rattle.std.specs.Prelude.{◌≡◌, ◌≢◌, ℕ, Bool, true, false, MatchBool, Option, Some, None, List, [], ◌∷◌, ◌++◌, ◌⊎◌, map, length}
 use mathlib.Core.Option.{some}
 use lib.ListN.{get_elem?}
 use Rattle.flow_buffer.specs.declared.side.Fate.{Fate}
@@ -7,7 +7,8 @@ use Rattle.cold_flow.specs.declared.cause.Cause.{Cause}
 use Rattle.cold_flow.specs.declared.event.Event.{Event}
 use Rattle.cold_flow.specs.declared.event.Event.TheVariants.{Value, End}
 use Rattle.flow_buffer.specs.declared.side.Side.{Side}
-use Rattle.flow_buffer.specs.History.{is_taken, is_held, is_dropped, picked, marked, Rises, IsSettled, DropsOne}
+use Rattle.flow_buffer.specs.Sides.{WasFull}
+use Rattle.flow_buffer.specs.History.{is_taken, is_stored, is_dropped, picked, marked, Rises, IsDecided, DropsOne}
 
 module _ {T E : Type 0} where
   -- what the feed knows, and what the drain knows
@@ -15,7 +16,8 @@ module _ {T E : Type 0} where
   feed_side lossy sent produced = record { feeds = true; drains = false; lossy = lossy; sent = sent; produced = produced; got = None; taken = []; history = [] }
 
   abbrev pub drain_side : Bool → Option (Cause E) → List (ℕ × T) → List (Fate × T) → Side T E
-  drain_side lossy got taken history = record { feeds = false; drains = true; lossy = lossy; sent = None; produced = []; got = got; taken = taken; history = history }
+  drain_side lossy got taken history =
+      record { feeds = false; drains = true; lossy = lossy; sent = None; produced = []; got = got; taken = taken; history = history }
 
   -- one pass of both sides, before the channel is used
   abbrev pub fresh_side : Side T E
@@ -27,7 +29,8 @@ module _ {T E : Type 0} where
 
   -- both sides in one pass again
   abbrev pub joined_side : Side T E → Side T E → Side T E
-  joined_side v w = record { feeds = true; drains = true; lossy = v.lossy; sent = v.sent; produced = v.produced; got = w.got; taken = w.taken; history = w.history }
+  joined_side v w =
+      record { feeds = true; drains = true; lossy = v.lossy; sent = v.sent; produced = v.produced; got = w.got; taken = w.taken; history = w.history }
 
   -- the feed after a new value was dropped, which the proof of the call names
   abbrev pub missed_side : Option T → Side T E → Side T E
@@ -38,49 +41,66 @@ module _ {T E : Type 0} where
   abbrev pub FitsFeed : ℕ → Bool → Option (Cause E) → List (Bool × T) → ℕ → Side T E → Type 0
   FitsFeed feed lossy sent produced pass v = v.feeds ≡ true → (pass ≡ feed) × (v.lossy ≡ lossy) × (v.sent ≡ sent) × (v.produced ≡ produced)
 
-  -- there is one drain, which knows what was taken. One that has an end has the one that was sent, and knows what became of all
+  -- an end that came is the one that was sent, and with it it is known what became of all
+  abbrev pub EndIsSent : Option (Cause E) → Option (Cause E) → List (Fate × T) → List (Fate × T) → Type 0
+  EndIsSent got sent known history = got ≢ None → (got ≡ sent) × (known ≡ history)
+
+  -- there is one drain, which knows what was taken, and with an end what became of all
   abbrev pub FitsDrain : ℕ → Bool → Option (Cause E) → List (ℕ × T) → List (Fate × T) → ℕ → Side T E → Type 0
-  FitsDrain drain lossy sent taken history pass v = v.drains ≡ true → (pass ≡ drain) × (v.lossy ≡ lossy) × (v.taken ≡ taken) × (v.got ≢ None → (v.got ≡ sent) × (v.history ≡ history))
+  FitsDrain drain lossy sent taken history pass v =
+      v.drains ≡ true → (pass ≡ drain) × (v.lossy ≡ lossy) × (v.taken ≡ taken) × EndIsSent v.got sent v.history history
 
   -- the end is the last message, and comes once it is sent
   abbrev pub IsLast : Option (Cause E) → List (Event T E) → Type 0
   IsLast sent last = (last ≡ []) ⊎ ((cause : Cause E) × (sent ≡ Some cause) × (last ≡ End cause ∷ []))
 
-  -- the values that the channel holds are the held ones of the history, in order. Those that were taken lie below them
+  -- The values that the channel holds are the stored ones of the history, in order. Those that were taken lie below them: the
+  -- fate of each in the first part is decided, and none of the pending ones was taken.
   pub record Buffers (items : List (Event T E)) (views : List (Side T E)) : Type 0 where
     pub feed : ℕ
     pub drain : ℕ
     pub lossy : Bool
     pub sent : Option (Cause E)
-    pub settled : List (Fate × T)
+    pub decided : List (Fate × T)
     pub pending : List (Fate × T)
     pub last : List (Event T E)
-    pub holds : items ≡ map (λ e. Value e.1) (picked is_held (length settled) pending) ++ last
+    pub holds : items ≡ map (λ e. Value e.1) (picked is_stored (length decided) pending) ++ last
     pub ends : IsLast sent last
-    pub below : picked is_held 0 settled ≡ []
-    pub above : picked is_taken (length settled) pending ≡ []
-    pub lossless : lossy ≡ false → picked is_dropped 0 (settled ++ pending) ≡ []
-    pub feeds : (pass : ℕ) (v : Side T E) → get_elem? views pass ≡ some v → FitsFeed feed lossy sent (marked (settled ++ pending)) pass v
-    pub drains : (pass : ℕ) (v : Side T E) → get_elem? views pass ≡ some v → FitsDrain drain lossy sent (picked is_taken 0 settled) (settled ++ pending) pass v
+    pub below : picked is_stored 0 decided ≡ []
+    pub above : picked is_taken (length decided) pending ≡ []
+    pub lossless : lossy ≡ false → picked is_dropped 0 (decided ++ pending) ≡ []
+    pub feeds : (pass : ℕ) (v : Side T E) → get_elem? views pass ≡ some v → FitsFeed feed lossy sent (marked (decided ++ pending)) pass v
+    pub drains : (pass : ℕ) (v : Side T E) → get_elem? views pass ≡ some v
+        → FitsDrain drain lossy sent (picked is_taken 0 decided) (decided ++ pending) pass v
 
   -- the value joins at the back
   abbrev pub Sends : Side T E → Event T E → Side T E → Type 0
   Sends v (Value x) w = w ≡ feed_side v.lossy None (v.produced ++ (false, x) ∷ [])
   Sends v (End cause) w = w ≡ feed_side v.lossy (Some cause) v.produced
 
+  -- a value that is offered joins at the back, or the channel was full
+  abbrev pub Offers : ℕ → Side T E → T → Bool → Side T E → Type 0
+  Offers k v x sent w = MatchBool sent (Sends v (Value x) w) ((w ≡ v) × WasFull k v.produced)
+
   -- the feed takes the oldest out, which is dropped
   abbrev pub Overwrites : Side T E → Event T E → Side T E → Type 0
   Overwrites v item w = DropsOne v.produced w.produced × (w ≡ feed_side v.lossy None w.produced)
 
+  -- the feed takes the oldest out, if there is one
+  abbrev pub DropsOldest : Side T E → Bool → Side T E → Type 0
+  DropsOldest v dropped w = MatchBool dropped (DropsOne v.produced w.produced × (w ≡ feed_side true None w.produced)) (w ≡ v)
+
   -- the drain takes the oldest; with the end it learns what became of all
   abbrev pub Takes : Side T E → Event T E → Side T E → Type 0
   Takes v (Value x) w = ((i : ℕ) × (w ≡ drain_side v.lossy None (v.taken ++ (i, x) ∷ []) v.history)) × Rises 0 w.taken
-  Takes v (End cause) w = (w ≡ drain_side v.lossy (Some cause) v.taken w.history) × IsSettled v.lossy v.taken w.history
+  Takes v (End cause) w = (w ≡ drain_side v.lossy (Some cause) v.taken w.history) × IsDecided v.lossy v.taken w.history
 
   -- what the feed learns of the channel's content before the end: it is what a history of the produced values holds
   abbrev pub Looks : Side T E → List (Event T E) → Type 0
-  Looks v items = (history : List (Fate × T)) × (marked history ≡ v.produced) × (items ≡ map (λ e. Value e.1) (picked is_held 0 history))
+  Looks v items = (history : List (Fate × T)) × (marked history ≡ v.produced) × (items ≡ map (λ e. Value e.1) (picked is_stored 0 history))
 
-  -- a feed and a drain tell of one history: the feed of what was produced and dropped in it, the drain of what was taken. The drain's end is the feed's, and then its history is that one
+  -- A feed and a drain tell of one history: the feed of what was produced and dropped in it, the drain of what was taken. The
+  -- drain's end is the feed's, and then its history is that one.
   abbrev pub Agree : List (Bool × T) → Option (Cause E) → List (ℕ × T) → Option (Cause E) → List (Fate × T) → Type 0
-  Agree produced sent taken got known = (history : List (Fate × T)) × (marked history ≡ produced) × (picked is_taken 0 history ≡ taken) × (got ≢ None → (got ≡ sent) × (known ≡ history))
+  Agree produced sent taken got known =
+      (history : List (Fate × T)) × (marked history ≡ produced) × (picked is_taken 0 history ≡ taken) × EndIsSent got sent known history

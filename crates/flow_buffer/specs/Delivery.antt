@@ -5,7 +5,7 @@ use Rattle.cold_flow.specs.declared.cause.Cause.{Cause}
 use Rattle.flow_terms.specs.declared.policy.Policy.{Policy}
 use Rattle.flow_terms.specs.declared.policy.Policy.TheVariants.{DropOldest, DropLatest}
 use Rattle.cold_flow.specs.Trace.{Trace, ◌⊑◌, so_far, ended_by, led_by}
-use Rattle.cold_flow.specs.Poll.{Traces, Beginnings}
+use Rattle.cold_flow.specs.Poll.{Traces, Beginnings, Within, Fixes}
 use Rattle.flow_buffer.specs.declared.ending.Ending.{Ending}
 use Rattle.flow_buffer.specs.declared.ending.Ending.TheVariants.{Going, Kept, Given}
 use Rattle.flow_buffer.specs.declared.store.Store.{Store}
@@ -14,7 +14,8 @@ use Rattle.flow_buffer.specs.declared.store.Store.{Store}
 -- source's next value. Where it is full, the policy says which value is left out. The end comes once none is held.
 pub data Delivers {T E : Type 0} (capacity : ℕ) (policy : Policy) : List T → Trace T E → Trace T E → Type 0 where
   stops : {held : List T} {source : Trace T E} → Delivers capacity policy held source (so_far [])
-  gives : {held : List T} {source out : Trace T E} (x : T) → Delivers capacity policy held source out → Delivers capacity policy (x ∷ held) source (led_by x out)
+  gives : {held : List T} {source out : Trace T E} (x : T)
+      → Delivers capacity policy held source out → Delivers capacity policy (x ∷ held) source (led_by x out)
   takes : {held : List T} {source out : Trace T E} (x : T) → length held < capacity
       → Delivers capacity policy (held ++ x ∷ []) source out → Delivers capacity policy held (led_by x source) out
   overwrites : {held : List T} {source out : Trace T E} (oldest x : T) → policy ≡ DropOldest → length (oldest ∷ held) ≡ capacity
@@ -45,8 +46,16 @@ polls_left (Given cause) many source = at_most many
 abbrev pub StoreGives : {T E : Type 0} → Store T E → Traces T E → Traces T E
 StoreGives s source t = Delivering s.held.capacity s.policy s.held.items s.ending source t
 
+-- a buffer's run gives what a buffer that holds nothing may give of its source
+abbrev pub GivesFromEmpty : {T E : Type 0} → ℕ → Policy → Traces T E → Store T E → Traces T E → Type 0
+GivesFromEmpty capacity policy source s running = Within (Delivered capacity policy [] source) (StoreGives s running)
+
 abbrev pub store_polls : {T E : Type 0} → Store T E → Count → Count
 store_polls s source = polls_left s.ending (length s.held.items) source
+
+-- where all that the source may give is fixed, the same comes of it
+abbrev pub GivesWhole : {T E : Type 0} → Traces T E → Traces T E → Type 0
+GivesWhole {T} {E} source may = (whole : Trace T E) → Fixes whole source → Fixes whole may
 
 -- the last of the values, or what came before them where there is none
 abbrev pub latest : {T : Type 0} → Option T → List T → Option T
@@ -55,4 +64,5 @@ latest before (x ∷ later) = latest (Some x) later
 
 -- whatever ended trace it may give, its last value is that of one that the source may give
 abbrev pub GivesLatest : {T E : Type 0} → Traces T E → Traces T E → Type 0
-GivesLatest {T} {E} source may = (xs : List T) (cause : Cause E) → may (ended_by xs cause) → (ys : List T) × source (ended_by ys cause) × (latest None xs ≡ latest None ys)
+GivesLatest {T} {E} source may = (xs : List T) (cause : Cause E) → may (ended_by xs cause)
+    → (ys : List T) × source (ended_by ys cause) × (latest None xs ≡ latest None ys)

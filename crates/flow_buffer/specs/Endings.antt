@@ -22,8 +22,8 @@ given Going = None
 given (Kept cause) = None
 given (Given cause) = Some cause
 
--- an end that was seen is given
-abbrev pub settled : {E : Type 0} → Ending E → Ending E
-settled Going = Going
-settled (Kept cause) = Given cause
-settled (Given cause) = Given cause
+-- the same, where an end that was seen is given now
+abbrev pub given_now : {E : Type 0} → Ending E → Ending E
+given_now Going = Going
+given_now (Kept cause) = Given cause
+given_now (Given cause) = Given cause

@@ -10,7 +10,9 @@ use Rattle.flow_buffer.specs.Sides.{Feeding, Filled}
 module _ {U T E : Type 0} (may : U → Traces T E) where
   -- the upstream gave a value, and it was put as the fill says
   abbrev pub Puts : U → Feeding T E → Fill → U → Feeding T E → Type 0
-  Puts from old fill to new = (old.sent ≡ None) × ((x : T) × After (may from) x (may to) × Filled old.capacity old.policy old.produced x fill new.produced) × (new ≡ record old { produced = new.produced })
+  Puts from old fill to new = (old.sent ≡ None)
+      × ((x : T) × After (may from) x (may to) × Filled old.capacity old.policy old.produced x fill new.produced)
+      × (new ≡ record old { produced = new.produced })
 
   -- the upstream ended, and its end was sent
   abbrev pub Ends : U → Feeding T E → Feeding T E → Type 0

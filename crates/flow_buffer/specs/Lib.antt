@@ -8,4 +8,5 @@ pub mod Delivery
 pub mod DeliveryLaws
 pub mod Channel
 pub mod Sides
+pub mod Fitting
 pub mod Feed

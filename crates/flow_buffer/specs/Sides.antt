@@ -11,7 +11,7 @@ use Rattle.flow_terms.specs.declared.fill.Fill.{Fill}
 use Rattle.flow_terms.specs.declared.fill.Fill.TheVariants.{Took, Overwrote, Dropped, Full, Pending, Ended}
 use Rattle.cold_flow.specs.declared.event.Event.{Event}
 use Rattle.cold_flow.specs.declared.event.Event.TheVariants.{Value, End}
-use Rattle.flow_buffer.specs.History.{is_held, picked, marked, DropsOne, Rises, IsSettled}
+use Rattle.flow_buffer.specs.History.{is_stored, picked, marked, DropsOne, Rises, IsDecided}
 
 -- which channel it is
 pub record Channel (T E : Type 0) : Type 0 where
@@ -58,14 +58,15 @@ module _ {T : Type 0} where
   drops [] = 0
   drops (e ∷ l) = cond e.0 (drops l + 1) (drops l)
 
-  -- at one moment k of the produced values were held
+  -- at one moment k of the produced values were stored
   abbrev pub WasFull : ℕ → List (Bool × T) → Type 0
-  WasFull k produced = (history : List (Fate × T)) × (marked history ≡ produced) × (length (picked is_held 0 history) ≡ k)
+  WasFull k produced = (history : List (Fate × T)) × (marked history ≡ produced) × (length (picked is_stored 0 history) ≡ k)
 
   -- what became of x, and of the oldest value where x took its place
   abbrev pub Filled : ℕ → Policy → List (Bool × T) → T → Fill → List (Bool × T) → Type 0
   Filled k policy old x Took new = new ≡ old ++ (false, x) ∷ []
-  Filled k policy old x Overwrote new = (policy ≡ DropOldest) × WasFull k old × ((rest : List (Bool × T)) × DropsOne old rest × (new ≡ rest ++ (false, x) ∷ []))
+  Filled k policy old x Overwrote new = (policy ≡ DropOldest) × WasFull k old
+      × ((rest : List (Bool × T)) × DropsOne old rest × (new ≡ rest ++ (false, x) ∷ []))
   Filled k policy old x Dropped new = (policy ≡ DropLatest) × WasFull k old × (new ≡ old ++ (true, x) ∷ [])
   Filled k policy old x Full new = ⊥
   Filled k policy old x Pending new = ⊥
@@ -75,9 +76,10 @@ module _ {T E : Type 0} where
   -- with the end it is known what became of all that was produced
   abbrev pub IsEndKnown : Option (Cause E) → Bool → List (ℕ × T) → List (Fate × T) → Type 0
   IsEndKnown None lossy taken history = Unit {0}
-  IsEndKnown (Some cause) lossy taken history = IsSettled lossy taken history
+  IsEndKnown (Some cause) lossy taken history = IsDecided lossy taken history
 
   -- what a drain gave: a value at a later index, or the end, once all that was produced was taken or dropped
   abbrev pub Gave : Draining T E → Event T E → Draining T E → Type 0
   Gave old (Value x) new = (old.end ≡ None) × ((i : ℕ) × (new ≡ record old { taken = old.taken ++ (i, x) ∷ [] })) × Rises 0 new.taken
-  Gave old (End cause) new = (new.end ≡ Some cause) × (new.channel ≡ old.channel) × (new.lossy ≡ old.lossy) × (new.taken ≡ old.taken) × IsSettled new.lossy new.taken new.history × ((old.end ≡ None) ⊎ (new ≡ old))
+  Gave old (End cause) new = (new.end ≡ Some cause) × (new.channel ≡ old.channel) × (new.lossy ≡ old.lossy) × (new.taken ≡ old.taken)
+      × IsDecided new.lossy new.taken new.history × ((old.end ≡ None) ⊎ (new ≡ old))

@@ -7,7 +7,7 @@ use Rattle.flow_buffer.specs.declared.ending.Ending.TheVariants.{Given}
 use Rattle.flow_terms.specs.declared.fill.Fill.{Fill}
 use Rattle.flow_terms.specs.declared.fill.Fill.TheVariants.{Took, Overwrote, Dropped, Full, Pending, Ended}
 use Rattle.flow_buffer.specs.declared.store.Store.{Store}
-use Rattle.flow_buffer.specs.Contents.{Contents, taken_of, held_of, dropped_of, IsRising, IsOrdered}
+use Rattle.flow_buffer.specs.Contents.{Contents, taken_of, stored_of, dropped_of, IsRising, IsOrdered}
 use Rattle.flow_buffer.specs.Sides.{saturated}
 
 -- one more, of a count that stays where it is at its greatest
@@ -15,15 +15,15 @@ abbrev pub one_more : ℕ → ℕ
 one_more count = min (count + 1) (2 ^ 64 - 1)
 
 module _ {T E : Type 0} where
-  -- the store shows the contents: the same values are held, at most as many as the capacity, and as many were taken and dropped
+  -- the store shows the contents: it holds the stored values, at most as many as the capacity, and as many were taken and dropped
   pub record Shows (s : Store T E) (c : Contents T) : Type 0 where
     pub capacity : c.capacity ≡ s.held.capacity
     pub policy : c.policy ≡ s.policy
-    pub values : map (λ e. e.1) (held_of c) ≡ s.held.items
+    pub values : map (λ e. e.1) (stored_of c) ≡ s.held.items
     pub taken : s.taken ≡ saturated (length (taken_of c))
     pub dropped : s.dropped ≡ saturated (length (dropped_of c))
     pub rising : IsRising c
-    pub within : length (held_of c) ≤ c.capacity
+    pub within : length (stored_of c) ≤ c.capacity
     pub ordered : IsOrdered c.history
     pub gave_up : c.given_up ≡ true → s.ending ≡ Given Cancelled
 
@@ -40,7 +40,8 @@ module _ {T E : Type 0} where
   Puts old x Took new = (length old.held.items < old.held.capacity) × (new ≡ record old { held = buffer (old.held.items ++ x ∷ []) old.held.capacity })
   Puts old x Overwrote new = (old.policy ≡ DropOldest) × (length old.held.items ≡ old.held.capacity)
       × (new ≡ record old { held = buffer (drop 1 old.held.items ++ x ∷ []) old.held.capacity; dropped = one_more old.dropped })
-  Puts old x Dropped new = (old.policy ≡ DropLatest) × (length old.held.items ≡ old.held.capacity) × (new ≡ record old { dropped = one_more old.dropped })
+  Puts old x Dropped new = (old.policy ≡ DropLatest) × (length old.held.items ≡ old.held.capacity)
+      × (new ≡ record old { dropped = one_more old.dropped })
   Puts old x Full new = ⊥
   Puts old x Pending new = ⊥
   Puts old x Ended new = ⊥
@@ -48,4 +49,5 @@ module _ {T E : Type 0} where
   -- how the oldest value was taken out of it
   abbrev pub Gets : Store T E → Option T → Store T E → Type 0
   Gets old None new = (old.held.items ≡ []) × (new ≡ old)
-  Gets old (Some x) new = (old.held.items ≡ x ∷ new.held.items) × (new ≡ record old { held = buffer new.held.items old.held.capacity; taken = one_more old.taken })
+  Gets old (Some x) new = (old.held.items ≡ x ∷ new.held.items)
+      × (new ≡ record old { held = buffer new.held.items old.held.capacity; taken = one_more old.taken })

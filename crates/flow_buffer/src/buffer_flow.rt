@@ -5,7 +5,7 @@ ghost use Rattle.flow_terms.specs.declared.refusal.Refusal.TheVariants.{NoMemory
 ghost use Rattle.cold_flow.specs.Poll.{Within, IsWithinPolls};
 ghost use Rattle.flow_buffer.specs.declared.ending.Ending.TheVariants.{Going};
 ghost use Rattle.flow_buffer.specs.Contents.{nothing};
-ghost use Rattle.flow_buffer.specs.Delivery.{Delivered, StoreGives, store_polls};
+ghost use Rattle.flow_buffer.specs.Delivery.{Delivered, GivesFromEmpty, store_polls};
 ghost use Rattle.flow_buffer.specs.Endings.{given};
 ghost use Rattle.flow_buffer.specs.Stored.{Shows};
 
@@ -44,7 +44,7 @@ impl<F: Flow> Flow for Buffer<F> {
         ensures source { IfOk result (λ r. Within (F.may self.now.source) (F.Running.may r.source)) }
         ensures going { IfOk result (λ r. r.store.ending ≡ Going) }
         ensures begins { IfOk result (λ r. Shows r.store (nothing self.now.capacity self.now.policy)) }
-        ensures gives { IfOk result (λ r. Within (Delivered self.now.capacity self.now.policy [] (F.may self.now.source)) (StoreGives r.store (F.Running.may r.source))) }
+        ensures gives { IfOk result (λ r. GivesFromEmpty self.now.capacity self.now.policy (F.may self.now.source) r.store (F.Running.may r.source)) }
         ensures fresh { IfOk result (λ r. given r.store.ending ≡ None) }
         ensures lasts { IfOk result (λ r. IsWithinPolls (F.polls self.now.source) (store_polls r.store (F.Running.polls r.source))) }
         ensures prompt { IfOk result (λ r. IsTrue (F.prompt self.now.source) → IsTrue (F.Running.prompt r.source)) }

@@ -27,7 +27,7 @@ pub struct Buffered<S: Run> {
     pub(crate) store: Store<S::Item, S::Fault>,
     ghost places: { 0 < store.held.capacity },
     // Once an end was seen, the source is asked no more.
-    ghost settled: { IsTrue (is_going store.ending || S.stopped source) },
+    ghost source_stopped: { IsTrue (is_going store.ending || S.stopped source) },
     // The end is given once none is held.
     ghost emptied: { IsTrue (is_none (given store.ending) || (length store.held.items == 0)) },
 }
@@ -112,7 +112,7 @@ impl<S: Run> Run for Buffered<S> {
         if let Some(value) = self.store.take() {
             return Poll::Ready(Event::Value(value));
         }
-        if let Some(cause) = self.store.ending.settle() {
+        if let Some(cause) = self.store.ending.give() {
             return Poll::Ready(Event::End(cause));
         }
         match self.source.poll_next(cx) {

@@ -1,7 +1,7 @@
 //! Which capacities a buffer may have.
 
-ghost use Rattle.std.specs.Prelude.{◌≡◌, Some, None, MatchResult};
-ghost use Rattle.flow_buffer.specs.Capacity.{refused_capacity};
+ghost use Rattle.std.specs.Prelude.{◌≡◌, MatchResult};
+ghost use Rattle.flow_buffer.specs.Capacity.{IsCapacity, RefusesCapacity};
 
 use cold_flow::Refusal;
 
@@ -10,7 +10,7 @@ pub const MAX_CAPACITY: u64 = 65536;
 
 // The capacity, if a buffer may have it.
 pub(crate) fn checked(capacity: u64) -> Result<usize, Refusal>
-    ensures { MatchResult result (λ places. (refused_capacity capacity ≡ None) × (places ≡ capacity)) (λ refusal. refused_capacity capacity ≡ Some refusal) }
+    ensures { MatchResult result (λ places. IsCapacity capacity × (places ≡ capacity)) (RefusesCapacity capacity) }
 {
     if capacity > MAX_CAPACITY {
         return Err(Refusal::TooLarge);

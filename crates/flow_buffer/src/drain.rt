@@ -1,11 +1,9 @@
 //! The side of a buffer between two threads that takes values out.
 
 ghost use Rattle.std.specs.Prelude.{◌≡◌, length, Option};
-ghost use Rattle.crossbeam_channel.specs.Claims.{view as knows, IsSeatAt};
 ghost use Rattle.crossbeam_channel.specs.Ends.{receives_on};
-ghost use Rattle.flow_buffer.specs.Channel.{drain_side};
-ghost use Rattle.flow_buffer.specs.History.{Rises};
-ghost use Rattle.flow_buffer.specs.Sides.{Draining, saturated, Gave, IsEndKnown};
+ghost use Rattle.flow_buffer.specs.Fitting.{drain_view, IsDrain};
+ghost use Rattle.flow_buffer.specs.Sides.{Draining, saturated, Gave};
 
 use crate::steps::{Knowledge, Receiver, receive};
 use cold_flow::{Cause, Event};
@@ -28,9 +26,9 @@ pub struct Drain<T: Copy, E: Copy> {
 impl<T: Copy, E: Copy> Model for Drain<T, E> {
     ghost Value = { Draining T E };
 
-    ghost view = { λ d. record { channel = record { table = (receives_on d.receiver).stamps.shared.table_id; key = (receives_on d.receiver).stamps.shared.key }; lossy = (knows d.pass).lossy; taken = (knows d.pass).taken; end = d.end; history = (knows d.pass).history } };
+    ghost view = { λ d. drain_view (receives_on d.receiver) d.pass d.end };
 
-    ghost invariant = { λ d. IsSeatAt (receives_on d.receiver) d.pass × (knows d.pass ≡ drain_side (knows d.pass).lossy d.end (knows d.pass).taken (knows d.pass).history) × (d.taken ≡ saturated (length (knows d.pass).taken)) × Rises 0 (knows d.pass).taken × IsEndKnown d.end (knows d.pass).lossy (knows d.pass).taken (knows d.pass).history };
+    ghost invariant = { λ d. IsDrain (receives_on d.receiver) d.pass d.taken d.end };
 }
 
 impl<T: Copy, E: Copy> Drain<T, E> {

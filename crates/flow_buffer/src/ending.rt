@@ -1,7 +1,7 @@
 //! How far a buffer in one task is from its end.
 
 ghost use Rattle.std.specs.Prelude.{◌≡◌};
-ghost use Rattle.flow_buffer.specs.Endings.{is_going, seen, settled};
+ghost use Rattle.flow_buffer.specs.Endings.{is_going, seen, given_now};
 
 use cold_flow::Cause;
 
@@ -24,10 +24,10 @@ impl<E: Copy> Ending<E> {
         matches!(self, Ending::Going)
     }
 
-    // The end that was seen, which is given now.
-    pub(crate) fn settle(&mut self) -> Option<Cause<E>>
+    // Gives the end that was seen, if one was.
+    pub(crate) fn give(&mut self) -> Option<Cause<E>>
         ensures cause { result ≡ seen self.old }
-        ensures settled { self.new ≡ settled self.old }
+        ensures given { self.new ≡ given_now self.old }
     {
         match *self {
             Ending::Going => None,

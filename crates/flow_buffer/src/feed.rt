@@ -21,7 +21,8 @@ use std::sync::Wait;
 pub struct Feed<U: Run> {
     pub(crate) upstream: U,
     pub(crate) inlet: Inlet<U::Item, U::Fault>,
-    ghost settled: { IsTrue (is_none inlet.sent || U.stopped upstream) },
+    // Once an end was sent, the upstream is asked no more.
+    ghost upstream_stopped: { IsTrue (is_none inlet.sent || U.stopped upstream) },
 }
 
 impl<U: Run> Feed<U> {

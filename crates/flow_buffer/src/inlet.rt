@@ -4,6 +4,7 @@ ghost use Rattle.std.specs.Prelude.{◌≡◌, ◌≢◌, ◌+◌, [], true, fal
 ghost use Rattle.crossbeam_channel.specs.Claims.{view as knows, IsSeatAt};
 ghost use Rattle.crossbeam_channel.specs.Ends.{sends_on, receives_on, ruled_capacity};
 ghost use Rattle.flow_buffer.specs.Channel.{feed_side, Agree};
+ghost use Rattle.flow_buffer.specs.Fitting.{channel_of, feed_view, IsFeed};
 ghost use Rattle.flow_buffer.specs.Sides.{Feeding, may_drop, saturated, drops, is_loss, Filled};
 
 use crate::drain::Drain;
@@ -31,9 +32,9 @@ pub struct Inlet<T: Copy, E: Copy> {
 impl<T: Copy, E: Copy> Model for Inlet<T, E> {
     ghost Value = { Feeding T E };
 
-    ghost view = { λ f. record { channel = record { table = (sends_on f.sender).stamps.shared.table_id; key = (sends_on f.sender).stamps.shared.key }; capacity = ruled_capacity (sends_on f.sender); policy = f.policy; produced = (knows f.pass).produced; sent = f.sent } };
+    ghost view = { λ f. feed_view (sends_on f.sender) f.policy f.pass f.sent };
 
-    ghost invariant = { λ f. (receives_on f.receiver ≡ sends_on f.sender) × IsSeatAt (sends_on f.sender) f.pass × (knows f.pass ≡ feed_side (may_drop f.policy) f.sent (knows f.pass).produced) × (f.dropped ≡ saturated (drops (knows f.pass).produced)) };
+    ghost invariant = { λ f. IsFeed (sends_on f.sender) (receives_on f.receiver) f.policy f.pass f.dropped f.sent };
 }
 
 // Whether a value was dropped.
@@ -55,7 +56,7 @@ impl<T: Copy, E: Copy> Inlet<T, E> {
         requires channel { IsSeatAt (sends_on sender) pass }
         requires fresh { knows pass ≡ feed_side (may_drop policy) None [] }
         ensures { result ≡ record {
-          channel = record { table = (sends_on sender).stamps.shared.table_id; key = (sends_on sender).stamps.shared.key };
+          channel = channel_of (sends_on sender);
           capacity = ruled_capacity (sends_on sender);
           policy = policy;
           produced = [];

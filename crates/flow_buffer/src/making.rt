@@ -1,12 +1,12 @@
 //! Making a buffer in one task.
 
-ghost use Rattle.std.specs.Prelude.{◌≡◌, List, [], Some, None, IfOk, IsTrue, MatchResult};
+ghost use Rattle.std.specs.Prelude.{◌≡◌, List, [], IfOk, IsTrue, MatchResult};
 ghost use Rattle.cold_flow.specs.declared.cause.Cause.{Cause};
 ghost use Rattle.flow_terms.specs.declared.policy.Policy.TheVariants.{Suspend, DropOldest};
 ghost use Rattle.cold_flow.specs.Trace.{ended_by};
-ghost use Rattle.cold_flow.specs.Poll.{Within, Fixes, IsWithinPolls};
-ghost use Rattle.flow_buffer.specs.Capacity.{refused_capacity};
-ghost use Rattle.flow_buffer.specs.Delivery.{Delivered, GivesLatest};
+ghost use Rattle.cold_flow.specs.Poll.{Within, IsWithinPolls};
+ghost use Rattle.flow_buffer.specs.Capacity.{IsMadeOf, RefusesCapacity};
+ghost use Rattle.flow_buffer.specs.Delivery.{Delivered, GivesWhole, GivesLatest};
 
 use crate::buffer_flow::Buffer;
 use crate::capacity::checked;
@@ -25,9 +25,9 @@ pub fn buffer<F: Flow>(
     capacity: u64,
     policy: Policy,
 ) -> Result<Buffer<F>, Refusal>
-    ensures made { MatchResult result (λ made. (refused_capacity capacity ≡ None) × (made.source ≡ source) × (made.capacity ≡ capacity) × (made.policy ≡ policy)) (λ refusal. refused_capacity capacity ≡ Some refusal) }
+    ensures made { MatchResult result (λ made. IsMadeOf source capacity policy made.source made.capacity made.policy) (RefusesCapacity capacity) }
     ensures gives { IfOk result (λ made. Within (Delivered capacity policy [] (F.may source)) (⟦<Buffer<F> as Flow>⟧.may made)) }
-    ensures exact { IfOk result (λ made. policy ≡ Suspend → (whole : _) → Fixes whole (F.may source) → Fixes whole (⟦<Buffer<F> as Flow>⟧.may made)) }
+    ensures exact { IfOk result (λ made. policy ≡ Suspend → GivesWhole (F.may source) (⟦<Buffer<F> as Flow>⟧.may made)) }
     ensures latest { IfOk result (λ made. policy ≡ DropOldest → GivesLatest (F.may source) (⟦<Buffer<F> as Flow>⟧.may made)) }
     ensures lasts { IfOk result (λ made. IsWithinPolls (F.polls source) (⟦<Buffer<F> as Flow>⟧.polls made)) }
     ensures prompt { IfOk result (λ made. IsTrue (F.prompt source) → IsTrue (⟦<Buffer<F> as Flow>⟧.prompt made)) }

@@ -1,7 +1,8 @@
 //! The rule of the channel between a feed and its drain, and what each step tells the side that makes it.
 
 ghost use Rattle.std.specs.Prelude.{◌≡◌, ◌++◌, [], ◌∷◌, true, false, Option, Some, None, ⊤};
-ghost use Rattle.flow_buffer.specs.Channel.{Buffers, Sends, Overwrites, Takes, Looks, fresh_side, feed_side, drain_side, spare_side, missed_side, joined_side, Agree};
+ghost use Rattle.flow_buffer.specs.Channel.{Buffers, Sends, Overwrites, Takes, Looks, Agree};
+ghost use Rattle.flow_buffer.specs.Channel.{fresh_side, feed_side, drain_side, spare_side, missed_side, joined_side};
 
 use crate::side::Side;
 use cold_flow::Event;

@@ -7,8 +7,8 @@ use std::collections::LinkedList;
 pub enum Fate {
     /// It was given to the collector.
     Taken,
-    /// It waits in the buffer.
-    Held,
+    /// It lies in the buffer.
+    Stored,
     /// The policy dropped it.
     Dropped,
 }

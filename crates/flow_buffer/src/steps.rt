@@ -1,12 +1,11 @@
 //! The steps of both sides on the channel, one function for each kind.
 
-ghost use Rattle.std.specs.Prelude.{◌≡◌, ◌++◌, [], ◌∷◌, ◌<◌, true, false, length, Option, Some, None, IfOk, MatchBool};
+ghost use Rattle.std.specs.Prelude.{◌≡◌, ◌++◌, [], ◌∷◌, ◌<◌, true, length, Option, Some, None, IfOk};
 ghost use Rattle.crossbeam_channel.specs.Claims.{view as knows, IsSeatAt};
 ghost use Rattle.crossbeam_channel.specs.Ends.{sends_on, receives_on, ruled_capacity};
 ghost use Rattle.crossbeam_channel.specs.Fifo.{Held};
-ghost use Rattle.flow_buffer.specs.Channel.{Sends, Overwrites, Takes, Looks, feed_side, drain_side};
-ghost use Rattle.flow_buffer.specs.Sides.{WasFull, Filled, may_drop};
-ghost use Rattle.flow_buffer.specs.History.{DropsOne};
+ghost use Rattle.flow_buffer.specs.Channel.{Sends, Offers, Overwrites, DropsOldest, Takes, Looks, feed_side, drain_side};
+ghost use Rattle.flow_buffer.specs.Sides.{Filled, may_drop};
 
 use crate::rule::{Buffering, Missed, Missing, Overwriting, Sending, Taking};
 use crate::side::Side;
@@ -52,7 +51,7 @@ pub(crate) fn offer<T: Copy, E: Copy, R: Wait>(
     requires channel { IsSeatAt (sends_on sender.now) pass.old }
     requires unended { knows pass.old ≡ feed_side (knows pass.old).lossy None (knows pass.old).produced }
     ensures channel { IsSeatAt (sends_on sender.now) pass.new }
-    ensures sent { MatchBool result (knows pass.new ≡ feed_side (knows pass.old).lossy None ((knows pass.old).produced ++ (false, value) ∷ [])) ((knows pass.new ≡ knows pass.old) × WasFull (ruled_capacity (sends_on sender.now)) (knows pass.old).produced) }
+    ensures sent { Offers (ruled_capacity (sends_on sender.now)) (knows pass.old) value result (knows pass.new) }
 {
     for _ in rt.forever() {
         match sender.try_send_as::<Sending, R>(rt, pass, Event::Value(value)) {
@@ -73,7 +72,7 @@ pub(crate) fn drop_oldest<T: Copy, E: Copy, R: Wait>(
     requires channel { IsSeatAt (receives_on receiver.now) pass.old }
     requires unended { knows pass.old ≡ feed_side true None (knows pass.old).produced }
     ensures channel { IsSeatAt (receives_on receiver.now) pass.new }
-    ensures dropped { MatchBool result (DropsOne (knows pass.old).produced (knows pass.new).produced × (knows pass.new ≡ feed_side true None (knows pass.new).produced)) (knows pass.new ≡ knows pass.old) }
+    ensures dropped { DropsOldest (knows pass.old) result (knows pass.new) }
 {
     receiver.try_recv_as::<Overwriting, R>(rt, pass).is_ok()
 }

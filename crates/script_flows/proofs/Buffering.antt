@@ -20,7 +20,7 @@ use Rattle.flow_terms.specs.declared.fill.Fill.TheVariants as fills
 use Rattle.flow_buffer.specs.declared.side.Fate.TheVariants as fates
 use Rattle.flow_buffer.specs.declared.store.Store.{Store}
 use Rattle.flow_buffer.specs.Buffered.{Fills, Takes, Produces}
-use Rattle.flow_buffer.specs.Contents.{Contents, nothing, held_of, produced, turned}
+use Rattle.flow_buffer.specs.Contents.{Contents, nothing, stored_of, produced, turned}
 use Rattle.flow_buffer.specs.Endings.{seen}
 use Rattle.flow_buffer.specs.Stored.{IsStuck}
 use Rattle.flow_buffer.specs.Stored as stored
@@ -69,8 +69,8 @@ end_comes coming cause k may fixed came =
 
 -- ---- full or not
 
-held_count : (s : Store ℕ ℕ) (c : Contents ℕ) → stored.Shows s c → length (held_of c) ≡ length s.held.items
-held_count s c shows = sym (length-map (held_of c) (λ e. e.1)) ∙ ap length shows.values
+held_count : (s : Store ℕ ℕ) (c : Contents ℕ) → stored.Shows s c → length (stored_of c) ≡ length s.held.items
+held_count s c shows = sym (length-map (stored_of c) (λ e. e.1)) ∙ ap length shows.values
 
 eqb_same : (a b : ℕ) → a ≡ b → (a == b) ≡ true
 eqb_same a b e = search (rules, e)
@@ -80,8 +80,8 @@ not_waiting_by Suspend c h = h
 not_waiting_by DropOldest c h = refl
 not_waiting_by DropLatest c h = refl
 
-unstuck_by : (p : Policy) (c : Contents ℕ) → ((p ≡ Suspend) → (length (held_of c) ≡ c.capacity) → ⊥) → waits_by p c ≡ false
-unstuck_by Suspend c h = ne_eqb (length (held_of c)) c.capacity (h refl)
+unstuck_by : (p : Policy) (c : Contents ℕ) → ((p ≡ Suspend) → (length (stored_of c) ≡ c.capacity) → ⊥) → waits_by p c ≡ false
+unstuck_by Suspend c h = ne_eqb (length (stored_of c)) c.capacity (h refl)
 unstuck_by DropOldest c h = refl
 unstuck_by DropLatest c h = refl
 
@@ -90,14 +90,14 @@ unstuck s c shows free = unstuck_by c.policy c (λ policy full. free (sym shows.
 
 stuck : (s : Store ℕ ℕ) (c : Contents ℕ) → stored.Shows s c → IsStuck s → waits c ≡ true
 stuck s c shows is =
-    ap (λ p. waits_by p c) (shows.policy ∙ is.0) ∙ eqb_same (length (held_of c)) c.capacity (held_count s c shows ∙ is.1 ∙ sym shows.capacity)
+    ap (λ p. waits_by p c) (shows.policy ∙ is.0) ∙ eqb_same (length (stored_of c)) c.capacity (held_count s c shows ∙ is.1 ∙ sym shows.capacity)
 
 none_held : (xs : List (ℕ × ℕ)) → map (λ e. e.1) xs ≡ [] → xs ≡ []
 none_held [] e = refl
 none_held (x ∷ xs) e = cc
 
-none_held_of : (s : Store ℕ ℕ) (c : Contents ℕ) → stored.Shows s c → s.held.items ≡ [] → held_of c ≡ []
-none_held_of s c shows e = none_held (held_of c) (shows.values ∙ e)
+none_stored_of : (s : Store ℕ ℕ) (c : Contents ℕ) → stored.Shows s c → s.held.items ≡ [] → stored_of c ≡ []
+none_stored_of s c shows e = none_held (stored_of c) (shows.values ∙ e)
 
 -- ---- fills and takes
 
@@ -121,8 +121,8 @@ module _ {U : Type 0} (may : U → Traces ℕ ℕ) (begins : (u : U) → may u (
   took contents Going (y ∷ later) cause from to old new h p =
       let next = next_value p.2.0 y later cause (may from) (may to) (h.coming refl) p.2.1 (begins to) in
       let put = p.2.2 contents h.contents in
-      let room : is_full contents ≡ false = ne_eqb (length (held_of contents)) contents.capacity (λ e. absurd (omega (arith, e, put.1.0))) in
-      let made : put.0 ≡ produced fates.Held y contents = put.1.1 ∙ ap (λ x. produced fates.Held x contents) next.is in (
+      let room : is_full contents ≡ false = ne_eqb (length (stored_of contents)) contents.capacity (λ e. absurd (omega (arith, e, put.1.0))) in
+      let made : put.0 ≡ produced fates.Stored y contents = put.1.1 ∙ ap (λ x. produced fates.Stored x contents) next.is in (
         false,
         rw (not_waiting_by contents.policy contents room, room) (
           refl,
@@ -144,8 +144,8 @@ module _ {U : Type 0} (may : U → Traces ℕ ℕ) (begins : (u : U) → may u (
       let next = next_value p.2.0 y later cause (may from) (may to) (h.coming refl) p.2.1 (begins to) in
       let put = p.2.2 contents h.contents in
       let policy : contents.policy ≡ DropOldest = put.1.0 in
-      let full : is_full contents ≡ true = eqb_same (length (held_of contents)) contents.capacity put.1.1 in
-      let made : put.0 ≡ produced fates.Held y (turned fates.Dropped contents) = put.1.2 ∙ ap (λ x. produced fates.Held x (turned fates.Dropped contents)) next.is in (
+      let full : is_full contents ≡ true = eqb_same (length (stored_of contents)) contents.capacity put.1.1 in
+      let made : put.0 ≡ produced fates.Stored y (turned fates.Dropped contents) = put.1.2 ∙ ap (λ x. produced fates.Stored x (turned fates.Dropped contents)) next.is in (
         false,
         rw (ap (λ p. waits_by p contents) policy, full, ap (λ p. put_by p y contents) policy) (
           refl,
@@ -167,7 +167,7 @@ module _ {U : Type 0} (may : U → Traces ℕ ℕ) (begins : (u : U) → may u (
       let next = next_value p.2.0 y later cause (may from) (may to) (h.coming refl) p.2.1 (begins to) in
       let put = p.2.2 contents h.contents in
       let policy : contents.policy ≡ DropLatest = put.1.0 in
-      let full : is_full contents ≡ true = eqb_same (length (held_of contents)) contents.capacity put.1.1 in
+      let full : is_full contents ≡ true = eqb_same (length (stored_of contents)) contents.capacity put.1.1 in
       let made : put.0 ≡ produced fates.Dropped y contents = put.1.2 ∙ ap (λ x. produced fates.Dropped x contents) next.is in (
         false,
         rw (ap (λ p. waits_by p contents) policy, full, ap (λ p. put_by p y contents) policy) (
@@ -263,8 +263,8 @@ module _ {U : Type 0} (may : U → Traces ℕ ℕ) (begins : (u : U) → may u (
       let next = next_value x y later cause (may from) (may to) (h.coming refl) p.1 (begins to) in
       let took = p.2 contents h.contents in
       let passed = took.1 in
-      let made : took.0 ≡ turned fates.Taken (produced fates.Held y contents) =
-      passed.1.2.1 ∙ ap (λ c. turned fates.Taken c) (passed.1.1.1 ∙ ap (λ v. produced fates.Held v contents) next.is) in (
+      let made : took.0 ≡ turned fates.Taken (produced fates.Stored y contents) =
+      passed.1.2.1 ∙ ap (λ c. turned fates.Taken c) (passed.1.1.1 ∙ ap (λ v. produced fates.Stored v contents) next.is) in (
         false,
         rw passed.0 (
           ap (λ v. polls.Ready (events.Value v)) next.is,
@@ -291,7 +291,7 @@ module _ {U : Type 0} (may : U → Traces ℕ ℕ) (begins : (u : U) → may u (
   took_end contents Going [] cause from to old new k h (same, empty, told, inl p) =
       let end = end_comes [] cause k (may from) (h.coming refl) p.1 in
       let kept = told contents h.contents in
-      (false, rw (none_held_of old contents h.contents empty) (ap (λ j. polls.Ready (events.End j)) end.1, given_end cause k (may to) contents [] old new same end.1 (subst (stored.Shows new) kept.1.0 kept.2) cause))
+      (false, rw (none_stored_of old contents h.contents empty) (ap (λ j. polls.Ready (events.End j)) end.1, given_end cause k (may to) contents [] old new same end.1 (subst (stored.Shows new) kept.1.0 kept.2) cause))
   took_end contents (Kept j) coming cause from to old new k h (same, empty, told, inl p) = (let e : Kept j ≡ Going = sym h.ending ∙ p.0 in cc)
   took_end contents (Given j) coming cause from to old new k h (same, empty, told, inl p) = (let e : Given j ≡ Going = sym h.ending ∙ p.0 in cc)
   took_end contents Going coming cause from to old new k h (same, empty, told, inr p) = (let e : None ≡ Some k = ap seen (sym h.ending) ∙ p.0 in cc)
@@ -299,12 +299,12 @@ module _ {U : Type 0} (may : U → Traces ℕ ℕ) (begins : (u : U) → may u (
       let e : Some j ≡ Some k = ap seen (sym h.ending) ∙ p.0 in
       let is : k ≡ j = cc in
       let kept = told contents h.contents in
-      (false, rw (none_held_of old contents h.contents empty) (ap (λ i. polls.Ready (events.End i)) is, given_end j k (may to) contents coming old new same is (subst (stored.Shows new) kept.1.0 kept.2) cause))
+      (false, rw (none_stored_of old contents h.contents empty) (ap (λ i. polls.Ready (events.End i)) is, given_end j k (may to) contents coming old new same is (subst (stored.Shows new) kept.1.0 kept.2) cause))
   took_end contents (Given j) coming cause from to old new k h (same, empty, told, inr p) =
       let e : Some j ≡ Some k = ap seen (sym h.ending) ∙ p.0 in
       let is : k ≡ j = cc in
       let kept = told contents h.contents in
-      (false, rw (none_held_of old contents h.contents empty) (ap (λ i. polls.Ready (events.End i)) is, given_end j k (may to) contents coming old new same is (subst (stored.Shows new) kept.1.0 kept.2) cause))
+      (false, rw (none_stored_of old contents h.contents empty) (ap (λ i. polls.Ready (events.End i)) is, given_end j k (may to) contents coming old new same is (subst (stored.Shows new) kept.1.0 kept.2) cause))
 
   took_none : (contents : Contents ℕ) (ending : Ending ℕ) (coming : List ℕ) (cause : Cause ℕ) (from to : U) (old new : Store ℕ ℕ) → Holds (may from) old (buffering contents ending coming cause) → Takes may from old polls.Pending to new
       → Follows (λ pending. taken pending (buffering contents ending coming cause)) polls.Pending (may to) new
@@ -313,7 +313,7 @@ module _ {U : Type 0} (may : U → Traces ℕ ℕ) (begins : (u : U) → may u (
   took_none contents (Given k) coming cause from to old new h p = (let e : Given k ≡ Going = sym h.ending ∙ p.0 in cc)
   took_none contents Going coming cause from to old new h p = (
     true,
-    rw (none_held_of old contents h.contents p.1) (
+    rw (none_stored_of old contents h.contents p.1) (
       refl,
       record {
         contents = rw p.3 h.contents;

@@ -12,11 +12,11 @@ use Rattle.flow_buffer.specs.declared.ending.Ending.TheVariants.{Going, Kept, Gi
 use Rattle.flow_terms.specs.declared.fill.Fill.{Fill}
 use Rattle.flow_terms.specs.declared.fill.Fill.TheVariants as fills
 use Rattle.flow_buffer.specs.declared.side.Fate.TheVariants as fates
-use Rattle.flow_buffer.specs.Contents.{Contents, nothing, held_of, produced, turned}
+use Rattle.flow_buffer.specs.Contents.{Contents, nothing, stored_of, produced, turned}
 use Rattle.script_pipes.specs.Sources.{Origin, values_from, cause_from}
 
 pub record Buffering : Type 0 where
-  -- every value that the source gave, each taken, held or dropped
+  -- every value that the source gave, each taken, stored or dropped
   pub contents : Contents ℕ
   -- the end that was seen or given
   pub ending : Ending ℕ
@@ -29,7 +29,7 @@ abbrev pub begun : ℕ → Policy → Origin → Buffering
 begun capacity policy origin = record { contents = nothing capacity policy; ending = Going; coming = values_from origin; cause = cause_from origin }
 
 abbrev pub is_full : Contents ℕ → Bool
-is_full contents = length (held_of contents) == contents.capacity
+is_full contents = length (stored_of contents) == contents.capacity
 
 -- full, and the policy is to wait
 abbrev pub waits_by : Policy → Contents ℕ → Bool
@@ -42,13 +42,13 @@ waits contents = waits_by contents.policy contents
 
 -- a value is put over the oldest one, or dropped itself
 abbrev pub put_by : Policy → ℕ → Contents ℕ → Fill × Contents ℕ
-put_by DropOldest x contents = (fills.Overwrote, produced fates.Held x (turned fates.Dropped contents))
+put_by DropOldest x contents = (fills.Overwrote, produced fates.Stored x (turned fates.Dropped contents))
 put_by DropLatest x contents = (fills.Dropped, produced fates.Dropped x contents)
 put_by Suspend x contents = (fills.Full, contents)
 
 -- a value is put where there is room, and else as the policy says
 abbrev pub put : ℕ → Contents ℕ → Fill × Contents ℕ
-put x contents = if is_full contents then put_by contents.policy x contents else (fills.Took, produced fates.Held x contents)
+put x contents = if is_full contents then put_by contents.policy x contents else (fills.Took, produced fates.Stored x contents)
 
 -- the source gives its next value, or its end, which is kept
 abbrev pub fill_from : List ℕ → Buffering → Fill × Buffering
@@ -66,22 +66,22 @@ fill_by (Given cause) pending buffering = (fills.Ended, buffering)
 unfoldable pub filled : Bool → Buffering → Fill × Buffering
 filled pending buffering = fill_by buffering.ending pending buffering
 
--- none is held: the source's next value passes, or its end is given
+-- none is stored: the source's next value passes, or its end is given
 abbrev pub pass_from : List ℕ → Buffering → Poll (Event ℕ ℕ) × Buffering
 pass_from [] buffering = (polls.Ready (events.End buffering.cause), record buffering { ending = Given buffering.cause })
 pass_from (x ∷ later) buffering =
-    (polls.Ready (events.Value x), record buffering { contents = turned fates.Taken (produced fates.Held x buffering.contents); coming = later })
+    (polls.Ready (events.Value x), record buffering { contents = turned fates.Taken (produced fates.Stored x buffering.contents); coming = later })
 
 abbrev pub pass_by : Ending ℕ → Bool → Buffering → Poll (Event ℕ ℕ) × Buffering
 pass_by Going pending buffering = if pending then (polls.Pending, buffering) else pass_from buffering.coming buffering
 pass_by (Kept cause) pending buffering = (polls.Ready (events.End cause), record buffering { ending = Given cause })
 pass_by (Given cause) pending buffering = (polls.Ready (events.End cause), buffering)
 
--- the oldest held value is taken
+-- the oldest stored value is taken
 abbrev pub take_by : List (ℕ × ℕ) → Bool → Buffering → Poll (Event ℕ ℕ) × Buffering
 take_by [] pending buffering = pass_by buffering.ending pending buffering
 take_by ((index, x) ∷ others) pending buffering = (polls.Ready (events.Value x), record buffering { contents = turned fates.Taken buffering.contents })
 
 -- WHAT A TAKE DOES, where the source is pending in it or not
 unfoldable pub taken : Bool → Buffering → Poll (Event ℕ ℕ) × Buffering
-taken pending buffering = take_by (held_of buffering.contents) pending buffering
+taken pending buffering = take_by (stored_of buffering.contents) pending buffering

@@ -8,11 +8,11 @@ returns-in-Some-clause-takes g c = takes_oldest g.S.Run.may _ _ _ _ c.args.self.
 pub returns-in-Some-clause-narrows : goal.returns-in-Some-clause-narrows
 returns-in-Some-clause-narrows g c = narrows_oldest _ _ _ _ c.args.self.now.emptied c.in-Some.ensures
 
-pub returns-in-Some-settle-clause-takes : goal.returns-in-Some-settle-clause-takes
-returns-in-Some-settle-clause-takes g c = takes_seen g.S.Run.may _ _ _ _ (search rules) (search rules) (search rules)
+pub returns-in-Some-give-clause-takes : goal.returns-in-Some-give-clause-takes
+returns-in-Some-give-clause-takes g c = takes_seen g.S.Run.may _ _ _ _ (search rules) (search rules) (search rules)
 
-pub returns-in-Some-settle-clause-narrows : goal.returns-in-Some-settle-clause-narrows
-returns-in-Some-settle-clause-narrows g c = narrows_seen _ c.args.self.now.store _ (search rules) (search rules)
+pub returns-in-Some-give-clause-narrows : goal.returns-in-Some-give-clause-narrows
+returns-in-Some-give-clause-narrows g c = narrows_seen _ c.args.self.now.store _ (search rules) (search rules)
 
 pub returns-in-Ready-Value-clause-takes : goal.returns-in-Ready-Value-clause-takes
 returns-in-Ready-Value-clause-takes g c =
