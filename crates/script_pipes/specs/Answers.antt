@@ -3,7 +3,9 @@ use Rattle.std.specs.Prelude.{ℕ, List, [], ◌∷◌, ◌++◌, codes, decimal
 use Rattle.flow_terms.specs.Refusals.{number_of}
 use Rattle.script_pipes.specs.Listings.{listing}
 use Rattle.script_pipes.specs.declared.answer.Answer.{Answer}
-use Rattle.script_pipes.specs.declared.answer.Answer.TheVariants.{Done, Refused, Accepted, Dropped, Full, Waiting, Finished, Removed, Left, Gone, Value, Pending, Closed, Took, Overwrote, Ended, Completed, Failed, On, Off, Number, Truth, Values, Collected, TooMany, BadCommand}
+use Rattle.script_pipes.specs.declared.answer.Answer.TheVariants.{Done, Refused, Accepted, Dropped, Full, Waiting, Finished, Removed, Left, Gone}
+use Rattle.script_pipes.specs.declared.answer.Answer.TheVariants.{Value, Pending, Closed, Took, Overwrote, Ended, Completed, Failed, On, Off}
+use Rattle.script_pipes.specs.declared.answer.Answer.TheVariants.{Number, Truth, Values, Collected, TooMany, BadCommand}
 
 -- the word that is the whole answer, or nothing where the answer says more
 abbrev pub word_of : Answer → List ℕ

@@ -1,5 +1,6 @@
 -- What a pipe comes to: stage by stage, a list of values and how they end.
-use Rattle.std.specs.Prelude.{◌≡◌, ◌⊎◌, ℕ, ◌+◌, ◌-◌, ◌%◌, ◌^◌, ◌==◌, Bool, List, [], ◌∷◌, length, map, drop, filter, nat_eq, nat_lt, Option, Some, None, Result, Ok, Err, if◌then◌else◌}
+use Rattle.std.specs.Prelude.{◌≡◌, ◌⊎◌, ◌+◌, ◌-◌, ◌%◌, ◌^◌, ◌==◌, ◌∷◌, if◌then◌else◌}
+use Rattle.std.specs.Prelude.{ℕ, Bool, List, [], length, map, drop, filter, nat_eq, nat_lt, Option, Some, None, Result, Ok, Err}
 use Rattle.std.specs.List.{range_with_len}
 use Rattle.cold_flow.specs.declared.cause.Cause.{Cause}
 use Rattle.cold_flow.specs.declared.cause.Cause.TheVariants.{Finished, Failed}
@@ -7,7 +8,7 @@ use Rattle.cold_flow.specs.declared.cause.Cause.TheVariants as causes
 use Rattle.cold_flow.specs.declared.operators.few.Few.{Few}
 use Rattle.cold_flow.specs.declared.operators.few.Few.TheVariants.{Two}
 use Rattle.flow_terms.specs.declared.refusal.Refusal.TheVariants.{NotPositive, NoMemory}
-use Rattle.cold_flow.specs.Poll.{Traces}
+use Rattle.cold_flow.specs.Poll.{Traces, Fixes}
 use Rattle.cold_flow.specs.Trace.{Trace, ended_by, cause_of, map_trace, on_values, take_trace}
 use Rattle.cold_flow.specs.Distinct.{distinct_after}
 use Rattle.cold_flow.specs.Few.{transform_trace}
@@ -118,10 +119,15 @@ abbrev pub Comes : Result (Trace ℕ ℕ) Stop → Result Gathered Stop → Type
 Comes expected (Ok gathered) = expected ≡ Ok (trace_of gathered)
 Comes expected (Err stop) = (stop ≡ Refused NoMemory) ⊎ (expected ≡ Err stop)
 
+-- whatever each of two flows has to give, what the two make together was gathered, or memory was refused
+abbrev pub ComesOfBoth : Traces ℕ ℕ → Traces ℕ ℕ → (Trace ℕ ℕ → Trace ℕ ℕ → Trace ℕ ℕ) → Result Gathered Stop → Type 0
+ComesOfBoth left right together result = (t u : Trace ℕ ℕ) → Fixes t left → Fixes u right → Comes (bounded (together t u)) result
+
 -- it ends by a fault or finishes
 abbrev pub IsEnded : Trace ℕ ℕ → Type 0
 IsEnded t = (fault : Option ℕ) × (t.1 ≡ Some (cause_of fault))
 
 -- an end that may be given is that of this trace, after all its values, or it is that memory was refused
 abbrev pub EndsAs : Trace ℕ ℕ → Traces ℕ ℕ → Type 0
-EndsAs whole may = (values : List ℕ) (cause : Cause ℕ) → may (ended_by values cause) → (cause ≡ causes.Refused NoMemory) ⊎ (ended_by values cause ≡ whole)
+EndsAs whole may = (values : List ℕ) (cause : Cause ℕ) → may (ended_by values cause)
+    → (cause ≡ causes.Refused NoMemory) ⊎ (ended_by values cause ≡ whole)

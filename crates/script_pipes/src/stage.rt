@@ -7,8 +7,9 @@ ghost use Rattle.flow_merge.specs.Zip.{zip_trace};
 ghost use Rattle.script_words.specs.Lines.{words_of};
 ghost use Rattle.cold_flow.specs.Poll.{Fixes};
 ghost use Rattle.cold_flow.specs.Trace.{Trace};
-ghost use Rattle.script_pipes.specs.Piping.{after_stage, bounded, made_by, sum, trace_of, Comes, IsEnded};
-ghost use Rattle.script_pipes.specs.Stages.{operation_in, operation_of, operation_by, small_number_at, and_over, concat, add_of, take_of, drop_of, done_of, fault_of, last_of, catch_of, zip_of, combine_of, failing_of, concat_of};
+ghost use Rattle.script_pipes.specs.Piping.{after_stage, bounded, made_by, sum, trace_of, Comes, ComesOfBoth, IsEnded};
+ghost use Rattle.script_pipes.specs.Stages.{operation_in, operation_of, operation_by, small_number_at, and_over, concat, add_of, take_of, drop_of};
+ghost use Rattle.script_pipes.specs.Stages.{done_of, fault_of, last_of, catch_of, zip_of, combine_of, failing_of, concat_of};
 
 use crate::actions::{Adding, Concluding, IntoInner, IsEven, Recovering, Sum, Twice};
 use crate::gathered::{Gathered, Stop};
@@ -200,7 +201,7 @@ fn zipped(
 ) -> Result<Gathered, Stop>
     requires left { (t : Trace ℕ ℕ) × Fixes t (⟦<Listed<u64, u64> as Flow>⟧.may sides.0) × IsEnded t }
     requires right { (u : Trace ℕ ℕ) × Fixes u (⟦<Listed<u64, u64> as Flow>⟧.may sides.1) × IsEnded u }
-    ensures { (t u : Trace ℕ ℕ) → Fixes t (⟦<Listed<u64, u64> as Flow>⟧.may sides.0) → Fixes u (⟦<Listed<u64, u64> as Flow>⟧.may sides.1) → Comes (bounded (zip_trace sum t u)) result }
+    ensures { ComesOfBoth (⟦<Listed<u64, u64> as Flow>⟧.may sides.0) (⟦<Listed<u64, u64> as Flow>⟧.may sides.1) (zip_trace sum) result }
 {
     let (left, right) = sides;
     Gathered::of(alloc, zip(left, right, Sum), cx)
@@ -215,7 +216,7 @@ fn combined(
     requires left { (t : Trace ℕ ℕ) × Fixes t (⟦<Listed<u64, u64> as Flow>⟧.may sides.0) × IsEnded t }
     requires right { (u : Trace ℕ ℕ) × Fixes u (⟦<Listed<u64, u64> as Flow>⟧.may sides.1) × IsEnded u }
     requires prompt { IsTrue (⟦<Listed<u64, u64> as Flow>⟧.prompt sides.0) × IsTrue (⟦<Listed<u64, u64> as Flow>⟧.prompt sides.1) }
-    ensures { (t u : Trace ℕ ℕ) → Fixes t (⟦<Listed<u64, u64> as Flow>⟧.may sides.0) → Fixes u (⟦<Listed<u64, u64> as Flow>⟧.may sides.1) → Comes (bounded (combine_trace sum t u)) result }
+    ensures { ComesOfBoth (⟦<Listed<u64, u64> as Flow>⟧.may sides.0) (⟦<Listed<u64, u64> as Flow>⟧.may sides.1) (combine_trace sum) result }
 {
     let (left, right) = sides;
     Gathered::of(alloc, combine(left, right, Sum), cx)

@@ -1,7 +1,8 @@
 //! The answers to what the calls of a flow replied.
 
 ghost use Rattle.std.specs.Prelude.{◌≡◌};
-ghost use Rattle.script_pipes.specs.Replies.{try_answer, emit_answer, poll_answer, withdraw_answer, subscribe_answer, next_answer, cancel_answer, fill_answer, take_answer};
+ghost use Rattle.script_pipes.specs.Replies.{try_answer, emit_answer, poll_answer, withdraw_answer, subscribe_answer, next_answer};
+ghost use Rattle.script_pipes.specs.Replies.{cancel_answer, fill_answer, take_answer};
 
 use super::Answer;
 use cold_flow::{Cause, Event, Refusal};
