@@ -1,6 +1,6 @@
 //! Worked examples of sharing strategies: what each poll commands.
 use crate::tools::Differences;
-use flow_sharing::laws::commands_of;
+use flow_sharing::polls::commands_of;
 use flow_sharing::{Command, Started, Strategy};
 use std::test::Fail;
 

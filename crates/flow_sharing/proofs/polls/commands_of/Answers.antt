@@ -3,7 +3,7 @@ use Rattle.std.proofs.lemmas.List.{map_more, take_more_set}
 use Rattle.flow_sharing.specs.Strategies.{command, look_of}
 use Rattle.flow_sharing.specs.Shown.{Shows}
 use Rattle.flow_sharing.proofs.Commands.{commands-more, reverse-more}
-use Rattle.flow_sharing.proofs.laws.commands_of.Goals as goal
+use Rattle.flow_sharing.proofs.polls.commands_of.Goals as goal
 
 pub loop-index-preserved : goal.loop-index-preserved
 loop-index-preserved c =

@@ -1,7 +1,7 @@
 use Rattle.std.proofs.Common.{◌≡◌, map, reverse, take}
 use Rattle.flow_sharing.specs.Strategies.{commands, look_of}
 use Rattle.flow_sharing.specs.Shown.{Shows}
-use Rattle.flow_sharing.proofs.laws.commands_of.Given as goal
+use Rattle.flow_sharing.proofs.polls.commands_of.Given as goal
 
 abbrev pub invariant-loop-index : goal.invariant-loop-index
 invariant-loop-index l = record {
