@@ -19,6 +19,8 @@ pub record Holds (may : Traces ℕ ℕ) (store : Store ℕ ℕ) (buffering : Buf
 abbrev pub ShowsBuffer : ScriptBuffer → Buffering → Type 0
 ShowsBuffer shown buffering = Holds (run_may shown.run.source) shown.run.store buffering
 
--- whatever the old buffer stands for, the reply is its reply, by whether the source was pending, and the new one stands for what it leaves
+-- whatever the old buffer stands for, the reply is its reply, by whether the source was pending, and the new one stands for what
+-- it leaves
 abbrev pub FollowsBuffer : {R : Type 0} → (Bool → Buffering → R × Buffering) → ScriptBuffer → R → ScriptBuffer → Type 0
-FollowsBuffer call old reply new = (buffering : Buffering) → ShowsBuffer old buffering → (pending : Bool) × ((reply ≡ (call pending buffering).0) × ShowsBuffer new (call pending buffering).1)
+FollowsBuffer call old reply new = (buffering : Buffering) → ShowsBuffer old buffering
+    → (pending : Bool) × ((reply ≡ (call pending buffering).0) × ShowsBuffer new (call pending buffering).1)

@@ -1,5 +1,5 @@
 -- What a command found that neither its words nor the world tell: each kind of command has a finding of its own.
-use Rattle.std.specs.Prelude.{◌≡◌, ◌⊎◌, ℕ, Bool, true, false, List, [], Option, Some, None}
+use Rattle.std.specs.Prelude.{◌≡◌, ◌⊎◌, ℕ, Bool, true, false, List, [], Option, Some, None, Result, MatchResult}
 use Rattle.flow_terms.specs.declared.refusal.Refusal.{Refusal}
 use Rattle.flow_terms.specs.declared.refusal.Refusal.TheVariants.{NoMemory, Spent, SubscribersFull}
 use Rattle.script_flows.specs.declared.ticked.Ticked.{Ticked}
@@ -73,3 +73,7 @@ refusal_for of_places = SubscribersFull
 -- it is refused for this reason where there is one, and else for want of memory alone
 abbrev pub RefusedFor : Option Refusal → Refusal → Type 0
 RefusedFor why refusal = (why ≡ Some refusal) ⊎ ((why ≡ None) × (refusal ≡ NoMemory))
+
+-- it was made where there is no reason against it, and this holds of it then; else it is refused
+abbrev pub MadeUnless : {M : Type 0} → Option Refusal → Result M Refusal → (M → Type 0) → Type 0
+MadeUnless why result holds = MatchResult result (λ made. (why ≡ None) × holds made) (RefusedFor why)

@@ -18,7 +18,8 @@ use Rattle.script_pipes.specs.declared.request.Party.{Party}
 use Rattle.script_pipes.specs.declared.request.Party.TheVariants as parties
 use Rattle.script_pipes.specs.Commands.{Made}
 use Rattle.script_pipes.specs.Commands as commands
-use Rattle.script_pipes.specs.Replies.{try_answer, emit_answer, poll_answer, withdraw_answer, subscribe_answer, next_answer, cancel_answer, fill_answer, take_answer}
+use Rattle.script_pipes.specs.Replies.{try_answer, emit_answer, poll_answer, withdraw_answer, subscribe_answer, next_answer}
+use Rattle.script_pipes.specs.Replies.{cancel_answer, fill_answer, take_answer}
 use Rattle.script_flows.specs.declared.part.Part.{Part}
 use Rattle.script_flows.specs.declared.part.Part.TheVariants.{Whole, Subscription, InFlight, Finished, Collector, Subscriber}
 use Rattle.script_flows.specs.Buffers.{Buffering, begun, filled, taken}
@@ -66,6 +67,10 @@ thing_of (commands.stated value started origin) = stated []
 abbrev pub kept : {A S : Type 0} → S → Option (A × S) → Option A × S
 kept before None = (None, before)
 kept before (Some came) = (Some came.0, came.1)
+
+-- for some finding this is what the call answers, and what stands after it
+abbrev pub AnswersAsFound : {A S : Type 0} → (Finding → S → Option (A × S)) → S → Option A → S → Type 0
+AnswersAsFound call before answer after = (finding : Finding) × ((answer, after) ≡ kept before (call finding before))
 
 -- a call's reply as an answer
 abbrev pub replied : {R S : Type 0} → (R → Answer) → R × S → Option (Answer × S)

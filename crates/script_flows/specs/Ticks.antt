@@ -4,8 +4,10 @@ use Rattle.cold_flow.specs.declared.cause.Cause.{Cause}
 use Rattle.cold_flow.specs.declared.cause.Cause.TheVariants as causes
 use Rattle.flow_terms.specs.declared.refusal.Refusal.{Refusal}
 use Rattle.flow_terms.specs.declared.refusal.Refusal.TheVariants.{NoMemory}
+use Rattle.flow_sharing.specs.declared.course.Course.{Course}
 use Rattle.flow_sharing.specs.declared.polled.Polled.{Polled}
 use Rattle.flow_sharing.specs.declared.strategy.Strategy.{Strategy}
+use Rattle.flow_sharing.specs.Courses.{kept_cause}
 use Rattle.flow_sharing.specs.Strategies.{History}
 use Rattle.flow_sharing.specs.Shown.{Shows}
 use Rattle.flow_sharing.specs.Polls.{answer}
@@ -42,7 +44,8 @@ tick_answer (Refused refusal) = answers.Refused refusal
 -- strategy is as before.
 abbrev pub PolledAt : ℕ → Option (Cause ℕ) → Strategy → Strategy → Result Polled Refusal → Type 0
 PolledAt now before old new (Ok polled) = (history : History) → Shows old history
-    → (polled ≡ answer before old.started (record { moment = now; count = polled.count } ∷ history)) × Shows new (record { moment = now; count = polled.count } ∷ history)
+    → (polled ≡ answer before old.started (record { moment = now; count = polled.count } ∷ history))
+    × Shows new (record { moment = now; count = polled.count } ∷ history)
 PolledAt now before old new (Err refusal) = (refusal ≡ NoMemory) × (before ≡ None) × (new ≡ old)
 
 -- WHAT A TICK AT THIS MOMENT ANSWERS, by the strategy and the kept fault before it and after it
@@ -50,3 +53,7 @@ pub record TicksAs (now : ℕ) (old : Strategy) (before : Option (Cause ℕ)) (n
   pub polled : Result Polled Refusal
   pub answered : result ≡ ticked polled after
   pub polled_so : PolledAt now before old new polled
+
+-- the same, by the courses of an upstream, which keep the fault
+abbrev pub Ticks : {U : Type 0} → ℕ → Strategy → Course U ℕ → Strategy → Course U ℕ → Ticked → Type 0
+Ticks now old before new after result = TicksAs now old (kept_cause before) new (kept_cause after) result

@@ -1,10 +1,9 @@
 //! The buffers of a script.
 
-ghost use Rattle.std.specs.Prelude.{◌≡◌, None, MatchResult};
 ghost use Rattle.flow_buffer.specs.Capacity.{refused_capacity};
 ghost use Rattle.script_flows.specs.Buffers.{begun, filled, taken};
 ghost use Rattle.script_flows.specs.Buffered.{ShowsBuffer, FollowsBuffer};
-ghost use Rattle.script_flows.specs.Findings.{RefusedFor};
+ghost use Rattle.script_flows.specs.Findings.{MadeUnless};
 ghost use Rattle.script_flows.specs.Things.{kept, ask_buffer};
 ghost use Rattle.script_pipes.specs.Sources.{origin_in};
 
@@ -33,7 +32,7 @@ impl ScriptBuffer {
         capacity: u64,
         policy: Policy,
     ) -> Result<ScriptBuffer, Refusal>
-        ensures { MatchResult result (λ made. (refused_capacity capacity ≡ None) × ShowsBuffer made (begun capacity policy (origin_in source.entry))) (λ refusal. RefusedFor (refused_capacity capacity) refusal) }
+        ensures { MadeUnless (refused_capacity capacity) result (λ made. ShowsBuffer made (begun capacity policy (origin_in source.entry))) }
     {
         let flow = buffer(alloc, SourceFlow::new(alloc, source), capacity, policy)?;
         let run = flow.start()?;

@@ -1,10 +1,10 @@
 //! A shared flow of a script.
 
-ghost use Rattle.std.specs.Prelude.{◌≡◌, None, IfOk, MatchResult};
+ghost use Rattle.std.specs.Prelude.{◌≡◌, IfOk};
 ghost use Rattle.shared_core.specs.Flow.{cache, empty};
 ghost use Rattle.shared_core.specs.Kept.{making_refusal, parameters_of};
 ghost use Rattle.shared_core.specs.Shown.{Shows, Follows, Reads};
-ghost use Rattle.script_flows.specs.Findings.{RefusedFor};
+ghost use Rattle.script_flows.specs.Findings.{MadeUnless};
 ghost use Rattle.script_flows.specs.Things.{config_of, kept, ask_flow, join_flow};
 
 use crate::part::Part;
@@ -54,7 +54,7 @@ pub struct ScriptFlow {
 impl ScriptFlow {
     /// A flow without subscriptions. Refused as `SharedState::new`, and then with 4.
     pub fn new(alloc: Global, config: Config) -> Result<ScriptFlow, Refusal>
-        ensures { MatchResult result (λ made. (making_refusal config ≡ None) × Shows made.state (empty (parameters_of config))) (λ refusal. RefusedFor (making_refusal config) refusal) }
+        ensures { MadeUnless (making_refusal config) result (λ made. Shows made.state (empty (parameters_of config))) }
     {
         let state = SharedState::new(alloc, config)?;
         Ok(ScriptFlow { state })

@@ -3,13 +3,11 @@
 ghost use Rattle.std.specs.Prelude.{◌≡◌, ◌⊎◌, ◌++◌, ◌∷◌, [], Some, true, false, length, IfOk, IfErr, IfSome, IfNone, IsOkUnless, slice_set};
 ghost use Rattle.flow_terms.specs.declared.refusal.Refusal.TheVariants.{NoMemory, Spent, SubscribersFull};
 ghost use Rattle.shared_core.specs.Kept.{making_refusal};
-ghost use Rattle.flow_sharing.specs.Courses.{kept_cause};
 ghost use Rattle.flow_sharing.specs.Shown.{Shows};
 ghost use Rattle.script_flows.specs.Shares.{live};
-ghost use Rattle.script_flows.specs.Ticks.{TicksAs};
+ghost use Rattle.script_flows.specs.Ticks.{Ticks};
 ghost use Rattle.script_flows.specs.Watching.{Asked, ended};
-ghost use Rattle.script_flows.specs.Findings.{Finding};
-ghost use Rattle.script_flows.specs.Things.{kept, ask_share, join_share};
+ghost use Rattle.script_flows.specs.Things.{AnswersAsFound, ask_share, join_share};
 
 use crate::part::Part;
 use crate::ticked::Ticked;
@@ -123,7 +121,7 @@ impl<'a> Share<'a> {
     /// One poll of the sharing, at this moment in milliseconds.
     pub fn tick(&mut self, rt: &impl Wait, now: u64, cx: &mut Context<'_>) -> Ticked
         ensures live { live self.new ≡ live self.old }
-        ensures ticks { TicksAs now self.old.sharing.strategy (kept_cause self.old.sharing.upstream.course) self.new.sharing.strategy (kept_cause self.new.sharing.upstream.course) result }
+        ensures ticks { Ticks now self.old.sharing.strategy self.old.sharing.upstream.course self.new.sharing.strategy self.new.sharing.upstream.course result }
         ensures started { self.new.sharing.strategy.started ≡ self.old.sharing.strategy.started }
     {
         let polled = self.sharing.poll(rt, now, cx);
@@ -139,7 +137,7 @@ impl<'a> Share<'a> {
         request: Request,
         cx: &mut Context<'_>,
     ) -> Option<Answer>
-        ensures { (finding : Finding) × ((result, live self.new) ≡ kept (live self.old) (ask_share finding part request (live self.old))) }
+        ensures { AnswersAsFound (λ finding. ask_share finding part request) (live self.old) result (live self.new) }
     {
         match (part, request) {
             (Part::Whole, Request::Cache) => match self.cache(rt, alloc) {
@@ -165,7 +163,7 @@ impl<'a> Share<'a> {
         part: Part,
         party: Party,
     ) -> Option<(Answer, Option<Part>)>
-        ensures { (finding : Finding) × ((result, live self.new) ≡ kept (live self.old) (join_share finding part party (live self.old))) }
+        ensures { AnswersAsFound (λ finding. join_share finding part party) (live self.old) result (live self.new) }
     {
         match (part, party) {
             (Part::Whole, Party::Subscription) => match self.subscribe(rt) {

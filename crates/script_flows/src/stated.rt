@@ -4,11 +4,9 @@ ghost use Rattle.std.specs.Prelude.{◌≡◌, [], IfOk, IfErr};
 ghost use Rattle.flow_terms.specs.declared.refusal.Refusal.TheVariants.{NoMemory};
 ghost use Rattle.state_flow.specs.Calls.{Sets};
 ghost use Rattle.state_flow.specs.Views.{opening, giver, taker};
-ghost use Rattle.flow_sharing.specs.Courses.{kept_cause};
 ghost use Rattle.flow_sharing.specs.Shown.{Shows};
-ghost use Rattle.script_flows.specs.Findings.{Finding};
-ghost use Rattle.script_flows.specs.Things.{kept, ask_stated, join_state};
-ghost use Rattle.script_flows.specs.Ticks.{TicksAs};
+ghost use Rattle.script_flows.specs.Things.{AnswersAsFound, ask_stated, join_state};
+ghost use Rattle.script_flows.specs.Ticks.{Ticks};
 ghost use Rattle.script_flows.specs.Watching.{standing};
 
 use crate::part::Part;
@@ -39,7 +37,8 @@ impl<'a> Stated<'a> {
         ensures opens { IfOk result (λ made. made.state.seat.view ≡ giver 1 (opening value 10)) }
         ensures same_flow { IfOk result (λ made. made.sharing.seat.flow ≡ made.state.seat.flow) }
         ensures sets { IfOk result (λ made. Sets (taker 1 (opening value 10)) value made.sharing.seat.view) }
-        ensures sharing { IfOk result (λ made. (made.sharing.strategy.started ≡ started) × (made.sharing.initial ≡ value) × (made.sharing.upstream.flow ≡ source.entry)) }
+        ensures sharing { IfOk result (λ made. (made.sharing.strategy.started ≡ started) × (made.sharing.upstream.flow ≡ source.entry)) }
+        ensures initial { IfOk result (λ made. made.sharing.initial ≡ value) }
         ensures shows { IfOk result (λ made. Shows made.sharing.strategy []) }
         ensures refusals { IfErr result (λ refusal. refusal ≡ NoMemory) }
     {
@@ -52,7 +51,7 @@ impl<'a> Stated<'a> {
 
     /// One poll of the sharing, at this moment in milliseconds.
     fn tick(&mut self, now: u64, cx: &mut Context<'_>) -> Ticked
-        ensures ticks { TicksAs now self.old.sharing.strategy (kept_cause self.old.sharing.upstream.course) self.new.sharing.strategy (kept_cause self.new.sharing.upstream.course) result }
+        ensures ticks { Ticks now self.old.sharing.strategy self.old.sharing.upstream.course self.new.sharing.strategy self.new.sharing.upstream.course result }
         ensures started { self.new.sharing.strategy.started ≡ self.old.sharing.strategy.started }
         ensures same_flow { self.new.sharing.seat.flow ≡ self.old.sharing.seat.flow }
         ensures state { self.new.state ≡ self.old.state }
@@ -63,7 +62,7 @@ impl<'a> Stated<'a> {
 
     /// Answers a command, or nothing where it is none for this part of the state: only its source sets it.
     pub fn ask(&mut self, part: Part, request: Request, cx: &mut Context<'_>) -> Option<Answer>
-        ensures { (finding : Finding) × ((result, standing self.new.state) ≡ kept (standing self.old.state) (ask_stated finding part request (standing self.old.state))) }
+        ensures { AnswersAsFound (λ finding. ask_stated finding part request) (standing self.old.state) result (standing self.new.state) }
     {
         match (part, request) {
             (Part::Whole, Request::Set(_) | Request::CompareAndSet(..)) => None,
@@ -74,7 +73,7 @@ impl<'a> Stated<'a> {
 
     /// Lets a collector join, and says what its name is, if one was made; nothing where a state takes no such party.
     pub fn join(&mut self, part: Part, party: Party) -> Option<(Answer, Option<Part>)>
-        ensures { (finding : Finding) × ((result, standing self.new.state) ≡ kept (standing self.old.state) (join_state finding part party (standing self.old.state))) }
+        ensures { AnswersAsFound (λ finding. join_state finding part party) (standing self.old.state) result (standing self.new.state) }
     {
         self.state.join(part, party)
     }

@@ -5,8 +5,7 @@ ghost use Rattle.flow_terms.specs.declared.refusal.Refusal.TheVariants.{NoMemory
 ghost use Rattle.state_flow.specs.Calls.{Reads, Sets, Compares, Counts};
 ghost use Rattle.state_flow.specs.Views.{opening, giver, taker};
 ghost use Rattle.script_flows.specs.Watching.{standing, collecting, Asked, ended, AsksOne, AddsOne, TakesOne};
-ghost use Rattle.script_flows.specs.Findings.{Finding};
-ghost use Rattle.script_flows.specs.Things.{kept, ask_state, join_state};
+ghost use Rattle.script_flows.specs.Things.{AnswersAsFound, ask_state, join_state};
 
 use crate::part::Part;
 use flow_terms::{Next, Refusal};
@@ -151,7 +150,7 @@ impl Watched {
 
     /// Answers a command, or nothing where it is none for this part of a state.
     pub fn ask(&mut self, part: Part, request: Request) -> Option<Answer>
-        ensures { (finding : Finding) × ((result, standing self.new) ≡ kept (standing self.old) (ask_state finding part request (standing self.old))) }
+        ensures { AnswersAsFound (λ finding. ask_state finding part request) (standing self.old) result (standing self.new) }
     {
         match (part, request) {
             (Part::Whole, Request::Value) => Some(Answer::Value(self.value())),
@@ -173,7 +172,7 @@ impl Watched {
 
     /// Lets a collector join, and says what its name is, if one was made; nothing where a state takes no such party.
     pub fn join(&mut self, part: Part, party: Party) -> Option<(Answer, Option<Part>)>
-        ensures { (finding : Finding) × ((result, standing self.new) ≡ kept (standing self.old) (join_state finding part party (standing self.old))) }
+        ensures { AnswersAsFound (λ finding. join_state finding part party) (standing self.old) result (standing self.new) }
     {
         match (part, party) {
             (Part::Whole, Party::Collector) => match self.collect() {
