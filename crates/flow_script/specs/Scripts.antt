@@ -79,7 +79,8 @@ Replies number line old new answer = (world : World) → Pictures old world → 
 abbrev pub Writes : Option (List ℕ) → Option (List ℕ) → List ℕ → Result (Unit {0}) ScriptFault → Type 0
 Writes old new script (Ok done) = (findings : Findings) × Appends old new (text_of_script findings script)
 Writes old new script (Err Write) = (findings : Findings) × AppendsFront old new (text_of_script findings script)
-Writes old new script (Err NoMemory) = (findings : Findings) × (before : List (List ℕ)) × (after : List (List ℕ)) × (lines_of script ≡ before ++ after) × Appends old new (text_of_lines findings before)
+Writes old new script (Err NoMemory) = (findings : Findings) × (before : List (List ℕ)) × (after : List (List ℕ))
+    × (lines_of script ≡ before ++ after) × Appends old new (text_of_lines findings before)
 Writes old new script (Err Read) = ⊥
 Writes old new script (Err TooLong) = ⊥
 
@@ -91,12 +92,17 @@ WritesAnswer old new answer (Err NoMemory) = Keeps old new
 WritesAnswer old new answer (Err Read) = ⊥
 WritesAnswer old new answer (Err TooLong) = ⊥
 
+-- All of the input was read, a script within the limit, and this is what was written of its text.
+abbrev pub ReadsAndWrites : Option (List ℕ) → Option (List ℕ) → Option (List ℕ) → Option (List ℕ) → Result (Unit {0}) ScriptFault → Type 0
+ReadsAndWrites left rest old new result =
+    (script : List ℕ) × Consumes left rest script × IsAtEnd rest × (length script ≤ 1048576) × Writes old new script result
+
 -- WHAT RUNNING A SCRIPT DOES, by what the reader had left and has left, and by what the writer held and holds.
 -- All of the input was read, and its text was written, or a front of it, or the answers of the lines before
 -- memory was refused. Past the limit, and where reading failed, nothing was written.
 abbrev pub Runs : Option (List ℕ) → Option (List ℕ) → Option (List ℕ) → Option (List ℕ) → Result (Unit {0}) ScriptFault → Type 0
-Runs left rest old new (Ok done) = (script : List ℕ) × Consumes left rest script × IsAtEnd rest × (length script ≤ 1048576) × Writes old new script (Ok done)
-Runs left rest old new (Err Write) = (script : List ℕ) × Consumes left rest script × IsAtEnd rest × (length script ≤ 1048576) × Writes old new script (Err Write)
-Runs left rest old new (Err NoMemory) = Keeps old new ⊎ ((script : List ℕ) × Consumes left rest script × IsAtEnd rest × (length script ≤ 1048576) × Writes old new script (Err NoMemory))
+Runs left rest old new (Ok done) = ReadsAndWrites left rest old new (Ok done)
+Runs left rest old new (Err Write) = ReadsAndWrites left rest old new (Err Write)
+Runs left rest old new (Err NoMemory) = Keeps old new ⊎ ReadsAndWrites left rest old new (Err NoMemory)
 Runs left rest old new (Err Read) = Keeps old new
 Runs left rest old new (Err TooLong) = Keeps old new × ((bytes : List ℕ) × Consumes left rest bytes × (1048576 < length bytes))
