@@ -12,11 +12,11 @@ refused_capacity capacity = (if nat_lt 65536 capacity then Some TooLarge else (i
 abbrev pub IsCapacity : ℕ → Type 0
 IsCapacity capacity = refused_capacity capacity ≡ None
 
--- a buffer of that capacity is refused, and so
+-- a buffer of that capacity is refused, with that refusal
 abbrev pub RefusesCapacity : ℕ → Refusal → Type 0
 RefusesCapacity capacity refusal = refused_capacity capacity ≡ Some refusal
 
--- a buffer was made of that source, with that capacity and policy
+-- a buffer was made of that source, with that capacity, which it may have, and that policy
 abbrev pub IsMadeOf : {F : Type 0} → F → ℕ → Policy → F → ℕ → Policy → Type 0
 IsMadeOf source capacity policy its_source its_capacity its_policy =
     IsCapacity capacity × (its_source ≡ source) × (its_capacity ≡ capacity) × (its_policy ≡ policy)

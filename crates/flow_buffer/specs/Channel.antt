@@ -41,11 +41,11 @@ module _ {T E : Type 0} where
   abbrev pub FitsFeed : ℕ → Bool → Option (Cause E) → List (Bool × T) → ℕ → Side T E → Type 0
   FitsFeed feed lossy sent produced pass v = v.feeds ≡ true → (pass ≡ feed) × (v.lossy ≡ lossy) × (v.sent ≡ sent) × (v.produced ≡ produced)
 
-  -- an end that came is the one that was sent, and with it it is known what became of all
+  -- an end that came is the one that was sent, and then it is known what became of every value
   abbrev pub EndIsSent : Option (Cause E) → Option (Cause E) → List (Fate × T) → List (Fate × T) → Type 0
   EndIsSent got sent known history = got ≢ None → (got ≡ sent) × (known ≡ history)
 
-  -- there is one drain, which knows what was taken, and with an end what became of all
+  -- there is one drain, which knows what was taken, and with an end what became of every value
   abbrev pub FitsDrain : ℕ → Bool → Option (Cause E) → List (ℕ × T) → List (Fate × T) → ℕ → Side T E → Type 0
   FitsDrain drain lossy sent taken history pass v =
       v.drains ≡ true → (pass ≡ drain) × (v.lossy ≡ lossy) × (v.taken ≡ taken) × EndIsSent v.got sent v.history history
