@@ -19,6 +19,7 @@ mod pause;
 mod report;
 mod scenario;
 mod script_lines;
+mod shared_fan_out;
 mod shared_receipts;
 mod split_values;
 mod state_alone;

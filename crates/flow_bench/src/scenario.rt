@@ -2,8 +2,8 @@
 
 use crate::fault::Fault;
 use crate::{
-    chains, core_receipts, lane_fan_out, lane_lossy, lane_receipts, script_lines, shared_receipts,
-    split_values, state_alone, state_threads,
+    chains, core_receipts, lane_fan_out, lane_lossy, lane_receipts, script_lines, shared_fan_out,
+    shared_receipts, split_values, state_alone, state_threads,
 };
 use bench_figures::Size;
 use std::alloc::AllocGlobal;
@@ -17,7 +17,7 @@ use std::thread::Threads;
 pub enum Scenario {
     /// `S1`: receipts of a shared flow on one thread, by the core, by the flow for threads and by a lane.
     Receipts,
-    /// `S2`: a lane between threads that loses no value.
+    /// `S2`: a lane between threads that loses no value, and a shared flow.
     FanOut,
     /// `S3`: a lane between threads that drops the oldest values.
     Lossy,
@@ -71,7 +71,10 @@ impl Scenario {
                 shared_receipts::measure(rt, size)?;
                 lane_receipts::measure(rt, size)
             }
-            Scenario::FanOut => lane_fan_out::measure(rt, size),
+            Scenario::FanOut => {
+                lane_fan_out::measure(rt, size)?;
+                shared_fan_out::measure(rt, size)
+            }
             Scenario::Lossy => lane_lossy::measure(rt, size),
             Scenario::State => {
                 state_alone::measure(rt, size)?;

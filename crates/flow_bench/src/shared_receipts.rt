@@ -1,6 +1,6 @@
-//! Receipts of a shared flow for threads, on one thread: what the lock adds to `core_receipts`.
+//! Receipts of a shared flow for threads, on one thread: what the emitter's lock adds to `lane_receipts`.
 
-ghost use Rattle.std.specs.Prelude.{◌≡◌, false};
+ghost use Rattle.std.specs.Prelude.{◌≡◌, None};
 
 use crate::elapsed::nanoseconds_since;
 use crate::fault::Fault;
@@ -139,7 +139,7 @@ fn emit_and_take(
     cx: &mut Context<'_>,
     values: u64,
 ) -> Option<u64>
-    requires { emitter.old.in_flight ≡ false }
+    requires { emitter.old.ticket ≡ None }
 {
     let mut taken = Taken { last: 0, total: 0 };
     for _ in 0..values {

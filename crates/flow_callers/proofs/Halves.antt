@@ -1,5 +1,5 @@
 -- What halving unfolds into, and what a first poll gathers of it.
-use Rattle.std.proofs.Common.{◌≡◌, ◌∙◌, ℕ, zero, suc, ◌<◌, ◌/◌, List, [], ◌∷◌, Option, Some, Result, Ok, Err, IfOk, refl, sym, subst, arith}
+use Rattle.std.proofs.Common.{◌≡◌, ◌∙◌, ℕ, zero, suc, ◌<◌, ◌/◌, List, [], ◌∷◌, Some, Result, Ok, Err, IfOk, refl, subst, arith}
 use Rattle.futures.specs.Poll.{IfReady}
 use Rattle.futures.specs.declared.task.Poll.{Poll}
 use Rattle.futures.specs.declared.task.Poll.TheVariants.{Ready, Pending}

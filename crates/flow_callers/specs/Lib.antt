@@ -3,3 +3,4 @@ pub mod Halves
 pub mod Lists
 pub mod Lights
 pub mod LightLaws
+pub mod SharedCalls

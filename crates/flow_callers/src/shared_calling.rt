@@ -1,12 +1,21 @@
-//! Callers of a shared flow between threads: an emission and a receipt for which a thread sleeps, and both lent to threads.
+//! Callers of a shared flow between threads: an emission and a receipt for which a thread sleeps, and both lent to threads; a
+//! subscription that is told of an emission; and a look at the flow while its lock is kept.
 
-ghost use Rattle.std.specs.Prelude.{◌≡◌, true, false, None, IfSome, IfNone};
+ghost use Rattle.std.specs.Prelude.{◌≡◌, ◌≢◌, ◌<◌, ◌++◌, ◌∷◌, [], ℕ, List, None, Some, Ok, IfOk, IfErr, IfSome, IfNone};
+ghost use Rattle.flow_terms.specs.declared.refusal.Refusal.TheVariants.{NoMemory};
+ghost use Rattle.shared_lane.specs.Readers.{at};
+ghost use Rattle.shared_lane.specs.declared.reader.Taken.TheVariants.{Nothing};
+ghost use Rattle.shared_flow.specs.declared.round.Round.TheVariants as round;
+ghost use Rattle.shared_flow.specs.Rounds.{IsAfter};
+ghost use Rattle.shared_flow.specs.Parties.{IsOwnReceipt, IsSameEmitter, named, with_round};
+ghost use Rattle.shared_flow.specs.Owners.{at_rest};
+ghost use Rattle.flow_callers.specs.SharedCalls.{AreOfOneFlow, HasTaken, IsSameSubscription, WereAtOnce};
 
 use cold_flow::Refusal;
 use futures::task::{Doorbell, Poll, Queue};
-use shared_core::Begun;
-use shared_flow::{Emitter, Receipt, SharedFlow, Subscription};
-use std::alloc::AllocGlobal;
+use shared_core::{Begun, Tried};
+use shared_flow::{Emitter, Held, Receipt, SharedFlow, Subscription, Taken};
+use std::alloc::{AllocError, AllocGlobal};
 use std::random::RandomSource;
 use std::sync::Wait;
 use std::thread;
@@ -16,8 +25,12 @@ use std::thread::Threads;
 pub fn finished<R>(rt: &R, emitter: &mut Emitter<u64>) -> Option<Receipt>
 where
     R: Wait + RandomSource + AllocGlobal,
-    requires in_flight { emitter.old.in_flight ≡ true }
-    ensures id { IfSome result (λ receipt. receipt.emitter ≡ emitter.old.id) }
+    requires in_flight { emitter.old.ticket ≢ None }
+    ensures receipt { IfSome result (IsOwnReceipt emitter.old.party emitter.old.id) }
+    ensures rises { IfSome result (λ receipt. IsAfter emitter.old.last receipt.number) }
+    ensures done { IfSome result (λ receipt. (emitter.new.ticket ≡ None) × (emitter.new.last ≡ Some receipt.number)) }
+    ensures waits { IfNone result (emitter.new.ticket ≡ emitter.old.ticket) }
+    ensures same { IsSameEmitter emitter.old emitter.new }
 {
     let queue = Queue::new(rt, Doorbell::parking()).ok()?;
     queue.add().ok()?.schedule();
@@ -36,8 +49,11 @@ where
 pub fn emitted<R>(rt: &R, emitter: &mut Emitter<u64>, value: u64) -> Option<Receipt>
 where
     R: Wait + RandomSource + AllocGlobal,
-    requires idle { emitter.old.in_flight ≡ false }
-    ensures id { IfSome result (λ receipt. receipt.emitter ≡ emitter.old.id) }
+    requires idle { emitter.old.ticket ≡ None }
+    ensures receipt { IfSome result (IsOwnReceipt emitter.old.party emitter.old.id) }
+    ensures rises { IfSome result (λ receipt. IsAfter emitter.old.last receipt.number) }
+    ensures done { IfSome result (λ receipt. (emitter.new.ticket ≡ None) × (emitter.new.last ≡ Some receipt.number)) }
+    ensures same { IsSameEmitter emitter.old emitter.new }
 {
     match emitter.start_emit(rt, value) {
         Ok(Begun::Accepted(receipt)) => Some(receipt),
@@ -51,7 +67,9 @@ where
 pub fn received<R>(rt: &R, subscription: &mut Subscription<u64>) -> Option<u64>
 where
     R: Wait + RandomSource + AllocGlobal,
-    ensures same { subscription.new ≡ subscription.old }
+    ensures same { IsSameSubscription subscription.old subscription.new }
+    ensures value { IfSome result (λ value. HasTaken subscription.old.reader (value ∷ []) subscription.new.reader) }
+    ensures nothing { IfNone result (HasTaken subscription.old.reader [] subscription.new.reader) }
 {
     let queue = Queue::new(rt, Doorbell::parking()).ok()?;
     queue.add().ok()?.schedule();
@@ -94,7 +112,9 @@ pub fn passed_on<R>(
 ) -> Result<(Option<Receipt>, Option<u64>), Refusal>
 where
     R: Wait + Threads + RandomSource + AllocGlobal + Sync,
-    ensures same { flow.new ≡ flow.old }
+    ensures receipt { IfOk result (λ passed. IfSome passed.0 (IsOwnReceipt flow.old.party 1)) }
+    ensures round { IfOk result (λ _. (number : ℕ) × (flow.new ≡ at_rest (with_round (round.Subscribe (Ok number)) flow.old.party))) }
+    ensures same { named flow.new.party ≡ named flow.old.party }
 {
     let subscription = flow.subscribe(rt)?;
     let mut emitter = match flow.emitter(rt, 1) {
@@ -115,4 +135,78 @@ where
     }
     let _idle = emitter.close(rt);
     Ok(passed)
+}
+
+/// Emits a value and tells a subscription of it: where that finds nothing then, it is past this emission already. `None` where
+/// the value wasn't accepted at once.
+pub fn emitted_and_heard(
+    rt: &impl Wait,
+    emitter: &mut Emitter<u64>,
+    subscription: &mut Subscription<u64>,
+    value: u64,
+) -> Option<Taken<u64>>
+    requires idle { emitter.old.ticket ≡ None }
+    requires one_flow { AreOfOneFlow emitter.old subscription.old }
+    ensures past { IfSome result (λ taken. taken ≡ Nothing → (number : ℕ) × (emitter.new.last ≡ Some number) × (number < at subscription.new.reader)) }
+    ensures one_flow { AreOfOneFlow emitter.new subscription.new }
+    ensures idle { emitter.new.ticket ≡ None }
+{
+    let Ok(Tried::Accepted(mut receipt)) = emitter.try_emit(rt, value) else {
+        return None;
+    };
+    subscription.told(&mut receipt);
+    Some(subscription.try_next())
+}
+
+/// The same with an emitter and a subscription of its own, which are spent. `None` where the value wasn't accepted at once.
+pub fn heard_at_once(
+    rt: &impl Wait,
+    flow: &mut SharedFlow<u64>,
+    value: u64,
+) -> Result<Option<Taken<u64>>, Refusal>
+    ensures same { named flow.new.party ≡ named flow.old.party }
+{
+    let mut subscription = flow.subscribe(rt)?;
+    let mut emitter = match flow.emitter(rt, 1) {
+        Ok(emitter) => emitter,
+        Err(refusal) => {
+            subscription.cancel(rt);
+            return Err(refusal);
+        }
+    };
+    let heard = emitted_and_heard(rt, &mut emitter, &mut subscription, value);
+    let _idle = emitter.close(rt);
+    subscription.cancel(rt);
+    Ok(heard)
+}
+
+// Adds the replay cache to a list, with the lock kept.
+fn add_cache(held: &Held<'_, u64>, values: &mut Vec<u64>) -> Result<(), AllocError>
+    ensures { IfOk result (λ _. values.new.items ≡ values.old.items ++ held.now.kept.shared.sequencer.cache) }
+{
+    for index in 0..held.replay_len() {
+        values.push(held.replay_at(index))?;
+    }
+    Ok(())
+}
+
+/// How many subscribe, with the replay cache of the same moment, which is added to a list. Nobody emits or subscribes in between,
+/// since the lock is kept. Refused as `NoMemory`, and then the list has some of the values more.
+pub fn counted_with_cache(
+    rt: &impl Wait,
+    flow: &mut SharedFlow<u64>,
+    values: &mut Vec<u64>,
+) -> Result<u32, Refusal>
+    ensures at_once { IfOk result (λ count. (words : List ℕ) × (values.new.items ≡ values.old.items ++ words) × WereAtOnce flow.old.party count words) }
+    ensures refused { IfErr result (λ refusal. refusal ≡ NoMemory) }
+    ensures round { (count : ℕ) × (flow.new ≡ at_rest (with_round (round.Hold count) flow.old.party)) }
+{
+    let held = flow.hold(rt);
+    let count = held.count();
+    let added = add_cache(&held, values);
+    held.release(rt);
+    match added {
+        Ok(()) => Ok(count),
+        Err(AllocError) => Err(Refusal::NoMemory),
+    }
 }

@@ -16,7 +16,8 @@ pub fn first_poll<T: Word, F: Flow<Item = T>>(
     now: u64,
     cx: &mut Context<'_>,
 ) -> Result<Polled, Refusal>
-    ensures { IfOk result (λ polled. polled.on ≡ true) }
+    ensures on { IfOk result (λ polled. polled.on ≡ true) }
+    ensures same { flow.new ≡ flow.old }
 {
     let mut sharing = share_in(rt, flow, upstream, Started::Eagerly)?;
     let polled = sharing.poll(rt, now, cx);

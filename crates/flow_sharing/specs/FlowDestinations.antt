@@ -3,12 +3,12 @@ use Rattle.std.specs.Prelude.{◌≡◌, ◌≢◌, ◌⊎◌, Bool, true, false
 use Rattle.flow_terms.specs.declared.policy.Policy.TheVariants.{Suspend}
 use Rattle.flow_terms.specs.declared.refusal.Refusal.{Refusal}
 use Rattle.flow_terms.specs.declared.refusal.Refusal.TheVariants.{Spent, EmitsFull}
-use Rattle.shared_core.specs.declared.config.Config.{Config}
+use Rattle.shared_flow.specs.Names.{FlowName}
 use Rattle.flow_sharing.specs.Destinations.{Steps}
 
 -- the flow lets emissions wait
-abbrev pub Suspends : Option Config → Type 0
-Suspends flow = (config : Config) → flow ≡ Some config → config.policy ≡ Suspend
+abbrev pub Suspends : Option FlowName → Type 0
+Suspends flow = (name : FlowName) → flow ≡ Some name → name.config.policy ≡ Suspend
 
 -- why an emission is refused
 abbrev pub IsEmitRefusal : Refusal → Type 0
@@ -20,7 +20,7 @@ Found before true after = (before ≢ None) × (after ≡ before)
 Found before false after = after ≡ None
 
 -- An emission waits only where the flow lets it. How many listen is known under the flow's lock alone
-abbrev pub emitting : {T : Type 0} → Option Config → Steps T (Option T)
+abbrev pub emitting : {T : Type 0} → Option FlowName → Steps T (Option T)
 emitting flow = record {
   Counts = λ before count after. after ≡ before;
   Asks = Found;

@@ -2,7 +2,7 @@
 
 ghost use Rattle.std.specs.Prelude.{◌≡◌, ℕ, None, Option};
 ghost use Rattle.std.specs.Borrow.{GName};
-ghost use Rattle.shared_core.specs.declared.config.Config.{Config};
+ghost use Rattle.shared_flow.specs.Parties.{PartyName, named};
 ghost use Rattle.flow_sharing.specs.FlowDestinations.{emitting};
 
 use crate::destination::Destination;
@@ -23,15 +23,15 @@ pub(crate) struct FlowDestination<'a, T: Word, W> {
 }
 
 impl<'a, T: Word, W: Wait> Destination<T> for FlowDestination<'a, T, W> {
-    ghost Kept = { GName × Option Config × GName × Option Config × ℕ };
+    ghost Kept = { GName × PartyName × GName × PartyName × ℕ };
 
-    ghost kept = { λ d. (d.flow.ghost_name, d.flow.now, d.outlet.ghost_name, d.outlet.now.emitter.flow, d.outlet.now.emitter.id) };
+    ghost kept = { λ d. (d.flow.ghost_name, named d.flow.now.party, d.outlet.ghost_name, named d.outlet.now.emitter.party, d.outlet.now.emitter.id) };
 
     ghost Seen = { Option T };
 
     ghost seen = { λ d. d.outlet.now.waiting };
 
-    ghost steps = { λ kept. emitting kept.3 };
+    ghost steps = { λ kept. emitting kept.3.flow };
 
     ghost free = { λ waiting. waiting ≡ None };
 

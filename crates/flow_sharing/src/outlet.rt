@@ -1,9 +1,9 @@
 //! The side of a sharing that emits.
 
-ghost use Rattle.std.specs.Prelude.{◌≡◌, ◌≢◌, ◌⊎◌, None, false, is_some};
+ghost use Rattle.std.specs.Prelude.{◌≡◌, ◌≢◌, ◌⊎◌, None, is_some};
 ghost use Rattle.futures.specs.Task.{IsArmed, Keeps};
 ghost use Rattle.flow_terms.specs.declared.answers.Withdrawn.TheVariants as withdrawn;
-ghost use Rattle.shared_flow.specs.Parties.{IfLeft};
+ghost use Rattle.shared_flow.specs.Parties.{IfLeft, IsSameEmitter};
 ghost use Rattle.flow_sharing.specs.Destinations.{Offered};
 ghost use Rattle.flow_sharing.specs.FlowDestinations.{emitting};
 
@@ -19,12 +19,12 @@ pub struct Outlet<T: Word> {
     pub(crate) emitter: Emitter<T>,
     // The value of the emission in flight.
     pub(crate) waiting: Option<T>,
-    ghost in_flight: { emitter.in_flight ≡ is_some waiting },
+    ghost in_flight: { is_some emitter.ticket ≡ is_some waiting },
 }
 
 impl<T: Word> Outlet<T> {
     pub(crate) fn new(emitter: Emitter<T>) -> Outlet<T>
-        requires idle { emitter.in_flight ≡ false }
+        requires idle { emitter.ticket ≡ None }
         ensures emitter { result.emitter ≡ emitter }
         ensures waiting { result.waiting ≡ None }
     {
@@ -37,8 +37,8 @@ impl<T: Word> Outlet<T> {
     // Offers a value to the flow, which accepts it, drops it or lets it wait.
     pub(crate) fn offer(&mut self, rt: &impl Wait, value: T) -> Offer
         requires free { self.old.waiting ≡ None }
-        ensures offered { Offered (emitting self.old.emitter.flow) self.old.waiting value result self.new.waiting }
-        ensures same { (self.new.emitter.flow ≡ self.old.emitter.flow) × (self.new.emitter.id ≡ self.old.emitter.id) }
+        ensures offered { Offered (emitting self.old.emitter.party.flow) self.old.waiting value result self.new.waiting }
+        ensures same { IsSameEmitter self.old.emitter self.new.emitter }
     {
         match self.emitter.start_emit(rt, value) {
             Ok(Begun::Accepted(_) | Begun::Dropped) => Offer::Accepted,
@@ -59,7 +59,7 @@ impl<T: Word> Outlet<T> {
     // Asks whether the waiting emission is finished, where there is one.
     pub(crate) fn poll(&mut self, rt: &impl Wait, cx: &mut Context<'_>)
         ensures waits { (self.new.waiting ≡ None) ⊎ ((self.new.waiting ≡ self.old.waiting) × IsArmed cx.new) }
-        ensures same { (self.new.emitter.flow ≡ self.old.emitter.flow) × (self.new.emitter.id ≡ self.old.emitter.id) }
+        ensures same { IsSameEmitter self.old.emitter self.new.emitter }
         ensures kept { Keeps cx.old cx.new }
     {
         if self.waiting.is_some() && self.emitter.poll_emit(rt, cx).is_ready() {
@@ -72,7 +72,7 @@ impl<T: Word> Outlet<T> {
         ensures waiting { self.new.waiting ≡ None }
         ensures idle { self.old.waiting ≡ None → result ≡ withdrawn.Gone }
         ensures receipt { IfLeft result (λ receipt. receipt.emitter ≡ self.old.emitter.id) }
-        ensures same { (self.new.emitter.flow ≡ self.old.emitter.flow) × (self.new.emitter.id ≡ self.old.emitter.id) }
+        ensures same { IsSameEmitter self.old.emitter self.new.emitter }
     {
         self.waiting = None;
         self.emitter.cancel_emit(rt)

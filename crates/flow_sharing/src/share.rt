@@ -1,6 +1,7 @@
 //! `share_in`: a cold flow, shared.
 
 ghost use Rattle.std.specs.Prelude.{◌≡◌, [], None, IfOk, IsOkUnless};
+ghost use Rattle.shared_flow.specs.Parties.{named};
 ghost use Rattle.flow_sharing.specs.declared.course.Course.TheVariants.{Idle};
 ghost use Rattle.flow_sharing.specs.Shown.{Shows};
 
@@ -23,7 +24,7 @@ pub fn share_in<T: Word, F: Flow<Item = T>>(
     upstream: F,
     started: Started,
 ) -> Result<Sharing<T, F>, Refusal>
-    ensures flow { IfOk result (λ sharing. sharing.flow ≡ flow.old) }
+    ensures flow { IfOk result (λ sharing. named sharing.flow.party ≡ named flow.old.party) }
     ensures upstream { IfOk result (λ sharing. sharing.upstream ≡ record { flow = upstream; course = Idle }) }
     ensures idle { IfOk result (λ sharing. sharing.outlet.waiting ≡ None) }
     ensures started { IfOk result (λ sharing. (sharing.strategy.started ≡ started) × Shows sharing.strategy []) }

@@ -4,7 +4,7 @@ ghost use Rattle.std.specs.Prelude.{◌≡◌, None, IsTrue, IfOk, IfErr, OnErr}
 ghost use Rattle.futures.specs.Task.{IsArmed, Keeps};
 ghost use Rattle.flow_terms.specs.declared.refusal.Refusal.TheVariants.{NoMemory};
 ghost use Rattle.flow_terms.specs.declared.answers.Withdrawn.TheVariants as withdrawn;
-ghost use Rattle.shared_flow.specs.Parties.{IfLeft};
+ghost use Rattle.shared_flow.specs.Parties.{IfLeft, named};
 ghost use Rattle.flow_sharing.specs.Courses.{kept_cause, is_running};
 ghost use Rattle.flow_sharing.specs.Polls.{ShowsMore, Answers};
 ghost use Rattle.flow_sharing.specs.FlowDestinations.{emitting};
@@ -31,7 +31,7 @@ pub struct Sharing<T: Word, F: Flow<Item = T>> {
     pub(crate) outlet: Outlet<T>,
     pub(crate) upstream: Upstream<F>,
     pub(crate) strategy: Strategy,
-    ghost one_flow: { outlet.emitter.flow ≡ flow },
+    ghost one_flow: { named outlet.emitter.party ≡ named flow.party },
     ghost id: { outlet.emitter.id ≡ 0 },
 }
 
@@ -57,14 +57,15 @@ impl<T: Word, F: Flow<Item = T>> Sharing<T, F> {
         ensures started { self.new.strategy.started ≡ self.old.strategy.started }
         ensures shows { IfOk result (λ polled. ShowsMore self.old.strategy now polled.count self.new.strategy) }
         ensures answers { IfOk result (Answers self.old.strategy (kept_cause self.old.upstream.course) now) }
-        ensures acts { IfOk result (λ polled. ActsAt (emitting self.old.flow) (λ live. F.Running.may live.run) (λ live. F.Running.ended live.run)
+        ensures acts { IfOk result (λ polled. ActsAt (emitting self.old.flow.party.flow) (λ live. F.Running.may live.run) (λ live. F.Running.ended live.run)
             (F.may self.old.upstream.flow) self.old.strategy now polled
             self.old.upstream.course self.old.outlet.waiting self.new.upstream.course self.new.outlet.waiting) }
-        ensures same { (self.new.flow ≡ self.old.flow) × (self.new.upstream.flow ≡ self.old.upstream.flow) }
+        ensures same { (named self.new.flow.party ≡ named self.old.flow.party) × (self.new.upstream.flow ≡ self.old.upstream.flow) }
         ensures err { OnErr result ((self.new.strategy ≡ self.old.strategy) × (self.new.upstream.course ≡ self.old.upstream.course)
             × (self.new.outlet.waiting ≡ self.old.outlet.waiting)) }
         ensures refused { IfErr result (λ refusal. (refusal ≡ NoMemory) × (kept_cause self.old.upstream.course ≡ None)) }
-        ensures starts { IfErr result (λ _. IsRefusedAt (emitting self.old.flow) self.old.strategy now self.old.outlet.waiting self.new.outlet.waiting) }
+        ensures starts { IfErr result (λ _. IsRefusedAt (emitting self.old.flow.party.flow) self.old.strategy now
+            self.old.outlet.waiting self.new.outlet.waiting) }
         ensures armed { IfOk result (λ polled. IsTrue polled.on → IsTrue (is_running self.new.upstream.course) → IsArmed cx.new) }
         ensures kept { Keeps cx.old cx.new }
     {

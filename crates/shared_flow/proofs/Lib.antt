@@ -1,5 +1,10 @@
-pub mod OneKeys
-pub mod Configs
-pub mod Refusals
-pub mod Policies
 pub mod Rises
+pub mod Receipts
+pub mod Doing
+pub mod Numbers
+pub mod Reaching
+pub mod Rising
+pub mod Queueing
+pub mod Ordering
+pub mod Histories
+pub mod Looks

@@ -1,5 +1,11 @@
-pub mod OneKey
-pub mod Guarded
-pub mod Polls
+pub mod Names
+pub mod Rounds
+pub mod Queue
+pub mod Reach
 pub mod Sleeping
 pub mod Parties
+pub mod Emitters
+pub mod Laws
+pub mod Looks
+pub mod Owners
+pub mod Meeting

@@ -1,88 +1,124 @@
 //! What every owner of a shared flow holds.
+ghost use Rattle.std.specs.Prelude.{◌≡◌, ◌++◌, [], ◌∷◌, Ok, Some, None, IfOk, IsOkUnless};
+ghost use Rattle.shared_lane.specs.Sequencers.{next};
+ghost use Rattle.shared_flow.specs.declared.round.Round.TheVariants as round;
+ghost use Rattle.shared_flow.specs.Names.{IsNew, SharedSeen, KnowsLane};
+ghost use Rattle.shared_flow.specs.Rounds.{Does, Below};
 
-ghost use Rattle.std.specs.Prelude.{◌≡◌, Some, IfOk, IsOkUnless};
-
-use crate::lock::{Held, Lock};
+use crate::round::Round;
 use crate::shared::{Shared, wakes_of};
+use crate::track::Track;
 use crate::wakes::Wakes;
-use flow_terms::{Refusal, Word};
+use flow_terms::Refusal;
+use round_lock::{Guarded, Lock};
 use shared_core::Config;
+use shared_lane::Lane;
 use std::alloc::Global;
-use std::marker::Model;
-use std::sync::Wait;
+use std::marker::{Brand, Model};
+use std::sync::{Arc, Wait};
 
-/// An owner of the lock, with room for the wakers of one call. Contracts see it as the config of the flow.
+/// An owner of the lock and of the lane, with room for the wakers of one call. Contracts see which lock it is, the flow, what the
+/// owner holds while it has the lock, and its own rounds.
 #[derive(Drop)]
-pub struct Access<T: Word> {
-    lock: Lock<Box<Shared<T>>, Config>,
+pub(crate) struct Access {
+    lock: Lock<Box<Shared>, Round>,
+    track: Arc<Track, Global>,
     wakes: Wakes,
     alloc: Global,
-    /// How many wakers one call has to keep at most.
+    // How many wakers one call has to keep at most.
     wakes_count: usize,
 }
 
-impl<T: Word> Model for Access<T> {
-    ghost use Rattle.std.specs.Prelude.{Option};
-    ghost use Rattle.shared_core.specs.declared.config.Config.{Config};
-    ghost use Rattle.shared_flow.specs.Guarded.{HasRoomOf};
+impl Model for Access {
+    ghost use Rattle.std.specs.Arc.{arc_value};
+    ghost use Rattle.shared_flow.specs.Reach.{Reach, reach_of};
+    ghost use Rattle.shared_flow.specs.Names.{KnowsFlow};
 
-    ghost Value = { Option Config };
+    ghost Value = { Reach };
 
-    ghost view = { λ a. a.lock };
+    ghost view = { λ a. reach_of (λ s. s.value) a.lock };
 
-    ghost invariant = { λ a. HasRoomOf a.wakes_count a.lock };
+    ghost invariant = { λ a. KnowsFlow a.wakes_count (reach_of (λ s. s.value) a.lock).flow (arc_value a.track) };
 }
 
-impl<T: Word> Access<T> {
+impl Access {
     /// The first owner.
-    pub fn new(alloc: Global, config: Config, shared: Shared<T>) -> Result<Access<T>, Refusal>
-        requires { shared.config ≡ config }
-        ensures config { IfOk result (λ made. made ≡ Some config) }
+    pub fn new(alloc: Global, config: Config, shared: Shared) -> Result<Access, Refusal>
+        requires { (shared.name.config ≡ config) × IsNew shared }
+        ensures made { IfOk result (λ made. (made.flow ≡ Some shared.name) × (made.held ≡ None) × (made.rounds ≡ [])) }
         ensures memory { IsOkUnless result Refusal.NoMemory }
     {
         let wakes_count = wakes_of(&config);
         let wakes = Wakes::new(alloc, wakes_count)?;
+        let track = shared.track()?;
         let lock = Lock::new(alloc, Box::new(alloc, shared)?)?;
         Ok(Access {
             lock,
+            track,
             wakes,
             alloc,
             wakes_count,
         })
     }
 
-    /// Another owner of the same flow.
-    pub fn another(&mut self, rt: &impl Wait) -> Result<Access<T>, Refusal>
-        ensures other { IfOk result (λ other. other ≡ self.old) }
+    /// Another owner of the same flow, which has made no call.
+    pub fn another(&mut self, rt: &impl Wait) -> Result<Access, Refusal>
+        ensures other { IfOk result (λ other. other ≡ record self.old { held = None; rounds = [] }) }
         ensures memory { IsOkUnless result Refusal.NoMemory }
         ensures same { self.new ≡ self.old }
     {
         let wakes = Wakes::new(self.alloc, self.wakes_count)?;
+        let track = Arc::try_clone(&self.track)?;
         let lock = self.lock.dup(rt)?;
         Ok(Access {
             lock,
+            track,
             wakes,
             alloc: self.alloc,
             wakes_count: self.wakes_count,
         })
     }
 
-    /// Takes the lock.
-    pub fn take(&mut self, rt: &impl Wait) -> Held<Box<Shared<T>>>
-        ensures config { Some result.state.value.config ≡ self.old }
-        ensures same { self.new ≡ self.old }
+    /// Whether who has received has to take the lock, for an emission that may wait for that. Without a lock.
+    pub fn has_unfinished(&self) -> bool {
+        self.track.has_unfinished()
+    }
+
+    /// The lane, for which no lock is needed.
+    pub fn lane(&self) -> &Lane<Global>
+        ensures { KnowsLane self.now.flow result.now }
+    {
+        self.track.lane()
+    }
+
+    /// Takes the lock. What lay under it is the owner's flow, and its next number is above each that the owner was answered.
+    pub fn take(&mut self, rt: &impl Wait) -> Guarded<Box<Shared>>
+        ensures taken { self.new ≡ record self.old { held = Some result.state.value } }
+        ensures named { self.old.flow ≡ Some result.state.value.name }
+        ensures below { Below (next result.state.value.sequencer) self.old.rounds }
     {
         self.lock.take(rt)
     }
 
-    /// Gives the lock back, and then wakes those that the call helps.
-    pub fn put(&mut self, rt: &impl Wait, held: Held<Box<Shared<T>>>)
-        requires config { Some held.state.value.config ≡ self.old }
-        ensures same { self.new ≡ self.old }
+    /// Gives the lock back, with the round that was made, and then wakes those that it helps.
+    pub fn put(&mut self, rt: &impl Wait, guarded: Guarded<Box<Shared>>, round: Round)
+        requires round { (old : SharedSeen) × (self.old.held ≡ Some old) × Does old round guarded.state.value }
+        ensures given { self.new ≡ record self.old { held = None; rounds = self.old.rounds ++ round ∷ [] } }
     {
-        let mut held = held;
-        held.state.change_wakes(&mut self.wakes);
-        self.lock.put(rt, held);
+        let mut guarded = guarded;
+        guarded.state.change_wakes(&mut self.wakes);
+        self.lock.put(rt, guarded, round);
+        self.wakes.fire();
+    }
+
+    /// Gives the lock back as `put` does, after the replay cache was read: the round has the words that it had.
+    pub fn put_cache(&mut self, rt: &impl Wait, guarded: Guarded<Box<Shared>>)
+        requires round { (old : SharedSeen) × (self.old.held ≡ Some old) × Does old (round.Cache (Ok guarded.state.value.sequencer.cache)) guarded.state.value }
+        ensures given { self.new ≡ record self.old { held = None; rounds = self.old.rounds ++ round.Cache (Ok guarded.state.value.sequencer.cache) ∷ [] } }
+    {
+        let mut guarded = guarded;
+        guarded.state.change_wakes(&mut self.wakes);
+        self.lock.put_as::<Brand>(rt, guarded);
         self.wakes.fire();
     }
 }

@@ -1,86 +1,100 @@
 //! One that emits into a shared flow.
-
-ghost use Rattle.std.specs.Prelude.{◌≡◌, ◌⊎◌, true, false, Some, IfErr};
+ghost use Rattle.std.specs.Prelude.{◌≡◌, ◌≢◌, ◌⊎◌, [], Some, None, IfErr, Result, is_some};
 ghost use Rattle.flow_terms.specs.declared.refusal.Refusal.TheVariants.{Spent, EmitsFull};
+ghost use Rattle.flow_terms.specs.declared.answers.Emit.TheVariants as emit;
+ghost use Rattle.flow_terms.specs.declared.answers.Withdrawn.TheVariants as withdrawn;
 ghost use Rattle.futures.specs.Poll.{IfReady, OnPending};
 ghost use Rattle.futures.specs.Task.{IsArmed, Keeps};
-ghost use Rattle.shared_flow.specs.Parties.{IfTried, IfBegun, IfLeft, TriedUnder, BegunUnder, is_waiting};
-ghost use Rattle.flow_terms.specs.declared.answers.Withdrawn.TheVariants as withdrawn;
+ghost use Rattle.shared_flow.specs.declared.round.Round.TheVariants as round;
+ghost use Rattle.shared_flow.specs.Reach.{party_of};
+ghost use Rattle.shared_flow.specs.Rounds.{IsAfter, poll_round, withdraw_round};
+ghost use Rattle.shared_flow.specs.Emitters.{emission_by, after_try, after_start, WasStarted, WasFinished, Waits, WasLeft, WasGivenUp};
+ghost use Rattle.shared_flow.specs.Parties.{IsSameEmitter, Emitting, IsItsReceipt, IsOwnReceipt, IfTried, IfBegun};
+ghost use Rattle.shared_flow.specs.Parties.{TriedUnder, BegunUnder, OfFlow, ticket_of, IfLeft, without_receipt};
 
 use crate::access::Access;
-use crate::laws;
-use crate::receipt::Receipt;
+use crate::round::{Emission, Round, last_begun, last_tried, number_begun, number_tried};
+use crate::shared::{Polled, Released};
 use crate::sleepers::Bed;
 use flow_terms::{Refusal, Word};
 use futures::task::{Context, Poll};
 use shared_core::{Begun, Emit, Ticket, Tried, Withdrawn};
-use std::marker::Model;
+use shared_lane::Receipt;
+use std::marker::{Model, PhantomData};
 use std::sync::Wait;
 
 /// One that emits into a shared flow, one emission after another: a coroutine that calls Kotlin's `emit` and `tryEmit`.
 ///
-/// It has no `Drop` and must be spent, by `close`. Lend it to a thread by `&mut`, and spend it after the join. Contracts see the
-/// config of its flow, its id, and whether it has an emission in flight. That receipts rise they don't say.
+/// It has no `Drop` and must be spent, by `close`. Lend it to a thread by `&mut`, and spend it after the join. Contracts see its
+/// flow, the rounds that it made under the lock, its id, the ticket of its emission in flight, and the number of its last receipt.
 pub struct Emitter<T: Word> {
-    access: Access<T>,
+    access: Access,
     id: u32,
-    /// The ticket of the emission in flight.
+    // The ticket of the emission in flight.
     ticket: Option<Ticket>,
-    /// Where the emission in flight slept last.
+    // The number of its last receipt.
+    last: Option<u64>,
+    // Where the emission in flight slept last.
     bed: Bed,
+    marker: PhantomData<T>,
 }
 
 impl<T: Word> Model for Emitter<T> {
-    ghost use Rattle.std.specs.Prelude.{is_some};
-    ghost use Rattle.shared_flow.specs.Parties.{Emitting};
+    ghost use Rattle.std.specs.Prelude.{◌≡◌, None};
+    ghost use Rattle.shared_flow.specs.Reach.{party_of};
+    ghost use Rattle.shared_flow.specs.Parties.{Emitting, WasAnswered};
 
     ghost Value = { Emitting };
 
-    ghost view = { λ e. record {
-      flow = e.access;
-      id = e.id;
-      in_flight = is_some e.ticket;
-    } };
+    ghost view = { λ e. record { party = party_of e.access; id = e.id; ticket = e.ticket; last = e.last } };
+
+    ghost invariant = { λ e. (e.access.held ≡ None) × WasAnswered e.last e.access.rounds };
 }
 
 impl<T: Word> Emitter<T> {
-    pub(crate) fn new(access: Access<T>, id: u32) -> Emitter<T>
-        ensures { result ≡ record { flow = access; id = id; in_flight = false } }
+    pub(crate) fn new(access: Access, id: u32) -> Emitter<T>
+        requires { (access.held ≡ None) × (access.rounds ≡ []) }
+        ensures { result ≡ record { party = party_of access; id = id; ticket = None; last = None } }
     {
         Emitter {
             access,
             id,
             ticket: None,
+            last: None,
             bed: Bed::new(),
+            marker: PhantomData,
         }
-    }
-
-    /// Whether an emission is in flight: in Kotlin, whether the coroutine is suspended in `emit`. From a `start_emit` that answered
-    /// `Waiting` up to a `poll_emit` that is ready, or a `cancel_emit`.
-    pub fn in_flight(&self) -> bool
-        ensures { result ≡ self.now.in_flight }
-    {
-        self.ticket.is_some()
     }
 
     /// Emits a value where that can be done at once: Kotlin's `tryEmit`, which answers true for `Accepted` and `Dropped`.
     ///
     /// `Full` where the emission would have to wait. Refused as `Spent` where the numbers below 2^62 are used up.
     pub fn try_emit(&mut self, rt: &impl Wait, value: T) -> Result<Tried<Receipt>, Refusal>
-        requires idle { self.old.in_flight ≡ false }
-        ensures receipt { IfTried result (λ receipt. receipt.emitter ≡ self.old.id) }
+        requires idle { self.old.ticket ≡ None }
+        ensures round { self.new ≡ after_try self.old (emission_by self.old (T.word value)) result }
+        ensures receipt { IfTried result (IsItsReceipt self.old.party (emission_by self.old (T.word value))) }
+        ensures rises { IfTried result (λ receipt. IsAfter self.old.last receipt.number) }
         ensures refused { IfErr result (λ refusal. refusal ≡ Spent) }
-        ensures policy { (config : _) → self.old.flow ≡ Some config → TriedUnder config.policy result }
-        ensures same { self.new ≡ self.old }
+        ensures policy { OfFlow self.old.party (λ name. TriedUnder name.config.policy result) }
     {
-        let mut held = self.access.take(rt);
-        let tried = laws::try_emit(&mut *held.state, self.id, value);
-        self.access.put(rt, held);
-        match tried? {
-            Tried::Accepted(number) => Ok(Tried::Accepted(Receipt::new(self.id, number))),
-            Tried::Dropped => Ok(Tried::Dropped),
-            Tried::Full => Ok(Tried::Full),
-        }
+        let emission = Emission {
+            emitter: self.id,
+            word: value.to_word(),
+        };
+        let mut guarded = self.access.take(rt);
+        let tried = guarded.state.try_emit(emission);
+        let answer = number_tried(&tried);
+        self.last = last_tried(self.last, &answer);
+        self.access.put(rt, guarded, Round::Try(emission, answer));
+        tried
+    }
+
+    /// Whether an emission is in flight: in Kotlin, whether the coroutine is suspended in `emit`. From a `start_emit` that answered
+    /// `Waiting` up to a `poll_emit` that is ready, or a `cancel_emit`.
+    pub fn in_flight(&self) -> bool
+        ensures { result ≡ is_some self.now.ticket }
+    {
+        self.ticket.is_some()
     }
 
     /// Begins an emission: Kotlin's `emit`, up to where it suspends. `Waiting` where it isn't finished: it is in flight then.
@@ -88,48 +102,71 @@ impl<T: Word> Emitter<T> {
     /// Refused as `Spent` where the numbers below 2^62 are used up, then as `EmitsFull` where the emission would be in flight
     /// and `emits` others are.
     pub fn start_emit(&mut self, rt: &impl Wait, value: T) -> Result<Begun<Receipt, ()>, Refusal>
-        requires idle { self.old.in_flight ≡ false }
-        ensures receipt { IfBegun result (λ receipt. receipt.emitter ≡ self.old.id) }
+        requires idle { self.old.ticket ≡ None }
+        ensures round { WasStarted self.old (emission_by self.old (T.word value)) result self.new }
+        ensures receipt { IfBegun result (IsItsReceipt self.old.party (emission_by self.old (T.word value))) }
+        ensures rises { IfBegun result (λ receipt. IsAfter self.old.last receipt.number) }
         ensures refused { IfErr result (λ refusal. (refusal ≡ Spent) ⊎ (refusal ≡ EmitsFull)) }
-        ensures policy { (config : _) → self.old.flow ≡ Some config → BegunUnder config.policy result }
-        ensures waits { self.new ≡ record self.old { in_flight = is_waiting result } }
+        ensures policy { OfFlow self.old.party (λ name. BegunUnder name.config.policy result) }
     {
-        let mut held = self.access.take(rt);
-        let begun = laws::start_emit(&mut *held.state, self.id, value);
-        self.access.put(rt, held);
+        let begun = self.begin(rt, value);
         match begun? {
-            Begun::Accepted(number) => Ok(Begun::Accepted(Receipt::new(self.id, number))),
+            Begun::Accepted(receipt) => Ok(Begun::Accepted(receipt)),
             Begun::Dropped => Ok(Begun::Dropped),
-            Begun::Waiting(ticket) => {
-                self.ticket = Some(ticket);
-                Ok(Begun::Waiting(()))
-            }
+            Begun::Waiting(_) => Ok(Begun::Waiting(())),
         }
+    }
+
+    // The same, with the ticket.
+    fn begin(&mut self, rt: &impl Wait, value: T) -> Result<Begun<Receipt, Ticket>, Refusal>
+        requires idle { self.old.ticket ≡ None }
+        ensures round { self.new ≡ after_start self.old (emission_by self.old (T.word value)) result }
+        ensures receipt { IfBegun result (IsItsReceipt self.old.party (emission_by self.old (T.word value))) }
+        ensures rises { IfBegun result (λ receipt. IsAfter self.old.last receipt.number) }
+        ensures refused { IfErr result (λ refusal. (refusal ≡ Spent) ⊎ (refusal ≡ EmitsFull)) }
+        ensures policy { OfFlow self.old.party (λ name. BegunUnder name.config.policy result) }
+    {
+        let emission = Emission {
+            emitter: self.id,
+            word: value.to_word(),
+        };
+        let mut guarded = self.access.take(rt);
+        let begun = guarded.state.start_emit(emission);
+        let answer = number_begun(&begun);
+        self.last = last_begun(self.last, &answer);
+        self.ticket = begun_ticket(&begun);
+        self.access.put(rt, guarded, Round::Start(emission, answer));
+        begun
     }
 
     /// Asks whether the emission in flight is finished: Kotlin's `emit`, where it resumes. Pending where it isn't, and then the
     /// task sleeps until a receipt or a cancellation finishes it. That the wake arrives isn't claimed.
     pub fn poll_emit(&mut self, rt: &impl Wait, cx: &mut Context<'_>) -> Poll<Receipt>
-        requires in_flight { self.old.in_flight ≡ true }
-        ensures receipt { IfReady result (λ receipt. receipt.emitter ≡ self.old.id) }
-        ensures done { IfReady result (λ _. self.new ≡ record self.old { in_flight = false }) }
-        ensures pending { OnPending result (self.new ≡ self.old) }
+        requires in_flight { self.old.ticket ≢ None }
+        ensures ready { IfReady result (λ receipt. WasFinished self.old receipt self.new) }
+        ensures receipt { IfReady result (IsOwnReceipt self.old.party self.old.id) }
+        ensures rises { IfReady result (λ receipt. IsAfter self.old.last receipt.number) }
+        ensures pending { OnPending result (Waits self.old self.new) }
         ensures armed { OnPending result (IsArmed cx.new) }
         ensures kept { Keeps cx.old cx.new }
     {
         let Some(ticket) = self.ticket else {
             unreachable!()
         };
-        let mut held = self.access.take(rt);
-        let emit = laws::poll_emit(&mut *held.state, ticket, &mut self.bed, cx);
-        self.access.put(rt, held);
-        match emit {
-            Emit::Done(number) => {
-                self.ticket = None;
-                Poll::Ready(Receipt::new(self.id, number))
-            }
-            Emit::Waiting | Emit::Gone => Poll::Pending,
-        }
+        let mut guarded = self.access.take(rt);
+        let Polled { emit, receipt } = guarded.state.poll_emit(ticket, self.id, self.last);
+        let Some(receipt) = receipt else {
+            guarded
+                .state
+                .sleep_emission(ticket, emit, &mut self.bed, cx);
+            let round = polled_without_receipt(ticket, self.id, self.last, emit);
+            self.access.put(rt, guarded, round);
+            return Poll::Pending;
+        };
+        self.ticket = None;
+        self.last = Some(receipt.number());
+        self.access.put(rt, guarded, Round::Poll(ticket, emit));
+        Poll::Ready(receipt)
     }
 
     /// Gives the emission in flight up: Kotlin's `emit`, cancelled while it is suspended.
@@ -137,27 +174,37 @@ impl<T: Word> Emitter<T> {
     /// `Removed` where it waited: it was never accepted. `Left` where it was accepted: its value stays with its subscriptions.
     /// `Gone` where none is in flight.
     pub fn cancel_emit(&mut self, rt: &impl Wait) -> Withdrawn<Receipt>
-        ensures receipt { IfLeft result (λ receipt. receipt.emitter ≡ self.old.id) }
-        ensures idle { self.old.in_flight ≡ false → result ≡ withdrawn.Gone }
-        ensures ends { self.new ≡ record self.old { in_flight = false } }
+        ensures ends { (self.new.ticket ≡ None) × IsSameEmitter self.old self.new }
+        ensures idle { self.old.ticket ≡ None → (result ≡ withdrawn.Gone) × (self.new ≡ self.old) }
+        ensures left { IfLeft result (λ receipt. WasLeft self.old receipt self.new) }
+        ensures removed { WasGivenUp self.old result self.new }
+        ensures receipt { IfLeft result (IsOwnReceipt self.old.party self.old.id) }
+        ensures rises { IfLeft result (λ receipt. IsAfter self.old.last receipt.number) }
     {
-        let Some(ticket) = self.ticket.take() else {
+        let Some(ticket) = self.ticket else {
             return Withdrawn::Gone;
         };
-        let mut held = self.access.take(rt);
-        let withdrawn = laws::cancel_emit(&mut *held.state, ticket, &self.bed);
-        self.access.put(rt, held);
-        match withdrawn {
-            Withdrawn::Removed => Withdrawn::Removed,
-            Withdrawn::Left(number) => Withdrawn::Left(Receipt::new(self.id, number)),
-            Withdrawn::Gone => Withdrawn::Gone,
-        }
+        let mut guarded = self.access.take(rt);
+        let Released { withdrawn, receipt } = guarded
+            .state
+            .cancel_emit(ticket, self.id, self.last, &self.bed);
+        self.ticket = None;
+        let Some(receipt) = receipt else {
+            let round = withdrawn_without_receipt(ticket, self.id, self.last, withdrawn);
+            self.access.put(rt, guarded, round);
+            return unless_left(withdrawn);
+        };
+        self.last = Some(receipt.number());
+        self.access
+            .put(rt, guarded, Round::Withdraw(ticket, withdrawn));
+        Withdrawn::Left(receipt)
     }
 
     /// Ends the emitter, and gives the emission in flight up as `cancel_emit` does: in Kotlin, the end of the coroutine.
     pub fn close(self, rt: &impl Wait) -> Withdrawn<Receipt>
-        ensures receipt { IfLeft result (λ receipt. receipt.emitter ≡ self.id) }
-        ensures idle { self.in_flight ≡ false → result ≡ withdrawn.Gone }
+        ensures idle { self.ticket ≡ None → result ≡ withdrawn.Gone }
+        ensures receipt { IfLeft result (IsOwnReceipt self.party self.id) }
+        ensures rises { IfLeft result (λ receipt. IsAfter self.last receipt.number) }
     {
         let mut emitter = self;
         let withdrawn = emitter.cancel_emit(rt);
@@ -165,8 +212,60 @@ impl<T: Word> Emitter<T> {
             access: _,
             id: _,
             ticket: _,
+            last: _,
             bed: _,
+            marker: _,
         } = emitter;
         withdrawn
+    }
+}
+
+// The round of a withdrawal that has no receipt for its answer.
+fn withdrawn_without_receipt(
+    ticket: Ticket,
+    id: u32,
+    last: Option<u64>,
+    withdrawn: Withdrawn<u64>,
+) -> Round
+    ensures { result ≡ withdraw_round ticket id last withdrawn None }
+{
+    match withdrawn {
+        Withdrawn::Left(number) => Round::StrayWithdraw(ticket, id, last, number),
+        Withdrawn::Removed => Round::Withdraw(ticket, Withdrawn::Removed),
+        Withdrawn::Gone => Round::Withdraw(ticket, Withdrawn::Gone),
+    }
+}
+
+// What a caller is told of a withdrawal without a receipt.
+fn unless_left(withdrawn: Withdrawn<u64>) -> Withdrawn<Receipt>
+    ensures { result ≡ without_receipt withdrawn }
+{
+    match withdrawn {
+        Withdrawn::Removed => Withdrawn::Removed,
+        Withdrawn::Left(_) => Withdrawn::Gone,
+        Withdrawn::Gone => Withdrawn::Gone,
+    }
+}
+
+// The round of a poll that has no receipt for its answer.
+fn polled_without_receipt(ticket: Ticket, id: u32, last: Option<u64>, emit: Emit) -> Round
+    ensures { result ≡ poll_round ticket id last emit None }
+{
+    match emit {
+        Emit::Done(number) => Round::StrayPoll(ticket, id, last, number),
+        Emit::Waiting => Round::Poll(ticket, Emit::Waiting),
+        Emit::Gone => Round::Poll(ticket, Emit::Gone),
+    }
+}
+
+// The ticket of an emission that isn't finished.
+fn begun_ticket(begun: &Result<Begun<Receipt, Ticket>, Refusal>) -> Option<Ticket>
+    ensures { result ≡ ticket_of begun.now }
+{
+    match begun {
+        Ok(Begun::Waiting(ticket)) => Some(*ticket),
+        Ok(Begun::Accepted(_)) => None,
+        Ok(Begun::Dropped) => None,
+        Err(_) => None,
     }
 }

@@ -1,37 +1,48 @@
 //! An owner of a shared flow.
-
-ghost use Rattle.std.specs.Prelude.{◌≡◌, ◌⊎◌, ◌++◌, false, Some, IfOk, IfErr, IfSome, IfNone, IsOkUnless, OnErr};
+ghost use Rattle.std.specs.Prelude.{◌≡◌, ◌⊎◌, [], None, Ok, Err, IfOk, IfErr, IfSome, IfNone, IsOkUnless, OnOk, OnErr};
 ghost use Rattle.flow_terms.specs.declared.refusal.Refusal.TheVariants.{Spent, SubscribersFull, NoMemory};
 ghost use Rattle.shared_core.specs.Kept.{making_refusal};
+ghost use Rattle.shared_flow.specs.declared.round.Round.TheVariants as round;
+ghost use Rattle.shared_flow.specs.Names.{IsMadeWith};
+ghost use Rattle.shared_flow.specs.Parties.{with_round, newcomer_of};
+ghost use Rattle.shared_flow.specs.Owners.{at_rest, IsLeftOut, AddsCache};
+ghost use Rattle.shared_flow.specs.Looks.{WasLetInto};
+ghost use Rattle.shared_flow.specs.Rounds.{IsAtLimit};
 
 use crate::access::Access;
 use crate::emitter::Emitter;
-use crate::laws;
-use crate::shared::Shared;
+use crate::round::Round;
+use crate::shared::{Admitted, Shared};
 use crate::subscription::Subscription;
 use flow_terms::{Refusal, Word};
 use shared_core::Config;
 use std::alloc::Global;
-use std::marker::Model;
+use std::marker::{Model, PhantomData};
 use std::sync::Wait;
+
+mod held;
+
+pub use held::{Held, Kept};
 
 /// An owner of a shared flow: Kotlin's `MutableSharedFlow`. Its other owners may be in other threads, and the flow is let go with
 /// the last owner, emitter or subscription.
 ///
-/// Contracts see it as the config of the flow, which its owners, emitters and subscriptions have in common. What a call finds under
-/// the lock they don't see, since other threads may have changed it: that is said by the function of `laws` that the call makes.
+/// Contracts see the flow, which its owners, emitters and subscriptions have in common, and the rounds of this owner: the calls that
+/// it made under the lock, with their answers. All rounds of a flow are one history, and each owner's are its part of it. They see
+/// too what it found under the lock, while a [`Held`] keeps that.
 #[derive(Drop)]
 pub struct SharedFlow<T: Word> {
-    access: Access<T>,
+    access: Access,
+    marker: PhantomData<T>,
 }
 
 impl<T: Word> Model for SharedFlow<T> {
-    ghost use Rattle.std.specs.Prelude.{Option};
-    ghost use Rattle.shared_core.specs.declared.config.Config.{Config};
+    ghost use Rattle.shared_flow.specs.Reach.{party_of};
+    ghost use Rattle.shared_flow.specs.Owners.{Owning};
 
-    ghost Value = { Option Config };
+    ghost Value = { Owning };
 
-    ghost view = { λ flow. flow.access };
+    ghost view = { λ flow. record { party = party_of flow.access; held = flow.access.held } };
 }
 
 impl<T: Word> SharedFlow<T> {
@@ -43,30 +54,37 @@ impl<T: Word> SharedFlow<T> {
     pub fn new(alloc: Global, config: Config) -> Result<SharedFlow<T>, Refusal>
         ensures refused { IfSome (making_refusal config) (λ refusal. result ≡ Err refusal) }
         ensures made { IfNone (making_refusal config) (IsOkUnless result Refusal.NoMemory) }
-        ensures config { IfOk result (λ flow. flow ≡ Some config) }
+        ensures config { IfOk result (λ flow. IsMadeWith config flow.party.flow) }
+        ensures rounds { IfOk result (λ flow. (flow ≡ at_rest flow.party) × (flow.party.rounds ≡ [])) }
     {
         let shared = Shared::new(alloc, config)?;
         let access = Access::new(alloc, config, shared)?;
-        Ok(SharedFlow { access })
+        Ok(SharedFlow {
+            access,
+            marker: PhantomData,
+        })
     }
 
-    /// Another owner of the same flow: in Kotlin, a second reference to it. Refused as `NoMemory`.
+    /// Another owner of the same flow, which has made no call: in Kotlin, a second reference to it. Refused as `NoMemory`.
     pub fn dup(&mut self, rt: &impl Wait) -> Result<SharedFlow<T>, Refusal>
-        ensures other { IfOk result (λ other. other ≡ self.old) }
+        ensures other { IfOk result (λ other. other ≡ at_rest (newcomer_of self.old.party)) }
         ensures memory { IsOkUnless result Refusal.NoMemory }
         ensures same { self.new ≡ self.old }
     {
         let access = self.access.another(rt)?;
-        Ok(SharedFlow { access })
+        Ok(SharedFlow {
+            access,
+            marker: PhantomData,
+        })
     }
 
     /// An emitter of this flow, whose receipts have this id: in Kotlin, a coroutine that emits into it. Refused as `NoMemory`.
     ///
     /// Two emitters with one id are one emitter in the flow.
     pub fn emitter(&mut self, rt: &impl Wait, id: u32) -> Result<Emitter<T>, Refusal>
-        ensures flow { IfOk result (λ emitter. emitter.flow ≡ self.old) }
+        ensures flow { IfOk result (λ emitter. emitter.party ≡ newcomer_of self.old.party) }
         ensures id { IfOk result (λ emitter. emitter.id ≡ id) }
-        ensures idle { IfOk result (λ emitter. emitter.in_flight ≡ false) }
+        ensures idle { IfOk result (λ emitter. emitter.ticket ≡ None) }
         ensures memory { IsOkUnless result Refusal.NoMemory }
         ensures same { self.new ≡ self.old }
     {
@@ -79,47 +97,64 @@ impl<T: Word> SharedFlow<T> {
     /// Refused as `NoMemory`, then as `Spent` where the numbers of subscriptions below 2^62 are used up, then as
     /// `SubscribersFull` where `subscribers` are live.
     pub fn subscribe(&mut self, rt: &impl Wait) -> Result<Subscription<T>, Refusal>
-        ensures flow { IfOk result (λ subscription. subscription ≡ self.old) }
-        ensures refused { IfErr result (λ refusal. (refusal ≡ NoMemory) ⊎ ((refusal ≡ Spent) ⊎ (refusal ≡ SubscribersFull))) }
-        ensures same { self.new ≡ self.old }
+        ensures flow { IfOk result (λ subscription. subscription.party ≡ newcomer_of self.old.party) }
+        ensures round { IfOk result (λ subscription. self.new ≡ at_rest (with_round (round.Subscribe (Ok subscription.number)) self.old.party)) }
+        ensures begins { IfOk result (λ subscription. WasLetInto self.old.party.flow subscription.number subscription.reader) }
+        ensures refused { IfErr result (λ refusal. (refusal ≡ NoMemory) ⊎ IsAtLimit refusal) }
+        ensures kept { IfErr result (λ refusal. IsLeftOut self.old refusal self.new) }
     {
         let access = self.access.another(rt)?;
-        let mut held = self.access.take(rt);
-        let subscribed = laws::subscribe(&mut *held.state);
-        self.access.put(rt, held);
-        let id = subscribed?;
-        Ok(Subscription::new(access, id))
+        let mut guarded = self.access.take(rt);
+        let Admitted { number, reader } = guarded.state.subscribe();
+        match reader {
+            Ok(reader) => {
+                self.access.put(rt, guarded, Round::Subscribe(Ok(number)));
+                Ok(Subscription::new(access, number, reader))
+            }
+            Err(refusal) => {
+                self.access.put(rt, guarded, Round::Subscribe(Err(refusal)));
+                Err(refusal)
+            }
+        }
     }
 
     /// Empties the replay cache: Kotlin's `resetReplayCache`. Live subscriptions keep what they have pending.
     pub fn reset_replay(&mut self, rt: &impl Wait)
-        ensures { self.new ≡ self.old }
+        ensures { self.new ≡ at_rest (with_round round.Reset self.old.party) }
     {
-        let mut held = self.access.take(rt);
-        laws::reset_replay(&mut *held.state);
-        self.access.put(rt, held);
+        let mut guarded = self.access.take(rt);
+        guarded.state.reset_replay();
+        self.access.put(rt, guarded, Round::Reset);
     }
 
     /// Adds the replay cache to `out`, the oldest value first: Kotlin's `replayCache`. Refused as `NoMemory`, and then `out` is
     /// as it was.
     pub fn replay_cache_into(&mut self, rt: &impl Wait, out: &mut Vec<T>) -> Result<(), Refusal>
         ensures memory { IsOkUnless result Refusal.NoMemory }
+        ensures ok { OnOk result (AddsCache T.read_as self.old out.old.items self.new out.new.items) }
         ensures err { OnErr result (out.new.items ≡ out.old.items) }
-        ensures same { self.new ≡ self.old }
+        ensures unread { OnErr result (self.new ≡ at_rest (with_round (round.Cache (Err NoMemory)) self.old.party)) }
     {
-        let held = self.access.take(rt);
-        let added = laws::replay_cache_into(&*held.state, out);
-        self.access.put(rt, held);
-        added
+        let mut guarded = self.access.take(rt);
+        match guarded.state.replay_cache_into(out) {
+            Ok(()) => {
+                self.access.put_cache(rt, guarded);
+                Ok(())
+            }
+            Err(refusal) => {
+                self.access.put(rt, guarded, Round::Cache(Err(refusal)));
+                Err(refusal)
+            }
+        }
     }
 
     /// How many subscriptions were live while the lock was held: Kotlin's `subscriptionCount`, as a plain number.
     pub fn subscription_count(&mut self, rt: &impl Wait) -> u32
-        ensures { self.new ≡ self.old }
+        ensures { self.new ≡ at_rest (with_round (round.Count result) self.old.party) }
     {
-        let held = self.access.take(rt);
-        let count = laws::subscription_count(&*held.state);
-        self.access.put(rt, held);
+        let mut guarded = self.access.take(rt);
+        let count = guarded.state.subscription_count();
+        self.access.put(rt, guarded, Round::Count(count));
         count
     }
 }

@@ -1,10 +1,16 @@
-//! Kotlin's `MutableSharedFlow` for threads: one flow under one lock, with any number of owners, emitters and subscriptions.
+//! Kotlin's `MutableSharedFlow` for threads: one flow on a lane, with any number of owners, emitters and subscriptions.
 //!
 //! A `SharedFlow` is an owner of the flow; `dup` makes another, for another thread. Whoever emits holds an `Emitter` of it,
-//! whoever receives a `Subscription`. Each call takes the lock, makes one call of `shared_core::SharedState`, gives the lock
-//! back, and then wakes those whom the call helped. What is done under the lock stands in the module `laws`, a function
-//! for each call, with the model's clause for it. Those functions are this crate's own: each is lent the place where its
-//! subscription or emission slept last, and only who keeps that place can name it.
+//! whoever receives a `Subscription`. The side that emits stands behind a lock: the lane's sequencer, and those that sleep. A
+//! subscription reads the lane with no lock.
+//!
+//! # One list of rounds
+//! A *round* is a call that took the lock, with its answer. Each party keeps, for contracts alone, the rounds that it made; each
+//! call's clause says that they grew by exactly this call with this answer. The rule of the lock says that between any two
+//! calls there is one list of rounds of which each party's are its part, in its order, and that the flow is what exactly that list
+//! left of a new one (`one_list_of_rounds`). So the emissions that were accepted are those of that list, each emitter's in its
+//! own order, and what a subscription received, then what is pending for it, is the replay cache at its start followed by them, less
+//! what its policy dropped (`each_subscription_receives_cache_then_later`).
 //!
 //! # Emitters and subscriptions must be spent
 //! `Emitter` and `Subscription` have no `Drop`. An emitter ends by `close` and a subscription by `cancel`, and code that
@@ -31,7 +37,8 @@
 //!
 //! # Who is woken
 //! - An acceptance wakes each subscription that sleeps: the value is pending for it. Nothing else wakes one.
-//! - A receipt or a cancellation wakes the emissions that sleep and are done by it.
+//! - A call that takes the lock wakes the emissions that sleep and are finished by then. A `try_next` takes no lock and wakes
+//!   nobody.
 //! - A withdrawal helps nobody: an emission that waited had taken no room, and an accepted value stays pending.
 //! - A waker can't be thrown away, so who stops waiting by `cancel`, `cancel_emit` or `close` wakes its own task.
 #![tactic(auto)]
@@ -40,16 +47,19 @@ mod access;
 mod emitter;
 mod flow;
 mod laws;
-mod lock;
-mod receipt;
-mod rule;
+mod round;
 mod shared;
 mod sleepers;
 mod subscription;
+mod track;
 mod wakes;
 
 pub use emitter::Emitter;
-pub use flow::SharedFlow;
+pub use flow::{Held, Kept, SharedFlow};
 pub use flow_terms::{Refusal, Word};
-pub use receipt::Receipt;
+pub use laws::{
+    each_emitter_in_its_own_order, each_subscription_receives_cache_then_later, one_list_of_rounds,
+};
+pub use round::{Emission, Round};
+pub use shared_lane::{Met, Receipt, Taken};
 pub use subscription::Subscription;

@@ -1,28 +1,39 @@
 //! What lies under the lock.
-
 ghost use Rattle.std.specs.Prelude.{◌≡◌, ◌+◌, IfOk, IfSome, IfNone, IsOkUnless};
 ghost use Rattle.futures.specs.Task.{IsArmed, Keeps};
-ghost use Rattle.shared_core.specs.Flow.{empty};
-ghost use Rattle.shared_core.specs.Kept.{parameters_of, making_refusal};
-ghost use Rattle.shared_core.specs.Shown.{Shows};
-ghost use Rattle.shared_flow.specs.Polls.{UnlessDone, UnlessValue};
+ghost use Rattle.shared_core.specs.Kept.{making_refusal};
+ghost use Rattle.shared_lane.specs.Sequencers.{IsSameSequencer, OnlyLoaded};
+ghost use Rattle.shared_flow.specs.Names.{IsNew};
+ghost use Rattle.shared_flow.specs.Rounds.{Does};
 
-use crate::rule::Keyed;
+use crate::round::Round;
 use crate::sleepers::{Bed, Sleepers};
+use crate::track::Track;
 use crate::wakes::Wakes;
-use flow_terms::Refusal;
-use futures::task::{Context, Poll};
-use shared_core::{Config, Emit, Next, SharedState, SubId, Ticket};
+use flow_terms::{Policy, Refusal};
+use futures::task::Context;
+use round_lock::Called;
+use shared_core::Config;
+use shared_lane::{Lane, Sequencer};
 use std::alloc::Global;
 use std::marker::Model;
 use std::mem;
+use std::sync::Arc;
 
-/// A shared flow on one thread, with those that sleep until it changes. Contracts see its config and the flow.
+mod emissions;
+mod subscriptions;
+
+pub(crate) use emissions::{Polled, Released};
+pub(crate) use subscriptions::Admitted;
+
+/// The sequencer of a flow, an owner of its lane, and those that sleep until something changes. Contracts see which flow it is,
+/// and the sequencer.
 #[derive(Drop)]
-pub struct Shared<T: Copy> {
+pub struct Shared {
     config: Config,
-    pub(crate) flow: SharedState<T>,
-    /// The subscriptions that sleep. Nothing is pending for them.
+    track: Arc<Track, Global>,
+    sequencer: Sequencer<Global>,
+    /// The subscriptions that sleep.
     subscriptions: Sleepers,
     /// The emissions that sleep, by their tickets.
     emissions: Sleepers,
@@ -30,39 +41,41 @@ pub struct Shared<T: Copy> {
     wakes: Wakes,
 }
 
-impl<T: Copy> Model for Shared<T> {
-    ghost use Rattle.shared_flow.specs.Guarded.{Guarded, IsOf};
+impl Model for Shared {
+    ghost use Rattle.std.specs.Arc.{arc_value};
+    ghost use Rattle.shared_flow.specs.Names.{SharedSeen, IsGuarded};
 
-    ghost Value = { Guarded T };
+    ghost Value = { SharedSeen };
 
-    ghost view = { λ s. record {
-      config = s.config;
-      flow = s.flow;
-    } };
+    ghost view = { λ s. record { name = record { config = s.config; lane = arc_value s.track }; sequencer = s.sequencer } };
 
-    ghost invariant = { λ s. IsOf s.config s.flow };
+    ghost invariant = { λ s. IsGuarded s.config (arc_value s.track) s.sequencer };
 }
 
 // It lies under the lock in a box, so that a call moves no more than a pointer.
-impl<T: Copy> Keyed<Config> for Box<Shared<T>> {
-    ghost key = { λ s. s.value.config };
+impl Called<Round> for Box<Shared> {
+    ghost first = { λ s. IsNew s.value };
+
+    ghost step = { λ s r t. Does s.value r t.value };
 }
 
-impl<T: Copy> Shared<T> {
-    /// A flow where nobody sleeps. Refused as `SharedState::new` is. All memory is reserved, also for those that will sleep.
-    pub fn new(alloc: Global, config: Config) -> Result<Shared<T>, Refusal>
+impl Shared {
+    /// A flow where nobody sleeps. Refused as `Lane::new` is. All memory is reserved, also for those that will sleep.
+    pub fn new(alloc: Global, config: Config) -> Result<Shared, Refusal>
         ensures refused { IfSome (making_refusal config) (λ refusal. result ≡ Err refusal) }
         ensures made { IfNone (making_refusal config) (IsOkUnless result Refusal.NoMemory) }
-        ensures shows { IfOk result (λ made. Shows made.flow (empty (parameters_of config))) }
-        ensures config { IfOk result (λ made. made.config ≡ config) }
+        ensures fresh { IfOk result (λ made. (made.name.config ≡ config) × IsNew made) }
     {
-        let flow = SharedState::new(alloc, config)?;
+        let (lane, sequencer) = Lane::new(alloc, config)?;
+        let may_wait = matches!(config.policy, Policy::Suspend);
+        let track = Arc::new(alloc, Track::new(lane, may_wait))?;
         let subscriptions = Sleepers::new(alloc, config.subscribers as usize)?;
         let emissions = Sleepers::new(alloc, config.emits as usize)?;
         let wakes = Wakes::new(alloc, wakes_of(&config))?;
         Ok(Shared {
             config,
-            flow,
+            track,
+            sequencer,
             subscriptions,
             emissions,
             wakes,
@@ -76,82 +89,24 @@ impl<T: Copy> Shared<T> {
         mem::swap(&mut self.wakes, wakes);
     }
 
-    /// Wakes the subscriptions that sleep, where something was accepted: it is pending for each of them.
-    pub(crate) fn wake_subscriptions(&mut self)
-        ensures { self.new ≡ self.old }
+    /// Wakes those whom a call helped: the subscriptions that sleep, where something was accepted since the number `before` was
+    /// the next one, and the emissions that are finished by now.
+    fn help(&mut self, before: u64)
+        ensures same { (self.new.name ≡ self.old.name) × IsSameSequencer self.old.sequencer self.new.sequencer }
+        ensures only { OnlyLoaded self.old.sequencer self.new.sequencer }
     {
-        if let Some(number) = self.subscriptions.any() {
-            if self.flow.pending(SubId(number)) > 0 {
-                self.subscriptions.wake_all(&mut self.wakes);
-            }
+        if self.sequencer.next_number() > before {
+            self.subscriptions.wake_all(&mut self.wakes);
         }
-    }
-
-    /// Wakes those whom a receipt or a cancellation helped: the emissions that are done by now, and the subscriptions, where a
-    /// waiting emission was accepted.
-    pub(crate) fn wake_helped(&mut self)
-        ensures { self.new ≡ self.old }
-    {
-        self.emissions.wake_done(&self.flow, &mut self.wakes);
-        self.wake_subscriptions();
-    }
-
-    /// What a poll of an emission does before it answers: one that isn't done sleeps. One that is done was woken when it
-    /// became so.
-    pub(crate) fn after_poll(
-        &mut self,
-        ticket: Ticket,
-        emit: Emit,
-        bed: &mut Bed,
-        cx: &mut Context<'_>,
-    )
-        ensures same { self.new ≡ self.old }
-        ensures armed { UnlessDone emit (IsArmed cx.new) }
-        ensures kept { Keeps cx.old cx.new }
-    {
-        match emit {
-            Emit::Done(_) => {}
-            Emit::Waiting => self.emissions.sleep(ticket.0, bed, cx),
-            Emit::Gone => {
-                let _again: Poll<()> = cx.yield_now();
-            }
+        if self.track.has_unfinished() && !self.sequencer.has_unfinished() {
+            self.track.set_unfinished(false);
         }
-    }
-
-    /// What a poll of a subscription does before it answers: a receipt wakes those that it helped, and a subscription without a
-    /// value sleeps.
-    pub(crate) fn after_next(
-        &mut self,
-        id: SubId,
-        next: &Next<T>,
-        bed: &mut Bed,
-        cx: &mut Context<'_>,
-    )
-        ensures same { self.new ≡ self.old }
-        ensures armed { UnlessValue next.now (IsArmed cx.new) }
-        ensures kept { Keeps cx.old cx.new }
-    {
-        match next {
-            Next::Value(_) => self.wake_helped(),
-            Next::Nothing => self.subscriptions.sleep(id.0, bed, cx),
-            Next::Closed => {
-                let _again: Poll<()> = cx.yield_now();
-            }
+        if self.emissions.is_empty() {
+            return;
         }
-    }
-
-    /// An emission that was given up sleeps no more.
-    pub(crate) fn forget_emission(&mut self, ticket: Ticket, bed: &Bed)
-        ensures { self.new ≡ self.old }
-    {
-        self.emissions.rise(ticket.0, bed, &mut self.wakes);
-    }
-
-    /// A subscription that was cancelled sleeps no more.
-    pub(crate) fn forget_subscription(&mut self, id: SubId, bed: &Bed)
-        ensures { self.new ≡ self.old }
-    {
-        self.subscriptions.rise(id.0, bed, &mut self.wakes);
+        let below = self.sequencer.finished_below(self.track.lane());
+        self.emissions
+            .wake_done(&self.sequencer, below, &mut self.wakes);
     }
 }
 

@@ -1,15 +1,15 @@
 //! Tasks that wait for something under the lock.
 
-ghost use Rattle.std.specs.Prelude.{◌≡◌, ◌≤◌, ◌<◌, ◌↔◌, ℕ, true, false, Some, None, [], IfOk, IfSome, IfNone};
-ghost use Rattle.slab.specs.Slab.{slab_len, entries};
+ghost use Rattle.std.specs.Prelude.{◌≡◌, ◌≤◌, ◌<◌, ◌↔◌, true, false, None, IfOk};
+ghost use Rattle.slab.specs.Slab.{slab_len};
 ghost use Rattle.futures.specs.Task.{IsArmed, Keeps};
-ghost use Rattle.shared_core.specs.Calls as calls;
-ghost use Rattle.shared_core.specs.Shown.{Shows};
+ghost use Rattle.shared_lane.specs.Polls.{stands_below};
 ghost use Rattle.shared_flow.specs.Sleeping.{SleepsAt, OnlyDoneRise};
 
 use crate::wakes::Wakes;
 use futures::task::{Context, Poll, Source, Waker};
-use shared_core::{SharedState, Ticket};
+use shared_core::Ticket;
+use shared_lane::Sequencer;
 use slab::Slab;
 use std::alloc::{AllocError, Global};
 
@@ -116,13 +116,11 @@ impl Sleepers {
         }
     }
 
-    /// The number of one that sleeps.
-    pub fn any(&self) -> Option<u64>
-        ensures nobody { IfNone result (entries self.now.sleeping ≡ []) }
-        ensures somebody { IfSome result (λ number. (key : ℕ) × SleepsAt self.now.sleeping (Some key) number) }
+    /// Whether nobody sleeps.
+    pub fn is_empty(&self) -> bool
+        ensures { (result ≡ true) ↔ (slab_len self.now.sleeping ≡ 0) }
     {
-        let (_, sleeper) = self.sleeping.iter().next()?;
-        Some(sleeper.number)
+        self.sleeping.is_empty()
     }
 
     /// Wakes all.
@@ -136,13 +134,13 @@ impl Sleepers {
         });
     }
 
-    /// Wakes those whose emission is done.
-    pub fn wake_done<T: Copy>(&mut self, flow: &SharedState<T>, wakes: &mut Wakes)
-        ensures done { (M : _) → Shows flow.now M → OnlyDoneRise (λ number. calls.would_be_done number M) self.old.sleeping self.new.sleeping }
+    /// Wakes those whose emission stands below a number.
+    pub fn wake_done(&mut self, sequencer: &Sequencer<Global>, below: u64, wakes: &mut Wakes)
+        ensures done { OnlyDoneRise (λ ticket. stands_below sequencer.now.standing ticket below) self.old.sleeping self.new.sleeping }
         ensures room { self.new.sleeping.capacity ≡ self.old.sleeping.capacity }
     {
         self.sleeping.retain(|_, sleeper| {
-            let is_done = flow.is_done(Ticket(sleeper.number));
+            let is_done = sequencer.is_below(Ticket(sleeper.number), below);
             if is_done {
                 wakes.add(sleeper.waker.take());
             }

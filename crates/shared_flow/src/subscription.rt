@@ -1,63 +1,191 @@
 //! One that receives the values of a shared flow.
-
-ghost use Rattle.std.specs.Prelude.{◌≡◌};
-ghost use Rattle.futures.specs.Poll.{OnPending};
+ghost use Rattle.std.specs.Prelude.{◌≡◌, ◌⊎◌, ◌+◌, None, Some};
+ghost use Rattle.futures.specs.Poll.{IfReady, OnPending};
 ghost use Rattle.futures.specs.Task.{IsArmed, Keeps};
+ghost use Rattle.lane_steps.specs.Law.{Begins};
+ghost use Rattle.shared_lane.specs.Readers.{IsReaderOf, IsReceiptOf, IsSameReader, at, received_count, lost_count};
+ghost use Rattle.shared_flow.specs.declared.round.Round.TheVariants as round;
+ghost use Rattle.shared_flow.specs.Reach.{party_of};
+ghost use Rattle.shared_flow.specs.Parties.{Subscribed, OfFlow, with_round};
+ghost use Rattle.shared_flow.specs.Looks.{Took, Gave, GaveIn, Missed, MissedTwice};
+ghost use Rattle.shared_flow.specs.Meeting.{HasMet};
+ghost use Rattle.shared_flow.specs.Owners.{OnlyMet};
 
 use crate::access::Access;
-use crate::laws;
+use crate::round::Round;
+use crate::shared::Shared;
 use crate::sleepers::Bed;
 use flow_terms::Word;
 use futures::task::{Context, Poll};
-use shared_core::{Next, SubId};
-use std::marker::Model;
+use shared_lane::{Met, Reader, Receipt, Taken};
+use std::marker::{Model, PhantomData};
 use std::sync::Wait;
 
 /// A subscription of a shared flow: what runs inside Kotlin's `collect`. It never completes.
 ///
 /// It has no `Drop` and must be spent, by `cancel`: until then it takes a place, and under `Suspend` it holds up emitters. Lend it
-/// to a thread by `&mut`, and spend it after the join. Contracts see it as the config of its flow.
+/// to a thread by `&mut`, and spend it after the join. Contracts see its flow, the rounds that it made under the lock, its number,
+/// and its reader.
 pub struct Subscription<T: Word> {
-    access: Access<T>,
-    id: SubId,
-    /// Where it slept last.
+    access: Access,
+    reader: Reader,
+    // Under which it sleeps.
+    number: u64,
+    // Where it slept last.
     bed: Bed,
+    marker: PhantomData<T>,
 }
 
 impl<T: Word> Model for Subscription<T> {
-    ghost use Rattle.std.specs.Prelude.{Option};
-    ghost use Rattle.shared_core.specs.declared.config.Config.{Config};
+    ghost use Rattle.std.specs.Prelude.{◌≡◌, None};
+    ghost use Rattle.shared_lane.specs.Readers.{IsReaderOf};
+    ghost use Rattle.shared_flow.specs.Reach.{party_of};
+    ghost use Rattle.shared_flow.specs.Parties.{Subscribed, OfFlow};
 
-    ghost Value = { Option Config };
+    ghost Value = { Subscribed };
 
-    ghost view = { λ s. s.access };
+    ghost view = { λ s. record { party = party_of s.access; number = s.number; reader = s.reader } };
+
+    ghost invariant = { λ s. (s.access.held ≡ None) × OfFlow (party_of s.access) (λ name. IsReaderOf name.lane s.reader) };
 }
 
 impl<T: Word> Subscription<T> {
-    pub(crate) fn new(access: Access<T>, id: SubId) -> Subscription<T>
-        ensures { result ≡ access }
+    pub(crate) fn new(access: Access, number: u64, reader: Reader) -> Subscription<T>
+        requires { (access.held ≡ None) × OfFlow (party_of access) (λ name. IsReaderOf name.lane reader) }
+        ensures { result ≡ record { party = party_of access; number = number; reader = reader } }
     {
         Subscription {
             access,
-            id,
+            reader,
+            number,
             bed: Bed::new(),
+            marker: PhantomData,
+        }
+    }
+
+    /// Takes the next value, without a lock. Kotlin has no such call: there `collect` suspends where this answers `Nothing`.
+    ///
+    /// `Nothing` where no accepted emission that it has seen, or was [told](Subscription::told), lies at or past its position;
+    /// `Overtaken` where the value was dropped just then, so that its position rose, on a flow that drops the oldest values alone.
+    ///
+    /// It wakes nobody. An emission that waits for room is let in by the next call that takes the lock, whoever makes it: where all
+    /// subscriptions take their values by this call alone, who emits has to poll its emitter again by itself.
+    pub fn try_next(&mut self) -> Taken<T>
+        ensures same { (self.new.party ≡ self.old.party) × (self.new.number ≡ self.old.number) }
+        ensures taken { Took T.read_as self.old.reader result self.new.reader }
+    {
+        match self.reader.try_next(self.access.lane()) {
+            Taken::Value(word) => Taken::Value(T::from_word(word)),
+            Taken::Nothing => Taken::Nothing,
+            Taken::Overtaken => Taken::Overtaken,
         }
     }
 
     /// Receives the oldest value that is pending: one turn of Kotlin's `collect`. Pending where there is none, and then the task
     /// sleeps until a value is accepted. That the wake arrives isn't claimed.
+    ///
+    /// It looks twice: first without the lock, and where that gives no value once more with it. A value that is there costs no lock,
+    /// unless an emission waits that the receipt may help.
     pub fn poll_next(&mut self, rt: &impl Wait, cx: &mut Context<'_>) -> Poll<T>
-        ensures same { self.new ≡ self.old }
+        ensures round { OnPending result (self.new.party ≡ with_round round.Next self.old.party) }
+        ensures rounds { (self.new.party ≡ self.old.party) ⊎ (self.new.party ≡ with_round round.Next self.old.party) }
+        ensures same { self.new.number ≡ self.old.number }
+        ensures ready { IfReady result (λ v. GaveIn T.read_as self.old.reader v self.new.reader) }
+        ensures pending { OnPending result (MissedTwice self.old.reader self.new.reader) }
         ensures armed { OnPending result (IsArmed cx.new) }
         ensures kept { Keeps cx.old cx.new }
     {
-        let mut held = self.access.take(rt);
-        let next = laws::next(&mut *held.state, self.id, &mut self.bed, cx);
-        self.access.put(rt, held);
-        match next {
-            Next::Value(value) => Poll::Ready(value),
-            Next::Nothing | Next::Closed => Poll::Pending,
+        let first = self.reader.try_next(self.access.lane());
+        if let Taken::Value(word) = first {
+            if self.access.has_unfinished() {
+                self.make_room(rt);
+            }
+            return Poll::Ready(T::from_word(word));
         }
+        self.look_again(rt, cx)
+    }
+
+    // Lets in what waits, after a value was received without the lock.
+    fn make_room(&mut self, rt: &impl Wait)
+        ensures { self.new ≡ record self.old { party = with_round round.Next self.old.party } }
+    {
+        let mut guarded = self.access.take(rt);
+        guarded.state.make_room();
+        self.access.put(rt, guarded, Round::Next);
+    }
+
+    // Looks for a value with the lock held. Without one the task sleeps.
+    fn look_again(&mut self, rt: &impl Wait, cx: &mut Context<'_>) -> Poll<T>
+        ensures round { self.new.party ≡ with_round round.Next self.old.party }
+        ensures same { self.new.number ≡ self.old.number }
+        ensures ready { IfReady result (λ v. Gave T.read_as self.old.reader v self.new.reader) }
+        ensures pending { OnPending result (Missed self.old.reader self.new.reader) }
+        ensures armed { OnPending result (IsArmed cx.new) }
+        ensures kept { Keeps cx.old cx.new }
+    {
+        let mut guarded = self.access.take(rt);
+        match guarded.state.look(&mut self.reader) {
+            Taken::Value(word) => {
+                self.access.put(rt, guarded, Round::Next);
+                Poll::Ready(T::from_word(word))
+            }
+            Taken::Nothing => {
+                guarded
+                    .state
+                    .sleep_subscription(self.number, &mut self.bed, cx);
+                self.access.put(rt, guarded, Round::Next);
+                Poll::Pending
+            }
+            // Nobody moves a cursor but under the lock, so that this doesn't come: it asks to be polled again.
+            Taken::Overtaken => {
+                self.access.put(rt, guarded, Round::Next);
+                let _again: Poll<()> = cx.yield_now();
+                Poll::Pending
+            }
+        }
+    }
+
+    /// The subscription hears of an accepted emission, without a lock: from then on it has seen all that was accepted up to it.
+    pub fn told(&mut self, receipt: &mut Receipt)
+        requires { OfFlow self.old.party (λ name. IsReceiptOf name.lane receipt.old) }
+        ensures same { (self.new.party ≡ self.old.party) × (self.new.number ≡ self.old.number) }
+        ensures reader { IsSameReader self.old.reader self.new.reader × (self.new.reader.story ≡ self.old.reader.story) }
+        ensures receipt { receipt.new ≡ receipt.old }
+        ensures told { Begins self.new.reader.seen receipt.old.seen }
+    {
+        self.reader.told(self.access.lane(), receipt);
+    }
+
+    /// The number at which it began: that of the oldest value of the replay cache, as it was then.
+    pub fn start(&self) -> u64
+        ensures { result ≡ self.now.reader.start }
+    {
+        self.reader.start()
+    }
+
+    /// How many values it received.
+    pub fn received(&self) -> u64
+        ensures { result ≡ received_count self.now.reader }
+    {
+        self.reader.received()
+    }
+
+    /// How many values were dropped for it, as far as it has seen.
+    pub fn dropped(&self) -> u64
+        ensures lost { result ≡ lost_count self.now.reader }
+        ensures sum { self.now.reader.start + received_count self.now.reader + result ≡ at self.now.reader }
+    {
+        self.reader.dropped()
+    }
+
+    /// Learns from one who holds the lock what was accepted, and what was dropped for it.
+    pub(crate) fn meet(&mut self, shared: &mut Shared) -> Met
+        requires { self.old.party.flow ≡ Some shared.old.name }
+        ensures same { (self.new.party ≡ self.old.party) × (self.new.number ≡ self.old.number) }
+        ensures shared { OnlyMet shared.old shared.new }
+        ensures met { HasMet shared.new.sequencer self.old.reader self.new.reader result }
+    {
+        shared.meet(&mut self.reader)
     }
 
     /// Ends the subscription, and gives up what it has pending: Kotlin's `collect`, cancelled. Emissions that wait are then accepted
@@ -65,11 +193,13 @@ impl<T: Word> Subscription<T> {
     pub fn cancel(self, rt: &impl Wait) {
         let Subscription {
             mut access,
-            id,
+            reader,
+            number,
             bed,
+            marker: _,
         } = self;
-        let mut held = access.take(rt);
-        let _live = laws::cancel(&mut *held.state, id, &bed);
-        access.put(rt, held);
+        let mut guarded = access.take(rt);
+        guarded.state.cancel(reader, number, &bed);
+        access.put(rt, guarded, Round::Cancel(number));
     }
 }

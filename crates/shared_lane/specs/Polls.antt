@@ -1,6 +1,6 @@
 -- How an emission stands whose ticket is polled.
-use Rattle.std.specs.Prelude.{◌≡◌, ◌≢◌, ◌⊎◌, ℕ, ◌<◌, List, length, slice_get, Some, true, false}
-use Rattle.std.specs.List.{remove}
+use Rattle.std.specs.Prelude.{◌≡◌, ◌≢◌, ◌⊎◌, ℕ, ◌+◌, ◌-◌, ◌<◌, ◌≤◌, List, [], length, slice_get, Some, Bool, true, false, ◌==◌, ◌&&◌, nat_lt}
+use Rattle.std.specs.List.{remove, list_any}
 use Rattle.flow_terms.specs.declared.answers.Emit.{Emit}
 use Rattle.flow_terms.specs.declared.answers.Emit.TheVariants as emit
 use Rattle.flow_terms.specs.declared.answers.Withdrawn.{Withdrawn}
@@ -9,6 +9,7 @@ use Rattle.shared_lane.specs.Views.{SequencerSeen}
 use Rattle.shared_lane.specs.declared.tickets.Waiting.{Waiting}
 use Rattle.shared_lane.specs.declared.tickets.Standing.{Standing}
 use Rattle.shared_lane.specs.Surveys.{Round, FoundAt, Behind}
+use Rattle.shared_lane.specs.Sequencers.{OnlyLoaded, next, seen}
 use Rattle.shared_lane.specs.Places.{IsAccepted}
 
 -- none before the i-th has this ticket
@@ -59,9 +60,9 @@ Loaded q ns t = (length ns ≡ q.view.shape.places) × Round FoundAt q.view ns t
 abbrev pub PolledOn : SequencerSeen → ℕ → Emit → SequencerSeen → Type 0
 -- every cursor was closed or above the number, where there is no buffer
 PolledOn q ticket (emit.Done n) t = (i : ℕ) × (s : Standing) × HasTicket q ticket i s
-    × (n ≡ s.number) × IsAccepted t s.emitter n × (t ≡ record (given_back i q) { view = t.view })
+    × (n ≡ s.number) × IsAccepted t s.emitter n × OnlyLoaded (given_back i q) t
     × ((0 < q.capacity) ⊎ ((ns : List ℕ) × Loaded q ns t × Behind n 0 ns false))
-PolledOn q ticket emit.Waiting t = (t ≡ record q { view = t.view })
+PolledOn q ticket emit.Waiting t = OnlyLoaded q t
     × (((i : ℕ) × (w : Waiting) × WaitsWith q ticket i w)
     ⊎ ((i : ℕ) × (s : Standing) × (ns : List ℕ) × HasTicket q ticket i s × (q.capacity ≡ 0) × Loaded q ns t × Behind s.number 0 ns true))
 PolledOn q ticket emit.Gone t = (t ≡ q) × NoneWaits q.waiting ticket × NoneStands q.standing ticket
@@ -79,3 +80,13 @@ IsOutFor q ticket e = ((i : ℕ) × (w : Waiting) × WaitsWith q ticket i w × (
 
 abbrev pub IsNotOut : SequencerSeen → ℕ → Type 0
 IsNotOut q ticket = NoneWaits q.waiting ticket × NoneStands q.standing ticket
+
+-- Every emission below the number is finished: where there are places that is each accepted one; where there are none, every
+-- cursor, as the call loaded it, is closed or above the last one, or some cursor isn't and the last one is left out
+abbrev pub IsFinishedBelow : SequencerSeen → ℕ → SequencerSeen → Type 0
+IsFinishedBelow q n t = ((n ≡ next q) × ((0 < q.capacity) ⊎ ((seen q ≡ []) ⊎ ((ns : List ℕ) × Loaded q ns t × Behind (next q - 1) 0 ns false))))
+    ⊎ ((n + 1 ≡ next q) × (q.capacity ≡ 0) × ((ns : List ℕ) × Loaded q ns t × Behind n 0 ns true))
+
+-- whether some of those that stand has this ticket, and a number below n
+abbrev pub stands_below : List Standing → ℕ → ℕ → Bool
+stands_below l ticket n = list_any (λ s. (s.ticket == ticket) && nat_lt s.number n) l

@@ -1,6 +1,6 @@
 //! Emissions whose tickets are out: those that wait, and those that were accepted.
-ghost use Rattle.std.specs.Prelude.{MatchOption};
-ghost use Rattle.shared_lane.specs.Polls.{NoneStands, NoneWaits, FoundStanding, FoundWaiting};
+ghost use Rattle.std.specs.Prelude.{◌≡◌, MatchOption};
+ghost use Rattle.shared_lane.specs.Polls.{NoneStands, NoneWaits, FoundStanding, FoundWaiting, stands_below};
 
 /// An emission that waits for room.
 #[derive(Clone, Copy, Drop)]
@@ -50,4 +50,16 @@ pub(crate) fn find_waiting(list: &[Waiting], ticket: u64) -> Option<usize>
         i += 1;
     }
     None
+}
+
+/// Whether some of these has a ticket, and a number below another.
+pub(crate) fn any_below(list: &[Standing], ticket: u64, number: u64) -> bool
+    ensures { result ≡ stands_below list.now ticket number }
+{
+    for i in 0..list.len() {
+        if list[i].ticket == ticket && list[i].number < number {
+            return true;
+        }
+    }
+    false
 }

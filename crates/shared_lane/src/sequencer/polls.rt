@@ -1,16 +1,16 @@
 //! Emissions whose tickets are out: they are polled and withdrawn.
-ghost use Rattle.std.specs.Prelude.{◌≡◌, ◌<◌, ◌+◌, ℕ, List, length, slice_get, Some, MatchOption, IfSome, IfNone};
+ghost use Rattle.std.specs.Prelude.{◌≡◌, ◌≢◌, ◌⊎◌, ◌<◌, ◌+◌, ℕ, List, [], length, slice_get, Some, MatchOption, IfSome, IfNone, true, false};
 ghost use Rattle.shared_lane.specs.declared.tickets.Standing.{Standing};
 ghost use Rattle.shared_lane.specs.Sequencers.{IsSequencerOf, IsSameSequencer, OnlyLoaded, seen};
 ghost use Rattle.shared_lane.specs.Polls.{given_back, withdrawn_from, Loaded, PolledOn, WithdrawnFrom, NoneStands};
-ghost use Rattle.shared_lane.specs.Polls.{NoneWaits, StandsAt, WaitsAt, IsNotOut, IsOutFor};
+ghost use Rattle.shared_lane.specs.Polls.{NoneWaits, StandsAt, WaitsAt, IsNotOut, IsOutFor, IsFinishedBelow, stands_below};
 ghost use Rattle.shared_lane.specs.Places.{IsAccepted};
 ghost use Rattle.shared_lane.specs.Surveys.{Behind};
 
 use super::Sequencer;
 use crate::lane::Lane;
 use crate::survey::load_cursors;
-use crate::tickets::{Standing, Waiting, find_standing, find_waiting};
+use crate::tickets::{Standing, Waiting, any_below, find_standing, find_waiting};
 use shared_core::{Emit, Ticket, Withdrawn};
 use std::alloc::Allocator;
 
@@ -119,5 +119,41 @@ impl<A: Allocator> Sequencer<A> {
         }
         let index = self.waiting_with(ticket.0)?;
         Some(self.waiting_at(index).emitter)
+    }
+
+    /// The number below which every accepted emission is finished: what Kotlin's `emit` waits for. Where there are places that
+    /// is each one; where there are none, this loads every cursor, and the last one counts once each is closed or above it.
+    pub fn finished_below<B: Allocator>(&mut self, lane: &Lane<B>) -> u64
+        requires { IsSequencerOf lane.now self.old }
+        ensures only { OnlyLoaded self.old self.new }
+        ensures finished { IsFinishedBelow self.old result self.new }
+    {
+        let next = self.next_number();
+        if self.capacity() > 0 || next == lane.words().shape.first {
+            return next;
+        }
+        if self.is_unread(lane, next - 1) {
+            return next - 1;
+        }
+        next
+    }
+
+    /// Whether an accepted emission with this ticket is below a number.
+    pub fn is_below(&self, ticket: Ticket, number: u64) -> bool
+        ensures { result ≡ stands_below self.now.standing ticket.0 number }
+    {
+        any_below(self.standing.as_slice(), ticket.0, number)
+    }
+
+    /// Whether an emission with a ticket may still have to wait: one without room, or, where there are no places, one that was
+    /// accepted.
+    pub fn has_unfinished(&self) -> bool
+        ensures none { result ≡ false → (self.now.waiting ≡ []) × ((0 < self.now.capacity) ⊎ (self.now.standing ≡ [])) }
+        ensures some { result ≡ true → (self.now.waiting ≢ []) ⊎ ((self.now.capacity ≡ 0) × (self.now.standing ≢ [])) }
+    {
+        if !self.waiting.is_empty() {
+            return true;
+        }
+        self.capacity() == 0 && !self.standing.is_empty()
     }
 }

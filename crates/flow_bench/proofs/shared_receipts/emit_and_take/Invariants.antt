@@ -1,5 +1,5 @@
-use Rattle.std.proofs.Common.{◌≡◌, false}
+use Rattle.std.proofs.Common.{◌≡◌, None}
 use Rattle.flow_bench.proofs.shared_receipts.emit_and_take.Given as goal
 
 abbrev pub invariant-loop : goal.invariant-loop
-invariant-loop g l = l.emitter.in_flight ≡ false
+invariant-loop g l = l.emitter.ticket ≡ None

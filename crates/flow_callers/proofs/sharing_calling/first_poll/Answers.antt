@@ -14,8 +14,8 @@ on_first : {U E : Type 0} (polled : Polled) (course : Course U E) (started : Sta
     → polled ≡ answer (kept_cause course) started (look ∷ []) → polled.on ≡ true
 on_first polled course started look idle eager is = rw (is, idle, eager) refl
 
-pub returns : goal.returns
-returns g c =
+pub returns-clause-on : goal.returns-clause-on
+returns-clause-on g c =
     let made = c.in_ok-sharing.ensures in
     let idle : c.in_ok-sharing.sharing.upstream.course ≡ Idle = rw made.upstream refl in
     IfOk-weaker c.poll-polled.result _ _ (λ polled gave. on_first polled _ _ _ idle made.started.0 (gave [] made.started.1)) c.poll-polled.ensures.answers

@@ -1,4 +1,4 @@
-use Rattle.std.proofs.Common.{◌≡◌, [], ◌∷◌, ℕ, ap, ◌∙◌}
+use Rattle.std.proofs.Common.{[], ◌∷◌, ℕ, ap, ◌∙◌}
 use Rattle.flow_terms.specs.declared.started.Started.{Started}
 use Rattle.flow_sharing.specs.Strategies.{Look, History, command}
 use Rattle.flow_callers.proofs.strategy_calling.comes_and_goes.Goals as goal

@@ -1,6 +1,23 @@
-use Rattle.std.proofs.Common.{rules}
+use Rattle.std.proofs.Common.{◌≡◌, ◌+◌, ◌++◌, ◌∷◌, [], Some, IfSome, sym, ap, subst, ◌∙◌}
+use Rattle.flow_terms.specs.declared.answers.Withdrawn.TheVariants as withdrawn
+use Rattle.shared_flow.specs.declared.round.Round.{Round}
+use Rattle.shared_flow.specs.declared.round.Round.TheVariants as round
+use Rattle.shared_flow.specs.Reach.{Reach}
+use Rattle.shared_flow.specs.Rounds.{IsReceiptAfter, after_number}
+use Rattle.shared_flow.specs.Parties.{WasAnswered}
+use Rattle.shared_flow.proofs.Rising.{answered_on, answered_last}
 use Rattle.shared_flow.proofs.emitter.Emitter.cancel_emit.Goals as goal
 
--- A wrong body makes this false: so answered, it is refused at once.
-pub returns-clause-ends : goal.returns-clause-ends
-returns-clause-ends g c = search rules
+pub invariant_of-self : goal.invariant_of-self
+invariant_of-self g c =
+    let made : Round = c.withdrawn_without_receipt-round.result in
+    let grew = ap (λ (r : Reach). r.rounds) c.put.ensures.given ∙ ap (λ (r : Reach). r.rounds ++ made ∷ []) c.take-guarded.ensures.taken in
+    (ap (λ (r : Reach). r.held) c.put.ensures.given, subst (WasAnswered c.self.inside.last) (sym grew) (answered_on c.self.inside.last c.self.inside.access.rounds made c.self.invariant.1))
+
+pub invariant_of-self-2 : goal.invariant_of-self-2
+invariant_of-self-2 g c =
+    let made : Round = round.Withdraw c.in-Some.ticket c.cancel_emit-withdrawn.result.withdrawn in
+    let grew = ap (λ (r : Reach). r.rounds) c.put-2.ensures.given ∙ ap (λ (r : Reach). r.rounds ++ made ∷ []) c.take-guarded.ensures.taken in
+    let done = subst (λ receipt. IfSome receipt (λ r. (c.cancel_emit-withdrawn.result.withdrawn ≡ withdrawn.Left r.number) × IsReceiptAfter c.deref_mut.result.now.name.lane c.self.inside.id c.self.inside.last r)) c.in-Some-receipt.is c.cancel_emit-withdrawn.ensures.receipt in
+    let answered = ap (λ e. after_number (round.Withdraw c.in-Some.ticket e)) done.0 ∙ ap (λ n. n + 1) (sym c.number.ensures) in
+    (ap (λ (r : Reach). r.held) c.put-2.ensures.given, subst (WasAnswered (Some c.number.result)) (sym grew) (answered_last c.number.result c.self.inside.access.rounds made answered))

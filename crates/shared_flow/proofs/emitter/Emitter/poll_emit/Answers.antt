@@ -1,6 +1,26 @@
-use Rattle.std.proofs.Common.{rules}
+use Rattle.std.proofs.Common.{rules, ◌≡◌, ◌+◌, ◌++◌, ◌∷◌, [], Some, IfSome, sym, ap, subst, ◌∙◌}
+use Rattle.flow_terms.specs.declared.answers.Emit.TheVariants as emit
+use Rattle.shared_flow.specs.declared.round.Round.{Round}
+use Rattle.shared_flow.specs.declared.round.Round.TheVariants as round
+use Rattle.shared_flow.specs.Reach.{Reach}
+use Rattle.shared_flow.specs.Rounds.{IsReceiptAfter, after_number}
+use Rattle.shared_flow.specs.Parties.{WasAnswered}
+use Rattle.shared_flow.proofs.Rising.{answered_on, answered_last}
 use Rattle.shared_flow.proofs.emitter.Emitter.poll_emit.Goals as goal
 
--- A wrong body makes this false: so answered, it is refused at once.
-pub returns-in-Done-clause-done : goal.returns-in-Done-clause-done
-returns-in-Done-clause-done g c = search rules
+pub invariant_of-self : goal.invariant_of-self
+invariant_of-self g c =
+    let made : Round = c.polled_without_receipt-round.result in
+    let grew = ap (λ (r : Reach). r.rounds) c.put.ensures.given ∙ ap (λ (r : Reach). r.rounds ++ made ∷ []) c.take-guarded.ensures.taken in
+    (ap (λ (r : Reach). r.held) c.put.ensures.given, subst (WasAnswered c.self.inside.last) (sym grew) (answered_on c.self.inside.last c.self.inside.access.rounds made c.self.invariant.1))
+
+pub returns-in_default-receipt-clause-pending : goal.returns-in_default-receipt-clause-pending
+returns-in_default-receipt-clause-pending g c = (c.in-Some.ticket, c.poll_emit-emit.result.emit, search rules, search rules)
+
+pub invariant_of-self-2 : goal.invariant_of-self-2
+invariant_of-self-2 g c =
+    let made : Round = round.Poll c.in-Some.ticket c.poll_emit-emit.result.emit in
+    let grew = ap (λ (r : Reach). r.rounds) c.put-2.ensures.given ∙ ap (λ (r : Reach). r.rounds ++ made ∷ []) c.take-guarded.ensures.taken in
+    let done = subst (λ receipt. IfSome receipt (λ r. (c.poll_emit-emit.result.emit ≡ emit.Done r.number) × IsReceiptAfter c.deref_mut.result.now.name.lane c.self.inside.id c.self.inside.last r)) c.in-Some-receipt.is c.poll_emit-emit.ensures.receipt in
+    let answered = ap (λ e. after_number (round.Poll c.in-Some.ticket e)) done.0 ∙ ap (λ n. n + 1) (sym c.number.ensures) in
+    (ap (λ (r : Reach). r.held) c.put-2.ensures.given, subst (WasAnswered (Some c.number.result)) (sym grew) (answered_last c.number.result c.self.inside.access.rounds made answered))

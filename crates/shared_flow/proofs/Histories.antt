@@ -1,0 +1,55 @@
+-- What holds of every list of rounds.
+use Rattle.std.proofs.Common.{◌≡◌, ℕ, ◌+◌, ◌-◌, ◌≤◌, List, [], ◌∷◌, ◌++◌, length, replicate, false, Option, None, refl, sym, ap, ◌∙◌, subst, arith, length-append}
+use Rattle.std.proofs.lemmas.List.{append-nil}
+use Rattle.round_lock.specs.declared.log.Log.{Log}
+use Rattle.round_lock.specs.History.After.{new, more}
+use Rattle.round_lock.proofs.Readings.{reads}
+use Rattle.lane_steps.specs.Law.{Begins}
+use Rattle.shared_lane.specs.Headline.{Lived, Went, WasLetIn, given, ReceivesCacheThenLater}
+use Rattle.shared_lane.specs.Readers.{at, IsSameReader}
+use Rattle.shared_lane.specs.Sequencers.{seen}
+use Rattle.shared_lane.specs.Views.{ReaderSeen}
+use Rattle.shared_lane.proofs.Lives.{receives, lived_more, given_one}
+use Rattle.shared_flow.specs.declared.round.Round.{Round}
+use Rattle.shared_flow.specs.Names.{SharedSeen, IsNew}
+use Rattle.shared_flow.specs.Queue.{progress_of}
+use Rattle.shared_flow.specs.Rounds.{Does}
+use Rattle.shared_flow.specs.Laws.{IsLeftBy, IsOneFlow, IsRuled, HasOneList, knowing}
+use Rattle.shared_flow.proofs.Numbers.{Left, same_name}
+use Rattle.shared_flow.proofs.Ordering.{each_in_its_own_order}
+use Rattle.shared_flow.proofs.Queueing.{comes_to}
+
+pub one_flow : (made now : SharedSeen) (log : List (ℕ × Round)) → IsLeftBy made log now → IsOneFlow made log now
+one_flow made now log left = let comes = comes_to (λ s. s) made log now left in record {
+  same_flow = same_name (λ s. s) made log now left;
+  accepted_in_turn = comes;
+  each_in_its_own_order = each_in_its_own_order log (progress_of now.sequencer) comes;
+}
+
+module _ {S : Type 0} (value : S → SharedSeen) where
+  -- what lies in a box, without it
+  unboxed : (made : S) (log : List (ℕ × Round)) (s : S) → Left value made log s → IsLeftBy (value made) log (value s)
+  unboxed _ _ _ (new s fresh) = new (value s) fresh
+  unboxed _ _ _ (more made log s pass r t before does) = more (value made) log (value s) pass r (value t) (unboxed made log s before) does
+
+  pub one_list : (items : List S) (views : List (Log S Round)) → IsRuled value items views → HasOneList value items views
+  one_list items views ruled = let one = reads (λ (s : S). IsNew (value s)) (λ (s : S) (r : Round) (t : S). Does (value s) r (value t)) items views ruled in record {
+    log = one.log;
+    parts = one.parts;
+    under = λ now is. let left = one.under now is in (value left.0, unboxed left.0 one.log now left.1);
+    taken = λ pass v now at is. let left = one.taken pass v now at is in (value left.0, unboxed left.0 one.log now left.1);
+  }
+
+-- a reader that hears of what was accepted stays where it is
+heard : (now : SharedSeen) (r : ReaderSeen) → Went r None (knowing now r)
+heard now r = let none : 0 ≡ at r - at r = omega arith in (at r, (omega arith, (λ kept. refl), sym (append-nil r.story) ∙ ap (λ k. r.story ++ replicate k false) none))
+
+pub each_subscription : (made now : SharedSeen) (log : List (ℕ × Round)) (cache : List ℕ) (start reader : ReaderSeen) (calls : List (Option ℕ))
+    → IsLeftBy made log now → WasLetIn cache start → Lived start calls reader → at reader ≤ reader.shape.first + length reader.seen → Begins (seen now.sequencer) reader.seen
+    → IsOneFlow made log now × ReceivesCacheThenLater cache start (knowing now reader) (given calls)
+each_subscription made now log cache start reader calls left begun lived far begins =
+    let same : IsSameReader reader (knowing now reader) = (refl, refl, refl, begins, refl) in
+    let told = lived_more start reader (knowing now reader) calls None lived (heard now reader) same in
+    let none : given (calls ++ None ∷ []) ≡ given calls = given_one calls None ∙ append-nil (given calls) in
+    let longer : at reader ≤ reader.shape.first + length (seen now.sequencer) = let more = ap length begins.1 ∙ length-append reader.seen begins.0 in omega (arith, far, more) in
+    (one_flow made now log left, subst (ReceivesCacheThenLater cache start (knowing now reader)) none (receives cache start (knowing now reader) (calls ++ None ∷ []) begun told longer))

@@ -1,0 +1,113 @@
+-- What a history of rounds comes to is what the sequencer has: those that wait, and those that it accepted.
+use Rattle.std.proofs.Common.{◌≡◌, ◌≢◌, ◌⊎◌, ℕ, List, [], ◌∷◌, ◌++◌, false, Ok, Err, sym, ap, ◌∙◌, subst, ⊎_elim, inl, inr}
+use Rattle.std.proofs.lemmas.List.{append-nil}
+use Rattle.flow_terms.specs.declared.answers.Tried.TheVariants as tried
+use Rattle.flow_terms.specs.declared.answers.Begun.TheVariants as begun
+use Rattle.flow_terms.specs.declared.answers.Emit.TheVariants as emit
+use Rattle.flow_terms.specs.declared.answers.Withdrawn.TheVariants as withdrawn
+use Rattle.flow_terms.specs.declared.refusal.Refusal.{Refusal}
+use Rattle.flow_terms.specs.declared.refusal.Refusal.TheVariants as refusals
+use Rattle.round_lock.specs.History.After.{new, more}
+use Rattle.lane_steps.specs.Law.{Entry}
+use Rattle.shared_lane.specs.Views.{LaneSeen, SequencerSeen}
+use Rattle.shared_lane.specs.Sequencers.{OnlyLoaded, Rounded, waited, Settled, RefusedStart, seen}
+use Rattle.shared_lane.specs.Places.{NotLetIn}
+use Rattle.shared_lane.specs.declared.tickets.Waiting.{Waiting}
+use Rattle.shared_flow.specs.declared.round.Emission.{Emission}
+use Rattle.shared_flow.specs.declared.round.Round.{Round}
+use Rattle.shared_flow.specs.declared.round.Round.TheVariants as round
+use Rattle.shared_flow.specs.Names.{SharedSeen}
+use Rattle.flow_terms.specs.declared.ids.Ticket.{Ticket}
+use Rattle.shared_flow.specs.Queue.{Progress, progress_of, let_in, waits_in, IsAcceptedNow, Goes, Proceeds, ComesTo}
+use Rattle.shared_flow.specs.Queue.ComesTo.{begins, goes_on}
+use Rattle.shared_flow.specs.Rounds.{Makes, Rests, Scanned, Does, entry}
+use Rattle.shared_flow.proofs.Numbers.{Left}
+
+abbrev progress : List Waiting → List Entry → Progress
+progress ws es = record { waiting = ws; accepted = es }
+
+same : (q t : SequencerSeen) → t.waiting ≡ q.waiting → seen t ≡ seen q → progress_of t ≡ progress_of q
+same q t ws es = λ i. progress (ws i) (es i)
+
+let_in_none : (p : Progress) → let_in 0 p ≡ p
+let_in_none p = λ i. progress p.waiting (append-nil p.accepted i)
+
+settled_is : (k : ℕ) (q m : SequencerSeen) → Settled k q m → progress_of m ≡ let_in k (progress_of q)
+settled_is k q m settled = λ i. progress (settled.waiting_is i) (settled.accepted i)
+
+loaded_is : (q t : SequencerSeen) → OnlyLoaded q t → progress_of t ≡ progress_of q
+loaded_is q t only = same q t (ap (λ (z : SequencerSeen). z.waiting) only.0) only.2
+
+state_is : (q t : SequencerSeen) → t ≡ q → progress_of t ≡ progress_of q
+state_is q t is = ap progress_of is
+
+rests_is : (q t : SequencerSeen) → Rests q t → (l : ℕ) × (progress_of t ≡ let_in l (progress_of q))
+rests_is q t rests = ⊎_elim
+    (λ is. (0, loaded_is rests.0 t rests.2 ∙ state_is q rests.0 is ∙ sym (let_in_none (progress_of q))))
+    (λ (scan : Scanned q rests.0). (scan.1, loaded_is rests.0 t rests.2 ∙ ap progress_of scan.5 ∙ settled_is scan.1 q scan.0 scan.3))
+    rests.1
+
+full_is : (q t : SequencerSeen) → ((q.waiting ≢ []) × (t ≡ q)) ⊎ (OnlyLoaded q t × Rounded q.capacity q false t) → progress_of t ≡ progress_of q
+full_is q t on = ⊎_elim (λ stays. state_is q t stays.1) (λ loaded. loaded_is q t loaded.0) on
+
+refused_is : (q : SequencerSeen) (refusal : Refusal) (t : SequencerSeen) → RefusedStart q refusal t → progress_of t ≡ progress_of q
+refused_is q refusals.Spent t on = state_is q t on.1
+refused_is q refusals.EmitsFull t on = full_is q t on.3
+refused_is q _ t on = absurd on
+
+shut_is : (q : SequencerSeen) (refusal : Refusal) (t : SequencerSeen) → NotLetIn q refusal t → progress_of t ≡ progress_of q
+shut_is q refusals.Spent t on = state_is q t on.1
+shut_is q refusals.SubscribersFull t on = loaded_is q t on.2
+shut_is q _ t on = absurd on
+
+accepted_now : (q t : SequencerSeen) (e : Emission) → q.waiting ≡ [] → t.waiting ≡ q.waiting → seen t ≡ seen q ++ entry e ∷ [] → IsAcceptedNow e (progress_of q) (progress_of t)
+accepted_now q t e none ws es = (none, λ i. progress (ws i) (es i))
+
+queued : (q t : SequencerSeen) (e : Emission) (ticket : Ticket) → ticket.0 ≡ q.ticket → t ≡ record (waited (entry e) q) { view = t.view } → seen t ≡ seen q → progress_of t ≡ waits_in e ticket.0 (progress_of q)
+queued q t e ticket number waits log =
+    let ws = ap (λ (z : SequencerSeen). z.waiting) waits ∙ ap (λ k. q.waiting ++ record { ticket = k; emitter = e.emitter; word = e.word } ∷ []) (sym number) in
+    λ i. progress (ws i) (log i)
+
+-- what a call does to the queue
+goes : (lane : LaneSeen) (q : SequencerSeen) (r : Round) (t : SequencerSeen) → Makes lane q r t → Goes r (progress_of q) (progress_of t)
+goes lane q (round.Try e (Ok (tried.Accepted n))) t on = accepted_now q t e on.0 on.4.0 on.2
+goes lane q (round.Try e (Ok tried.Dropped)) t on = loaded_is q t on.1
+goes lane q (round.Try e (Ok tried.Full)) t on = full_is q t on.1
+goes lane q (round.Try e (Err refusal)) t on = state_is q t on.2
+goes lane q (round.Start e (Ok (begun.Accepted n))) t on = accepted_now q t e on.0 on.4.0 on.2
+goes lane q (round.Start e (Ok begun.Dropped)) t on = loaded_is q t on.1
+goes lane q (round.Start e (Ok (begun.Waiting ticket))) t on = ⊎_elim
+    (λ stood. inl (accepted_now q t e stood.0 stood.2.1 stood.2.3))
+    (λ waits. inr (queued q t e ticket on.1 waits.0 waits.1))
+    on.3
+goes lane q (round.Start e (Err refusal)) t on = refused_is q refusal t on
+goes lane q (round.Poll ticket (emit.Done n)) t on = same q t (ap (λ (z : SequencerSeen). z.waiting) on.5.0) on.5.2
+goes lane q (round.Poll ticket emit.Waiting) t on = loaded_is q t on.0
+goes lane q (round.Poll ticket emit.Gone) t on = state_is q t on.0
+goes lane q (round.StrayPoll ticket emitter last n) t on = same q t (ap (λ (z : SequencerSeen). z.waiting) on.0.5.0) on.0.5.2
+goes lane q (round.StrayWithdraw ticket emitter last n) t on = same q t (ap (λ (z : SequencerSeen). z.waiting) on.0.5) (ap (λ (z : SequencerSeen). seen z) on.0.5)
+goes lane q (round.Withdraw ticket withdrawn.Removed) t on = (on.0, on.1, on.2.0, on.2.1, ap progress_of on.3)
+goes lane q (round.Withdraw ticket (withdrawn.Left n)) t on = same q t (ap (λ (z : SequencerSeen). z.waiting) on.5) (ap (λ (z : SequencerSeen). seen z) on.5)
+goes lane q (round.Withdraw ticket withdrawn.Gone) t on = state_is q t on.0
+goes lane q (round.Subscribe (Ok number)) t on = same q t (ap (λ (z : SequencerSeen). z.waiting) on.1.1.counted) on.1.1.same_log
+goes lane q (round.Subscribe (Err refusal)) t on = shut_is q refusal t on
+goes lane q round.Next t on = state_is q t on
+goes lane q (round.Cancel number) t on = state_is q t on
+goes lane q round.Reset t on = same q t (ap (λ (z : SequencerSeen). z.waiting) on) (ap (λ (z : SequencerSeen). seen z) on)
+goes lane q (round.Cache (Ok words)) t on = state_is q t on.0
+goes lane q (round.Cache (Err refusal)) t on = state_is q t on.0
+goes lane q (round.Count count) t on = loaded_is q t on.0
+goes lane q (round.Hold count) t on = loaded_is on.0 t on.3 ∙ loaded_is q on.0 on.1
+
+pub proceeds : (s : SharedSeen) (r : Round) (t : SharedSeen) → Does s r t → Proceeds r (progress_of s.sequencer) (progress_of t.sequencer)
+proceeds s r t does =
+    let after = does.2 in
+    let m = after.0 in
+    let n = after.5.0 in
+    let rest = rests_is n t.sequencer after.5.2 in
+    (after.1, progress_of n, rest.0, subst (λ p. Goes r p (progress_of n)) (settled_is after.1 s.sequencer m after.3) (goes s.name.lane m r n after.5.1), rest.1)
+
+module _ {S : Type 0} (value : S → SharedSeen) where
+  pub comes_to : (made : S) (log : List (ℕ × Round)) (s : S) → Left value made log s → ComesTo log (progress_of (value s).sequencer)
+  comes_to _ _ _ (new s fresh) = subst (ComesTo []) (λ i. progress (sym fresh.1.7 i) (sym fresh.1.0 i)) begins
+  comes_to _ _ _ (more made log s pass e t before does) = goes_on log (progress_of (value s).sequencer) pass e (progress_of (value t).sequencer) (comes_to made log s before) (proceeds (value s) e (value t) does)

@@ -1,0 +1,26 @@
+use Rattle.std.proofs.Common.{◌≤◌, ◌++◌, ◌∷◌, [], sym, ap, subst, ◌∙◌}
+use Rattle.shared_lane.specs.Sequencers.{next}
+use Rattle.shared_flow.specs.declared.round.Emission.{Emission}
+use Rattle.shared_flow.specs.declared.round.Round.TheVariants as round
+use Rattle.shared_flow.specs.Names.{SharedSeen}
+use Rattle.shared_flow.specs.Reach.{Reach}
+use Rattle.shared_flow.specs.Rounds.{IsAfter}
+use Rattle.shared_flow.specs.Parties.{Emitting, IfBegun, WasAnswered}
+use Rattle.shared_flow.proofs.Rising.{after_start, start_rises}
+use Rattle.shared_flow.proofs.emitter.Emitter.begin.Goals as goal
+
+pub returns-clause-rises : goal.returns-clause-rises
+returns-clause-rises g c =
+    let found = c.take-guarded.result.state.value in
+    let later = subst (λ (s : SharedSeen). IfBegun c.start_emit-begun.result (λ r. next s.sequencer ≤ r.number)) c.deref_mut.ensures.value c.start_emit-begun.ensures.later in
+    subst (λ last. IfBegun c.start_emit-begun.result (λ r. IsAfter last r.number)) (ap (λ (e : Emitting). e.last) c.self.view_is)
+    (start_rises c.start_emit-begun.result c.self.inside.last (next found.sequencer) c.self.inside.access.rounds later c.take-guarded.ensures.below c.self.invariant.1)
+
+pub invariant_of-self : goal.invariant_of-self
+invariant_of-self g c =
+    let rounds = c.self.inside.access.rounds in
+    let answer = c.number_begun-answer.result in
+    let emission : Emission = record { emitter = c.self.inside.id; word = c.to_word.result } in
+    let grew = ap (λ (r : Reach). r.rounds) c.put.ensures.given ∙ ap (λ (r : Reach). r.rounds ++ round.Start emission answer ∷ []) c.take-guarded.ensures.taken in
+    let ends = after_start c.self.inside.last rounds emission answer c.self.invariant.1 in
+    (ap (λ (r : Reach). r.held) c.put.ensures.given, subst (WasAnswered c.last_begun-self-inside.result) (sym grew) (subst (λ l. WasAnswered l (rounds ++ round.Start emission answer ∷ [])) (sym c.last_begun-self-inside.ensures) ends))

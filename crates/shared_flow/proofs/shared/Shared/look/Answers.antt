@@ -1,0 +1,23 @@
+use Rattle.std.proofs.Common.{rules, refl, inl, inr}
+use Rattle.shared_flow.proofs.shared.Shared.look.Goals as goal
+
+pub returns-in-Value-clause-does : goal.returns-in-Value-clause-does
+returns-in-Value-clause-does c = (
+  search rules,
+  search rules,
+  (
+    c.scan.new.self,
+    c.scan.result,
+    search rules,
+    search rules,
+    search rules,
+    (
+      c.scan.new.self,
+      refl,
+      (c.scan-in-Value.new.self, inr (c.scan-in-Value.new.self, c.scan-in-Value.result, search rules, search rules, search rules, refl), c.help.ensures.only),
+    ),
+  ),
+)
+
+pub returns-clause-does : goal.returns-clause-does
+returns-clause-does c = (search rules, search rules, (c.scan.new.self, c.scan.result, search rules, search rules, search rules, (c.scan.new.self, refl, (c.scan.new.self, inl refl, c.help-2.ensures.only))))

@@ -1,0 +1,18 @@
+use Rattle.std.proofs.Common.{sym, ap, subst, ◌∙◌}
+use Rattle.shared_flow.specs.declared.round.Round.TheVariants as round
+use Rattle.shared_flow.specs.Names.{SharedSeen}
+use Rattle.shared_flow.specs.Reach.{Reach}
+use Rattle.shared_flow.specs.Rounds.{Does}
+use Rattle.shared_flow.proofs.subscription.Subscription.look_again.Goals as goal
+
+pub put-requires-in-Nothing : goal.put-requires-in-Nothing
+put-requires-in-Nothing g c =
+    let found : SharedSeen = c.take-guarded.result.state.value in
+    record {
+      round = (
+        found,
+        ap (λ (r : Reach). r.held) c.take-guarded.ensures.taken,
+        subst (λ (s : SharedSeen). Does found round.Next s) (sym (c.sleep_subscription.ensures.same ∙ c.deref_mut-in-Nothing.ensures.value))
+            (subst (λ (s : SharedSeen). Does s round.Next c.look.new.self) c.deref_mut.ensures.value c.look.ensures.does),
+      );
+    }

@@ -1,0 +1,61 @@
+-- What holds of a shared flow for every order of calls by any of its owners, emitters and subscriptions on threads.
+use Rattle.std.specs.Prelude.{◌≡◌, ℕ, ◌+◌, ◌≤◌, List, [], ◌∷◌, length, Option, Some}
+use mathlib.Core.Option.{some}
+use lib.ListN.{get_elem?}
+use Rattle.std.specs.Global.{Box}
+use Rattle.round_lock.specs.declared.log.Log.{Log}
+use Rattle.round_lock.specs.History.{After, OneHistory, own_of}
+use Rattle.lane_steps.specs.Law.{Begins}
+use Rattle.shared_lane.specs.Headline.{Lived, WasLetIn, given, ReceivesCacheThenLater}
+use Rattle.shared_lane.specs.Readers.{at}
+use Rattle.shared_lane.specs.Sequencers.{seen}
+use Rattle.shared_lane.specs.Views.{ReaderSeen}
+use Rattle.shared_flow.specs.declared.round.Round.{Round}
+use Rattle.shared_flow.specs.Names.{SharedSeen, IsNew}
+use Rattle.shared_flow.specs.Queue.{progress_of, ComesTo, EachInItsOwnOrder}
+use Rattle.shared_flow.specs.Rounds.{Does}
+
+-- what some list of rounds left of a new flow
+abbrev pub IsLeftBy : SharedSeen → List (ℕ × Round) → SharedSeen → Type 0
+IsLeftBy = After IsNew Does
+
+-- Where a list of rounds left this of a new flow: it is that flow; the emissions that it accepted are those of the list, let in by
+-- the order in which they came; and each emitter's are accepted in its own order.
+pub record IsOneFlow (made : SharedSeen) (log : List (ℕ × Round)) (now : SharedSeen) : Type 0 where
+  pub same_flow : now.name ≡ made.name
+  pub accepted_in_turn : ComesTo log (progress_of now.sequencer)
+  pub each_in_its_own_order : EachInItsOwnOrder log (progress_of now.sequencer)
+
+abbrev pub OneFlowLaw : Type 0
+OneFlowLaw = (made now : SharedSeen) (log : List (ℕ × Round)) → IsLeftBy made log now → IsOneFlow made log now
+
+module _ {S : Type 0} (value : S → SharedSeen) where
+  -- There is one list of rounds. Each owner's rounds are its part of it, in that owner's order; and the flow, under the lock or with
+  -- an owner that has taken it, is what exactly that list left of a new one.
+  pub record HasOneList (items : List S) (views : List (Log S Round)) : Type 0 where
+    pub log : List (ℕ × Round)
+    pub parts : (pass : ℕ) (v : Log S Round) → get_elem? views pass ≡ some v → v.own ≡ own_of pass log
+    pub under : (now : S) → items ≡ now ∷ [] → (made : SharedSeen) × IsLeftBy made log (value now)
+    pub taken : (pass : ℕ) (v : Log S Round) (now : S) → get_elem? views pass ≡ some v → v.held ≡ Some now → (made : SharedSeen) × IsLeftBy made log (value now)
+
+  -- the rule of the lock
+  abbrev pub IsRuled : List S → List (Log S Round) → Type 0
+  IsRuled = OneHistory (λ (s : S). IsNew (value s)) (λ (s : S) (r : Round) (t : S). Does (value s) r (value t))
+
+-- between any two calls of a flow there is one list of its rounds
+abbrev pub OneListLaw : Type 0
+OneListLaw = (items : List (Box SharedSeen)) (views : List (Log (Box SharedSeen) Round))
+    → IsRuled (λ s. s.value) items views → HasOneList (λ s. s.value) items views
+
+-- the reader, as if it had seen all that the flow has accepted
+abbrev pub knowing : SharedSeen → ReaderSeen → ReaderSeen
+knowing now r = record r { seen = seen now.sequencer }
+
+-- What a subscription received, then what is pending for it, is the replay cache at its start followed by the emissions that were
+-- accepted later in the one list of rounds, in order and once, less just those that its policy dropped. So it is at each moment when
+-- the subscription has seen as far as its position, and what it has seen is the beginning of what was accepted.
+abbrev pub EachSubscriptionLaw : Type 0
+EachSubscriptionLaw = (made now : SharedSeen) (log : List (ℕ × Round)) (cache : List ℕ) (start reader : ReaderSeen) (calls : List (Option ℕ))
+    → IsLeftBy made log now → WasLetIn cache start → Lived start calls reader
+    → at reader ≤ reader.shape.first + length reader.seen → Begins (seen now.sequencer) reader.seen
+    → IsOneFlow made log now × ReceivesCacheThenLater cache start (knowing now reader) (given calls)

@@ -1,0 +1,39 @@
+-- What a subscription was let in by, and what its looks at the lane came to.
+use Rattle.std.specs.Prelude.{◌≡◌, ◌⊎◌, ℕ, Option, Some, Ok}
+use Rattle.shared_lane.specs.declared.reader.Taken.{Taken}
+use Rattle.shared_lane.specs.declared.reader.Taken.TheVariants.{Value, Nothing, Overtaken}
+use Rattle.shared_lane.specs.Views.{ReaderSeen}
+use Rattle.shared_lane.specs.Readers.{IsSameReader, TookNext}
+use Rattle.shared_flow.specs.declared.round.Round.TheVariants as round
+use Rattle.shared_flow.specs.Names.{FlowName, SharedSeen}
+use Rattle.shared_flow.specs.Rounds.{Does, WasAdmitted}
+
+-- the reader was let in to this flow, by the round that answered with this number
+abbrev pub WasLetInto : Option FlowName → ℕ → ReaderSeen → Type 0
+WasLetInto known number r = (old new : SharedSeen) × (known ≡ Some old.name) × Does old (round.Subscribe (Ok number)) new × WasAdmitted old r new
+
+-- a look at the lane: it is the same reader, which took the next value, or why it took none
+abbrev pub Looked : ReaderSeen → Taken ℕ → ReaderSeen → Type 0
+Looked r taken t = IsSameReader r t × TookNext r taken t
+
+-- the reader took the next value, which is read from its word
+abbrev pub Gave : {T : Type 0} → (ℕ → T) → ReaderSeen → T → ReaderSeen → Type 0
+Gave read_as r v t = (w : ℕ) × (v ≡ read_as w) × Looked r (Value w) t
+
+-- what an attempt to take the next value did
+abbrev pub Took : {T : Type 0} → (ℕ → T) → ReaderSeen → Taken T → ReaderSeen → Type 0
+Took read_as r (Value v) t = Gave read_as r v t
+Took read_as r Nothing t = Looked r Nothing t
+Took read_as r Overtaken t = Looked r Overtaken t
+
+-- the reader took nothing: its position is the tail that it loaded, or it was moved
+abbrev pub Missed : ReaderSeen → ReaderSeen → Type 0
+Missed r t = Looked r Nothing t ⊎ Looked r Overtaken t
+
+-- a poll gave a value, by its first look or by its second
+abbrev pub GaveIn : {T : Type 0} → (ℕ → T) → ReaderSeen → T → ReaderSeen → Type 0
+GaveIn read_as r v t = Gave read_as r v t ⊎ ((m : ReaderSeen) × Missed r m × Gave read_as m v t)
+
+-- a poll looked twice, and took nothing
+abbrev pub MissedTwice : ReaderSeen → ReaderSeen → Type 0
+MissedTwice r t = (m : ReaderSeen) × Missed r m × Missed m t

@@ -1,0 +1,45 @@
+-- What contracts see of an owner of a flow, and of one whose lock is kept.
+use Rattle.std.specs.Prelude.{◌≡◌, ◌⊎◌, ◌++◌, ℕ, List, Option, Some, None, Ok, Err, map}
+use Rattle.flow_terms.specs.declared.refusal.Refusal.{Refusal}
+use Rattle.flow_terms.specs.declared.refusal.Refusal.TheVariants.{NoMemory}
+use Rattle.shared_lane.specs.Sequencers.{OnlyLoaded}
+use Rattle.shared_lane.specs.Places.{LosesNothing}
+use Rattle.shared_flow.specs.declared.round.Round.TheVariants as round
+use Rattle.shared_flow.specs.Names.{SharedSeen}
+use Rattle.shared_flow.specs.Reach.{Party}
+use Rattle.shared_flow.specs.Rounds.{Does, IsAtLimit}
+use Rattle.shared_flow.specs.Parties.{with_round}
+
+-- an owner: its flow and its rounds, and what it found under the lock, while the lock is kept
+pub record Owning : Type 0 where
+  pub party : Party
+  pub held : Option SharedSeen
+
+-- an owner that doesn't have the lock
+abbrev pub at_rest : Party → Owning
+at_rest p = record { party = p; held = None }
+
+-- what lies under a lock that is kept, and how many subscriptions were live when it was taken
+pub record Keeping : Type 0 where
+  pub count : ℕ
+  pub shared : SharedSeen
+
+-- The owner has the lock: what lies under it is its flow's, and is what the round with this count has made of what it found.
+abbrev pub KeepsLock : Owning → Keeping → Type 0
+KeepsLock o k = (o.party.flow ≡ Some k.shared.name) × ((old : SharedSeen) × (o.held ≡ Some old) × Does old (round.Hold k.count) k.shared)
+
+-- nothing has changed but what the sequencer has loaded, and nobody has lost a value
+abbrev pub OnlyMet : SharedSeen → SharedSeen → Type 0
+OnlyMet s t = (t.name ≡ s.name) × OnlyLoaded s.sequencer t.sequencer × LosesNothing s.sequencer t.sequencer
+
+abbrev pub IsKept : Keeping → Keeping → Type 0
+IsKept k l = (l.count ≡ k.count) × OnlyMet k.shared l.shared
+
+-- nobody was let in: without memory the owner made no call, else its round was refused
+abbrev pub IsLeftOut : Owning → Refusal → Owning → Type 0
+IsLeftOut o refusal p = ((refusal ≡ NoMemory) × (p ≡ o))
+    ⊎ (IsAtLimit refusal × (p ≡ at_rest (with_round (round.Subscribe (Err refusal)) o.party)))
+
+-- the values of the replay cache were added to a list, and the owner's round has their words
+abbrev pub AddsCache : {T : Type 0} → (ℕ → T) → Owning → List T → Owning → List T → Type 0
+AddsCache read_as o old p new = (words : List ℕ) × (new ≡ old ++ map read_as words) × (p ≡ at_rest (with_round (round.Cache (Ok words)) o.party))

@@ -1,0 +1,108 @@
+//! A shared flow whose lock is kept.
+ghost use Rattle.std.specs.Prelude.{◌≡◌, ◌<◌, ℕ, Some, length, slice_get};
+ghost use Rattle.shared_lane.specs.Caches.{IsLastOf};
+ghost use Rattle.shared_lane.specs.Sequencers.{seen};
+ghost use Rattle.shared_flow.specs.declared.round.Round.TheVariants as round;
+ghost use Rattle.shared_flow.specs.Parties.{with_round};
+ghost use Rattle.shared_flow.specs.Owners.{KeepsLock, IsKept, at_rest};
+ghost use Rattle.shared_flow.specs.Meeting.{HasMet};
+
+use super::SharedFlow;
+use crate::round::Round;
+use crate::shared::Shared;
+use crate::subscription::Subscription;
+use flow_terms::Word;
+use round_lock::Guarded;
+use shared_lane::Met;
+use std::marker::Model;
+use std::sync::Wait;
+
+/// What lies under the lock of a flow, while a [`Held`] keeps it, and the count of subscriptions.
+pub struct Kept {
+    guarded: Guarded<Box<Shared>>,
+    count: u32,
+}
+
+impl Model for Kept {
+    ghost use Rattle.shared_flow.specs.Owners.{Keeping};
+
+    ghost Value = { Keeping };
+
+    ghost view = { λ k. record { count = k.count; shared = k.guarded.state.value } };
+}
+
+/// A flow whose lock is kept: nothing is emitted into it, and nobody is let in, until it is released. Subscriptions receive on, by
+/// `try_next`. Kotlin has no such thing.
+///
+/// It has no `Drop` and must be spent, by [`release`](Held::release): until then each other call that takes the lock waits.
+pub struct Held<'a, T: Word, K = Kept> {
+    flow: &'a mut SharedFlow<T>,
+    // `Kept`. As a type parameter, so that contracts see what `release` leaves behind the reference.
+    kept: K,
+}
+
+impl<T: Word> SharedFlow<T> {
+    /// Takes the lock and keeps it, with what waits let in and the live subscriptions counted.
+    pub fn hold(&mut self, rt: &impl Wait) -> Held<'_, T>
+        ensures same_reference { result.flow.ghost_name ≡ self.entry.ghost_name }
+        ensures party { result.flow.now.party ≡ self.old.party }
+        ensures held { KeepsLock result.flow.now result.kept }
+    {
+        let mut guarded = self.access.take(rt);
+        let count = guarded.state.hold();
+        Held {
+            flow: self,
+            kept: Kept { guarded, count },
+        }
+    }
+}
+
+impl<T: Word> Held<'_, T> {
+    /// How many subscriptions were live when the lock was taken.
+    pub fn count(&self) -> u32
+        ensures { result ≡ self.now.kept.count }
+    {
+        self.kept.count
+    }
+
+    /// How many values the replay cache has. They are the last that were accepted.
+    pub fn replay_len(&self) -> u64
+        ensures length { result ≡ length self.now.kept.shared.sequencer.cache }
+        ensures latest { IsLastOf (seen self.now.kept.shared.sequencer) self.now.kept.shared.sequencer.cache }
+    {
+        self.kept.guarded.state.replay_len()
+    }
+
+    /// The value of the replay cache with this index, from the oldest on.
+    pub fn replay_at(&self, index: u64) -> T
+        requires { index < length self.now.kept.shared.sequencer.cache }
+        ensures { (word : ℕ) × (slice_get self.now.kept.shared.sequencer.cache index ≡ Some word) × (result ≡ T.read_as word) }
+    {
+        T::from_word(self.kept.guarded.state.replay_at(index))
+    }
+
+    /// Tells a subscription of this flow all that was accepted and all that was dropped for it, and counts it exactly:
+    /// `accepted - received - dropped` values are pending.
+    pub fn meet(&mut self, subscription: &mut Subscription<T>) -> Met
+        requires held { KeepsLock self.old.flow.now self.old.kept }
+        requires flow { subscription.old.party.flow ≡ self.old.flow.now.party.flow }
+        ensures same_reference { self.new.flow.ghost_name ≡ self.old.flow.ghost_name }
+        ensures owner { self.new.flow.now ≡ self.old.flow.now }
+        ensures held { KeepsLock self.new.flow.now self.new.kept }
+        ensures kept { IsKept self.old.kept self.new.kept }
+        ensures same { (subscription.new.party ≡ subscription.old.party) × (subscription.new.number ≡ subscription.old.number) }
+        ensures met { HasMet self.new.kept.shared.sequencer subscription.old.reader subscription.new.reader result }
+    {
+        subscription.meet(&mut *self.kept.guarded.state)
+    }
+
+    /// Gives the lock back, and then wakes those that were helped when it was taken.
+    pub fn release(self, rt: &impl Wait)
+        requires held { KeepsLock self.flow.now self.kept }
+        ensures { self.exit.0.now ≡ at_rest (with_round (round.Hold self.entry.kept.count) self.entry.flow.now.party) }
+    {
+        let Held { flow, kept } = self;
+        let Kept { guarded, count } = kept;
+        flow.access.put(rt, guarded, Round::Hold(count));
+    }
+}

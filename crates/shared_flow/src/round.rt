@@ -1,0 +1,101 @@
+//! What the history of a flow is made of: the calls that were made under its lock, with their answers.
+ghost use Rattle.std.specs.Prelude.{◌≡◌};
+ghost use Rattle.shared_flow.specs.Parties.{last_of_try, last_of_start};
+ghost use Rattle.shared_flow.specs.Rounds.{numbers_tried, numbers_begun};
+
+use flow_terms::Refusal;
+use shared_core::{Begun, Emit, Ticket, Tried, Withdrawn};
+use shared_lane::Receipt;
+use std::collections::LinkedList;
+
+/// An emission: whose it is, and the word of its value.
+#[derive(Clone, Copy, Drop)]
+pub struct Emission {
+    pub emitter: u32,
+    pub word: u64,
+}
+
+/// A call that was made under the lock, with its answer. The program keeps none of them: contracts alone speak of them.
+#[derive(Drop)]
+pub enum Round {
+    /// `Emitter::try_emit`, with the number of an accepted emission.
+    Try(Emission, Result<Tried<u64>, Refusal>),
+    /// `Emitter::start_emit`, with the number of an accepted emission or the ticket of one that waits.
+    Start(Emission, Result<Begun<u64, Ticket>, Refusal>),
+    /// `Emitter::poll_emit`.
+    Poll(Ticket, Emit),
+    /// A `poll_emit` whose ticket stood for an emission that isn't this emitter's latest, which no run of an `Emitter` shows:
+    /// the ticket, the emitter, its last number, and that of the emission.
+    StrayPoll(Ticket, u32, Option<u64>, u64),
+    /// `Emitter::cancel_emit` or `close`, with an emission in flight.
+    Withdraw(Ticket, Withdrawn<u64>),
+    /// A `cancel_emit` whose ticket stood for an emission that isn't this emitter's latest, as above.
+    StrayWithdraw(Ticket, u32, Option<u64>, u64),
+    /// `SharedFlow::subscribe`, with the number of the subscription.
+    Subscribe(Result<u64, Refusal>),
+    /// `Subscription::poll_next`, where it took the lock. What it received is its reader's.
+    Next,
+    /// `Subscription::cancel`, with the number of the subscription.
+    Cancel(u64),
+    /// `SharedFlow::reset_replay`.
+    Reset,
+    /// `SharedFlow::replay_cache_into`, with the words that it read.
+    Cache(Result<LinkedList<u64>, Refusal>),
+    /// `SharedFlow::subscription_count`.
+    Count(u32),
+    /// `SharedFlow::hold`, up to `Held::release`, with the count of subscriptions.
+    Hold(u32),
+}
+
+/// The answer of a try, with the number of its receipt.
+pub(crate) fn number_tried(tried: &Result<Tried<Receipt>, Refusal>) -> Result<Tried<u64>, Refusal>
+    ensures { result ≡ numbers_tried tried.now }
+{
+    match tried {
+        Ok(Tried::Accepted(receipt)) => Ok(Tried::Accepted(receipt.number())),
+        Ok(Tried::Dropped) => Ok(Tried::Dropped),
+        Ok(Tried::Full) => Ok(Tried::Full),
+        Err(refusal) => Err(*refusal),
+    }
+}
+
+/// The answer of a start, with the number of its receipt.
+pub(crate) fn number_begun(
+    begun: &Result<Begun<Receipt, Ticket>, Refusal>,
+) -> Result<Begun<u64, Ticket>, Refusal>
+    ensures { result ≡ numbers_begun begun.now }
+{
+    match begun {
+        Ok(Begun::Accepted(receipt)) => Ok(Begun::Accepted(receipt.number())),
+        Ok(Begun::Dropped) => Ok(Begun::Dropped),
+        Ok(Begun::Waiting(ticket)) => Ok(Begun::Waiting(*ticket)),
+        Err(refusal) => Err(*refusal),
+    }
+}
+
+/// The last number that an emitter was answered, after a try.
+pub(crate) fn last_tried(last: Option<u64>, answer: &Result<Tried<u64>, Refusal>) -> Option<u64>
+    ensures { result ≡ last_of_try last answer.now }
+{
+    match answer {
+        Ok(Tried::Accepted(number)) => Some(*number),
+        Ok(Tried::Dropped) => last,
+        Ok(Tried::Full) => last,
+        Err(_) => last,
+    }
+}
+
+/// The last number that an emitter was answered, after a start.
+pub(crate) fn last_begun(
+    last: Option<u64>,
+    answer: &Result<Begun<u64, Ticket>, Refusal>,
+) -> Option<u64>
+    ensures { result ≡ last_of_start last answer.now }
+{
+    match answer {
+        Ok(Begun::Accepted(number)) => Some(*number),
+        Ok(Begun::Dropped) => last,
+        Ok(Begun::Waiting(_)) => last,
+        Err(_) => last,
+    }
+}

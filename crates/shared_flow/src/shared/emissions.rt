@@ -1,0 +1,264 @@
+//! Emissions, by one who holds the lock.
+ghost use Rattle.std.specs.Prelude.{◌≡◌, ◌≢◌, ◌⊎◌, ◌≤◌, ℕ, IfErr, IfSome, Some, true, false};
+ghost use Rattle.flow_terms.specs.declared.refusal.Refusal.TheVariants.{Spent, EmitsFull};
+ghost use Rattle.futures.specs.Task.{IsArmed, Keeps};
+ghost use Rattle.flow_terms.specs.declared.answers.Emit.TheVariants as emit;
+ghost use Rattle.flow_terms.specs.declared.answers.Withdrawn.TheVariants as withdrawn;
+ghost use Rattle.shared_lane.specs.Places.{IsAccepted};
+ghost use Rattle.shared_lane.specs.Polls.{IsOutFor, IsNotOut};
+ghost use Rattle.shared_lane.specs.Sequencers.{IsSameSequencer, next};
+ghost use Rattle.shared_flow.specs.declared.round.Round.TheVariants as round;
+ghost use Rattle.shared_flow.specs.Parties.{IfTried, IfBegun, TriedUnder, BegunUnder};
+ghost use Rattle.shared_flow.specs.Rounds.{Does, Makes, MakesAfterScan, Scanned, IsAfter, IsReceiptAfter};
+ghost use Rattle.shared_flow.specs.Rounds.{IsReceiptFor, IsReceiptOfOne, numbers_tried, numbers_begun, poll_round, withdraw_round};
+
+use super::Shared;
+use crate::round::Emission;
+use crate::sleepers::Bed;
+use flow_terms::Refusal;
+use futures::task::{Context, Poll};
+use shared_core::{Begun, Emit, Ticket, Tried, Withdrawn};
+use shared_lane::Receipt;
+
+/// What a poll of an emission came to, with a receipt for one that is done.
+pub(crate) struct Polled {
+    pub(crate) emit: Emit,
+    pub(crate) receipt: Option<Receipt>,
+}
+
+/// What became of an emission that was given up, with a receipt for one that had been accepted.
+pub(crate) struct Released {
+    pub(crate) withdrawn: Withdrawn<u64>,
+    pub(crate) receipt: Option<Receipt>,
+}
+
+impl Shared {
+    /// Emits a word where that can be done at once.
+    pub(crate) fn try_emit(&mut self, emission: Emission) -> Result<Tried<Receipt>, Refusal>
+        ensures does { Does self.old (round.Try emission (numbers_tried result)) self.new }
+        ensures receipt { IfTried result (IsReceiptFor self.old.name.lane emission) }
+        ensures later { IfTried result (λ r. next self.old.sequencer ≤ r.number) }
+        ensures refused { IfErr result (λ refusal. refusal ≡ Spent) }
+        ensures policy { TriedUnder self.old.name.config.policy result }
+    {
+        let before = self.sequencer.next_number();
+        let tried = self.tried(emission);
+        self.help(before);
+        tried
+    }
+
+    // The same, without waking anybody.
+    fn tried(&mut self, emission: Emission) -> Result<Tried<Receipt>, Refusal>
+        ensures same { (self.new.name ≡ self.old.name) × IsSameSequencer self.old.sequencer self.new.sequencer }
+        ensures made { MakesAfterScan self.old (round.Try emission (numbers_tried result)) self.new }
+        ensures receipt { IfTried result (IsReceiptFor self.old.name.lane emission) }
+        ensures later { IfTried result (λ r. next self.old.sequencer ≤ r.number) }
+        ensures refused { IfErr result (λ refusal. refusal ≡ Spent) }
+        ensures policy { TriedUnder self.old.name.config.policy result }
+    {
+        let Emission { emitter, word } = emission;
+        match self.sequencer.try_emit(self.track.lane(), emitter, word)? {
+            Tried::Accepted(number) => {
+                let receipt = self.sequencer.receipt(self.track.lane(), emitter, number);
+                Ok(Tried::Accepted(receipt))
+            }
+            Tried::Dropped => Ok(Tried::Dropped),
+            Tried::Full => Ok(Tried::Full),
+        }
+    }
+
+    /// Begins an emission.
+    pub(crate) fn start_emit(
+        &mut self,
+        emission: Emission,
+    ) -> Result<Begun<Receipt, Ticket>, Refusal>
+        ensures does { Does self.old (round.Start emission (numbers_begun result)) self.new }
+        ensures receipt { IfBegun result (IsReceiptFor self.old.name.lane emission) }
+        ensures later { IfBegun result (λ r. next self.old.sequencer ≤ r.number) }
+        ensures refused { IfErr result (λ refusal. (refusal ≡ Spent) ⊎ (refusal ≡ EmitsFull)) }
+        ensures policy { BegunUnder self.old.name.config.policy result }
+    {
+        let before = self.sequencer.next_number();
+        let begun = self.begun(emission);
+        self.watch(&begun);
+        self.help(before);
+        begun
+    }
+
+    // Where an emission isn't finished, who receives has to take the lock from now on. The cursors are looked at once more after
+    // that: a receipt that came before has made room already.
+    fn watch(&mut self, begun: &Result<Begun<Receipt, Ticket>, Refusal>)
+        ensures same { (self.new.name ≡ self.old.name) × IsSameSequencer self.old.sequencer self.new.sequencer }
+        ensures watched { (self.new.sequencer ≡ self.old.sequencer) ⊎ Scanned self.old.sequencer self.new.sequencer }
+    {
+        if let Ok(Begun::Waiting(_)) = begun {
+            self.track.set_unfinished(true);
+            self.sequencer.scan(self.track.lane());
+        }
+    }
+
+    // The same, without waking anybody.
+    fn begun(&mut self, emission: Emission) -> Result<Begun<Receipt, Ticket>, Refusal>
+        ensures same { (self.new.name ≡ self.old.name) × IsSameSequencer self.old.sequencer self.new.sequencer }
+        ensures made { MakesAfterScan self.old (round.Start emission (numbers_begun result)) self.new }
+        ensures receipt { IfBegun result (IsReceiptFor self.old.name.lane emission) }
+        ensures later { IfBegun result (λ r. next self.old.sequencer ≤ r.number) }
+        ensures refused { IfErr result (λ refusal. (refusal ≡ Spent) ⊎ (refusal ≡ EmitsFull)) }
+        ensures policy { BegunUnder self.old.name.config.policy result }
+    {
+        let Emission { emitter, word } = emission;
+        match self.sequencer.start_emit(self.track.lane(), emitter, word)? {
+            Begun::Accepted(number) => {
+                let receipt = self.sequencer.receipt(self.track.lane(), emitter, number);
+                Ok(Begun::Accepted(receipt))
+            }
+            Begun::Dropped => Ok(Begun::Dropped),
+            Begun::Waiting(ticket) => Ok(Begun::Waiting(ticket)),
+        }
+    }
+
+    // Whether a ticket is out for an emission of this emitter.
+    fn is_of(&self, ticket: Ticket, emitter: u32) -> bool
+        ensures own { result ≡ true → IsOutFor self.now.sequencer ticket.0 emitter }
+        ensures other { result ≡ false → IsNotOut self.now.sequencer ticket.0 ⊎ ((x : ℕ) × (x ≢ emitter) × IsOutFor self.now.sequencer ticket.0 x) }
+    {
+        match self.sequencer.emitter_of(ticket) {
+            Some(id) => id == emitter,
+            None => false,
+        }
+    }
+
+    /// Asks whether an emission of this emitter is finished, and makes a receipt for one that is, with a number above the last.
+    pub(crate) fn poll_emit(&mut self, ticket: Ticket, emitter: u32, last: Option<u64>) -> Polled
+        ensures does { Does self.old (poll_round ticket emitter last result.emit result.receipt) self.new }
+        ensures receipt { IfSome result.receipt (λ r. (result.emit ≡ emit.Done r.number) × IsReceiptAfter self.old.name.lane emitter last r) }
+    {
+        let before = self.sequencer.next_number();
+        let polled = self.polled(ticket, emitter, last);
+        self.help(before);
+        polled
+    }
+
+    // The same, without waking anybody.
+    fn polled(&mut self, ticket: Ticket, emitter: u32, last: Option<u64>) -> Polled
+        ensures same { (self.new.name ≡ self.old.name) × IsSameSequencer self.old.sequencer self.new.sequencer }
+        ensures made { MakesAfterScan self.old (poll_round ticket emitter last result.emit result.receipt) self.new }
+        ensures receipt { IfSome result.receipt (λ r. (result.emit ≡ emit.Done r.number) × IsReceiptAfter self.old.name.lane emitter last r) }
+    {
+        self.sequencer.scan(self.track.lane());
+        self.asked(ticket, emitter, last)
+    }
+
+    // The same, after what waited was let in.
+    fn asked(&mut self, ticket: Ticket, emitter: u32, last: Option<u64>) -> Polled
+        ensures same { (self.new.name ≡ self.old.name) × IsSameSequencer self.old.sequencer self.new.sequencer }
+        ensures made { Makes self.old.name.lane self.old.sequencer (poll_round ticket emitter last result.emit result.receipt) self.new.sequencer }
+        ensures receipt { IfSome result.receipt (λ r. (result.emit ≡ emit.Done r.number) × IsReceiptAfter self.old.name.lane emitter last r) }
+    {
+        let is_own = self.is_of(ticket, emitter);
+        let emit = self.sequencer.poll_emit(self.track.lane(), ticket);
+        let receipt = None;
+        let Emit::Done(number) = emit else {
+            return Polled { emit, receipt };
+        };
+        if !is_own {
+            return Polled { emit, receipt };
+        }
+        if !is_after(last, number) {
+            return Polled { emit, receipt };
+        }
+        let receipt = Some(self.receipt_of(emitter, number));
+        Polled { emit, receipt }
+    }
+
+    // A receipt for an emission that was accepted for this emitter.
+    fn receipt_of(&mut self, emitter: u32, number: u64) -> Receipt
+        requires { IsAccepted self.old.sequencer emitter number }
+        ensures same { self.new ≡ self.old }
+        ensures receipt { IsReceiptOfOne self.old.name.lane emitter result }
+        ensures number { result.number ≡ number }
+    {
+        self.sequencer.receipt(self.track.lane(), emitter, number)
+    }
+
+    /// Gives an emission of this emitter up, and makes a receipt for one that was accepted before. It sleeps no more.
+    pub(crate) fn cancel_emit(
+        &mut self,
+        ticket: Ticket,
+        emitter: u32,
+        last: Option<u64>,
+        bed: &Bed,
+    ) -> Released
+        ensures does { Does self.old (withdraw_round ticket emitter last result.withdrawn result.receipt) self.new }
+        ensures receipt { IfSome result.receipt (λ r. (result.withdrawn ≡ withdrawn.Left r.number) × IsReceiptAfter self.old.name.lane emitter last r) }
+    {
+        let before = self.sequencer.next_number();
+        let released = self.released(ticket, emitter, last);
+        self.emissions.rise(ticket.0, bed, &mut self.wakes);
+        self.help(before);
+        released
+    }
+
+    // The same, without waking anybody.
+    fn released(&mut self, ticket: Ticket, emitter: u32, last: Option<u64>) -> Released
+        ensures same { (self.new.name ≡ self.old.name) × IsSameSequencer self.old.sequencer self.new.sequencer }
+        ensures made { MakesAfterScan self.old (withdraw_round ticket emitter last result.withdrawn result.receipt) self.new }
+        ensures receipt { IfSome result.receipt (λ r. (result.withdrawn ≡ withdrawn.Left r.number) × IsReceiptAfter self.old.name.lane emitter last r) }
+    {
+        self.sequencer.scan(self.track.lane());
+        self.given_up(ticket, emitter, last)
+    }
+
+    // The same, after what waited was let in.
+    fn given_up(&mut self, ticket: Ticket, emitter: u32, last: Option<u64>) -> Released
+        ensures same { (self.new.name ≡ self.old.name) × IsSameSequencer self.old.sequencer self.new.sequencer }
+        ensures made { Makes self.old.name.lane self.old.sequencer (withdraw_round ticket emitter last result.withdrawn result.receipt) self.new.sequencer }
+        ensures receipt { IfSome result.receipt (λ r. (result.withdrawn ≡ withdrawn.Left r.number) × IsReceiptAfter self.old.name.lane emitter last r) }
+    {
+        let is_own = self.is_of(ticket, emitter);
+        let withdrawn = self.sequencer.cancel_emit(self.track.lane(), ticket);
+        let receipt = None;
+        let Withdrawn::Left(number) = withdrawn else {
+            return Released { withdrawn, receipt };
+        };
+        if !is_own {
+            return Released { withdrawn, receipt };
+        }
+        if !is_after(last, number) {
+            return Released { withdrawn, receipt };
+        }
+        let receipt = Some(self.receipt_of(emitter, number));
+        Released { withdrawn, receipt }
+    }
+
+    /// What a poll of an emission that isn't finished does before it answers: its task sleeps. Where its ticket isn't out, which
+    /// no run of an `Emitter` shows, it asks to be polled again.
+    pub(crate) fn sleep_emission(
+        &mut self,
+        ticket: Ticket,
+        emit: Emit,
+        bed: &mut Bed,
+        cx: &mut Context<'_>,
+    )
+        ensures same { self.new ≡ self.old }
+        ensures armed { IsArmed cx.new }
+        ensures kept { Keeps cx.old cx.new }
+    {
+        if let Emit::Waiting = emit {
+            self.emissions.sleep(ticket.0, bed, cx);
+            return;
+        }
+        let _again: Poll<()> = cx.yield_now();
+    }
+}
+
+// Whether a number is above the last one that an emitter was answered.
+fn is_after(last: Option<u64>, number: u64) -> bool
+    ensures above { result ≡ true → IsAfter last number }
+    ensures not { result ≡ false → (l : ℕ) × (last ≡ Some l) × (number ≤ l) }
+{
+    match last {
+        None => true,
+        Some(last) => last < number,
+    }
+}

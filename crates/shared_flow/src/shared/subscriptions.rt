@@ -1,0 +1,197 @@
+//! Subscriptions and the replay cache, by one who holds the lock.
+ghost use Rattle.std.specs.Prelude.{◌≡◌, ◌<◌, ◌++◌, Some, Ok, Err, length, map, slice_get, IfOk, IfErr, IsOkUnless, OnOk, OnErr};
+ghost use Rattle.std.specs.Arc.{arc_value};
+ghost use Rattle.flow_terms.specs.declared.refusal.Refusal.TheVariants.{NoMemory};
+ghost use Rattle.futures.specs.Task.{IsArmed, Keeps};
+ghost use Rattle.shared_lane.specs.Readers.{IsReaderOf};
+ghost use Rattle.shared_lane.specs.Caches.{IsLastOf};
+ghost use Rattle.shared_lane.specs.Sequencers.{IsSameSequencer, AfterScan, seen};
+ghost use Rattle.shared_lane.specs.Places.{NotLetIn};
+ghost use Rattle.shared_flow.specs.declared.round.Round.TheVariants as round;
+ghost use Rattle.shared_flow.specs.Looks.{Looked};
+ghost use Rattle.shared_flow.specs.Meeting.{HasMet};
+ghost use Rattle.shared_flow.specs.Owners.{OnlyMet};
+ghost use Rattle.shared_flow.specs.Rounds.{Does, WasAdmitted, IsAtLimit, IsLetIn};
+
+use super::Shared;
+use crate::sleepers::Bed;
+use crate::track::Track;
+use flow_terms::{Refusal, Word};
+use futures::task::Context;
+use shared_lane::{Met, Reader, Taken, meet};
+use std::alloc::{AllocError, Global};
+use std::sync::Arc;
+
+/// A reader that was let in, or why none was, and the number of its subscription.
+pub(crate) struct Admitted {
+    pub(crate) number: u64,
+    pub(crate) reader: Result<Reader, Refusal>,
+}
+
+impl Shared {
+    /// Another owner of the lane and of the word beside it.
+    pub(crate) fn track(&self) -> Result<Arc<Track, Global>, AllocError>
+        ensures { IfOk result (λ track. arc_value track ≡ self.now.name.lane) }
+    {
+        Arc::try_clone(&self.track)
+    }
+
+    /// Lets a reader in, which starts at the oldest value of the replay cache.
+    pub(crate) fn subscribe(&mut self) -> Admitted
+        ensures ok { IfOk result.reader (λ reader. Does self.old (round.Subscribe (Ok result.number)) self.new × WasAdmitted self.old reader self.new) }
+        ensures err { IfErr result.reader (λ refusal. Does self.old (round.Subscribe (Err refusal)) self.new × IsAtLimit refusal) }
+    {
+        let before = self.sequencer.next_number();
+        let admitted = self.admitted();
+        self.help(before);
+        admitted
+    }
+
+    // The same, without waking anybody.
+    fn admitted(&mut self) -> Admitted
+        ensures same { (self.new.name ≡ self.old.name) × IsSameSequencer self.old.sequencer self.new.sequencer }
+        ensures ok { IfOk result.reader (λ reader. IsLetIn self.old result.number reader self.new) }
+        ensures err { IfErr result.reader (λ refusal. AfterScan self.old.sequencer (λ m. NotLetIn m refusal self.new.sequencer)) }
+    {
+        self.sequencer.scan(self.track.lane());
+        let number = self.sequencer.next_subscription();
+        let reader = self.sequencer.admit(self.track.lane());
+        Admitted { number, reader }
+    }
+
+    /// After a subscription received a value without the lock: lets in what waits, as far as there is room by that.
+    pub(crate) fn make_room(&mut self)
+        ensures { Does self.old round.Next self.new }
+    {
+        let before = self.sequencer.next_number();
+        self.sequencer.scan(self.track.lane());
+        self.help(before);
+    }
+
+    /// A look of a subscription at the lane, after what waits was let in. Who has the lock alone accepts: what this look doesn't
+    /// find comes after its task sleeps.
+    pub(crate) fn look(&mut self, reader: &mut Reader) -> Taken<u64>
+        requires { IsReaderOf self.old.name.lane reader.old }
+        ensures does { Does self.old round.Next self.new }
+        ensures reader { IsReaderOf self.old.name.lane reader.new }
+        ensures looked { Looked reader.old result reader.new }
+    {
+        let before = self.sequencer.next_number();
+        self.sequencer.scan(self.track.lane());
+        let taken = reader.try_next(self.track.lane());
+        if let Taken::Value(_) = taken {
+            self.sequencer.scan(self.track.lane());
+            self.help(before);
+            return taken;
+        }
+        self.help(before);
+        taken
+    }
+
+    /// The task of a subscription without a value sleeps until something is accepted.
+    pub(crate) fn sleep_subscription(&mut self, number: u64, bed: &mut Bed, cx: &mut Context<'_>)
+        ensures same { self.new ≡ self.old }
+        ensures armed { IsArmed cx.new }
+        ensures kept { Keeps cx.old cx.new }
+    {
+        self.subscriptions.sleep(number, bed, cx);
+    }
+
+    /// Ends a subscription, which sleeps no more, and lets in what waits.
+    pub(crate) fn cancel(&mut self, reader: Reader, number: u64, bed: &Bed)
+        requires { IsReaderOf self.old.name.lane reader }
+        ensures { Does self.old (round.Cancel number) self.new }
+    {
+        let before = self.sequencer.next_number();
+        reader.close(self.track.lane());
+        self.subscriptions.rise(number, bed, &mut self.wakes);
+        self.sequencer.scan(self.track.lane());
+        self.help(before);
+    }
+
+    /// Empties the replay cache.
+    pub(crate) fn reset_replay(&mut self)
+        ensures { Does self.old round.Reset self.new }
+    {
+        let before = self.sequencer.next_number();
+        self.sequencer.scan(self.track.lane());
+        self.sequencer.reset_replay();
+        self.help(before);
+    }
+
+    /// Adds the replay cache to `out`, the oldest value first. Refused as `NoMemory`, and then `out` is as it was.
+    pub(crate) fn replay_cache_into<T: Word>(&mut self, out: &mut Vec<T>) -> Result<(), Refusal>
+        ensures memory { IsOkUnless result Refusal.NoMemory }
+        ensures ok { OnOk result (out.new.items ≡ out.old.items ++ map T.read_as self.new.sequencer.cache) }
+        ensures read { OnOk result (Does self.old (round.Cache (Ok self.new.sequencer.cache)) self.new) }
+        ensures err { OnErr result (out.new.items ≡ out.old.items) }
+        ensures unread { OnErr result (Does self.old (round.Cache (Err NoMemory)) self.new) }
+    {
+        let before = self.sequencer.next_number();
+        self.sequencer.scan(self.track.lane());
+        let read = self.read_cache(out);
+        self.help(before);
+        read
+    }
+
+    fn read_cache<T: Word>(&self, out: &mut Vec<T>) -> Result<(), Refusal>
+        ensures memory { IsOkUnless result Refusal.NoMemory }
+        ensures ok { OnOk result (out.new.items ≡ out.old.items ++ map T.read_as self.now.sequencer.cache) }
+        ensures err { OnErr result (out.new.items ≡ out.old.items) }
+    {
+        let count = self.sequencer.replay_len();
+        out.reserve(count as usize)?;
+        for index in 0..count {
+            out.push_reserved(T::from_word(self.sequencer.replay_at(index)));
+        }
+        Ok(())
+    }
+
+    /// How many subscriptions are live: the cursors that this call found open.
+    pub(crate) fn subscription_count(&mut self) -> u32
+        ensures { Does self.old (round.Count result) self.new }
+    {
+        let before = self.sequencer.next_number();
+        self.sequencer.scan(self.track.lane());
+        let count = self.sequencer.live(self.track.lane());
+        self.help(before);
+        count
+    }
+
+    /// Lets in what waits, and counts the live subscriptions, for one who keeps the lock.
+    pub(crate) fn hold(&mut self) -> u32
+        ensures { Does self.old (round.Hold result) self.new }
+    {
+        let before = self.sequencer.next_number();
+        self.sequencer.scan(self.track.lane());
+        let count = self.sequencer.live(self.track.lane());
+        self.help(before);
+        count
+    }
+
+    /// How many values the replay cache has.
+    pub(crate) fn replay_len(&self) -> u64
+        ensures length { result ≡ length self.now.sequencer.cache }
+        ensures latest { IsLastOf (seen self.now.sequencer) self.now.sequencer.cache }
+    {
+        self.sequencer.replay_len()
+    }
+
+    /// The word of the replay cache with this index, from the oldest on.
+    pub(crate) fn replay_at(&self, index: u64) -> u64
+        requires { index < length self.now.sequencer.cache }
+        ensures { slice_get self.now.sequencer.cache index ≡ Some result }
+    {
+        self.sequencer.replay_at(index)
+    }
+
+    /// Sequencer and reader compare what they know.
+    pub(crate) fn meet(&mut self, reader: &mut Reader) -> Met
+        requires { IsReaderOf self.old.name.lane reader.old }
+        ensures shared { OnlyMet self.old self.new }
+        ensures reader { IsReaderOf self.old.name.lane reader.new }
+        ensures met { HasMet self.new.sequencer reader.old reader.new result }
+    {
+        meet(self.track.lane(), &mut self.sequencer, reader)
+    }
+}
