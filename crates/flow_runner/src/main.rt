@@ -44,6 +44,7 @@ fn asked_engine(rt: &HostRuntime) -> Result<Engine, Stop> {
     };
     match engine_name(alloc, words.as_slice())? {
         EngineName::Core => Ok(Engine::Core),
+        EngineName::Lane => Ok(Engine::Lane),
     }
 }
 

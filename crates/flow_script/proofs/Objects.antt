@@ -88,21 +88,21 @@ unmade request runner world name binding p is past =
 
 -- what the object answers is what the thing answers
 answered : (came : Option (Answer × Thing)) (thing : Thing) (old new : Runner) (world : World) (index : ℕ) (object' : Object) (answer : Option Answer) → Pictures old world → slice_get world.things index ≡ Some thing → answer ≡ (kept thing came).0 → Stands object' (kept thing came).1
-    → new.names ≡ old.names → new.objects.items ≡ set old.objects.items index object' → Meets (came >>= (λ c. Some (record { answer = c.0; after = with_thing index c.1 world }))) world new answer
-answered None thing old new world index object' answer p is same stands names items = record {
+    → new.engine ≡ old.engine → new.names ≡ old.names → new.objects.items ≡ set old.objects.items index object' → Meets (came >>= (λ c. Some (record { answer = c.0; after = with_thing index c.1 world }))) world new answer
+answered None thing old new world index object' answer p is same stands engine names items = record {
   answered = same;
-  pictured = record { names = λ other. rw names (p.names other); things = rw items (stand_still old.objects.items world.things index object' thing p.things is stands) };
+  pictured = record { engine = engine ∙ p.engine; names = λ other. rw names (p.names other); things = rw items (stand_still old.objects.items world.things index object' thing p.things is stands) };
 }
-answered (Some came) thing old new world index object' answer p is same stands names items = record {
+answered (Some came) thing old new world index object' answer p is same stands engine names items = record {
   answered = same;
-  pictured = record { names = λ other. rw names (p.names other); things = rw items (stand_set old.objects.items world.things index object' came.1 p.things stands) };
+  pictured = record { engine = engine ∙ p.engine; names = λ other. rw names (p.names other); things = rw items (stand_set old.objects.items world.things index object' came.1 p.things stands) };
 }
 
 pub asked : (request : Request) (old new : Runner) (world : World) (name : List ℕ) (binding : Binding) (object object' : Object) (answer : Option Answer) → Pictures old world → Some binding ≡ bound_to old.names name → binding.object_index < vec_len old.objects → object ≡ get_or old.objects.items binding.object_index object
-    → Asks binding.part request object answer object' → new.names ≡ old.names → new.objects.items ≡ set old.objects.items binding.object_index object' → (finding : Finding) × Meets (ask_step finding name request world) world new answer
-asked request old new world name binding object object' answer p bound small is asks names items =
+    → Asks binding.part request object answer object' → new.engine ≡ old.engine → new.names ≡ old.names → new.objects.items ≡ set old.objects.items binding.object_index object' → (finding : Finding) × Meets (ask_step finding name request world) world new answer
+asked request old new world name binding object object' answer p bound small is asks engine names items =
     let f = found old world binding.object_index object p small is in
     let came = asks f.thing f.stands in (
       came.0,
-      rw (sym (bound ∙ p.names name), f.is) (answered (ask came.0 binding.part request f.thing) f.thing old new world binding.object_index object' answer p f.is came.1 came.2 names items),
+      rw (sym (bound ∙ p.names name), f.is) (answered (ask came.0 binding.part request f.thing) f.thing old new world binding.object_index object' answer p f.is came.1 came.2 engine names items),
     )

@@ -20,6 +20,7 @@ StandEach (object ∷ objects) [] = ⊥
 StandEach (object ∷ objects) (thing ∷ things) = Stands object thing × StandEach objects things
 
 pub record Pictures (runner : Runner) (world : World) : Type 0 where
+  pub engine : runner.engine ≡ world.engine
   pub names : (name : List ℕ) → bound_to runner.names name ≡ binding_of world.names name
   pub things : StandEach runner.objects.items world.things
 

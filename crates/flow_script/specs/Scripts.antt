@@ -1,4 +1,4 @@
--- What a script answers: a function of its bytes and of what its lines found.
+-- What a script answers: a function of its bytes, of the engine and of what its lines found.
 use Rattle.std.specs.Prelude.{◌≡◌, ℕ, ◌+◌, List, [], ◌∷◌, ◌++◌, length, Option, Some, None, Result, Ok, Err, nat_lt, ◌==◌, ◌<◌, ◌≤◌, ◌⊎◌, if◌then◌else◌}
 use Rattle.std.specs.Io.KnownBytes.{Appends, Keeps, Consumes, IsAtEnd}
 use Rattle.script_pipes.specs.declared.answer.Answer.{Answer}
@@ -10,6 +10,7 @@ use Rattle.script_pipes.specs.Commands.{command_of}
 use Rattle.script_words.specs.Words.{◌>>=◌}
 use Rattle.flow_script.specs.declared.runner.Runner.{Runner}
 use Rattle.script_words.specs.Lines.{lines_of, words_of, starts_with_hash}
+use Rattle.script_flows.specs.declared.engine.Engine.{Engine}
 use Rattle.script_flows.specs.Findings.{Finding, plain}
 use Rattle.flow_script.specs.Output.{AppendsFront}
 use Rattle.flow_script.specs.Pictures.{Pictures}
@@ -55,12 +56,12 @@ replies_to findings number world (line ∷ lines) =
     let rest = replies_to findings (number + 1) reply.after lines in
     record { text = reply.text ++ rest.text; after = rest.after }
 
-abbrev pub text_of_lines : Findings → List (List ℕ) → List ℕ
-text_of_lines findings lines = (replies_to findings 1 empty_world lines).text
+abbrev pub text_of_lines : Engine → Findings → List (List ℕ) → List ℕ
+text_of_lines engine findings lines = (replies_to findings 1 (empty_world engine) lines).text
 
--- THE ANSWER TEXT of a script, where this its lines found
-abbrev pub text_of_script : Findings → List ℕ → List ℕ
-text_of_script findings script = text_of_lines findings (lines_of script)
+-- THE ANSWER TEXT of a script on this engine, where this its lines found
+abbrev pub text_of_script : Engine → Findings → List ℕ → List ℕ
+text_of_script engine findings script = text_of_lines engine findings (lines_of script)
 
 abbrev pub text_of_answer : Option Answer → List ℕ
 text_of_answer None = []
@@ -76,13 +77,13 @@ abbrev pub Replies : ℕ → List ℕ → Runner → Runner → Option Answer �
 Replies number line old new answer = (world : World) → Pictures old world → (finding : Finding) × Gives (reply_of finding number world line) new answer
 
 -- The whole text was written; where writing failed, a front of it; where memory was refused, the answers of the lines before.
-abbrev pub Writes : Option (List ℕ) → Option (List ℕ) → List ℕ → Result (Unit {0}) ScriptFault → Type 0
-Writes old new script (Ok done) = (findings : Findings) × Appends old new (text_of_script findings script)
-Writes old new script (Err Write) = (findings : Findings) × AppendsFront old new (text_of_script findings script)
-Writes old new script (Err NoMemory) = (findings : Findings) × (before : List (List ℕ)) × (after : List (List ℕ))
-    × (lines_of script ≡ before ++ after) × Appends old new (text_of_lines findings before)
-Writes old new script (Err Read) = ⊥
-Writes old new script (Err TooLong) = ⊥
+abbrev pub Writes : Engine → Option (List ℕ) → Option (List ℕ) → List ℕ → Result (Unit {0}) ScriptFault → Type 0
+Writes engine old new script (Ok done) = (findings : Findings) × Appends old new (text_of_script engine findings script)
+Writes engine old new script (Err Write) = (findings : Findings) × AppendsFront old new (text_of_script engine findings script)
+Writes engine old new script (Err NoMemory) = (findings : Findings) × (before : List (List ℕ)) × (after : List (List ℕ))
+    × (lines_of script ≡ before ++ after) × Appends old new (text_of_lines engine findings before)
+Writes engine old new script (Err Read) = ⊥
+Writes engine old new script (Err TooLong) = ⊥
 
 -- an answer's line was written, or a front of it, or none for want of memory
 abbrev pub WritesAnswer : Option (List ℕ) → Option (List ℕ) → Option Answer → Result (Unit {0}) ScriptFault → Type 0
@@ -93,16 +94,16 @@ WritesAnswer old new answer (Err Read) = ⊥
 WritesAnswer old new answer (Err TooLong) = ⊥
 
 -- All of the input was read, a script within the limit, and this is what was written of its text.
-abbrev pub ReadsAndWrites : Option (List ℕ) → Option (List ℕ) → Option (List ℕ) → Option (List ℕ) → Result (Unit {0}) ScriptFault → Type 0
-ReadsAndWrites left rest old new result =
-    (script : List ℕ) × Consumes left rest script × IsAtEnd rest × (length script ≤ 1048576) × Writes old new script result
+abbrev pub ReadsAndWrites : Engine → Option (List ℕ) → Option (List ℕ) → Option (List ℕ) → Option (List ℕ) → Result (Unit {0}) ScriptFault → Type 0
+ReadsAndWrites engine left rest old new result =
+    (script : List ℕ) × Consumes left rest script × IsAtEnd rest × (length script ≤ 1048576) × Writes engine old new script result
 
--- WHAT RUNNING A SCRIPT DOES, by what the reader had left and has left, and by what the writer held and holds.
+-- WHAT RUNNING A SCRIPT on an engine DOES, by what the reader had left and has left, and by what the writer held and holds.
 -- All of the input was read, and its text was written, or a front of it, or the answers of the lines before
 -- memory was refused. Past the limit, and where reading failed, nothing was written.
-abbrev pub Runs : Option (List ℕ) → Option (List ℕ) → Option (List ℕ) → Option (List ℕ) → Result (Unit {0}) ScriptFault → Type 0
-Runs left rest old new (Ok done) = ReadsAndWrites left rest old new (Ok done)
-Runs left rest old new (Err Write) = ReadsAndWrites left rest old new (Err Write)
-Runs left rest old new (Err NoMemory) = Keeps old new ⊎ ReadsAndWrites left rest old new (Err NoMemory)
-Runs left rest old new (Err Read) = Keeps old new
-Runs left rest old new (Err TooLong) = Keeps old new × ((bytes : List ℕ) × Consumes left rest bytes × (1048576 < length bytes))
+abbrev pub Runs : Engine → Option (List ℕ) → Option (List ℕ) → Option (List ℕ) → Option (List ℕ) → Result (Unit {0}) ScriptFault → Type 0
+Runs engine left rest old new (Ok done) = ReadsAndWrites engine left rest old new (Ok done)
+Runs engine left rest old new (Err Write) = ReadsAndWrites engine left rest old new (Err Write)
+Runs engine left rest old new (Err NoMemory) = Keeps old new ⊎ ReadsAndWrites engine left rest old new (Err NoMemory)
+Runs engine left rest old new (Err Read) = Keeps old new
+Runs engine left rest old new (Err TooLong) = Keeps old new × ((bytes : List ℕ) × Consumes left rest bytes × (1048576 < length bytes))

@@ -10,6 +10,7 @@ use Rattle.script_pipes.specs.declared.request.Request.{Request}
 use Rattle.script_pipes.specs.Commands.{Order, Made}
 use Rattle.script_pipes.specs.Commands as commands
 use Rattle.script_pipes.specs.Piping.{pipe_answer}
+use Rattle.script_flows.specs.declared.engine.Engine.{Engine}
 use Rattle.script_flows.specs.declared.part.Part.{Part}
 use Rattle.script_flows.specs.declared.part.Part.TheVariants.{Whole}
 use Rattle.script_flows.specs.Findings.{Finding, was_refused}
@@ -22,13 +23,15 @@ Bound = List ℕ × Binding
 
 -- what a script has made so far
 pub record World : Type 0 where
+  -- what its shared flows stand on
+  pub engine : Engine
   -- each name with what it stands for
   pub names : List Bound
   -- all that was made
   pub things : List Thing
 
-abbrev pub empty_world : World
-empty_world = record { names = []; things = [] }
+abbrev pub empty_world : Engine → World
+empty_world engine = record { engine = engine; names = []; things = [] }
 
 -- what a name is bound to
 abbrev pub binding_of : List Bound → List ℕ → Option Binding
@@ -62,7 +65,7 @@ part_of index part = record { object_index = index; part = part }
 abbrev pub new_thing : List ℕ → Thing → World → Outcome
 new_thing name thing world = record {
   answer = answers.Done;
-  after = record { names = (name, part_of (length world.things) Whole) ∷ world.names; things = world.things ++ (thing ∷ []) };
+  after = record world { names = (name, part_of (length world.things) Whole) ∷ world.names; things = world.things ++ (thing ∷ []) };
 }
 
 -- it is refused for what it is made with, and then for memory
@@ -72,7 +75,7 @@ made_unless None refused name thing world = if refused then only (answers.Refuse
 
 abbrev pub make_step : Finding → List ℕ → Made → World → Option Outcome
 make_step finding name made world =
-    unless_bound name world (Some (made_unless (refused_with made) (was_refused finding) name (thing_of made) world))
+    unless_bound name world (Some (made_unless (refused_with made) (was_refused finding) name (thing_of world.engine made) world))
 
 -- the thing with this index as a call left it
 abbrev pub with_thing : ℕ → Thing → World → World
@@ -93,7 +96,7 @@ ask_step finding name request world = do
 abbrev pub new_party : List ℕ → ℕ → Joined → Thing → World → Outcome
 new_party name index joined thing world = record {
   answer = joined.0;
-  after = record { names = bound name (option_map (part_of index) joined.1) world.names; things = slice_set world.things index thing };
+  after = record world { names = bound name (option_map (part_of index) joined.1) world.names; things = slice_set world.things index thing };
 }
 
 abbrev pub join_at : Finding → List ℕ → Party → World → Binding → Option Outcome

@@ -12,4 +12,5 @@ mod runner;
 mod script;
 
 pub use fault::ScriptFault;
-pub use script::{Engine, run_script};
+pub use script::run_script;
+pub use script_flows::Engine;

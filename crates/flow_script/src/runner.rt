@@ -12,7 +12,7 @@ ghost use Rattle.flow_script.specs.Scripts.{Replies};
 use crate::binding::Binding;
 use crate::names::Names;
 use futures::task::{Poll, Solo};
-use script_flows::{Object, Part};
+use script_flows::{Engine, Object, Part};
 use script_pipes::{Answer, Command, Making, Party, Pipe, Request};
 use script_words::Words;
 use std::alloc::{AllocError, Global};
@@ -35,18 +35,22 @@ fn is_comment(word: &[u8]) -> bool
 pub struct Runner<'a> {
     names: Names<'a>,
     objects: Vec<Object<'a>>,
+    // What its shared flows stand on.
+    engine: Engine,
     // The task in whose name flows are polled.
     task: &'a Solo,
 }
 
 impl<'a> Runner<'a> {
-    /// Nothing is made yet.
-    pub fn new(alloc: Global, task: &'a Solo) -> Runner<'a>
-        ensures { Pictures result empty_world }
+    /// Nothing is made yet. Shared flows will stand on this engine.
+    pub fn new(alloc: Global, task: &'a Solo, engine: Engine) -> Runner<'a>
+        ensures fresh { Pictures result (empty_world engine) }
+        ensures engine { result.engine ≡ engine }
     {
         Runner {
             names: Names::new(alloc),
             objects: Vec::new(alloc),
+            engine,
             task,
         }
     }
@@ -66,7 +70,7 @@ impl<'a> Runner<'a> {
         }
         self.names.reserve()?;
         self.objects.reserve(1)?;
-        match Object::new(rt, alloc, making) {
+        match Object::new(rt, alloc, self.engine, making) {
             Ok(object) => {
                 let binding = Binding {
                     object_index: self.objects.len(),
@@ -197,6 +201,7 @@ impl<'a> Runner<'a> {
         let Runner {
             names: _,
             mut objects,
+            engine: _,
             task: _,
         } = self;
         let mut closed = 0;

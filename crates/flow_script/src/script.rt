@@ -13,6 +13,7 @@ use crate::input::read_script;
 use crate::output::write_whole;
 use crate::runner::Runner;
 use futures::task::{Doorbell, Solo};
+use script_flows::Engine;
 use script_pipes::Answer;
 use script_words::Lines;
 use std::alloc::{AllocError, AllocGlobal, Global};
@@ -20,13 +21,6 @@ use std::fmt::Write as _;
 use std::io::{Read, Write};
 use std::random::RandomSource;
 use std::sync::Wait;
-
-/// What the shared flows of a script stand on.
-#[derive(Clone, Copy, Debug, PartialEq, Eq)]
-pub enum Engine {
-    /// Flows on one thread.
-    Core,
-}
 
 /// Puts the line that shows an answer in the place of a text.
 fn show(text: &mut String, answer: &Answer) -> Result<(), AllocError>
@@ -62,8 +56,8 @@ fn answer_lines<'a, W: Write>(
     writer: &mut W,
 ) -> Result<(), ScriptFault>
     requires short { length script.now ≤ 1048576 }
-    requires fresh { Pictures runner.old empty_world }
-    ensures { Writes (W.contents writer.old) (W.contents writer.new) script.now result }
+    requires fresh { Pictures runner.old (empty_world runner.old.engine) }
+    ensures { Writes runner.old.engine (W.contents writer.old) (W.contents writer.new) script.now result }
 {
     let mut text = String::new(alloc);
     let mut lines = Lines::new(script);
@@ -79,18 +73,19 @@ fn answer_lines<'a, W: Write>(
     }
 }
 
-/// Runs a script that was read.
+/// Runs a script that was read, on this engine.
 fn answer_script<W: Write>(
     rt: &impl Wait,
     alloc: Global,
     task: &Solo,
     script: &[u8],
     writer: &mut W,
+    engine: Engine,
 ) -> Result<(), ScriptFault>
     requires { length script.now ≤ 1048576 }
-    ensures { Writes (W.contents writer.old) (W.contents writer.new) script.now result }
+    ensures { Writes engine (W.contents writer.old) (W.contents writer.new) script.now result }
 {
-    let mut runner = Runner::new(alloc, task);
+    let mut runner = Runner::new(alloc, task, engine);
     let answered = answer_lines(rt, alloc, &mut runner, script, writer);
     // What must be spent is spent whatever ended the script.
     let _closed = runner.close(rt);
@@ -107,27 +102,25 @@ fn own_task(rt: &(impl RandomSource + AllocGlobal)) -> Result<Solo, ScriptFault>
     }
 }
 
-/// Reads a script whole, and writes what it answers, command by command.
+/// Reads a script whole, and writes what it answers, command by command. Its shared flows stand on this engine.
 ///
 /// At most 1,048,577 bytes are read. A script of more than 1,048,576 bytes is `TooLong`; then, and where a read fails
 /// (`Interrupted` too), nothing is written. Where a write fails or takes no byte, or the flush at the end fails, a front of
 /// the answers was written. Where the runner's own tables find no memory, the answers of the lines before were. That
 /// the number of reads is bounded isn't claimed, since a reader may give nothing new for ever.
 ///
-/// It may wait for the lock of a flow that shares a source.
+/// It may wait for the lock of a flow for threads, which nobody else has.
 pub fn run_script<R: Read, W: Write>(
     rt: &(impl Wait + RandomSource + AllocGlobal),
     reader: &mut R,
     writer: &mut W,
     engine: Engine,
 ) -> Result<(), ScriptFault>
-    ensures runs { Runs (R.remaining reader.old) (R.remaining reader.new) (W.contents writer.old) (W.contents writer.new) result }
+    ensures runs { Runs engine (R.remaining reader.old) (R.remaining reader.new) (W.contents writer.old) (W.contents writer.new) result }
     ensures within { TakesAtMost (R.remaining reader.old) (R.remaining reader.new) 1048577 }
 {
     let alloc = rt.alloc();
     let script = read_script(alloc, reader)?;
     let task = own_task(rt)?;
-    match engine {
-        Engine::Core => answer_script(rt, alloc, &task, &script, writer),
-    }
+    answer_script(rt, alloc, &task, &script, writer, engine)
 }

@@ -26,6 +26,8 @@ mod script_rows;
 #[cfg(test)]
 mod shared_memory;
 #[cfg(test)]
+mod shared_reads;
+#[cfg(test)]
 mod shared_rows;
 #[cfg(test)]
 mod shared_stage;

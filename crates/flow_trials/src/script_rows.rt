@@ -26,13 +26,20 @@ const SCRIPT: &[u8] =
 const TEXT: &[u8] =
     b"ok\nok\naccepted\naccepted\nfull\nvalue 1\naccepted\nvalue 2\nvalue 3\npending\nok\nclosed\n";
 
+/// Each script has the same answers with either.
+const ENGINES: [Engine; 2] = [Engine::Core, Engine::Lane];
+
 /// What a script answers.
-fn answers(rt: &(impl Wait + RandomSource + AllocGlobal), script: &[u8]) -> Result<Vec<u8>, Fail>
-    ensures { IfOk result (λ text. (findings : Findings) × (text.items ≡ text_of_script findings script.now)) }
+fn answers(
+    rt: &(impl Wait + RandomSource + AllocGlobal),
+    engine: Engine,
+    script: &[u8],
+) -> Result<Vec<u8>, Fail>
+    ensures { IfOk result (λ text. (findings : Findings) × (text.items ≡ text_of_script engine findings script.now)) }
 {
     let mut reader = script;
     let mut text = Vec::new(rt.alloc());
-    run_script(rt, &mut reader, &mut text, Engine::Core)?;
+    run_script(rt, &mut reader, &mut text, engine)?;
     Ok(text)
 }
 
@@ -43,38 +50,53 @@ fn lines_of(alloc: Global, text: &str) -> Result<String, AllocError> {
     Ok(lines)
 }
 
-/// Compares what a row's script answers.
+/// Compares what a row's script answers on this engine.
 fn compare_row(
     rt: &(impl Wait + RandomSource + AllocGlobal),
     differences: &mut Differences,
+    engine: Engine,
     row: &Row,
 ) -> Result<(), Fail> {
     let script = lines_of(rt.alloc(), row.script)?;
     let want = lines_of(rt.alloc(), row.answers)?;
-    let text = answers(rt, script.as_bytes())?;
-    differences.compare_text(row.name, &text, want.as_bytes())
+    let text = answers(rt, engine, script.as_bytes())?;
+    let name = format!(in rt.alloc(); "{} on {engine:?}", row.name)?;
+    differences.compare_text(name.as_str(), &text, want.as_bytes())
 }
 
 #[test]
 fn each_row_gives_its_answers(rt: HostRuntime) -> Result<(), Fail> {
     let mut differences = Differences::none(rt.alloc());
     for row in ROWS {
-        compare_row(&rt, &mut differences, row)?;
+        compare_row(&rt, &mut differences, Engine::Core, row)?;
+        compare_row(&rt, &mut differences, Engine::Lane, row)?;
     }
     differences.assert_none(&rt);
     Ok(())
 }
 
-/// Compares what each script answers, and names a wrong one by its text.
+/// Compares what each script answers on this engine, and names a wrong one by its text.
+fn compare_answers(
+    rt: &(impl Wait + RandomSource + AllocGlobal),
+    differences: &mut Differences,
+    engine: Engine,
+    lines: &[(&[u8], &[u8])],
+) -> Result<(), Fail> {
+    for (script, want) in lines {
+        let text = answers(rt, engine, script)?;
+        differences.compare_text(str::from_utf8(script)?, &text, want)?;
+    }
+    Ok(())
+}
+
+/// Fails where a script has other answers, on either engine.
 fn assert_answers(
     rt: &(impl Abort + Wait + RandomSource + AllocGlobal),
     lines: &[(&[u8], &[u8])],
 ) -> Result<(), Fail> {
     let mut differences = Differences::none(rt.alloc());
-    for (script, want) in lines {
-        let text = answers(rt, script)?;
-        differences.compare_text(str::from_utf8(script)?, &text, want)?;
-    }
+    compare_answers(rt, &mut differences, Engine::Core, lines)?;
+    compare_answers(rt, &mut differences, Engine::Lane, lines)?;
     differences.assert_none(rt);
     Ok(())
 }
@@ -179,19 +201,35 @@ fn a_line_has_at_most_1024_bytes(rt: HostRuntime) -> Result<(), Fail> {
     script.extend_from_slice(b"shared f 0 1 suspend\n")?;
     push_long_line(&mut script, 1024)?;
     push_long_line(&mut script, 1025)?;
-    let text = answers(&rt, &script)?;
-    assert_eq!(rt; text.as_slice(), b"ok\n0\nline 3: bad command\n".as_slice());
+    for engine in ENGINES {
+        let text = answers(&rt, engine, &script)?;
+        assert_eq!(rt;
+            text.as_slice(),
+            b"ok\n0\nline 3: bad command\n".as_slice(),
+            "on {engine:?}"
+        );
+    }
     Ok(())
+}
+
+/// Runs the script from a reader that fails at this read.
+fn assert_read_fault(
+    rt: &(impl Abort + Wait + RandomSource + AllocGlobal),
+    engine: Engine,
+    fails_at: usize,
+) {
+    let mut tap = Tap::new(SCRIPT, fails_at);
+    let mut text = Vec::new(rt.alloc());
+    let ran = run_script(rt, &mut tap, &mut text, engine);
+    assert_eq!(rt; ran, Err(ScriptFault::Read), "at {fails_at} on {engine:?}");
+    assert_eq!(rt; text.len(), 0, "at {fails_at} on {engine:?}");
 }
 
 #[test]
 fn a_failing_read_writes_nothing(rt: HostRuntime) -> Result<(), Fail> {
     for fails_at in 1..SCRIPT.len() + 2 {
-        let mut tap = Tap::new(SCRIPT, fails_at);
-        let mut text = Vec::new(rt.alloc());
-        let ran = run_script(&rt, &mut tap, &mut text, Engine::Core);
-        assert_eq!(rt; ran, Err(ScriptFault::Read), "at {fails_at}");
-        assert_eq!(rt; text.len(), 0, "at {fails_at}");
+        assert_read_fault(&rt, Engine::Core, fails_at);
+        assert_read_fault(&rt, Engine::Lane, fails_at);
     }
     Ok(())
 }
@@ -199,15 +237,16 @@ fn a_failing_read_writes_nothing(rt: HostRuntime) -> Result<(), Fail> {
 /// Runs the script into a sink that fails at this byte, and compares what it took with this front of the answers.
 fn assert_front(
     rt: &(impl Abort + Wait + RandomSource + AllocGlobal),
+    engine: Engine,
     fails_at: usize,
     failure: Failure,
     front: &[u8],
 ) {
     let mut sink = Sink::new(rt.alloc(), fails_at, failure);
     let mut script = SCRIPT;
-    let ran = run_script(rt, &mut script, &mut sink, Engine::Core);
-    assert_eq!(rt; ran, Err(ScriptFault::Write), "at {fails_at}");
-    assert_eq!(rt; sink.taken(), front, "at {fails_at}");
+    let ran = run_script(rt, &mut script, &mut sink, engine);
+    assert_eq!(rt; ran, Err(ScriptFault::Write), "at {fails_at} on {engine:?}");
+    assert_eq!(rt; sink.taken(), front, "at {fails_at} on {engine:?}");
 }
 
 #[test]
@@ -215,7 +254,8 @@ fn a_failing_write_leaves_a_front_of_the_text(rt: HostRuntime) -> Result<(), Fai
     for failure in [Failure::Error, Failure::Nothing] {
         for fails_at in 1..TEXT.len() + 1 {
             let front = TEXT.get(..fails_at - 1).ok_or("the text is longer")?;
-            assert_front(&rt, fails_at, failure, front);
+            assert_front(&rt, Engine::Core, fails_at, failure, front);
+            assert_front(&rt, Engine::Lane, fails_at, failure, front);
         }
     }
     Ok(())
@@ -223,21 +263,25 @@ fn a_failing_write_leaves_a_front_of_the_text(rt: HostRuntime) -> Result<(), Fai
 
 #[test]
 fn short_writes_leave_the_whole_text(rt: HostRuntime) -> Result<(), Fail> {
-    let mut sink = Sink::new(rt.alloc(), 0, Failure::Nothing);
-    let mut script = SCRIPT;
-    let ran = run_script(&rt, &mut script, &mut sink, Engine::Core);
-    assert_eq!(rt; ran, Ok(()));
-    assert_eq!(rt; sink.taken(), TEXT);
+    for engine in ENGINES {
+        let mut sink = Sink::new(rt.alloc(), 0, Failure::Nothing);
+        let mut script = SCRIPT;
+        let ran = run_script(&rt, &mut script, &mut sink, engine);
+        assert_eq!(rt; ran, Ok(()));
+        assert_eq!(rt; sink.taken(), TEXT);
+    }
     Ok(())
 }
 
 #[test]
 fn a_failing_flush_leaves_the_whole_text(rt: HostRuntime) -> Result<(), Fail> {
-    let mut sink = Sink::new(rt.alloc(), 0, Failure::Flush);
-    let mut script = SCRIPT;
-    let ran = run_script(&rt, &mut script, &mut sink, Engine::Core);
-    assert_eq!(rt; ran, Err(ScriptFault::Write));
-    assert_eq!(rt; sink.taken(), TEXT);
+    for engine in ENGINES {
+        let mut sink = Sink::new(rt.alloc(), 0, Failure::Flush);
+        let mut script = SCRIPT;
+        let ran = run_script(&rt, &mut script, &mut sink, engine);
+        assert_eq!(rt; ran, Err(ScriptFault::Write));
+        assert_eq!(rt; sink.taken(), TEXT);
+    }
     Ok(())
 }
 
@@ -267,7 +311,9 @@ fn tens_of_thousands_of_names_are_found_fast(rt: HostRuntime) -> Result<(), Fail
         write!(script, "emit f e{n} 1\n")?;
         want.push_str("accepted\n")?;
     }
-    let text = answers(&rt, script.as_bytes())?;
-    assert_eq!(rt; text.as_slice() == want.as_bytes(), true);
+    for engine in ENGINES {
+        let text = answers(&rt, engine, script.as_bytes())?;
+        assert_eq!(rt; text.as_slice() == want.as_bytes(), true, "on {engine:?}");
+    }
     Ok(())
 }

@@ -1,6 +1,6 @@
 //! The calls of a shared flow that take memory: each succeeds where it is there. Where one allocation fails, as under
 //! `rt try --test --fail-alloc N`, the call that wanted it is refused and leaves all as it was, so that it succeeds when it is
-//! made once more.
+//! made once more. To keep the lock takes none.
 
 use crate::shared_stage::config;
 use crate::tools::assert_same;
@@ -112,8 +112,11 @@ fn what_was_refused_for_want_of_memory_is_as_before(rt: HostRuntime) -> Result<(
     let mut other = other_made(&rt, &mut flow, &[5, 6]).expect(&rt, "another owner");
     let subscription = subscription_made(&rt, &mut flow, &[5, 6]).expect(&rt, "a subscription");
     let count = other.subscription_count(&rt);
+    let held = other.hold(&rt);
+    let kept = (held.count(), held.replay_len());
+    held.release(&rt);
     subscription.cancel(&rt);
-    let idle = emitter.close(&rt);
+    let idle = matches!(emitter.close(&rt), Withdrawn::Gone);
     assert_same(
         &rt,
         "the cache's call",
@@ -126,7 +129,8 @@ fn what_was_refused_for_want_of_memory_is_as_before(rt: HostRuntime) -> Result<(
         (first, second, count),
         (Some(0), Some(1), 1),
     );
-    assert_same(&rt, "the emitter at its close", idle, Withdrawn::Gone);
+    assert_same(&rt, "count and cache while the lock is kept", kept, (1, 2));
+    assert_same(&rt, "the emitter was idle at its close", idle, true);
     assert_same(&rt, "cache", cache.as_slice(), [4, 5, 6].as_slice());
     Ok(())
 }

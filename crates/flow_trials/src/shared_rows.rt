@@ -1,8 +1,8 @@
 //! A shared flow's worked examples by calls of its owner, emitters and subscriptions, and its refusals.
 
 use crate::shared_stage::Answer::{
-    Accepted, Cancelled, Count, Done, Full, Left, Pending, Refused, Removed, Reset, Subscribed,
-    Value, Waiting,
+    Accepted, Cancelled, Count, Done, Full, Gone, Left, NotMade, Pending, Refused, Removed, Reset,
+    Subscribed, Value, Waiting,
 };
 use crate::shared_stage::Call::{Ask, Cancel, Emit, Next, Subscribe, TakeBack, Try};
 use crate::shared_stage::Party::{A, B, First, Owner, Second, Third};
@@ -149,6 +149,34 @@ const ROWS: &[Row<'_>] = &[
         cache: &[],
     },
     Row {
+        name: "each cancellation counts once",
+        config: Config { extra: 1, ..PLAIN },
+        lines: &[
+            (A, Subscribe, Subscribed),
+            (B, Subscribe, Subscribed),
+            (First, Try(1), Accepted(0)),
+            (Second, Emit(2), Waiting),
+            (Owner, Call::Count, Count(2)),
+            (A, Next, Value(1)),
+            (Second, Ask, Pending),
+            (B, Cancel, Cancelled),
+            (Owner, Call::Count, Count(1)),
+            (Second, Ask, Done(1)),
+            (Third, Emit(3), Waiting),
+            // It gets the place that was left, and begins after the second value.
+            (B, Subscribe, Subscribed),
+            (Owner, Call::Count, Count(2)),
+            (A, Cancel, Cancelled),
+            (Owner, Call::Count, Count(1)),
+            (Third, Ask, Done(2)),
+            (B, Next, Value(3)),
+            (B, Cancel, Cancelled),
+            (B, Cancel, NotMade),
+            (Owner, Call::Count, Count(0)),
+        ],
+        cache: &[],
+    },
+    Row {
         name: "numbers_run_out",
         config: Config {
             replay: 1,
@@ -272,7 +300,8 @@ fn close_gives_up_the_emission_in_flight(rt: HostRuntime) -> Result<(), Fail> {
         (subscribed, accepted),
         (Subscribed, Accepted(0)),
     );
-    assert_same(&rt, "the second emission", removed, Withdrawn::Removed);
+    let is_removed = matches!(removed, Withdrawn::Removed);
+    assert_same(&rt, "the second emission was removed", is_removed, true);
     assert_same(
         &rt,
         "first value, and the third emission",
@@ -285,6 +314,59 @@ fn close_gives_up_the_emission_in_flight(rt: HostRuntime) -> Result<(), Fail> {
         (last, none),
         (Value(3), Pending),
     );
+    assert!(rt; idle);
+    Ok(())
+}
+
+// An emitter is closed while its emission waits with the only ticket. By that the ticket is free, for another emitter, whose
+// emission is taken back then.
+fn assert_given_up<R>(rt: &R, flow: &mut SharedFlow<u64>, other: &mut Emitting, id: u32)
+where
+    R: Wait + Abort + RandomSource + AllocGlobal,
+{
+    let mut emitting = Emitting::new(rt, flow, id);
+    let waits = [
+        emitting.perform(rt, Emit(7)),
+        emitting.perform(rt, Ask),
+        other.perform(rt, Emit(8)),
+    ];
+    let ended = emitting.end(rt);
+    let free = [
+        other.perform(rt, Emit(9)),
+        other.perform(rt, TakeBack),
+        other.perform(rt, TakeBack),
+    ];
+    assert_same(rt, "it waits", waits, [Waiting, Pending, Refused(6)]);
+    assert_same(rt, "its end", ended, Removed);
+    assert_same(rt, "the ticket is free", free, [Waiting, Removed, Gone]);
+}
+
+// The emissions that were given up are gone: nothing of them is received, and they have no numbers.
+#[test]
+fn each_close_gives_up_once(rt: HostRuntime) -> Result<(), Fail> {
+    let config = Config {
+        extra: 1,
+        emits: 1,
+        ..PLAIN
+    };
+    let mut flow = SharedFlow::new(rt.alloc(), config)?;
+    let mut listening = Listening::new(&rt);
+    let subscribed = listening.perform(&rt, &mut flow, Subscribe);
+    let mut first = Emitting::new(&rt, &mut flow, 1);
+    let before = first.perform(&rt, Try(1));
+    assert_given_up(&rt, &mut flow, &mut first, 2);
+    assert_given_up(&rt, &mut flow, &mut first, 3);
+    let received = (listening.next(&rt), listening.next(&rt));
+    let after = first.perform(&rt, Try(5));
+    let idle = first.close(&rt);
+    listening.leave(&rt);
+    assert_same(
+        &rt,
+        "subscription and emissions",
+        (subscribed, before, after),
+        (Subscribed, Accepted(0), Accepted(1)),
+    );
+    assert_same(&rt, "receipts", received, (Value(1), Pending));
     assert!(rt; idle);
     Ok(())
 }

@@ -4,7 +4,7 @@ use cold_flow::Policy;
 use futures::task::Poll;
 use futures::test::MockTask;
 use shared_core::{Begun, Config, Tried, Withdrawn};
-use shared_flow::{Emitter, Receipt, SharedFlow, Subscription};
+use shared_flow::{Emitter, Receipt, SharedFlow, Subscription, Taken};
 use std::alloc::AllocGlobal;
 use std::process::Abort;
 use std::random::RandomSource;
@@ -32,6 +32,8 @@ pub enum Call {
     TakeBack,
     Subscribe,
     Next,
+    /// A `try_next`, for which no lock is taken.
+    Take,
     Cancel,
 }
 
@@ -45,6 +47,8 @@ pub enum Answer {
     Done(u64),
     Value(u64),
     Pending,
+    Nothing,
+    Overtaken,
     Removed,
     Left(u64),
     Gone,
@@ -129,7 +133,7 @@ impl Emitting {
     }
 
     // The answer with the number of a receipt, which has to be this emitter's.
-    fn received(&self, receipt: Receipt, answer: Answer) -> Answer {
+    fn received(&self, receipt: &Receipt, answer: Answer) -> Answer {
         if receipt.emitter() == self.id {
             answer
         } else {
@@ -143,7 +147,7 @@ impl Emitting {
         }
         match self.emitter.try_emit(rt, value) {
             Ok(Tried::Accepted(receipt)) => {
-                self.received(receipt, Answer::Accepted(receipt.number()))
+                self.received(&receipt, Answer::Accepted(receipt.number()))
             }
             Ok(Tried::Dropped) => Answer::Dropped,
             Ok(Tried::Full) => Answer::Full,
@@ -157,7 +161,7 @@ impl Emitting {
         }
         match self.emitter.start_emit(rt, value) {
             Ok(Begun::Accepted(receipt)) => {
-                self.received(receipt, Answer::Accepted(receipt.number()))
+                self.received(&receipt, Answer::Accepted(receipt.number()))
             }
             Ok(Begun::Dropped) => Answer::Dropped,
             Ok(Begun::Waiting(())) => Answer::Waiting,
@@ -176,26 +180,36 @@ impl Emitting {
         match polled {
             None => Answer::NotMade,
             Some(Poll::Pending) => Answer::Pending,
-            Some(Poll::Ready(receipt)) => self.received(receipt, Answer::Done(receipt.number())),
+            Some(Poll::Ready(receipt)) => self.received(&receipt, Answer::Done(receipt.number())),
         }
     }
 
     fn withdraw(&mut self, rt: &impl Wait) -> Answer {
         match self.emitter.cancel_emit(rt) {
             Withdrawn::Removed => Answer::Removed,
-            Withdrawn::Left(receipt) => self.received(receipt, Answer::Left(receipt.number())),
+            Withdrawn::Left(receipt) => self.received(&receipt, Answer::Left(receipt.number())),
             Withdrawn::Gone => Answer::Gone,
         }
     }
 
     /// Ends the emitter, and says whether it had nothing in flight.
     pub(crate) fn close(self, rt: &impl Wait) -> bool {
+        self.end(rt) == Answer::Gone
+    }
+
+    /// Ends the emitter, and says what became of its emission.
+    pub(crate) fn end(self, rt: &impl Wait) -> Answer {
         let Emitting {
             emitter,
-            id: _,
+            id,
             watcher: _,
         } = self;
-        matches!(emitter.close(rt), Withdrawn::Gone)
+        match emitter.close(rt) {
+            Withdrawn::Removed => Answer::Removed,
+            Withdrawn::Left(receipt) if receipt.emitter() == id => Answer::Left(receipt.number()),
+            Withdrawn::Left(_) => Answer::Foreign,
+            Withdrawn::Gone => Answer::Gone,
+        }
     }
 }
 
@@ -222,6 +236,7 @@ impl Listening {
         match call {
             Call::Subscribe => self.subscribe(rt, flow),
             Call::Next => self.next(rt),
+            Call::Take => self.take(),
             Call::Cancel => self.cancel(rt),
             _ => Answer::NotMade,
         }
@@ -249,6 +264,18 @@ impl Listening {
         match self.watcher.task.enter(|cx| subscription.poll_next(rt, cx)) {
             Poll::Ready(value) => Answer::Value(value),
             Poll::Pending => Answer::Pending,
+        }
+    }
+
+    /// Takes a value without the lock.
+    pub(crate) fn take(&mut self) -> Answer {
+        let Some(subscription) = &mut self.subscription else {
+            return Answer::NotMade;
+        };
+        match subscription.try_next() {
+            Taken::Value(value) => Answer::Value(value),
+            Taken::Nothing => Answer::Nothing,
+            Taken::Overtaken => Answer::Overtaken,
         }
     }
 

@@ -2,9 +2,10 @@
 
 use crate::shared_rows::PLAIN;
 use crate::shared_stage::Answer::{
-    Accepted, Cancelled, Done, Dropped, Pending, Removed, Reset, Subscribed, Value, Waiting,
+    Accepted, Cancelled, Count, Done, Dropped, Full, Nothing, Pending, Removed, Reset, Subscribed,
+    Value, Waiting,
 };
-use crate::shared_stage::Call::{Ask, Cancel, Emit, Next, Subscribe, TakeBack, Try};
+use crate::shared_stage::Call::{Ask, Cancel, Emit, Next, Subscribe, Take, TakeBack, Try};
 use crate::shared_stage::Party::{A, B, First, Owner, Second, Third};
 use crate::shared_stage::{Call, Line, watched};
 use crate::tools::Differences;
@@ -128,6 +129,117 @@ const ROWS: &[Row<'_>] = &[
             ((First, TakeBack, Removed), [1, 1, 1, 0, 0]),
             ((A, Next, Value(0)), [1, 1, 1, 1, 0]),
             ((A, Next, Value(2)), [1, 1, 1, 1, 0]),
+        ],
+    },
+    // The emission waits and sleeps when the value is received without the lock. Who received sees that, and lets it in.
+    Row {
+        name: "a receipt before which an emission fell asleep wakes it",
+        config: Config { extra: 1, ..PLAIN },
+        lines: &[
+            ((A, Subscribe, Subscribed), [0, 0, 0, 0, 0]),
+            ((First, Try(0), Accepted(0)), [0, 0, 0, 0, 0]),
+            ((Second, Emit(1), Waiting), [0, 0, 0, 0, 0]),
+            ((Second, Ask, Pending), [0, 0, 0, 0, 0]),
+            ((A, Next, Value(0)), [0, 0, 0, 1, 0]),
+            ((Second, Ask, Done(1)), [0, 0, 0, 1, 0]),
+            ((A, Next, Value(1)), [0, 0, 0, 1, 0]),
+            ((A, Next, Pending), [0, 0, 0, 1, 0]),
+            // The same once more, after a time in which no emission waited.
+            ((First, Try(2), Accepted(2)), [1, 0, 0, 1, 0]),
+            ((Third, Emit(3), Waiting), [1, 0, 0, 1, 0]),
+            ((Third, Ask, Pending), [1, 0, 0, 1, 0]),
+            ((A, Next, Value(2)), [1, 0, 0, 1, 1]),
+            ((Third, Ask, Done(3)), [1, 0, 0, 1, 1]),
+        ],
+    },
+    Row {
+        name: "a receipt before an emission's last look leaves it room",
+        config: Config { extra: 1, ..PLAIN },
+        lines: &[
+            ((A, Subscribe, Subscribed), [0, 0, 0, 0, 0]),
+            ((First, Try(0), Accepted(0)), [0, 0, 0, 0, 0]),
+            ((A, Take, Value(0)), [0, 0, 0, 0, 0]),
+            ((Second, Emit(1), Accepted(1)), [0, 0, 0, 0, 0]),
+            ((Third, Emit(2), Waiting), [0, 0, 0, 0, 0]),
+            ((A, Take, Value(1)), [0, 0, 0, 0, 0]),
+            ((Third, Ask, Done(2)), [0, 0, 0, 0, 0]),
+            ((A, Take, Value(2)), [0, 0, 0, 0, 0]),
+        ],
+    },
+    Row {
+        name: "a subscription that found nothing is woken by what is accepted after that",
+        config: Config { extra: 1, ..PLAIN },
+        lines: &[
+            ((A, Subscribe, Subscribed), [0, 0, 0, 0, 0]),
+            ((B, Subscribe, Subscribed), [0, 0, 0, 0, 0]),
+            ((A, Next, Pending), [0, 0, 0, 0, 0]),
+            // Who takes without the lock doesn't sleep.
+            ((B, Take, Nothing), [0, 0, 0, 0, 0]),
+            ((First, Try(7), Accepted(0)), [1, 0, 0, 0, 0]),
+            ((A, Take, Value(7)), [1, 0, 0, 0, 0]),
+            ((A, Next, Pending), [1, 0, 0, 0, 0]),
+            ((B, Next, Value(7)), [1, 0, 0, 0, 0]),
+            ((First, Emit(8), Accepted(1)), [2, 0, 0, 0, 0]),
+            ((A, Next, Value(8)), [2, 0, 0, 0, 0]),
+        ],
+    },
+    Row {
+        name: "a value that is taken without the lock wakes nobody, and the next count does",
+        config: Config { extra: 1, ..PLAIN },
+        lines: &[
+            ((A, Subscribe, Subscribed), [0, 0, 0, 0, 0]),
+            ((First, Try(0), Accepted(0)), [0, 0, 0, 0, 0]),
+            ((Second, Emit(1), Waiting), [0, 0, 0, 0, 0]),
+            ((Second, Ask, Pending), [0, 0, 0, 0, 0]),
+            ((A, Take, Value(0)), [0, 0, 0, 0, 0]),
+            // Nobody has taken the lock, so nothing was accepted.
+            ((A, Take, Nothing), [0, 0, 0, 0, 0]),
+            ((Owner, Call::Count, Count(1)), [0, 0, 0, 1, 0]),
+            ((A, Take, Value(1)), [0, 0, 0, 1, 0]),
+            ((Second, Ask, Done(1)), [0, 0, 0, 1, 0]),
+        ],
+    },
+    // It is accepted before the try is, which then finds no room.
+    Row {
+        name: "after a value was taken without the lock, a try lets in what waits",
+        config: Config { extra: 1, ..PLAIN },
+        lines: &[
+            ((A, Subscribe, Subscribed), [0, 0, 0, 0, 0]),
+            ((First, Try(0), Accepted(0)), [0, 0, 0, 0, 0]),
+            ((Second, Emit(1), Waiting), [0, 0, 0, 0, 0]),
+            ((Second, Ask, Pending), [0, 0, 0, 0, 0]),
+            ((A, Take, Value(0)), [0, 0, 0, 0, 0]),
+            ((First, Try(2), Full), [0, 0, 0, 1, 0]),
+            ((Second, Ask, Done(1)), [0, 0, 0, 1, 0]),
+        ],
+    },
+    // B received all that was accepted, and sleeps.
+    Row {
+        name: "after a value was taken without the lock, a reset lets in what waits",
+        config: Config { extra: 1, ..PLAIN },
+        lines: &[
+            ((A, Subscribe, Subscribed), [0, 0, 0, 0, 0]),
+            ((B, Subscribe, Subscribed), [0, 0, 0, 0, 0]),
+            ((First, Try(0), Accepted(0)), [0, 0, 0, 0, 0]),
+            ((B, Take, Value(0)), [0, 0, 0, 0, 0]),
+            ((B, Next, Pending), [0, 0, 0, 0, 0]),
+            ((Second, Emit(1), Waiting), [0, 0, 0, 0, 0]),
+            ((Second, Ask, Pending), [0, 0, 0, 0, 0]),
+            ((A, Take, Value(0)), [0, 0, 0, 0, 0]),
+            ((Owner, Call::Reset, Reset), [0, 1, 0, 1, 0]),
+            ((B, Next, Value(1)), [0, 1, 0, 1, 0]),
+        ],
+    },
+    Row {
+        name: "a handed over value that is taken without the lock wakes nobody, and the next count does",
+        config: PLAIN,
+        lines: &[
+            ((A, Subscribe, Subscribed), [0, 0, 0, 0, 0]),
+            ((First, Emit(4), Waiting), [0, 0, 0, 0, 0]),
+            ((First, Ask, Pending), [0, 0, 0, 0, 0]),
+            ((A, Take, Value(4)), [0, 0, 0, 0, 0]),
+            ((Owner, Call::Count, Count(1)), [0, 0, 1, 0, 0]),
+            ((First, Ask, Done(0)), [0, 0, 1, 0, 0]),
         ],
     },
 ];

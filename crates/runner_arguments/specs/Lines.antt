@@ -2,7 +2,7 @@
 use Rattle.std.specs.Prelude.{◌≡◌, ◌≢◌, ◌⊎◌, ℕ, List, [], Option, Some, None, Result, Ok, Err, codes, bytes_eq, if◌then◌else◌}
 use Rattle.clap.specs.Words.{App, fault_of, first_of, matches_of, new_app, new_rule, with_rule}
 use Rattle.runner_arguments.specs.declared.EngineName.{EngineName}
-use Rattle.runner_arguments.specs.declared.EngineName.TheVariants.{Core}
+use Rattle.runner_arguments.specs.declared.EngineName.TheVariants.{Core, Lane}
 use Rattle.runner_arguments.specs.declared.ArgumentsFault.{ArgumentsFault}
 use Rattle.runner_arguments.specs.declared.ArgumentsFault.TheVariants.{Usage, NoMemory}
 
@@ -16,7 +16,9 @@ engine_word words = first_of (codes "engine") (matches_of runner words)
 
 abbrev pub named : Option (List ℕ) → Option EngineName
 named None = Some Core
-named (Some word) = if bytes_eq word (codes "core") then Some Core else None
+named (Some word) =
+    if bytes_eq word (codes "core") then Some Core
+    else (if bytes_eq word (codes "lane") then Some Lane else None)
 
 -- An engine comes where the option parser finds no fault in the words, and is the one that they name. A refusal for the
 -- words comes only where the parser finds a fault, or where they name none.

@@ -17,6 +17,8 @@ use thiserror::Error;
 pub enum EngineName {
     /// `core`, which is also what no word stands for.
     Core,
+    /// `lane`.
+    Lane,
 }
 
 /// Why a command line names no engine.
@@ -36,6 +38,7 @@ fn named(word: Option<&str>) -> Option<EngineName>
 {
     match word {
         None | Some("core") => Some(EngineName::Core),
+        Some("lane") => Some(EngineName::Lane),
         Some(_) => None,
     }
 }

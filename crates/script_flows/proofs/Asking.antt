@@ -32,7 +32,7 @@ misses those those' index asked same = misses_at (slice_get those index) those t
 pub ends : (those those' : List Bool) (index : ℕ) (lived : Bool) → Some lived ≡ ended those index → those' ≡ slice_set those index false → (Some (cancel_answer lived), those') ≡ kept those (cancelled index those)
 ends those those' index lived is set = rw (← is) cc
 
-set_none : (those : List Bool) (index : ℕ) → None ≡ slice_get those index → slice_set those index false ≡ those
+pub set_none : (those : List Bool) (index : ℕ) → None ≡ slice_get those index → slice_set those index false ≡ those
 set_none [] index none = refl
 set_none (lives ∷ those) zero none = absurd cc
 set_none (lives ∷ those) (suc index) none = ap (λ rest. lives ∷ rest) (set_none those index none)

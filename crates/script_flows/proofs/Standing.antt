@@ -18,7 +18,7 @@ use Rattle.script_flows.specs.Buffered.{ShowsBuffer, FollowsBuffer}
 use Rattle.script_flows.specs.Buffers.{Buffering}
 use Rattle.script_flows.specs.Findings.{Finding, plain, refused, lacking, of_memory, of_numbers, of_places, waited, lack_in, was_refused}
 use Rattle.script_flows.specs.Objects.{Stands, Asks, Joins}
-use Rattle.script_flows.specs.Things.{Thing, flow, state, stated, buffer, share, kept, as_thing, ask, join, ask_flow, ask_buffer, join_flow, Joined, join_collectors, join_subscriptions}
+use Rattle.script_flows.specs.Things.{Thing, flow, lane, state, stated, buffer, share, kept, as_thing, ask, join, ask_flow, ask_buffer, join_flow, Joined, join_collectors, join_subscriptions}
 use Rattle.script_flows.specs.Watching.{collecting}
 
 kept_as : {A S : Type 0} (kind : S → Thing) (before : S) (came : Option (A × S)) → kept (kind before) (as_thing kind came) ≡ ((kept before came).0, kind (kept before came).1)
@@ -28,6 +28,7 @@ kept_as kind before (Some came) = refl
 flow_asks : (part : Part) (request : Request) (old new : ScriptFlow) (answer : Option Answer) → Follows (λ M. kept M (ask_flow part request M)) old.state answer new.state → (thing : Thing) → Stands (objects.Flow old) thing
     → (finding : Finding) × (answer ≡ (kept thing (ask finding part request thing)).0) × Stands (objects.Flow new) (kept thing (ask finding part request thing)).1
 flow_asks part request old new answer follows (flow M) stands = (let came = follows M stands in (plain, rw (kept_as flow M (ask_flow part request M)) came.0, rw (kept_as flow M (ask_flow part request M)) came.1))
+flow_asks part request old new answer follows (lane those) stands = absurd stands
 flow_asks part request old new answer follows (state those) stands = absurd stands
 flow_asks part request old new answer follows (stated those) stands = absurd stands
 flow_asks part request old new answer follows (buffer buffering) stands = absurd stands
@@ -39,6 +40,7 @@ flow_asked part request old new answer follows = λ thing stands. flow_asks part
 flow_joins : (part : Part) (party : Party) (old new : ScriptFlow) (joined : Option Joined) → Follows (λ M. kept M (join_flow part party M)) old.state joined new.state → (thing : Thing) → Stands (objects.Flow old) thing
     → (finding : Finding) × (joined ≡ (kept thing (join finding part party thing)).0) × Stands (objects.Flow new) (kept thing (join finding part party thing)).1
 flow_joins part party old new joined follows (flow M) stands = (let came = follows M stands in (plain, rw (kept_as flow M (join_flow part party M)) came.0, rw (kept_as flow M (join_flow part party M)) came.1))
+flow_joins part party old new joined follows (lane those) stands = absurd stands
 flow_joins part party old new joined follows (state those) stands = absurd stands
 flow_joins part party old new joined follows (stated those) stands = absurd stands
 flow_joins part party old new joined follows (buffer buffering) stands = absurd stands
@@ -56,6 +58,7 @@ buffer_found false part request old new buffering answer came = (plain, rw (kept
 pub buffer_asks : (part : Part) (request : Request) (old new : ScriptBuffer) (answer : Option Answer) → FollowsBuffer (λ pending before. kept before (ask_buffer pending part request before)) old answer new → (thing : Thing) → Stands (objects.Buffer old) thing
     → (finding : Finding) × (answer ≡ (kept thing (ask finding part request thing)).0) × Stands (objects.Buffer new) (kept thing (ask finding part request thing)).1
 buffer_asks part request old new answer follows (flow M) stands = absurd stands
+buffer_asks part request old new answer follows (lane those) stands = absurd stands
 buffer_asks part request old new answer follows (state those) stands = absurd stands
 buffer_asks part request old new answer follows (stated those) stands = absurd stands
 buffer_asks part request old new answer follows (buffer buffering) stands = (let came = follows buffering stands in buffer_found came.0 part request old new buffering answer came.1)
@@ -65,6 +68,7 @@ buffer_asks part request old new answer follows (share those) stands = absurd st
 pub buffer_joins : (part : Part) (party : Party) (shown : ScriptBuffer) (thing : Thing) → Stands (objects.Buffer shown) thing
     → (finding : Finding) × (None ≡ (kept thing (join finding part party thing)).0) × Stands (objects.Buffer shown) (kept thing (join finding part party thing)).1
 buffer_joins part party shown (flow M) stands = absurd stands
+buffer_joins part party shown (lane those) stands = absurd stands
 buffer_joins part party shown (state those) stands = absurd stands
 buffer_joins part party shown (stated those) stands = absurd stands
 buffer_joins part party shown (buffer buffering) stands = (plain, refl, stands)

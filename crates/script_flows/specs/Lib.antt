@@ -1,9 +1,9 @@
 pub mod Watching
 pub mod Buffers
 pub mod Buffered
-pub mod Shares
 pub mod Ticks
 pub mod Parts
 pub mod Findings
 pub mod Things
+pub mod Lives
 pub mod Objects

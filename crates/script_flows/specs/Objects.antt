@@ -6,6 +6,7 @@ use Rattle.script_pipes.specs.declared.answer.Answer.{Answer}
 use Rattle.script_pipes.specs.declared.request.Party.{Party}
 use Rattle.script_pipes.specs.declared.request.Request.{Request}
 use Rattle.script_pipes.specs.Commands.{Made}
+use Rattle.script_flows.specs.declared.engine.Engine.{Engine}
 use Rattle.script_flows.specs.declared.object.Object.{Object}
 use Rattle.script_flows.specs.declared.object.Object.TheVariants as objects
 use Rattle.script_flows.specs.declared.part.Part.{Part}
@@ -13,22 +14,23 @@ use Rattle.script_flows.specs.declared.remains.Remains.{Remains}
 use Rattle.script_flows.specs.declared.remains.Remains.TheVariants.{Nothing, Seat, Seats, Flow}
 use Rattle.script_flows.specs.Buffered.{ShowsBuffer}
 use Rattle.script_flows.specs.Findings.{Finding, RefusedFor}
-use Rattle.script_flows.specs.Shares.{live}
-use Rattle.script_flows.specs.Things.{Thing, flow, state, stated, buffer, share, kept, ask, join, Joined, refused_with, thing_of}
+use Rattle.script_flows.specs.Lives.{live, parties_of}
+use Rattle.script_flows.specs.Things.{Thing, flow, lane, state, stated, buffer, share, kept, ask, join, Joined, refused_with, thing_of}
 use Rattle.script_flows.specs.Watching.{standing}
 
 abbrev pub Stands : Object → Thing → Type 0
 Stands (objects.Flow shown) (flow M) = Shows shown.state M
+Stands (objects.Lane shown) (lane those) = parties_of shown.subscriptions shown.emissions ≡ those
 Stands (objects.State watched) (state collectors) = standing watched ≡ collectors
 Stands (objects.Stated shown) (stated collectors) = standing shown.state ≡ collectors
 Stands (objects.Buffer shown) (buffer buffering) = ShowsBuffer shown buffering
-Stands (objects.Share shared) (share subscriptions) = live shared ≡ subscriptions
+Stands (objects.Share shared) (share subscriptions) = live shared.subscriptions ≡ subscriptions
 Stands object thing = ⊥
 
 -- what was made stands for the thing, or it was refused for what it is made with, or for want of memory
-abbrev pub Makes : Made → Result Object Refusal → Type 0
-Makes made (Ok object) = (refused_with made ≡ None) × Stands object (thing_of made)
-Makes made (Err refusal) = RefusedFor (refused_with made) refusal
+abbrev pub Makes : Engine → Made → Result Object Refusal → Type 0
+Makes engine made (Ok object) = (refused_with made ≡ None) × Stands object (thing_of engine made)
+Makes engine made (Err refusal) = RefusedFor (refused_with made) refusal
 
 -- Whatever the old object stands for, the call's result is that of the thing, by what it found, and the new object stands for
 -- what is left of the thing.
@@ -44,11 +46,12 @@ abbrev pub Joins : Part → Party → Object → Option Joined → Object → Ty
 Joins part party old joined new = Comes (λ finding. join finding part party) old joined new
 
 -- What is left of an object that was closed: of a state the seat, to which all collectors gave theirs back, beside the one that
--- set it from a source; of a flow that shared a source the flow
+-- set it from a source; of a flow for threads the flow
 abbrev pub Leaves : Object → Remains → Type 0
 Leaves (objects.State watched) (Seat seat) = seat.view.share ≡ 9
 Leaves (objects.Stated shown) (Seats setter seat) = (setter ≡ shown.sharing.seat) × (seat.view.share ≡ 9)
 Leaves (objects.Share shared) (Flow left) = left ≡ shared.flow
+Leaves (objects.Lane shown) (Flow left) = left ≡ shown.flow
 Leaves (objects.Flow shown) Nothing = Unit {0}
 Leaves (objects.Buffer shown) Nothing = Unit {0}
 Leaves object remains = ⊥

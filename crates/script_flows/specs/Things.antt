@@ -1,9 +1,13 @@
 -- What a name of a script may stand for, and what each kind answers the commands that it knows.
-use Rattle.std.specs.Prelude.{◌≡◌, ℕ, Bool, true, false, List, [], ◌∷◌, ◌++◌, length, Option, Some, None, slice_get, slice_set, nat_lt, if◌then◌else◌}
+use Rattle.std.specs.Prelude.{◌≡◌, ℕ, Bool, true, false, List, [], ◌∷◌, ◌++◌, length, slice_get, slice_set, nat_lt, if◌then◌else◌}
+use Rattle.std.specs.Prelude.{Option, Some, None, Result, Ok, Err}
 use Rattle.std.specs.Option.{option_map}
 use Rattle.flow_terms.specs.declared.policy.Policy.{Policy}
 use Rattle.flow_terms.specs.declared.refusal.Refusal.{Refusal}
-use Rattle.flow_terms.specs.declared.refusal.Refusal.TheVariants.{NoMemory, SubscribersFull}
+use Rattle.flow_terms.specs.declared.refusal.Refusal.TheVariants.{NoMemory, Spent, SubscribersFull}
+use Rattle.flow_terms.specs.declared.answers.Begun.{Begun}
+use Rattle.flow_terms.specs.declared.answers.Begun.TheVariants as starts
+use Rattle.flow_terms.specs.declared.answers.Tried.{Tried}
 use Rattle.flow_buffer.specs.Capacity.{refused_capacity}
 use Rattle.shared_core.specs.declared.config.Config.{Config}
 use Rattle.shared_core.specs.Flow.{State, empty}
@@ -20,18 +24,34 @@ use Rattle.script_pipes.specs.Commands.{Made}
 use Rattle.script_pipes.specs.Commands as commands
 use Rattle.script_pipes.specs.Replies.{try_answer, emit_answer, poll_answer, withdraw_answer, subscribe_answer, next_answer}
 use Rattle.script_pipes.specs.Replies.{cancel_answer, fill_answer, take_answer}
+use Rattle.script_flows.specs.declared.engine.Engine.{Engine}
+use Rattle.script_flows.specs.declared.engine.Engine.TheVariants.{Core, Lane}
 use Rattle.script_flows.specs.declared.part.Part.{Part}
-use Rattle.script_flows.specs.declared.part.Part.TheVariants.{Whole, Subscription, InFlight, Finished, Collector, Subscriber}
+use Rattle.script_flows.specs.declared.part.Part.TheVariants.{Whole, Subscription, InFlight, Finished, Collector, Subscriber, Emission}
 use Rattle.script_flows.specs.Buffers.{Buffering, begun, filled, taken}
-use Rattle.script_flows.specs.Findings.{Finding, Lack, was_refused, lack_in, read_in, compared_in, received_in, has_waited, cached_in, ticked_in, refusal_for}
+use Rattle.script_flows.specs.Findings.{Finding, Lack, refusal_for, emission_refusal_for}
+use Rattle.script_flows.specs.Findings.{was_refused, lack_in, read_in, compared_in, received_in, has_waited}
+use Rattle.script_flows.specs.Findings.{cached_in, ticked_in, tried_in, begun_in, is_done, given_up_in}
 use Rattle.script_flows.specs.Parts.{subscription_in, emission_in}
 use Rattle.script_flows.specs.Ticks.{tick_answer}
 use Rattle.script_flows.specs.Watching.{collecting}
 use Rattle.script_words.specs.Words.{◌>>=◌}
 
+-- who joined a flow on a lane
+pub record Parties : Type 0 where
+  -- for each subscription that it has had, whether it is live still
+  pub subscriptions : List Bool
+  -- for each emission that had to wait, whether it is in flight still
+  pub emissions : List Bool
+
+abbrev pub nobody : Parties
+nobody = record { subscriptions = []; emissions = [] }
+
 pub data Thing : Type 0 where
-  -- a flow, as its model has it
+  -- a flow on one thread, as its model has it
   flow : State ℕ → Thing
+  -- a flow on a lane
+  lane : Parties → Thing
   -- a state: for each collector that it has had, whether it collects still
   state : List Bool → Thing
   -- a state that is set from a source
@@ -54,12 +74,17 @@ refused_with (commands.buffer capacity policy origin) = refused_capacity capacit
 refused_with (commands.share replay extra policy started origin) = making_refusal (config_of replay extra policy)
 refused_with (commands.stated value started origin) = None
 
-abbrev pub thing_of : Made → Thing
-thing_of (commands.shared replay extra policy) = flow (empty (parameters_of (config_of replay extra policy)))
-thing_of (commands.state value) = state []
-thing_of (commands.buffer capacity policy origin) = buffer (begun capacity policy origin)
-thing_of (commands.share replay extra policy started origin) = share []
-thing_of (commands.stated value started origin) = stated []
+-- a flow stands on the script's engine
+abbrev pub flow_on : Engine → Config → Thing
+flow_on Core config = flow (empty (parameters_of config))
+flow_on Lane config = lane nobody
+
+abbrev pub thing_of : Engine → Made → Thing
+thing_of engine (commands.shared replay extra policy) = flow_on engine (config_of replay extra policy)
+thing_of engine (commands.state value) = state []
+thing_of engine (commands.buffer capacity policy origin) = buffer (begun capacity policy origin)
+thing_of engine (commands.share replay extra policy started origin) = share []
+thing_of engine (commands.stated value started origin) = stated []
 
 -- ---- what is asked: the answer and what stands after it, or nothing where it is no command for that part
 
@@ -141,12 +166,58 @@ ask_share finding (Subscriber index) requests.Next subscriptions = receive findi
 ask_share finding (Subscriber index) requests.Cancel subscriptions = cancelled index subscriptions
 ask_share finding part request subscriptions = None
 
+-- a call's answer as that of all parties, where it changed some of them
+abbrev pub as_parties : {A : Type 0} → (List Bool → Parties) → Option (A × List Bool) → Option (A × Parties)
+as_parties put came = option_map (λ c. (c.0, put c.1)) came
+
+abbrev pub with_subscriptions : Parties → List Bool → Parties
+with_subscriptions those subscriptions = record those { subscriptions = subscriptions }
+
+abbrev pub with_emissions : Parties → List Bool → Parties
+with_emissions those emissions = record those { emissions = emissions }
+
+abbrev pub tried_answer : Option (Tried ℕ) → Answer
+tried_answer (Some answer) = try_answer (Ok answer)
+tried_answer None = answers.Refused Spent
+
+-- an emission in flight is finished, or waits
+abbrev pub polled_emission : Bool → ℕ → List Bool → Answer × List Bool
+polled_emission true index emissions = (answers.Finished, slice_set emissions index false)
+polled_emission false index emissions = (answers.Waiting, emissions)
+
+-- one of the emissions that had to wait was polled: one that isn't in flight is gone
+abbrev pub poll_one : Finding → ℕ → List Bool → Option (Answer × List Bool)
+poll_one finding index emissions = do
+  stands ← slice_get emissions index
+  Some (if stands then polled_emission (is_done finding) index emissions else (answers.Gone, emissions))
+
+-- one of them was given up
+abbrev pub give_up_one : Finding → ℕ → List Bool → Option (Answer × List Bool)
+give_up_one finding index emissions = do
+  stands ← slice_get emissions index
+  Some ((if stands then withdraw_answer (given_up_in finding) else answers.Gone), slice_set emissions index false)
+
+abbrev pub ask_lane : Finding → Part → Request → Parties → Option (Answer × Parties)
+ask_lane finding Whole (requests.Try value) those = Some (tried_answer (tried_in finding), those)
+ask_lane finding Whole requests.Reset those = Some (answers.Done, those)
+ask_lane finding Whole requests.Cache those = Some (cached_answer (cached_in finding), those)
+ask_lane finding Whole requests.Count those = Some (answers.Number (read_in finding), those)
+ask_lane finding (Subscriber index) requests.Next those = as_parties (with_subscriptions those) (receive finding index those.subscriptions)
+ask_lane finding (Subscriber index) requests.Cancel those = as_parties (with_subscriptions those) (cancelled index those.subscriptions)
+ask_lane finding (Emission index) requests.Poll those = as_parties (with_emissions those) (poll_one finding index those.emissions)
+ask_lane finding (Emission index) requests.Withdraw those = as_parties (with_emissions those) (give_up_one finding index those.emissions)
+-- an emission that was finished at once is known no more
+ask_lane finding Finished requests.Poll those = Some (answers.Gone, those)
+ask_lane finding Finished requests.Withdraw those = Some (answers.Gone, those)
+ask_lane finding part request those = None
+
 abbrev pub as_thing : {A S : Type 0} → (S → Thing) → Option (A × S) → Option (A × Thing)
 as_thing kind came = option_map (λ c. (c.0, kind c.1)) came
 
 -- WHAT A THING ANSWERS, where this is a name's part of it, and what stands after it
 abbrev pub ask : Finding → Part → Request → Thing → Option (Answer × Thing)
 ask finding part request (flow M) = as_thing flow (ask_flow part request M)
+ask finding part request (lane those) = as_thing lane (ask_lane finding part request those)
 ask finding part request (state collectors) = as_thing state (ask_state finding part request collectors)
 ask finding part request (stated collectors) = as_thing stated (ask_stated finding part request collectors)
 ask finding part request (buffer buffering) = as_thing buffer (ask_buffer (has_waited finding) part request buffering)
@@ -190,9 +261,23 @@ abbrev pub join_share : Finding → Part → Party → List Bool → Option (Joi
 join_share finding Whole parties.Subscription subscriptions = Some (join_subscriptions (lack_in finding) subscriptions)
 join_share finding part party subscriptions = None
 
+-- an emission is named, and one that has to wait is one more of those in flight
+abbrev pub join_emission : Result (Begun ℕ (Unit {0})) Lack → Parties → Joined × Parties
+join_emission (Ok (starts.Accepted number)) those = ((answers.Accepted, Some Finished), those)
+join_emission (Ok starts.Dropped) those = ((answers.Dropped, Some Finished), those)
+join_emission (Ok (starts.Waiting ticket)) those =
+    ((answers.Waiting, Some (Emission (length those.emissions))), with_emissions those (those.emissions ++ (true ∷ [])))
+join_emission (Err lack) those = ((answers.Refused (emission_refusal_for lack), None), those)
+
+abbrev pub join_lane : Finding → Part → Party → Parties → Option (Joined × Parties)
+join_lane finding Whole parties.Subscription those = as_parties (with_subscriptions those) (Some (join_subscriptions (lack_in finding) those.subscriptions))
+join_lane finding Whole (parties.Emission value) those = Some (join_emission (begun_in finding) those)
+join_lane finding part party those = None
+
 -- WHAT JOINS A THING, where this is a name's part of it, and what stands after it
 abbrev pub join : Finding → Part → Party → Thing → Option (Joined × Thing)
 join finding part party (flow M) = as_thing flow (join_flow part party M)
+join finding part party (lane those) = as_thing lane (join_lane finding part party those)
 join finding part party (state collectors) = as_thing state (join_state finding part party collectors)
 join finding part party (stated collectors) = as_thing stated (join_state finding part party collectors)
 join finding part party (buffer buffering) = None

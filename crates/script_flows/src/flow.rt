@@ -1,4 +1,4 @@
-//! A shared flow of a script.
+//! A shared flow of a script that stands on one thread.
 
 ghost use Rattle.std.specs.Prelude.{◌≡◌, IfOk};
 ghost use Rattle.shared_core.specs.Flow.{cache, empty};
@@ -17,7 +17,7 @@ use std::alloc::{AllocError, Global};
 const SEATS: u32 = 8;
 
 /// The emitter that stands behind each emission of a script.
-const EMITTER: u32 = 0;
+pub(crate) const EMITTER: u32 = 0;
 
 /// What a script's flows are made with.
 pub(crate) fn config_of(replay: u64, extra: u64, policy: Policy) -> Config
@@ -45,7 +45,7 @@ fn cached(alloc: Global, flow: &SharedState<u64>) -> Result<Vec<u64>, AllocError
     Ok(values)
 }
 
-/// A shared flow of a script.
+/// A shared flow of a script that stands on one thread.
 #[derive(Drop)]
 pub struct ScriptFlow {
     state: SharedState<u64>,

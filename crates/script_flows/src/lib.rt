@@ -4,16 +4,22 @@
 //! `flow_script` finds each by its name, and writes what it answers.
 #![tactic(auto)]
 
+mod answers;
 mod buffer;
+mod emissions;
+mod engine;
 mod flow;
+mod lane_flow;
 mod object;
 mod part;
 mod remains;
 mod share;
 mod stated;
+mod subscriptions;
 mod ticked;
 mod watched;
 
+pub use engine::Engine;
 pub use object::Object;
 pub use part::Part;
 pub use remains::Remains;

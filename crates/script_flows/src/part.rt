@@ -10,16 +10,18 @@ use flow_terms::{Begun, Refusal, SubId, Ticket};
 pub enum Part {
     /// The object itself.
     Whole,
-    /// A subscription of a flow.
+    /// A subscription of a flow on one thread.
     Subscription(SubId),
-    /// An emission that was given this ticket.
+    /// An emission into a flow on one thread that was given this ticket.
     InFlight(Ticket),
     /// An emission that was accepted or dropped at once.
     Finished,
     /// The collector with this index among all that a state has had.
     Collector(usize),
-    /// The subscription with this index among all that a flow that shares a source has had.
+    /// The subscription with this index among all that a flow for threads has had.
     Subscriber(usize),
+    /// The emission with this index among all that had to wait in a flow for threads.
+    Emission(usize),
 }
 
 impl Part {

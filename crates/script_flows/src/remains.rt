@@ -6,7 +6,7 @@ use state_flow::StateSeat;
 /// What is left of an object that was closed.
 #[derive(Drop)]
 pub enum Remains {
-    /// Nothing: of a shared flow, and of a buffer.
+    /// Nothing: of a shared flow on one thread, and of a buffer.
     Nothing,
     /// Of a state: its seat, with the shares of all.
     Seat(StateSeat<u64>),
@@ -15,6 +15,6 @@ pub enum Remains {
         setter: StateSeat<u64>,
         seat: StateSeat<u64>,
     },
-    /// Of a flow that shared a source: the flow, without subscriptions.
+    /// Of a flow for threads: the flow, without subscriptions, emissions and sharing.
     Flow(SharedFlow<u64>),
 }

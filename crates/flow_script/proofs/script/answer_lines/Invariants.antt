@@ -4,7 +4,7 @@ use Rattle.flow_script.proofs.script.answer_lines.Given as goal
 
 abbrev pub invariant-loop-line : goal.invariant-loop-line
 invariant-loop-line g l = record {
-  progress : Progress (g.W.Write.contents l.fn.writer) (g.W.Write.contents l.writer) l.script l.number l.runner l.lines.rest.now;
+  progress : Progress l.fn.runner.engine (g.W.Write.contents l.fn.writer) (g.W.Write.contents l.writer) l.script l.number l.runner l.lines.rest.now;
   room : l.number + length l.lines.rest.now ≤ 1048576;
 }
 

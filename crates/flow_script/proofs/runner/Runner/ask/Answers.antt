@@ -13,5 +13,5 @@ returns-in_default-get_mut g c = λ world p. (plain, unmade c.args.request c.arg
 pub returns : goal.returns
 returns g c =
     IfOk-weaker c.ask-answer.result _ _
-    (λ answer asks world p. asked c.args.request c.args.self.now _ world c.args.name.now c.in-Some.binding c.in-Some-get_mut.object.now c.ask-answer.new.self answer p c.in-Some.ensures (c.in-Some-get_mut.ensures.variant.0 refl) c.in-Some-get_mut.ensures.value asks refl refl)
+    (λ answer asks world p. asked c.args.request c.args.self.now _ world c.args.name.now c.in-Some.binding c.in-Some-get_mut.object.now c.ask-answer.new.self answer p c.in-Some.ensures (c.in-Some-get_mut.ensures.variant.0 refl) c.in-Some-get_mut.ensures.value asks refl refl refl)
     c.ask-answer.ensures

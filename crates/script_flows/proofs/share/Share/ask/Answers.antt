@@ -1,4 +1,4 @@
-use Rattle.std.proofs.Common.{rules, Some, None}
+use Rattle.std.proofs.Common.{rules}
 use Rattle.script_flows.specs.Findings.{plain, read, cached, ticked}
 use Rattle.script_flows.proofs.Asking.{receives, misses, ends, none_ends}
 use Rattle.script_flows.proofs.share.Share.ask.Goals as goal
@@ -9,14 +9,11 @@ returns-in_err-next-in-Subscriber-Next g c = (plain, rw (c.from_residual.ensures
 pub returns-in_err-cancel-in-Subscriber-Cancel : goal.returns-in_err-cancel-in-Subscriber-Cancel
 returns-in_err-cancel-in-Subscriber-Cancel g c = (plain, rw (c.from_residual-in_err-cancel-in-Subscriber-Cancel.ensures, c.in-Subscriber-Cancel.is-0, c.in-Subscriber-Cancel.is-1) (none_ends _ _ c.in-Subscriber-Cancel.index c.in_err-cancel-in-Subscriber-Cancel.ensures.ended c.cancel.ensures.live))
 
-pub returns-in-Ok : goal.returns-in-Ok
-returns-in-Ok g c = (cached (Some c.in-Ok.values.items), search rules)
-
-pub returns-in-Err : goal.returns-in-Err
-returns-in-Err g c = (cached None, search rules)
+pub returns-in-Whole-Cache : goal.returns-in-Whole-Cache
+returns-in-Whole-Cache g c = (cached c.cache_answer.ensures.0, search rules)
 
 pub returns-in-Whole-Count : goal.returns-in-Whole-Count
-returns-in-Whole-Count g c = (read c.count.result, search rules)
+returns-in-Whole-Count g c = (read c.count_answer.ensures.0, search rules)
 
 pub returns-in-Whole-Tick : goal.returns-in-Whole-Tick
 returns-in-Whole-Tick g c = (ticked c.tick.result, search rules)

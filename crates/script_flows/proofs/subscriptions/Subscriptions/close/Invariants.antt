@@ -1,4 +1,4 @@
-use Rattle.script_flows.proofs.share.Share.close.Given as goal
+use Rattle.script_flows.proofs.subscriptions.Subscriptions.close.Given as goal
 
 abbrev pub invariant-loop-place : goal.invariant-loop-place
 invariant-loop-place g l = Unit {0}

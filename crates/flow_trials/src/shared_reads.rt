@@ -1,0 +1,318 @@
+//! What a subscription of a shared flow reads without the lock: while the lock is kept, when it was told, and its own counts.
+
+ghost use Rattle.std.specs.Prelude.{◌≡◌, None, IfSome};
+ghost use Rattle.shared_flow.specs.Parties.{OfFlow};
+ghost use Rattle.shared_lane.specs.Readers.{IsReceiptOf};
+
+use crate::shared_rows::PLAIN;
+use crate::shared_stage::Answer::{
+    Accepted, Done, NotMade, Nothing, Pending, Subscribed, Value, Waiting,
+};
+use crate::shared_stage::Call::{Ask, Emit, Subscribe, Try};
+use crate::shared_stage::{Answer, Emitting, Listening};
+use crate::tools::assert_same;
+use cold_flow::Policy;
+use shared_core::{Config, Tried};
+use shared_flow::{Emitter, Held, Met, Receipt, SharedFlow, Subscription, Taken};
+use std::alloc::AllocGlobal;
+use std::process::Abort;
+use std::random::RandomSource;
+use std::sync::Wait;
+use std::sync::atomic::{AtomicBool, Ordering};
+use std::test::Fail;
+use std::thread;
+use std::thread::{Threads, yield_now};
+
+/// How often a thread asks at most. It yields where it gets nothing.
+const TURNS: u32 = 1_000_000;
+
+/// Three values may be pending, and two are kept.
+const KEEPS_TWO: Config = Config {
+    replay: 2,
+    extra: 1,
+    ..PLAIN
+};
+
+/// What a flow shows whose lock is kept: how many subscriptions are live, and the two values of the replay cache.
+#[derive(Clone, Copy, Debug, PartialEq, Eq)]
+struct Shown {
+    count: u32,
+    cache: Option<[u64; 2]>,
+}
+
+fn look_at(held: &Held<'_, u64>) -> Shown {
+    let length = held.replay_len();
+    let cache = if length == 2 {
+        Some([held.replay_at(0), held.replay_at(1)])
+    } else {
+        None
+    };
+    Shown {
+        count: held.count(),
+        cache,
+    }
+}
+
+/// How far the thread that keeps the lock is, and the one that receives.
+#[derive(Drop)]
+struct Signals {
+    is_held: AtomicBool,
+    is_over: AtomicBool,
+}
+
+// Waits until a thread has said how far it is, and says whether it has.
+fn was_set(signal: &AtomicBool) -> bool {
+    for _ in 0..TURNS {
+        if signal.load(Ordering::SeqCst) {
+            return true;
+        }
+        yield_now();
+    }
+    false
+}
+
+// Keeps the lock until the values were taken. What the flow showed at first and at last, and whether they were taken.
+fn keep_lock(
+    rt: &impl Wait,
+    flow: &mut SharedFlow<u64>,
+    signals: &Signals,
+) -> (Shown, Shown, bool) {
+    let held = flow.hold(rt);
+    let first = look_at(&held);
+    signals.is_held.store(true, Ordering::SeqCst);
+    let is_over = was_set(&signals.is_over);
+    let last = look_at(&held);
+    held.release(rt);
+    (first, last, is_over)
+}
+
+// Takes three values while the lock is kept, and looks for a fourth.
+fn take_four(listening: &mut Listening, signals: &Signals) -> [Answer; 4] {
+    let answers = if was_set(&signals.is_held) {
+        [
+            listening.take(),
+            listening.take(),
+            listening.take(),
+            listening.take(),
+        ]
+    } else {
+        [NotMade; 4]
+    };
+    signals.is_over.store(true, Ordering::SeqCst);
+    answers
+}
+
+// Emits a fourth value once the lock is kept, which is then given back.
+fn emit_fourth(rt: &impl Wait, emitting: &mut Emitting, signals: &Signals) -> Answer {
+    if was_set(&signals.is_held) {
+        emitting.perform(rt, Try(4))
+    } else {
+        NotMade
+    }
+}
+
+// An emitter whose first three values are accepted.
+fn three_accepted<R>(rt: &R, flow: &mut SharedFlow<u64>) -> Emitting
+where
+    R: Wait + Abort + RandomSource + AllocGlobal,
+{
+    let mut emitting = Emitting::new(rt, flow, 1);
+    let answers = [
+        emitting.perform(rt, Try(1)),
+        emitting.perform(rt, Try(2)),
+        emitting.perform(rt, Try(3)),
+    ];
+    assert_same(
+        rt,
+        "three values",
+        answers,
+        [Accepted(0), Accepted(1), Accepted(2)],
+    );
+    emitting
+}
+
+// A thread takes what is there while another keeps the lock and a third waits for it.
+#[test]
+fn readers_pass_a_held_lock(rt: HostRuntime) -> Result<(), Fail> {
+    let mut flow = SharedFlow::new(rt.alloc(), KEEPS_TWO)?;
+    let signals = Signals {
+        is_held: AtomicBool::new(false),
+        is_over: AtomicBool::new(false),
+    };
+    let mut listening = Listening::new(&rt);
+    let subscribed = listening.perform(&rt, &mut flow, Subscribe);
+    let mut emitting = three_accepted(&rt, &mut flow);
+    let (kept, (taken, fourth)) = thread::join(
+        &rt,
+        || keep_lock(&rt, &mut flow, &signals),
+        || thread::join(
+            &rt,
+            || take_four(&mut listening, &signals),
+            || emit_fourth(&rt, &mut emitting, &signals),
+        ),
+    );
+    let received = listening.next(&rt);
+    let idle = emitting.close(&rt);
+    listening.leave(&rt);
+    let wanted = Shown {
+        count: 1,
+        cache: Some([2, 3]),
+    };
+    assert_same(&rt, "what was shown", kept, (wanted, wanted, true));
+    assert_same(
+        &rt,
+        "values without the lock",
+        taken,
+        [Value(1), Value(2), Value(3), Nothing],
+    );
+    assert_same(
+        &rt,
+        "after the release",
+        (subscribed, fourth, received, idle),
+        (Subscribed, Accepted(3), Value(4), true),
+    );
+    Ok(())
+}
+
+// An emission waited before, and was let in and asked for. So a receipt takes no lock any more: with it, it would wait for good.
+#[test]
+fn a_ready_poll_passes_a_held_lock(rt: HostRuntime) -> Result<(), Fail> {
+    let mut flow = SharedFlow::new(rt.alloc(), KEEPS_TWO)?;
+    let mut listening = Listening::new(&rt);
+    let subscribed = listening.perform(&rt, &mut flow, Subscribe);
+    let first = three_accepted(&rt, &mut flow);
+    let mut second = Emitting::new(&rt, &mut flow, 2);
+    let begun = second.perform(&rt, Emit(4));
+    let received = listening.next(&rt);
+    let done = second.perform(&rt, Ask);
+    let held = flow.hold(&rt);
+    let before = look_at(&held);
+    let passed = [
+        listening.next(&rt),
+        listening.take(),
+        listening.next(&rt),
+        listening.take(),
+    ];
+    let after = look_at(&held);
+    held.release(&rt);
+    let pending = listening.next(&rt);
+    let idle = (first.close(&rt), second.close(&rt));
+    listening.leave(&rt);
+    let wanted = Shown {
+        count: 1,
+        cache: Some([3, 4]),
+    };
+    assert_same(
+        &rt,
+        "before",
+        (subscribed, begun, received, done),
+        (Subscribed, Waiting, Value(1), Done(3)),
+    );
+    assert_same(&rt, "what was shown", (before, after), (wanted, wanted));
+    assert_same(
+        &rt,
+        "values without the lock",
+        passed,
+        [Value(2), Value(3), Value(4), Nothing],
+    );
+    assert_same(&rt, "after", (pending, idle), (Pending, (true, true)));
+    Ok(())
+}
+
+// Of five values the first three are dropped, and one of the two that are left is received.
+#[test]
+fn a_subscription_is_counted(rt: HostRuntime) -> Result<(), Fail> {
+    let config = Config {
+        replay: 1,
+        extra: 1,
+        policy: Policy::DropOldest,
+        first: 10,
+        ..PLAIN
+    };
+    let mut flow = SharedFlow::new(rt.alloc(), config)?;
+    let mut emitting = Emitting::new(&rt, &mut flow, 1);
+    let mut subscription = flow.subscribe(&rt).expect(&rt, "a subscription");
+    let mut accepted = NotMade;
+    for value in 1..6 {
+        accepted = emitting.perform(&rt, Try(value));
+    }
+    let taken = subscription.try_next();
+    let mut held = flow.hold(&rt);
+    let met = held.meet(&mut subscription);
+    let kept = (held.count(), held.replay_len());
+    held.release(&rt);
+    let counts = (
+        subscription.start(),
+        subscription.received(),
+        subscription.dropped(),
+    );
+    let last = (subscription.try_next(), subscription.try_next());
+    subscription.cancel(&rt);
+    let idle = emitting.close(&rt);
+    assert_same(&rt, "the last number", accepted, Accepted(14));
+    assert_same(&rt, "the first value that is left", taken, Taken::Value(4));
+    let wanted = Met {
+        accepted: 5,
+        received: 1,
+        dropped: 3,
+    };
+    assert_same(&rt, "met", met, wanted);
+    assert_same(&rt, "count and cache", kept, (1, 1));
+    assert_same(&rt, "start, received, dropped", counts, (10, 1, 3));
+    assert_same(
+        &rt,
+        "the last value",
+        last,
+        (Taken::Value(5), Taken::Nothing),
+    );
+    assert!(rt; idle);
+    Ok(())
+}
+
+// The receipt of a value that is accepted at once.
+fn receipt_of(rt: &impl Wait, emitter: &mut Emitter<u64>, value: u64) -> Option<Receipt>
+    requires { emitter.old.ticket ≡ None }
+    ensures { IfSome result (λ receipt. OfFlow emitter.old.party (λ name. IsReceiptOf name.lane receipt)) }
+{
+    match emitter.try_emit(rt, value) {
+        Ok(Tried::Accepted(receipt)) => Some(receipt),
+        _ => None,
+    }
+}
+
+// Hears of an emission, and takes a value at once.
+fn take_told(subscription: &mut Subscription<u64>, receipt: &mut Receipt) -> Taken<u64>
+    requires { OfFlow subscription.old.party (λ name. IsReceiptOf name.lane receipt.old) }
+{
+    subscription.told(receipt);
+    subscription.try_next()
+}
+
+// A subscription that is lent to another thread is told of a value there, and takes it.
+fn assert_seen<R>(rt: &R, value: u64)
+where
+    R: Wait + Threads + Abort + AllocGlobal + Sync,
+{
+    let config = Config { extra: 1, ..PLAIN };
+    let mut flow = SharedFlow::new(rt.alloc(), config).expect(rt, "a flow");
+    let mut emitter = flow.emitter(rt, 1).expect(rt, "an emitter");
+    let mut subscription = flow.subscribe(rt).expect(rt, "a subscription");
+    let mut receipt = receipt_of(rt, &mut emitter, value).expect(rt, "a receipt");
+    let (taken, ()) = thread::join(rt, || take_told(&mut subscription, &mut receipt), || ());
+    subscription.cancel(rt);
+    let _idle = emitter.close(rt);
+    assert_same(
+        rt,
+        "the receipt",
+        (receipt.emitter(), receipt.number()),
+        (1, 0),
+    );
+    assert_same(rt, "the value", taken, Taken::Value(value));
+}
+
+#[test]
+fn told_reader_sees_value(rt: HostRuntime) {
+    for value in 9..109 {
+        assert_seen(&rt, value);
+    }
+}
