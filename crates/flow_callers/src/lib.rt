@@ -16,7 +16,8 @@ pub use core_calling::{received_in_turn, received_once};
 pub use lane_calling::{drained, emitted_and_taken, taken_from_the_cache};
 pub use merge_calling::{joined_list, zipped_lists};
 pub use shared_calling::{
-    counted_with_cache, emitted, emitted_and_heard, finished, heard_at_once, passed_on, received,
+    asked, awaited, counted_with_cache, emitted, emitted_and_heard, finished, heard_at_once,
+    passed_on, received,
 };
 pub use sharing_calling::first_poll;
 pub use source_calling::{Halve, Repeated, gathered_halves, mapped_halves, repeated_list};

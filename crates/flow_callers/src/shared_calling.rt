@@ -1,12 +1,14 @@
 //! Callers of a shared flow between threads: an emission and a receipt for which a thread sleeps, and both lent to threads; a
-//! subscription that is told of an emission; and a look at the flow while its lock is kept.
+//! question that waits for its answer; a subscription that is told of an emission; and a look at the flow while its lock is kept.
 
-ghost use Rattle.std.specs.Prelude.{◌≡◌, ◌≢◌, ◌<◌, ◌++◌, ◌∷◌, [], ℕ, List, None, Some, Ok, IfOk, IfErr, IfSome, IfNone};
+ghost use Rattle.std.specs.Prelude.{◌≡◌, ◌≢◌, ◌<◌, ◌++◌, ◌∷◌, [], ℕ, List, Option, None, Some, Ok, IfOk, IfErr, IfSome, IfNone};
 ghost use Rattle.flow_terms.specs.declared.refusal.Refusal.TheVariants.{NoMemory};
 ghost use Rattle.shared_lane.specs.Readers.{at};
 ghost use Rattle.shared_lane.specs.declared.reader.Taken.TheVariants.{Nothing};
 ghost use Rattle.shared_flow.specs.declared.round.Round.TheVariants as round;
+ghost use Rattle.shared_lane.specs.Views.{ReceiptSeen};
 ghost use Rattle.shared_flow.specs.Rounds.{IsAfter};
+ghost use Rattle.shared_flow.specs.Emitters.{Emits, emission_by};
 ghost use Rattle.shared_flow.specs.Parties.{IsOwnReceipt, IsSameEmitter, named, with_round};
 ghost use Rattle.shared_flow.specs.Owners.{at_rest};
 ghost use Rattle.flow_callers.specs.SharedCalls.{AreOfOneFlow, HasTaken, IsSameSubscription, WereAtOnce};
@@ -14,7 +16,7 @@ ghost use Rattle.flow_callers.specs.SharedCalls.{AreOfOneFlow, HasTaken, IsSameS
 use cold_flow::Refusal;
 use futures::task::{Doorbell, Poll, Queue};
 use shared_core::{Begun, Tried};
-use shared_flow::{Emitter, Held, Receipt, SharedFlow, Subscription, Taken};
+use shared_flow::{Emitter, Held, Parker, Receipt, SharedFlow, Subscription, Taken};
 use std::alloc::{AllocError, AllocGlobal};
 use std::random::RandomSource;
 use std::sync::Wait;
@@ -135,6 +137,41 @@ where
     }
     let _idle = emitter.close(rt);
     Ok(passed)
+}
+
+/// The next value of a subscription, for which the thread sleeps where none is pending.
+pub fn awaited(
+    rt: &impl Wait,
+    parker: &mut Parker,
+    subscription: &mut Subscription<u64>,
+) -> Result<u64, Refusal>
+    ensures value { IfOk result (λ value. HasTaken subscription.old.reader (value ∷ []) subscription.new.reader) }
+    ensures nothing { IfErr result (λ refusal. (refusal ≡ NoMemory) × HasTaken subscription.old.reader [] subscription.new.reader) }
+{
+    subscription.next(rt, parker)
+}
+
+/// Emits a question into one flow, and waits for the next value of another, which answers it. `None` where the question was
+/// dropped. Refused as `emit` is; and as `NoMemory` where the question stands, and there is none to wait for its answer by.
+pub fn asked(
+    rt: &impl Wait,
+    parker: &mut Parker,
+    emitter: &mut Emitter<u64>,
+    subscription: &mut Subscription<u64>,
+    question: u64,
+) -> Result<Option<u64>, Refusal>
+    requires idle { emitter.old.ticket ≡ None }
+    ensures asked { IfOk result (λ _. (receipt : Option ReceiptSeen) × Emits emitter.old (emission_by emitter.old question) (Ok receipt) emitter.new) }
+    ensures answered { IfOk result (λ answer. IfSome answer (λ value. HasTaken subscription.old.reader (value ∷ []) subscription.new.reader)) }
+    ensures dropped { IfOk result (λ answer. IfNone answer (subscription.new ≡ subscription.old)) }
+    ensures idle { emitter.new.ticket ≡ None }
+{
+    let emitted = emitter.emit(rt, parker, question)?;
+    if emitted.is_none() {
+        return Ok(None);
+    }
+    let answer = awaited(rt, parker, subscription)?;
+    Ok(Some(answer))
 }
 
 /// Emits a value and tells a subscription of it: where that finds nothing then, it is past this emission already. `None` where

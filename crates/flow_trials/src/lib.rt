@@ -49,3 +49,5 @@ mod ticks;
 mod tools;
 #[cfg(test)]
 mod unfold_rows;
+#[cfg(test)]
+mod waiting_rows;

@@ -7,4 +7,4 @@ pub mod Rising
 pub mod Queueing
 pub mod Ordering
 pub mod Histories
-pub mod Looks
+pub mod Waiting

@@ -1,8 +1,10 @@
 -- What an emitter is after each of its calls: its rounds grew by just that call, with the answer that it was given.
-use Rattle.std.specs.Prelude.{◌≡◌, ℕ, Some, None, Result}
+use Rattle.std.specs.Prelude.{◌≡◌, ◌⊎◌, ℕ, Option, Some, None, Result, Ok, Err, ⊤}
 use Rattle.flow_terms.specs.declared.refusal.Refusal.{Refusal}
+use Rattle.flow_terms.specs.declared.refusal.Refusal.TheVariants.{NoMemory}
 use Rattle.flow_terms.specs.declared.answers.Tried.{Tried}
 use Rattle.flow_terms.specs.declared.answers.Begun.{Begun}
+use Rattle.flow_terms.specs.declared.answers.Begun.TheVariants as begun
 use Rattle.flow_terms.specs.declared.answers.Emit.{Emit}
 use Rattle.flow_terms.specs.declared.answers.Emit.TheVariants as emit
 use Rattle.flow_terms.specs.declared.answers.Withdrawn.{Withdrawn}
@@ -66,3 +68,39 @@ WasGivenUp e answer f = (ticket : Ticket) → e.ticket ≡ Some ticket
       party = with_round (withdraw_round ticket e.id e.last w None) e.party;
       ticket = None;
     }))
+
+-- by polls, one after another, there was no receipt for the emission in flight
+pub data Waited : Emitting → Emitting → Type 0 where
+  not_yet : (e : Emitting) → Waited e e
+  once_more : (e f g : Emitting) → Waited e f → Waits f g → Waited e g
+
+-- the emission in flight was withdrawn, without a receipt
+abbrev pub WasWithdrawn : Emitting → Emitting → Type 0
+WasWithdrawn e f = (ticket : Ticket) × (w : Withdrawn ℕ) × (e.ticket ≡ Some ticket) × (f ≡ record e {
+  party = with_round (withdraw_round ticket e.id e.last w None) e.party;
+  ticket = None;
+})
+
+-- What an emission comes to that is waited for: polls find it finished; or there is no memory to wait by, and it is given up, which
+-- had been accepted, or had not.
+abbrev pub EndsAs : Emitting → Result (Option ReceiptSeen) Refusal → Emitting → Type 0
+EndsAs e (Ok (Some receipt)) f = ((m : Emitting) × Waited e m × WasFinished m receipt f) ⊎ WasLeft e receipt f
+EndsAs e (Ok None) f = ⊥
+EndsAs e (Err refusal) f = (refusal ≡ NoMemory) × WasWithdrawn e f
+
+-- the answer of a start that doesn't have to wait
+abbrev pub begun_with : Result (Option ReceiptSeen) Refusal → Result (Begun ReceiptSeen (Unit {0})) Refusal
+begun_with (Ok (Some receipt)) = Ok (begun.Accepted receipt)
+begun_with (Ok None) = Ok begun.Dropped
+begun_with (Err refusal) = Err refusal
+
+-- an emission was made and waited for: it ended at its start, or had to wait
+abbrev pub Emits : Emitting → Emission → Result (Option ReceiptSeen) Refusal → Emitting → Type 0
+Emits e emission answer f = WasStarted e emission (begun_with answer) f
+    ⊎ ((m : Emitting) × WasStarted e emission (Ok (begun.Waiting tt)) m × EndsAs m answer f)
+
+-- a fact about the receipt of an emission, where it has one
+abbrev pub IfEmitted : Result (Option ReceiptSeen) Refusal → (ReceiptSeen → Type 0) → Type 0
+IfEmitted (Ok (Some receipt)) P = P receipt
+IfEmitted (Ok None) P = ⊤
+IfEmitted (Err refusal) P = ⊤

@@ -6,6 +6,8 @@ use Rattle.shared_lane.specs.Views.{ReaderSeen}
 use Rattle.shared_lane.specs.Readers.{IsSameReader, TookNext}
 use Rattle.shared_flow.specs.declared.round.Round.TheVariants as round
 use Rattle.shared_flow.specs.Names.{FlowName, SharedSeen}
+use Rattle.shared_flow.specs.Reach.{Party}
+use Rattle.shared_flow.specs.Parties.{with_round}
 use Rattle.shared_flow.specs.Rounds.{Does, WasAdmitted}
 
 -- the reader was let in to this flow, by the round that answered with this number
@@ -37,3 +39,17 @@ GaveIn read_as r v t = Gave read_as r v t ⊎ ((m : ReaderSeen) × Missed r m ×
 -- a poll looked twice, and took nothing
 abbrev pub MissedTwice : ReaderSeen → ReaderSeen → Type 0
 MissedTwice r t = (m : ReaderSeen) × Missed r m × Missed m t
+
+-- by looks, one after another, the reader took nothing
+pub data MissedOn : ReaderSeen → ReaderSeen → Type 0 where
+  not_once : (r : ReaderSeen) → MissedOn r r
+  once_more : (r m t : ReaderSeen) → MissedOn r m → Missed m t → MissedOn r t
+
+-- the reader took the next value, after looks that took nothing
+abbrev pub Waited : {T : Type 0} → (ℕ → T) → ReaderSeen → T → ReaderSeen → Type 0
+Waited read_as r v t = (m : ReaderSeen) × MissedOn r m × Gave read_as m v t
+
+-- the party's rounds grew by looks alone
+pub data OnlyNext : Party → Party → Type 0 where
+  by_none : (p : Party) → OnlyNext p p
+  by_one : (p q : Party) → OnlyNext p q → OnlyNext p (with_round round.Next q)

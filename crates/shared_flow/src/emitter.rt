@@ -1,6 +1,6 @@
 //! One that emits into a shared flow.
 ghost use Rattle.std.specs.Prelude.{◌≡◌, ◌≢◌, ◌⊎◌, [], Some, None, IfErr, Result, is_some};
-ghost use Rattle.flow_terms.specs.declared.refusal.Refusal.TheVariants.{Spent, EmitsFull};
+ghost use Rattle.flow_terms.specs.declared.refusal.Refusal.TheVariants.{NoMemory, Spent, EmitsFull};
 ghost use Rattle.flow_terms.specs.declared.answers.Emit.TheVariants as emit;
 ghost use Rattle.flow_terms.specs.declared.answers.Withdrawn.TheVariants as withdrawn;
 ghost use Rattle.futures.specs.Poll.{IfReady, OnPending};
@@ -9,10 +9,12 @@ ghost use Rattle.shared_flow.specs.declared.round.Round.TheVariants as round;
 ghost use Rattle.shared_flow.specs.Reach.{party_of};
 ghost use Rattle.shared_flow.specs.Rounds.{IsAfter, poll_round, withdraw_round};
 ghost use Rattle.shared_flow.specs.Emitters.{emission_by, after_try, after_start, WasStarted, WasFinished, Waits, WasLeft, WasGivenUp};
+ghost use Rattle.shared_flow.specs.Emitters.{Emits, EndsAs, IfEmitted, Waited, begun_with};
 ghost use Rattle.shared_flow.specs.Parties.{IsSameEmitter, Emitting, IsItsReceipt, IsOwnReceipt, IfTried, IfBegun};
 ghost use Rattle.shared_flow.specs.Parties.{TriedUnder, BegunUnder, OfFlow, ticket_of, IfLeft, without_receipt};
 
 use crate::access::Access;
+use crate::parker::Parker;
 use crate::round::{Emission, Round, last_begun, last_tried, number_begun, number_tried};
 use crate::shared::{Polled, Released};
 use crate::sleepers::Bed;
@@ -167,6 +169,70 @@ impl<T: Word> Emitter<T> {
         self.last = Some(receipt.number());
         self.access.put(rt, guarded, Round::Poll(ticket, emit));
         Poll::Ready(receipt)
+    }
+
+    /// Emits a value, and waits until that is finished: Kotlin's `emit`. Nothing where the policy dropped the value.
+    ///
+    /// The thread sleeps while the emission is in flight. That the wake arrives isn't claimed. Refused as [`start_emit`](Emitter::start_emit)
+    /// is, and as `NoMemory` where the parker finds none to wait by: the emission was given up then, and was never accepted.
+    pub fn emit(
+        &mut self,
+        rt: &impl Wait,
+        parker: &mut Parker,
+        value: T,
+    ) -> Result<Option<Receipt>, Refusal>
+        requires idle { self.old.ticket ≡ None }
+        ensures ends { (self.new.ticket ≡ None) × IsSameEmitter self.old self.new }
+        ensures emits { Emits self.old (emission_by self.old (T.word value)) result self.new }
+        ensures receipt { IfEmitted result (IsOwnReceipt self.old.party self.old.id) }
+        ensures rises { IfEmitted result (λ receipt. IsAfter self.old.last receipt.number) }
+        ensures refused { IfErr result (λ refusal. (refusal ≡ NoMemory) ⊎ ((refusal ≡ Spent) ⊎ (refusal ≡ EmitsFull))) }
+        ensures policy { OfFlow self.old.party (λ name. BegunUnder name.config.policy (begun_with result)) }
+    {
+        match self.start_emit(rt, value)? {
+            Begun::Accepted(receipt) => Ok(Some(receipt)),
+            Begun::Dropped => Ok(None),
+            Begun::Waiting(()) => self.finish(rt, parker),
+        }
+    }
+
+    // Waits until the emission in flight is finished, or gives it up.
+    fn finish(&mut self, rt: &impl Wait, parker: &mut Parker) -> Result<Option<Receipt>, Refusal>
+        requires in_flight { self.old.ticket ≢ None }
+        ensures ends { (self.new.ticket ≡ None) × IsSameEmitter self.old self.new }
+        ensures answers { EndsAs self.old result self.new }
+        ensures receipt { IfEmitted result (IsOwnReceipt self.old.party self.old.id) }
+        ensures rises { IfEmitted result (λ receipt. IsAfter self.old.last receipt.number) }
+    {
+        match parker.begin() {
+            Ok(()) => Ok(Some(self.finished(rt, parker))),
+            Err(_) => match self.cancel_emit(rt) {
+                Withdrawn::Left(receipt) => Ok(Some(receipt)),
+                Withdrawn::Removed => Err(Refusal::NoMemory),
+                Withdrawn::Gone => Err(Refusal::NoMemory),
+            },
+        }
+    }
+
+    // Waits until the emission in flight is finished.
+    fn finished(&mut self, rt: &impl Wait, parker: &mut Parker) -> Receipt
+        requires in_flight { self.old.ticket ≢ None }
+        ensures ends { (self.new.ticket ≡ None) × IsSameEmitter self.old self.new }
+        ensures finished { (m : Emitting) × Waited self.old m × WasFinished m result self.new }
+        ensures receipt { IsOwnReceipt self.old.party self.old.id result }
+        ensures rises { IsAfter self.old.last result.number }
+    {
+        for _ in rt.forever() {
+            let Some(mut cx) = parker.turn(rt) else {
+                continue;
+            };
+            let polled = self.poll_emit(rt, &mut cx);
+            cx.end(&polled);
+            if let Poll::Ready(receipt) = polled {
+                return receipt;
+            }
+        }
+        unreachable!()
     }
 
     /// Gives the emission in flight up: Kotlin's `emit`, cancelled while it is suspended.

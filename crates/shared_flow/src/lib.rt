@@ -31,9 +31,12 @@
 //! A `SharedFlow` has `Drop`, and may be moved into a thread.
 //!
 //! # Waiting
-//! A call waits for the lock alone. `start_emit` of an emission without room answers `Waiting`, and `poll_emit` asks for it;
-//! `poll_next` without a value is pending. A pending poll has left the waker of its context in a table under the lock, or asked
+//! `start_emit` of an emission without room answers `Waiting`, and `poll_emit` asks for it; `poll_next` without a value is
+//! pending. These wait for the lock alone. A pending poll has left the waker of its context in a table under the lock, or asked
 //! to be polled again. A woken task polls once more; what its poll then answers, the wake doesn't say.
+//!
+//! A thread that has nothing else to do calls `Emitter::emit` and `Subscription::next`: each makes these polls, and sleeps by the
+//! thread's `Parker` between two of them.
 //!
 //! # Who is woken
 //! - An acceptance wakes each subscription that sleeps: the value is pending for it. Nothing else wakes one.
@@ -47,6 +50,7 @@ mod access;
 mod emitter;
 mod flow;
 mod laws;
+mod parker;
 mod round;
 mod shared;
 mod sleepers;
@@ -60,6 +64,7 @@ pub use flow_terms::{Refusal, Word};
 pub use laws::{
     each_emitter_in_its_own_order, each_subscription_receives_cache_then_later, one_list_of_rounds,
 };
+pub use parker::Parker;
 pub use round::{Emission, Round};
 pub use shared_lane::{Met, Receipt, Taken};
 pub use subscription::Subscription;

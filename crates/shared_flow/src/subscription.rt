@@ -1,5 +1,5 @@
 //! One that receives the values of a shared flow.
-ghost use Rattle.std.specs.Prelude.{◌≡◌, ◌⊎◌, ◌+◌, None, Some};
+ghost use Rattle.std.specs.Prelude.{◌≡◌, ◌⊎◌, ◌+◌, None, Some, IfOk, IfErr, IfSome, IfNone};
 ghost use Rattle.futures.specs.Poll.{IfReady, OnPending};
 ghost use Rattle.futures.specs.Task.{IsArmed, Keeps};
 ghost use Rattle.lane_steps.specs.Law.{Begins};
@@ -7,15 +7,17 @@ ghost use Rattle.shared_lane.specs.Readers.{IsReaderOf, IsReceiptOf, IsSameReade
 ghost use Rattle.shared_flow.specs.declared.round.Round.TheVariants as round;
 ghost use Rattle.shared_flow.specs.Reach.{party_of};
 ghost use Rattle.shared_flow.specs.Parties.{Subscribed, OfFlow, with_round};
-ghost use Rattle.shared_flow.specs.Looks.{Took, Gave, GaveIn, Missed, MissedTwice};
+ghost use Rattle.shared_flow.specs.Looks.{Took, Gave, GaveIn, Missed, MissedTwice, OnlyNext, Waited};
+ghost use Rattle.flow_terms.specs.declared.refusal.Refusal.TheVariants.{NoMemory};
 ghost use Rattle.shared_flow.specs.Meeting.{HasMet};
 ghost use Rattle.shared_flow.specs.Owners.{OnlyMet};
 
 use crate::access::Access;
+use crate::parker::Parker;
 use crate::round::Round;
 use crate::shared::Shared;
 use crate::sleepers::Bed;
-use flow_terms::Word;
+use flow_terms::{Refusal, Word};
 use futures::task::{Context, Poll};
 use shared_lane::{Met, Reader, Receipt, Taken};
 use std::marker::{Model, PhantomData};
@@ -95,14 +97,53 @@ impl<T: Word> Subscription<T> {
         ensures armed { OnPending result (IsArmed cx.new) }
         ensures kept { Keeps cx.old cx.new }
     {
-        let first = self.reader.try_next(self.access.lane());
-        if let Taken::Value(word) = first {
-            if self.access.has_unfinished() {
-                self.make_room(rt);
-            }
-            return Poll::Ready(T::from_word(word));
+        match self.look(rt) {
+            Some(value) => Poll::Ready(value),
+            None => self.look_again(rt, cx),
         }
-        self.look_again(rt, cx)
+    }
+
+    /// Receives the oldest value that is pending, and waits for one where there is none: one turn of Kotlin's `collect`.
+    ///
+    /// The thread sleeps while no value is there. That the wake arrives isn't claimed. Refused as `NoMemory` where no value is there
+    /// and the parker finds no memory to wait by; nothing is received then.
+    pub fn next(&mut self, rt: &impl Wait, parker: &mut Parker) -> Result<T, Refusal>
+        ensures same { self.new.number ≡ self.old.number }
+        ensures rounds { OnlyNext self.old.party self.new.party }
+        ensures value { IfOk result (λ v. Waited T.read_as self.old.reader v self.new.reader) }
+        ensures nothing { IfErr result (λ refusal. (refusal ≡ NoMemory) × Missed self.old.reader self.new.reader) }
+    {
+        if let Some(value) = self.look(rt) {
+            return Ok(value);
+        }
+        parker.begin()?;
+        for _ in rt.forever() {
+            let Some(mut cx) = parker.turn(rt) else {
+                continue;
+            };
+            let polled = self.poll_next(rt, &mut cx);
+            cx.end(&polled);
+            if let Poll::Ready(value) = polled {
+                return Ok(value);
+            }
+        }
+        unreachable!()
+    }
+
+    // Looks for a value without the lock. It takes the lock where an emission waits that the receipt may help.
+    fn look(&mut self, rt: &impl Wait) -> Option<T>
+        ensures rounds { (self.new.party ≡ self.old.party) ⊎ (self.new.party ≡ with_round round.Next self.old.party) }
+        ensures same { self.new.number ≡ self.old.number }
+        ensures given { IfSome result (λ v. Gave T.read_as self.old.reader v self.new.reader) }
+        ensures missed { IfNone result ((self.new.party ≡ self.old.party) × Missed self.old.reader self.new.reader) }
+    {
+        let Taken::Value(word) = self.reader.try_next(self.access.lane()) else {
+            return None;
+        };
+        if self.access.has_unfinished() {
+            self.make_room(rt);
+        }
+        Some(T::from_word(word))
     }
 
     // Lets in what waits, after a value was received without the lock.

@@ -1,0 +1,45 @@
+-- An emission, and a value, that a thread waits for.
+use Rattle.std.proofs.Common.{◌≡◌, ◌⊎◌, ℕ, Option, Some, None, Result, Ok, Err, sym, ap, subst, ◌∙◌, ⊎_elim}
+use Rattle.flow_terms.specs.declared.refusal.Refusal.{Refusal}
+use Rattle.shared_lane.specs.Views.{ReaderSeen, ReceiptSeen}
+use Rattle.shared_flow.specs.declared.round.Round.TheVariants as round
+use Rattle.shared_flow.specs.Emitters as emitters
+use Rattle.shared_flow.specs.Emitters.{IfEmitted, Waits}
+use Rattle.shared_flow.specs.Looks.{Gave, GaveIn, MissedOn, not_once, once_more, OnlyNext, by_one, Waited}
+use Rattle.shared_flow.specs.Parties.{Emitting, IsOwnReceipt, IsSameEmitter, named, with_round}
+use Rattle.shared_flow.specs.Reach.{Party}
+use Rattle.shared_flow.specs.Rounds.{IsReceiptOfOne}
+
+-- the emission is still in flight
+pub still_waits : (e f g : Emitting) → (f.ticket ≡ None → ⊥) → f.last ≡ e.last → IsSameEmitter e f → emitters.Waited e f → Waits f g
+    → (g.ticket ≡ None → ⊥) × (g.last ≡ e.last) × IsSameEmitter e g × emitters.Waited e g
+still_waits e f g busy last same waited waits = (
+  λ none. busy (sym (ap (λ (x : Emitting). x.ticket) waits.3) ∙ none),
+  ap (λ (x : Emitting). x.last) waits.3 ∙ last,
+  (ap (λ (x : Emitting). named x.party) waits.3 ∙ same.0, ap (λ (x : Emitting). x.id) waits.3 ∙ same.1),
+  emitters.once_more e f g waited waits,
+)
+
+-- the same emitter as the same emitter
+pub same_as_same : (e f g : Emitting) → IsSameEmitter e f → IsSameEmitter f g → IsSameEmitter e g
+same_as_same e f g one other = (other.0 ∙ one.0, other.1 ∙ one.1)
+
+-- a receipt of the same emitter
+pub own_of_same : (e m : Emitting) (r : ReceiptSeen) → IsSameEmitter e m → IsOwnReceipt m.party m.id r → IsOwnReceipt e.party e.id r
+own_of_same e m r same own = (
+  own.0 ∙ same.1,
+  λ name is. subst (λ i. IsReceiptOfOne name.lane i r) same.1 (own.1 name (ap (λ n. n.flow) same.0 ∙ is)),
+)
+
+pub emitted_weaker : (answer : Result (Option ReceiptSeen) Refusal) (P Q : ReceiptSeen → Type 0) → ((r : ReceiptSeen) → P r → Q r) → IfEmitted answer P → IfEmitted answer Q
+emitted_weaker (Ok (Some receipt)) P Q weaker holds = weaker receipt holds
+emitted_weaker (Ok None) P Q weaker holds = tt
+emitted_weaker (Err refusal) P Q weaker holds = tt
+
+-- one round more, or none
+pub only_next : (p q r : Party) → OnlyNext p q → (r ≡ q) ⊎ (r ≡ with_round round.Next q) → OnlyNext p r
+only_next p q r rounds more = ⊎_elim (λ same. subst (OnlyNext p) (sym same) rounds) (λ one. subst (OnlyNext p) (sym one) (by_one p q rounds)) more
+
+-- a poll gave a value, after looks that gave none
+pub waited_on : {T : Type 0} (read_as : ℕ → T) (r s t : ReaderSeen) (v : T) → MissedOn r s → GaveIn read_as s v t → Waited read_as r v t
+waited_on read_as r s t v missed gives = ⊎_elim (λ at_once. (s, missed, at_once)) (λ later. (later.0, once_more r s later.0 missed later.1, later.2)) gives

@@ -1,0 +1,13 @@
+use Rattle.std.proofs.Common.{refl, subst}
+use Rattle.futures.specs.Poll.{OnPending}
+use Rattle.shared_flow.specs.Emitters.{Waits, not_yet}
+use Rattle.shared_flow.proofs.Waiting.{still_waits}
+use Rattle.shared_flow.proofs.emitter.Emitter.finished.Goals as goal
+
+pub loop-init : goal.loop-init
+loop-init g c = (c.requires.in_flight, refl, (refl, refl), not_yet c.args.self.now)
+
+pub loop-preserved : goal.loop-preserved
+loop-preserved g c =
+    let waits = subst (λ p. OnPending p (Waits c.loop.self c.poll_emit-polled.new.self)) c.in_default-polled.is c.poll_emit-polled.ensures.pending in
+    still_waits c.args.self.now c.loop.self c.poll_emit-polled.new.self c.loop.invariant.0 c.loop.invariant.1 c.loop.invariant.2 c.loop.invariant.3 waits
