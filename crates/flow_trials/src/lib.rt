@@ -20,6 +20,8 @@ mod lane_threads;
 #[cfg(test)]
 mod list_body;
 #[cfg(test)]
+mod memory_rows;
+#[cfg(test)]
 mod merge_rows;
 #[cfg(test)]
 mod script_rows;

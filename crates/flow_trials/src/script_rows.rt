@@ -4,6 +4,8 @@ ghost use Rattle.std.specs.Prelude.{◌≡◌, IfOk};
 ghost use Rattle.flow_script.specs.Scripts.{Findings, text_of_script};
 
 mod buffers;
+mod cuts;
+mod memory;
 mod pipes;
 mod rows;
 mod sharings;
@@ -13,6 +15,7 @@ use crate::tools::Differences;
 use flow_script::{Engine, ScriptFault, run_script};
 use rows::{ROWS, Row};
 use std::alloc::{AllocError, AllocGlobal, Global};
+use std::io;
 use std::process::Abort;
 use std::random::RandomSource;
 use std::sync::Wait;
@@ -212,24 +215,60 @@ fn a_line_has_at_most_1024_bytes(rt: HostRuntime) -> Result<(), Fail> {
     Ok(())
 }
 
-/// Runs the script from a reader that fails at this read.
-fn assert_read_fault(
+/// How a reader fails.
+const KINDS: [io::ErrorKind; 2] = [io::ErrorKind::TimedOut, io::ErrorKind::Interrupted];
+
+/// Runs the script from a reader, and compares the end and the text.
+fn assert_read(
     rt: &(impl Abort + Wait + RandomSource + AllocGlobal),
+    mut tap: Tap<'_>,
     engine: Engine,
-    fails_at: usize,
+    want: Result<(), ScriptFault>,
+    name: &str,
 ) {
-    let mut tap = Tap::new(SCRIPT, fails_at);
+    let text_wanted = match want {
+        Ok(()) => TEXT,
+        Err(_) => b"".as_slice(),
+    };
     let mut text = Vec::new(rt.alloc());
     let ran = run_script(rt, &mut tap, &mut text, engine);
-    assert_eq!(rt; ran, Err(ScriptFault::Read), "at {fails_at} on {engine:?}");
-    assert_eq!(rt; text.len(), 0, "at {fails_at} on {engine:?}");
+    assert_eq!(rt; ran, want, "{name} on {engine:?}");
+    assert_eq!(rt; text.as_slice(), text_wanted, "{name} on {engine:?}");
+}
+
+/// Each read fails of a reader that gives at most so many bytes a read, the last one, which finds the end, too. There is
+/// none after that.
+fn assert_reads(
+    rt: &(impl Abort + Wait + RandomSource + AllocGlobal),
+    engine: Engine,
+    most: usize,
+    reads: usize,
+) -> Result<(), Fail> {
+    for kind in KINDS {
+        for fails_at in 1..=reads.saturating_add(1) {
+            let want = if fails_at <= reads {
+                Err(ScriptFault::Read)
+            } else {
+                Ok(())
+            };
+            let name = format!(in rt.alloc(); "{most} bytes a read, read {fails_at} fails")?;
+            let tap = Tap::new(SCRIPT, most, fails_at, kind);
+            assert_read(rt, tap, engine, want, name.as_str());
+        }
+    }
+    Ok(())
 }
 
 #[test]
 fn a_failing_read_writes_nothing(rt: HostRuntime) -> Result<(), Fail> {
-    for fails_at in 1..SCRIPT.len() + 2 {
-        assert_read_fault(&rt, Engine::Core, fails_at);
-        assert_read_fault(&rt, Engine::Lane, fails_at);
+    for engine in ENGINES {
+        assert_reads(&rt, engine, 1, SCRIPT.len() + 1)?;
+        assert_reads(
+            &rt,
+            engine,
+            100,
+            SCRIPT.len().div_ceil(100).saturating_add(1),
+        )?;
     }
     Ok(())
 }
@@ -251,7 +290,7 @@ fn assert_front(
 
 #[test]
 fn a_failing_write_leaves_a_front_of_the_text(rt: HostRuntime) -> Result<(), Fail> {
-    for failure in [Failure::Error, Failure::Nothing] {
+    for failure in [Failure::Error, Failure::Interrupted, Failure::Nothing] {
         for fails_at in 1..TEXT.len() + 1 {
             let front = TEXT.get(..fails_at - 1).ok_or("the text is longer")?;
             assert_front(&rt, Engine::Core, fails_at, failure, front);
@@ -261,14 +300,17 @@ fn a_failing_write_leaves_a_front_of_the_text(rt: HostRuntime) -> Result<(), Fai
     Ok(())
 }
 
+/// A sink that fails after all was written, or never.
 #[test]
 fn short_writes_leave_the_whole_text(rt: HostRuntime) -> Result<(), Fail> {
     for engine in ENGINES {
-        let mut sink = Sink::new(rt.alloc(), 0, Failure::Nothing);
-        let mut script = SCRIPT;
-        let ran = run_script(&rt, &mut script, &mut sink, engine);
-        assert_eq!(rt; ran, Ok(()));
-        assert_eq!(rt; sink.taken(), TEXT);
+        for fails_at in [0, TEXT.len() + 1] {
+            let mut sink = Sink::new(rt.alloc(), fails_at, Failure::Nothing);
+            let mut script = SCRIPT;
+            let ran = run_script(&rt, &mut script, &mut sink, engine);
+            assert_eq!(rt; ran, Ok(()));
+            assert_eq!(rt; sink.taken(), TEXT);
+        }
     }
     Ok(())
 }
@@ -285,18 +327,30 @@ fn a_failing_flush_leaves_the_whole_text(rt: HostRuntime) -> Result<(), Fail> {
     Ok(())
 }
 
+/// Runs a script of so many bytes in one comment, which writes nothing.
+fn assert_length(
+    rt: &(impl Abort + Wait + RandomSource + AllocGlobal),
+    engine: Engine,
+    len: usize,
+    want: Result<(), ScriptFault>,
+) -> Result<(), Fail> {
+    let mut script = Vec::new(rt.alloc());
+    for _ in 0..len {
+        script.push(b'#')?;
+    }
+    let mut text = Vec::new(rt.alloc());
+    let mut rest = script.as_slice();
+    let ran = run_script(rt, &mut rest, &mut text, engine);
+    assert_eq!(rt; ran, want, "{len} bytes on {engine:?}");
+    assert_eq!(rt; text.len(), 0, "{len} bytes on {engine:?}");
+    Ok(())
+}
+
 #[test]
 fn a_script_past_the_limit_is_too_long(rt: HostRuntime) -> Result<(), Fail> {
-    for (more, want) in [(0, Ok(())), (1, Err(ScriptFault::TooLong))] {
-        let mut script = Vec::new(rt.alloc());
-        for _ in 0..1_048_576 + more {
-            script.push(b'#')?;
-        }
-        let mut text = Vec::new(rt.alloc());
-        let mut rest = script.as_slice();
-        let ran = run_script(&rt, &mut rest, &mut text, Engine::Core);
-        assert_eq!(rt; ran, want);
-        assert_eq!(rt; text.len(), 0);
+    for engine in ENGINES {
+        assert_length(&rt, engine, 1_048_576, Ok(()))?;
+        assert_length(&rt, engine, 1_048_577, Err(ScriptFault::TooLong))?;
     }
     Ok(())
 }

@@ -3,7 +3,7 @@
 //! made once more. To keep the lock takes none.
 
 use crate::shared_stage::config;
-use crate::tools::assert_same;
+use crate::tools::{assert_same, made_again};
 use cold_flow::{Policy, Refusal};
 use shared_core::{Tried, Withdrawn};
 use shared_flow::{Emitter, SharedFlow, Subscription};
@@ -36,7 +36,7 @@ fn emitter_made<R: Wait + Abort + AllocGlobal>(
     match flow.emitter(rt, 3) {
         Ok(emitter) => Ok(emitter),
         Err(Refusal::NoMemory) => {
-            assert!(rt; is_unchanged(rt, flow, values));
+            assert!(rt; is_unchanged(rt, flow, values), "a refused emitter");
             flow.emitter(rt, 3)
         }
         Err(refusal) => Err(refusal),
@@ -51,7 +51,7 @@ fn other_made<R: Wait + Abort + AllocGlobal>(
     match flow.dup(rt) {
         Ok(other) => Ok(other),
         Err(Refusal::NoMemory) => {
-            assert!(rt; is_unchanged(rt, flow, values));
+            assert!(rt; is_unchanged(rt, flow, values), "a refused owner");
             flow.dup(rt)
         }
         Err(refusal) => Err(refusal),
@@ -67,7 +67,7 @@ fn subscription_made<R: Wait + Abort + AllocGlobal>(
     match flow.subscribe(rt) {
         Ok(subscription) => Ok(subscription),
         Err(Refusal::NoMemory) => {
-            assert!(rt; is_unchanged(rt, flow, values));
+            assert!(rt; is_unchanged(rt, flow, values), "a refused subscription");
             flow.subscribe(rt)
         }
         Err(refusal) => Err(refusal),
@@ -83,7 +83,7 @@ fn cache_added<R: Wait + Abort>(
     match flow.replay_cache_into(rt, out) {
         Ok(()) => Ok(()),
         Err(Refusal::NoMemory) => {
-            assert_eq!(rt; out.as_slice(), [4].as_slice());
+            assert_eq!(rt; out.as_slice(), [4].as_slice(), "a refused cache");
             flow.replay_cache_into(rt, out)
         }
         Err(refusal) => Err(refusal),
@@ -103,7 +103,8 @@ fn number_of<R: Wait>(rt: &R, emitter: &mut Emitter<u64>, value: u64) -> Option<
 
 #[test]
 fn what_was_refused_for_want_of_memory_is_as_before(rt: HostRuntime) -> Result<(), Fail> {
-    let mut cache = Vec::with_capacity(rt.alloc(), 1)?;
+    let alloc = rt.alloc();
+    let mut cache = made_again(&|| Vec::with_capacity(alloc, 1))?;
     cache.push(4)?;
     let mut flow = flow_made(&rt).map_err(|refusal| refusal.number())?;
     let mut emitter = emitter_made(&rt, &mut flow, &[]).expect(&rt, "an emitter");

@@ -1,5 +1,6 @@
 //! Sharings, by calls: worked examples, and what no clause says of the flow that they emit into.
 
+use crate::merge_rows::one_and_two;
 use crate::shared_rows::PLAIN;
 use crate::shared_stage::Answer::{Cancelled, Gone, Left, Pending, Removed, Subscribed, Value};
 use crate::shared_stage::Call::{Cancel, Next, Subscribe};
@@ -12,6 +13,7 @@ use futures::test::MockTask;
 use shared_core::{Config, Withdrawn};
 use shared_flow::{Receipt, SharedFlow};
 use std::alloc::AllocGlobal;
+use std::cell::Cell;
 use std::process::Abort;
 use std::random::RandomSource;
 use std::sync::Wait;
@@ -228,6 +230,22 @@ const IS_REFUSED: &Row<'_> = &Row {
     rest: &[],
 };
 
+/// The latest moment stays too, so that a later poll, at an earlier one, gives what the first try would have given.
+const STARTS_LATER: &Row<'_> = &Row {
+    name: "a refused start is made again",
+    config: REPLAYS_ONE,
+    started: Started::Eagerly,
+    lines: &[
+        Line::Poll(100, 0, Tick::Refused),
+        Line::Poll(100, 0, Tick::Refused),
+        Line::Cache(&[]),
+        Line::Poll(5, 0, Tick::On),
+        Line::Cache(&[2]),
+    ],
+    closed: Gone,
+    rest: &[],
+};
+
 /// A flow, a subscription of it, and the latest moment of a poll of its sharing.
 struct Stage {
     flow: SharedFlow<u64>,
@@ -262,7 +280,9 @@ impl Stage {
         match line {
             Line::Poll(now, count, tick) => {
                 let answer = self.task.enter(|cx| sharing.poll(rt, now, cx));
-                self.latest = self.latest.max(now);
+                if answer.is_ok() {
+                    self.latest = self.latest.max(now);
+                }
                 tick.fits(self.latest, count, answer, sharing.fault())
             }
             Line::Woken => self.task.is_woken(),
@@ -358,6 +378,8 @@ fn flows_are_shared(rt: HostRuntime) -> Result<(), Fail> {
     compare_row(&rt, &mut all, listed(alloc, &[1, 2])?, WITHDRAWN)?;
     compare_row(&rt, &mut all, listed(alloc, &[1, 2])?, STOP_WITHDRAWS)?;
     compare_row(&rt, &mut all, listed(alloc, &[1, 2])?, IS_REFUSED)?;
+    let refusals = Cell::new(2);
+    compare_row(&rt, &mut all, one_and_two(&refusals), STARTS_LATER)?;
     all.assert_none(&rt);
     Ok(())
 }

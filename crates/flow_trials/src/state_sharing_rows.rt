@@ -1,5 +1,6 @@
 //! Worked examples of a state that is set from a cold flow.
 
+use crate::merge_rows::one_and_two;
 use crate::ticks::Tick;
 use crate::tools::{Differences, broken, listed};
 use cold_flow::{Cause, EndingRun, Flow, Numbers, Refusal, Step, range, scripted};
@@ -7,6 +8,7 @@ use flow_sharing::{Started, StateSharing, state_in};
 use futures::test::MockTask;
 use state_flow::{Collector, StateFlow, StateSeat};
 use std::alloc::AllocGlobal;
+use std::cell::Cell;
 use std::random::RandomSource;
 use std::test::Fail;
 
@@ -123,6 +125,20 @@ const NEVER_STARTS: &Row<'_> = &Row {
         Line::Cancel,
         Line::Poll(5, 0, Tick::Off),
         Line::Value(8),
+    ],
+};
+
+/// So that a later poll, at an earlier moment, gives what the first try would have given.
+const STARTS_LATER: &Row<'_> = &Row {
+    name: "a refused start is made again",
+    initial: 8,
+    started: Started::Eagerly,
+    lines: &[
+        Line::Poll(100, 0, Tick::Refused),
+        Line::Poll(100, 0, Tick::Refused),
+        Line::Value(8),
+        Line::Poll(5, 0, Tick::On),
+        Line::Value(2),
     ],
 };
 
@@ -290,6 +306,8 @@ fn states_are_set(rt: HostRuntime) -> Result<(), Fail> {
     compare_row(&rt, &mut all, broken(alloc, &UP_TO_31, 6)?, FAILS_AFTER_32)?;
     compare_row(&rt, &mut all, scripted(STEPS.to_vec(alloc)?), STARTS_ANEW)?;
     compare_row(&rt, &mut all, Unstarted, NEVER_STARTS)?;
+    let refusals = Cell::new(2);
+    compare_row(&rt, &mut all, one_and_two(&refusals), STARTS_LATER)?;
     all.assert_none(&rt);
     Ok(())
 }

@@ -4,9 +4,10 @@ ghost use Rattle.std.specs.Prelude.{◌≡◌, ◌+◌, ◌%◌, ◌^◌};
 use cold_flow::{Apply, Caught, Cause, Collected, Event, Listed, Run, failing, of};
 use futures::task::Poll;
 use futures::test::MockTask;
-use std::alloc::{AllocError, Global};
+use std::alloc::{AllocError, AllocGlobal, Global};
 use std::fmt::Debug;
 use std::process::Abort;
+use std::random::RandomSource;
 use std::test::Fail;
 
 /// The sum of two values.
@@ -77,6 +78,24 @@ pub(crate) fn broken(
     fault: u64,
 ) -> Result<Listed<u64, u64>, AllocError> {
     Ok(failing(values.to_vec(alloc)?, fault))
+}
+
+/// What the call makes. It is made once more where memory was refused, as under `rt try --test --fail-alloc N`.
+pub(crate) fn made_again<T, F: Fn() -> Result<T, AllocError>>(call: &F) -> Result<T, AllocError>
+    requires { F.IsAlwaysCallable call.now }
+{
+    match call() {
+        Err(_) => call(),
+        made => made,
+    }
+}
+
+/// A task that is polled by hand. It too is made once more where memory was refused.
+pub(crate) fn task_made<R: RandomSource + AllocGlobal>(rt: &R) -> Result<MockTask, Fail> {
+    match MockTask::new(rt) {
+        Ok(task) => Ok(task),
+        Err(_) => Ok(MockTask::new(rt)?),
+    }
 }
 
 /// Fails with this name where what was found isn't what was wanted.

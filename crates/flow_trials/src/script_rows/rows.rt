@@ -7,6 +7,20 @@ pub struct Row {
     pub answers: &'static str,
 }
 
+/// A sharing that stops and resets while nobody subscribes.
+pub const SHARE_WHILE_SUBSCRIBED: Row = Row {
+    name: "share_while_subscribed",
+    script: "share f 1 0 suspend while 100 50 of 1,p,2 ; tick f 0 ; sub f a ; tick f 10 ; next a ; tick f 20 ; next a ; cancel a ; tick f 1000 ; tick f 1099 ; tick f 1100 ; tick f 1149 ; cache f ; tick f 1150 ; cache f ; sub f b ; tick f 1150 ; next b",
+    answers: "ok ; off ; ok ; on ; value 1 ; on ; value 2 ; ok ; on ; on ; off ; off ; [2] ; off ; [] ; ok ; on ; value 1",
+};
+
+/// A state whose collector misses what was overwritten.
+pub const STATE_CONFLATES: Row = Row {
+    name: "state_conflates",
+    script: "state s 0 ; collect s c ; next c ; set s 1 ; set s 1 ; set s 2 ; next c ; set s 3 ; set s 2 ; next c ; cas s 2 2 ; cas s 9 4 ; cas s 2 5 ; value s",
+    answers: "ok ; ok ; value 0 ; ok ; ok ; ok ; value 2 ; ok ; ok ; pending ; true ; false ; true ; value 5",
+};
+
 pub const ROWS: &[Row] = &[
     Row {
         name: "replay_gives_latest",
@@ -98,11 +112,7 @@ pub const ROWS: &[Row] = &[
         script: "shared f 0 1 suspend ; try f 18446744073709551616 ; try f 000000000000000000001 ; try f 00000000000000000001 ; sub f A ; next f",
         answers: "ok ; line 2: bad command ; line 3: bad command ; accepted ; line 5: bad command ; line 6: bad command",
     },
-    Row {
-        name: "state_conflates",
-        script: "state s 0 ; collect s c ; next c ; set s 1 ; set s 1 ; set s 2 ; next c ; set s 3 ; set s 2 ; next c ; cas s 2 2 ; cas s 9 4 ; cas s 2 5 ; value s",
-        answers: "ok ; ok ; value 0 ; ok ; ok ; ok ; value 2 ; ok ; ok ; pending ; true ; false ; true ; value 5",
-    },
+    STATE_CONFLATES,
     Row {
         name: "seats_full",
         script: "state s 0 ; collect s c1 ; collect s c2 ; collect s c3 ; collect s c4 ; collect s c5 ; collect s c6 ; collect s c7 ; collect s c8 ; collect s c9 ; count s ; cancel c1 ; collect s c9 ; next c9 ; next c1 ; cancel c1",
@@ -113,11 +123,7 @@ pub const ROWS: &[Row] = &[
         script: "state s 1 ; state t 2 ; collect t c ; collect s d ; next c ; next d ; set t 3 ; next d ; next c ; cancel d ; count s ; count t ; value s ; value t",
         answers: "ok ; ok ; ok ; ok ; value 2 ; value 1 ; ok ; pending ; value 3 ; ok ; 0 ; 1 ; value 1 ; value 3",
     },
-    Row {
-        name: "share_while_subscribed",
-        script: "share f 1 0 suspend while 100 50 of 1,p,2 ; tick f 0 ; sub f a ; tick f 10 ; next a ; tick f 20 ; next a ; cancel a ; tick f 1000 ; tick f 1099 ; tick f 1100 ; tick f 1149 ; cache f ; tick f 1150 ; cache f ; sub f b ; tick f 1150 ; next b",
-        answers: "ok ; off ; ok ; on ; value 1 ; on ; value 2 ; ok ; on ; on ; off ; off ; [2] ; off ; [] ; ok ; on ; value 1",
-    },
+    SHARE_WHILE_SUBSCRIBED,
     Row {
         name: "stated_and_shared",
         script: "stated s 7 while 0 0 of 1 ; value s ; collect s c ; next c ; tick s 5 ; value s ; cancel c ; tick s 6 ; value s ; share g 1 0 suspend eager fail 7 1 ; tick g 0 ; cache g ; tick g 9 ; share h 0 1 suspend lazy of 1,2,3 ; sub h a ; tick h 0 ; next a ; next a ; next a ; tick h 1 ; next a",

@@ -6,23 +6,27 @@ use std::alloc::Global;
 use std::io;
 use std::io::{Read, Write};
 
-/// Gives its bytes one at a time, and fails at one of its reads.
+/// Gives its bytes a few at a time, and fails at one of its reads.
 #[derive(Drop)]
 pub struct Tap<'a> {
     bytes: &'a [u8],
+    most: usize,
     reads: usize,
     fails_at: usize,
+    kind: io::ErrorKind,
 }
 
 impl<'a> Tap<'a> {
-    /// Fails at the read with this number, counted from 1.
-    pub fn new(bytes: &'a [u8], fails_at: usize) -> Tap<'a>
+    /// Gives at most so many bytes a read, and fails so at the read with this number, counted from 1.
+    pub fn new(bytes: &'a [u8], most: usize, fails_at: usize, kind: io::ErrorKind) -> Tap<'a>
         ensures { result.bytes.now ≡ bytes.now }
     {
         Tap {
             bytes,
+            most,
             reads: 0,
             fails_at,
+            kind,
         }
     }
 }
@@ -31,9 +35,9 @@ impl Read for Tap<'_> {
     fn read(&mut self, buf: &mut [u8]) -> io::Result<usize> {
         self.reads = self.reads.saturating_add(1);
         if self.reads == self.fails_at {
-            return Err(io::Error::from(io::ErrorKind::TimedOut));
+            return Err(io::Error::from(self.kind));
         }
-        let count = buf.len().min(self.bytes.len()).min(1);
+        let count = buf.len().min(self.bytes.len()).min(self.most);
         let (front, rest) = self.bytes.split_at(count);
         buf[..count].copy_from_slice(front);
         self.bytes = rest;
@@ -46,6 +50,8 @@ impl Read for Tap<'_> {
 pub enum Failure {
     /// Its write answers an error.
     Error,
+    /// Its write answers that it was interrupted.
+    Interrupted,
     /// Its write takes no byte.
     Nothing,
     /// Its flush answers an error.
@@ -88,6 +94,7 @@ impl Write for Sink {
         if self.writes == self.fails_at {
             return match self.failure {
                 Failure::Error => Err(io::Error::from(io::ErrorKind::BrokenPipe)),
+                Failure::Interrupted => Err(io::Error::from(io::ErrorKind::Interrupted)),
                 Failure::Nothing | Failure::Flush => Ok(0),
             };
         }
@@ -103,7 +110,7 @@ impl Write for Sink {
     fn flush(&mut self) -> io::Result<()> {
         match self.failure {
             Failure::Flush => Err(io::Error::from(io::ErrorKind::BrokenPipe)),
-            Failure::Error | Failure::Nothing => Ok(()),
+            Failure::Error | Failure::Interrupted | Failure::Nothing => Ok(()),
         }
     }
 }

@@ -1,0 +1,528 @@
+//! Calls that take memory, each with its answer. Where an allocation is refused, as under
+//! `rt try --test --fail-alloc N`, the call that wanted it is refused with 4 and leaves all as it was: made once more,
+//! it gives the same answer. So each test passes with ample memory, and whichever allocation is refused. The calls of a
+//! shared flow stand in `shared_memory.rt`, a lane's in `lane_rows.rt`, scripts in `script_rows/memory.rt`.
+
+use crate::tools::{Differences, Polling, Same, Sum, broken, listed, made_again, next, task_made};
+use cold_flow::{
+    Cause, Collected, Collecting, Event, Finite, Flow, Listed, Policy, Refusal, Run, Step, Stepped,
+    collect, distinct, range, scripted, take, to_list,
+};
+use flow_buffer::{Drain, Feed, Fill, buffer, conflate, split};
+use flow_merge::{combine, flat_map_concat, flat_map_merge, zip};
+use flow_sharing::{Polled, Sharing, Started, StateSharing, share_in, state_in};
+use futures::task::Poll;
+use futures::test::MockTask;
+use shared_core::{Call, Config, Next, Reply, SharedState, SubId, Tried};
+use shared_flow::SharedFlow;
+use state_flow::{StateFlow, StateSeat};
+use std::alloc::{AllocError, Global};
+use std::sync::Wait;
+use std::test::Fail;
+
+const END: Polling = Poll::Ready(Event::End(Cause::Finished));
+
+/// What a flat map of two values gives whose inner flow gives 10.
+const TENS: &[Polling] = &[
+    Poll::Ready(Event::Value(10)),
+    Poll::Ready(Event::Value(10)),
+    END,
+];
+
+const REFUSED: Polling = Poll::Ready(Event::End(Cause::Refused(Refusal::NoMemory)));
+
+/// A run of the flow, whose start is made again where it is refused.
+fn begun<F: Flow>(flow: &F) -> Result<F::Running, Refusal> {
+    match flow.start() {
+        Err(Refusal::NoMemory) => flow.start(),
+        run => run,
+    }
+}
+
+/// The flow of a list, made again where it is refused.
+fn list_of(alloc: Global, values: &[u64]) -> Result<Listed<u64, u64>, AllocError> {
+    match listed(alloc, values) {
+        Err(_) => listed(alloc, values),
+        list => list,
+    }
+}
+
+fn broken_list_of(alloc: Global, values: &[u64]) -> Result<Listed<u64, u64>, AllocError> {
+    match broken(alloc, values, 7) {
+        Err(_) => broken(alloc, values, 7),
+        list => list,
+    }
+}
+
+fn steps_of(alloc: Global, steps: &[Step<u64, u64>]) -> Result<Stepped<u64, u64>, AllocError> {
+    match steps.to_vec(alloc) {
+        Err(_) => Ok(scripted(steps.to_vec(alloc)?)),
+        Ok(steps) => Ok(scripted(steps)),
+    }
+}
+
+/// How many of these answers a run gives, from the first on. None where it ended since an inner start was refused.
+fn polled<R: Run<Item = u64, Fault = u64>>(
+    task: &MockTask,
+    run: &mut R,
+    answers: &[Polling],
+) -> Option<usize> {
+    for (number, answer) in answers.iter().enumerate() {
+        let polled = next(task, run);
+        if polled == REFUSED {
+            return None;
+        }
+        if polled != *answer {
+            return Some(number);
+        }
+    }
+    Some(answers.len())
+}
+
+/// The same of a flow. A run that ended since an inner start was refused has ended for good, and another one is asked.
+fn answered<F: Flow<Item = u64, Fault = u64>>(
+    task: &MockTask,
+    flow: &F,
+    answers: &[Polling],
+) -> Result<Option<usize>, Refusal> {
+    let mut run = begun(flow)?;
+    if let Some(count) = polled(task, &mut run, answers) {
+        return Ok(Some(count));
+    }
+    if next(task, &mut run) != REFUSED {
+        return Ok(None);
+    }
+    Ok(polled(task, &mut begun(flow)?, answers))
+}
+
+/// A flow by its name, and the polls of its run.
+struct Row<'a> {
+    name: &'a str,
+    answers: &'a [Polling],
+}
+
+fn compare_polls<F: Flow<Item = u64, Fault = u64>>(
+    differences: &mut Differences,
+    task: &MockTask,
+    flow: &F,
+    row: &Row<'_>,
+) -> Result<(), Fail> {
+    let count = answered(task, flow, row.answers)?;
+    differences.compare(row.name, count, Some(row.answers.len()))
+}
+
+#[test]
+fn starts_take_memory(rt: HostRuntime) -> Result<(), Fail> {
+    const LIST: &Row<'_> = &Row {
+        name: "of",
+        answers: &[
+            Poll::Ready(Event::Value(1)),
+            Poll::Ready(Event::Value(2)),
+            END,
+        ],
+    };
+    const FAILING: &Row<'_> = &Row {
+        name: "failing",
+        answers: &[
+            Poll::Ready(Event::Value(1)),
+            Poll::Ready(Event::End(Cause::Failed(7))),
+        ],
+    };
+    const STEPS: &Row<'_> = &Row {
+        name: "scripted",
+        answers: &[Poll::Ready(Event::Value(1)), Poll::Pending, END],
+    };
+    const OPERATORS: &Row<'_> = &Row {
+        name: "take and distinct",
+        answers: &[
+            Poll::Ready(Event::Value(1)),
+            Poll::Ready(Event::Value(2)),
+            END,
+        ],
+    };
+    let alloc = rt.alloc();
+    let task = task_made(&rt)?;
+    let mut all = Differences::none(alloc);
+    compare_polls(&mut all, &task, &list_of(alloc, &[1, 2])?, LIST)?;
+    compare_polls(&mut all, &task, &broken_list_of(alloc, &[1])?, FAILING)?;
+    let steps: [Step<u64, u64>; 2] = [Step::Value(1), Step::Pending];
+    compare_polls(&mut all, &task, &steps_of(alloc, &steps)?, STEPS)?;
+    let operators = take(distinct(list_of(alloc, &[1, 1, 2, 3])?), 2)?;
+    compare_polls(&mut all, &task, &operators, OPERATORS)?;
+    all.assert_none(&rt);
+    Ok(())
+}
+
+/// In each, two lists are started one after the other.
+#[test]
+fn starts_of_several_sources_take_memory(rt: HostRuntime) -> Result<(), Fail> {
+    const ZIP: &Row<'_> = &Row {
+        name: "zip",
+        answers: &[
+            Poll::Ready(Event::Value(11)),
+            Poll::Ready(Event::Value(22)),
+            END,
+        ],
+    };
+    const COMBINE: &Row<'_> = &Row {
+        name: "combine",
+        answers: &[
+            Poll::Ready(Event::Value(11)),
+            Poll::Ready(Event::Value(12)),
+            Poll::Ready(Event::Value(22)),
+            END,
+        ],
+    };
+    let alloc = rt.alloc();
+    let task = task_made(&rt)?;
+    let mut all = Differences::none(alloc);
+    let sums = zip(list_of(alloc, &[1, 2])?, list_of(alloc, &[10, 20])?, Sum);
+    compare_polls(&mut all, &task, &sums, ZIP)?;
+    let sums = combine(list_of(alloc, &[1, 2])?, list_of(alloc, &[10, 20])?, Sum);
+    compare_polls(&mut all, &task, &sums, COMBINE)?;
+    all.assert_none(&rt);
+    Ok(())
+}
+
+/// Compares flat maps of this inner flow, which gives 10.
+fn compare_flat_maps<F: Flow<Item = u64, Fault = u64> + Copy>(
+    differences: &mut Differences,
+    alloc: Global,
+    task: &MockTask,
+    inner: F,
+) -> Result<(), Fail> {
+    const CONCAT: &Row<'_> = &Row {
+        name: "flat_map_concat",
+        answers: TENS,
+    };
+    const MERGE: &Row<'_> = &Row {
+        name: "flat_map_merge",
+        answers: TENS,
+    };
+    let concat = flat_map_concat(list_of(alloc, &[1, 2])?, Same(inner));
+    compare_polls(differences, task, &concat, CONCAT)?;
+    let merge = flat_map_merge(alloc, list_of(alloc, &[1, 2])?, Same(inner), 2)?;
+    compare_polls(differences, task, &merge, MERGE)
+}
+
+/// An inner start that is refused ends the run.
+#[test]
+fn polls_of_flat_maps_take_memory(rt: HostRuntime) -> Result<(), Fail> {
+    let alloc = rt.alloc();
+    let task = task_made(&rt)?;
+    let mut all = Differences::none(alloc);
+    let ten = list_of(alloc, &[10])?;
+    compare_flat_maps(&mut all, alloc, &task, &ten)?;
+    all.assert_none(&rt);
+    Ok(())
+}
+
+/// What one poll of a collection came to.
+#[derive(Clone, Copy, Debug, PartialEq, Eq)]
+enum Outcome {
+    All,
+    /// It was given up with 4, keeps what came before, and answers that again.
+    GivenUp,
+    Wrong,
+}
+
+/// All values of the list and its end.
+fn is_all(list: &Collected<u64, u64>, values: &[u64]) -> bool {
+    list.values.as_slice() == values && list.cause == Cause::Finished
+}
+
+/// One poll of a collection of these values.
+fn gather<R: Run<Item = u64, Fault = u64>>(
+    task: &MockTask,
+    gathering: &mut Collecting<R>,
+    values: &[u64],
+) -> Outcome {
+    match task.enter(|cx| gathering.poll(cx)) {
+        Poll::Ready(Ok(list)) if is_all(&list, values) => Outcome::All,
+        Poll::Ready(Err(Refusal::NoMemory)) => {
+            let so_far = gathering.so_far();
+            let is_front = values.get(..so_far.len()) == Some(so_far);
+            let again = task.enter(|cx| gathering.poll(cx));
+            match again {
+                Poll::Ready(Err(Refusal::NoMemory)) if is_front => Outcome::GivenUp,
+                _ => Outcome::Wrong,
+            }
+        }
+        _ => Outcome::Wrong,
+    }
+}
+
+fn gathered<F: Flow<Item = u64, Fault = u64>>(
+    alloc: Global,
+    task: &MockTask,
+    flow: &F,
+    values: &[u64],
+) -> Result<Outcome, Refusal> {
+    let first = gather(task, &mut collect(alloc, begun(flow)?), values);
+    if first != Outcome::GivenUp {
+        return Ok(first);
+    }
+    Ok(gather(task, &mut collect(alloc, begun(flow)?), values))
+}
+
+fn listed_again<F: Flow<Item = u64, Fault = u64>>(
+    alloc: Global,
+    task: &MockTask,
+    flow: &F,
+) -> Result<Collected<u64, u64>, Refusal>
+where
+    F::Running: Finite,
+{
+    let run = begun(flow)?;
+    match task.enter(move |cx| to_list(alloc, run, cx)) {
+        Err(Refusal::NoMemory) => {
+            let run = begun(flow)?;
+            task.enter(move |cx| to_list(alloc, run, cx))
+        }
+        list => list,
+    }
+}
+
+#[test]
+fn ends_take_memory(rt: HostRuntime) -> Result<(), Fail> {
+    const VALUES: &[u64] = &[0, 1, 2, 3, 4, 5, 6, 7, 8, 9, 10, 11];
+    let alloc = rt.alloc();
+    let task = task_made(&rt)?;
+    let numbers = range::<u64>(0, 12);
+    let mut all = Differences::none(alloc);
+    let collected = gathered(alloc, &task, &numbers, VALUES)?;
+    all.compare("collect", collected, Outcome::All)?;
+    let list = listed_again(alloc, &task, &numbers)?;
+    all.compare("to_list", is_all(&list, VALUES), true)?;
+    all.assert_none(&rt);
+    Ok(())
+}
+
+/// Both sides of a list that is split.
+type Sides<'a> = (
+    Feed<<&'a Listed<u64, u64> as Flow>::Running>,
+    Drain<u64, u64>,
+);
+
+fn split_again(alloc: Global, list: &Listed<u64, u64>) -> Result<Sides<'_>, Refusal> {
+    match split(alloc, list, 2, Policy::Suspend) {
+        Err(Refusal::NoMemory) => split(alloc, list, 2, Policy::Suspend),
+        sides => sides,
+    }
+}
+
+#[test]
+fn buffers_take_memory(rt: HostRuntime) -> Result<(), Fail> {
+    const HELD: &Row<'_> = &Row {
+        name: "buffer",
+        answers: &[Poll::Ready(Event::Value(5)), END],
+    };
+    const LATEST: &Row<'_> = &Row {
+        name: "conflate",
+        answers: &[Poll::Ready(Event::Value(5)), END],
+    };
+    let alloc = rt.alloc();
+    let task = task_made(&rt)?;
+    let mut all = Differences::none(alloc);
+    let list = list_of(alloc, &[5])?;
+    let held = buffer(alloc, &list, 2, Policy::Suspend)?;
+    compare_polls(&mut all, &task, &held, HELD)?;
+    compare_polls(&mut all, &task, &conflate(alloc, &list), LATEST)?;
+    let (mut feed, mut drain) = split_again(alloc, &list)?;
+    let took = task.enter(|cx| feed.pump(&rt, cx));
+    feed.cancel(&rt);
+    let gave = (drain.next(&rt), drain.next(&rt));
+    let wanted = (Event::Value(5), Event::End(Cause::Cancelled));
+    all.compare("split, pumped", took, Fill::Took)?;
+    all.compare("split, drained", gave, wanted)?;
+    all.assert_none(&rt);
+    Ok(())
+}
+
+/// A flow that keeps two values for newcomers.
+const KEEPS_TWO: Config = Config {
+    replay: 2,
+    extra: 0,
+    policy: Policy::Suspend,
+    subscribers: 8,
+    emits: 8,
+    first: 0,
+};
+
+fn made(alloc: Global) -> Result<SharedState<u64>, Refusal> {
+    match SharedState::new(alloc, KEEPS_TWO) {
+        Err(Refusal::NoMemory) => SharedState::new(alloc, KEEPS_TWO),
+        flow => flow,
+    }
+}
+
+/// Runs the calls, once more where that was refused. None where the refused run changed anything.
+fn run_again(
+    flow: &mut SharedState<u64>,
+    calls: &[Call<u64>],
+    replies: &mut Vec<Reply<u64>>,
+) -> Option<Result<(), Refusal>> {
+    let count = replies.len();
+    if flow.run(calls, replies).is_ok() {
+        return Some(Ok(()));
+    }
+    if replies.len() != count || flow.subscription_count() != 0 || flow.replay_len() != 0 {
+        return None;
+    }
+    Some(flow.run(calls, replies))
+}
+
+#[test]
+fn new_flows_and_runs_of_calls_take_memory(rt: HostRuntime) -> Result<(), Fail> {
+    const CALLS: &[Call<u64>] = &[Call::Subscribe, Call::Try(1, 7), Call::Next(SubId(0))];
+    const REPLIES: &[Reply<u64>] = &[
+        Reply::Reset,
+        Reply::Sub(Ok(SubId(0))),
+        Reply::Tried(Ok(Tried::Accepted(0))),
+        Reply::Next(Next::Value(7)),
+    ];
+    let alloc = rt.alloc();
+    let mut all = Differences::none(alloc);
+    let mut replies = made_again(&|| Vec::with_capacity(alloc, 1))?;
+    replies.push(Reply::Reset)?;
+    let mut flow = made(alloc)?;
+    let ran = run_again(&mut flow, CALLS, &mut replies);
+    all.compare("run", ran, Some(Ok(())))?;
+    all.compare("replies", replies.as_slice(), REPLIES)?;
+    all.assert_none(&rt);
+    Ok(())
+}
+
+/// The answer to a poll at this moment that turns sharing on, where nobody subscribes.
+fn on_at(now: u64) -> Result<Polled, Refusal> {
+    Ok(Polled {
+        now,
+        count: 0,
+        on: true,
+        reset: false,
+    })
+}
+
+/// Whether the first poll turns sharing on. Where the start of its run is refused, the sharing is as before, its latest
+/// moment too.
+fn turns_on<F: Flow<Item = u64, Fault = u64>>(
+    rt: &impl Wait,
+    task: &MockTask,
+    sharing: &mut Sharing<u64, F>,
+) -> bool {
+    let polled = task.enter(|cx| sharing.poll(rt, 9, cx));
+    if polled != Err(Refusal::NoMemory) {
+        return polled == on_at(9);
+    }
+    sharing.fault().is_none() && task.enter(|cx| sharing.poll(rt, 4, cx)) == on_at(4)
+}
+
+/// The same of a state.
+fn state_turns_on<F: Flow<Item = u64, Fault = u64>>(
+    task: &MockTask,
+    sharing: &mut StateSharing<u64, F>,
+) -> bool {
+    let polled = task.enter(|cx| sharing.poll(9, cx));
+    if polled != Err(Refusal::NoMemory) {
+        return polled == on_at(9);
+    }
+    sharing.fault().is_none() && task.enter(|cx| sharing.poll(4, cx)) == on_at(4)
+}
+
+/// Shares a list, once more where that was refused.
+fn share_again(
+    rt: &impl Wait,
+    alloc: Global,
+    flow: &mut SharedFlow<u64>,
+) -> Result<Sharing<u64, Listed<u64, u64>>, Refusal> {
+    match share_in(rt, flow, list_of(alloc, &[1, 2])?, Started::Eagerly) {
+        Err(Refusal::NoMemory) => share_in(rt, flow, list_of(alloc, &[1, 2])?, Started::Eagerly),
+        sharing => sharing,
+    }
+}
+
+/// Makes a flow, once more where that was refused.
+fn flow_made(alloc: Global) -> Result<SharedFlow<u64>, Refusal> {
+    match SharedFlow::new(alloc, KEEPS_TWO) {
+        Err(Refusal::NoMemory) => SharedFlow::new(alloc, KEEPS_TWO),
+        flow => flow,
+    }
+}
+
+/// The seat of a new state with the value 3, which is made once more where that was refused.
+fn seat_made(alloc: Global, seats: u32) -> Result<StateSeat<u64>, Refusal> {
+    match StateFlow::new(alloc, 3u64, seats) {
+        Err(Refusal::NoMemory) => StateFlow::new(alloc, 3u64, seats),
+        seat => seat,
+    }
+}
+
+/// What a state's first seat says of itself.
+fn shown(seat: &mut StateSeat<u64>) -> (u32, u32, u64) {
+    (seat.spare(), seat.collectors(), seat.value())
+}
+
+/// Takes a seat of a state that shows this, once more where that was refused. None where a refusal changed anything.
+fn taken_again(
+    seat: &mut StateSeat<u64>,
+    before: (u32, u32, u64),
+) -> Option<Result<StateSeat<u64>, Refusal>> {
+    match seat.take_seat(1) {
+        Err(Refusal::NoMemory) => {
+            if shown(seat) != before {
+                return None;
+            }
+            Some(seat.take_seat(1))
+        }
+        other => Some(other),
+    }
+}
+
+#[test]
+fn states_take_memory(rt: HostRuntime) -> Result<(), Fail> {
+    const BEFORE: (u32, u32, u64) = (3, 0, 3);
+    let mut all = Differences::none(rt.alloc());
+    let mut seat = seat_made(rt.alloc(), 4)?;
+    all.compare("StateFlow::new", shown(&mut seat), BEFORE)?;
+    let spare = match taken_again(&mut seat, BEFORE) {
+        Some(Ok(other)) => Some((other.spare(), seat.spare())),
+        _ => None,
+    };
+    all.compare("take_seat", spare, Some((1, 1)))?;
+    all.assert_none(&rt);
+    Ok(())
+}
+
+/// Whether a list that is shared is turned on by its first poll.
+fn shared(
+    rt: &impl Wait,
+    alloc: Global,
+    task: &MockTask,
+    flow: &mut SharedFlow<u64>,
+) -> Result<bool, Refusal> {
+    let mut sharing = share_again(rt, alloc, flow)?;
+    let turned = turns_on(rt, task, &mut sharing);
+    sharing.close(rt);
+    Ok(turned)
+}
+
+#[test]
+fn sharings_take_memory(rt: HostRuntime) -> Result<(), Fail> {
+    let alloc = rt.alloc();
+    let task = task_made(&rt)?;
+    let mut all = Differences::none(alloc);
+    let mut cache = made_again(&|| Vec::with_capacity(alloc, 2))?;
+    let mut flow = flow_made(alloc)?;
+    let turned = shared(&rt, alloc, &task, &mut flow)?;
+    flow.replay_cache_into(&rt, &mut cache)?;
+    all.compare("share_in and its first poll", turned, true)?;
+    all.compare("the cache", cache.as_slice(), [1, 2].as_slice())?;
+    let list = list_of(alloc, &[1, 2])?;
+    let mut sharing = state_in(seat_made(alloc, 1)?, 7, list, Started::Eagerly);
+    let turned = state_turns_on(&task, &mut sharing);
+    let mut seat = sharing.close();
+    all.compare("state_in and its first poll", turned, true)?;
+    all.compare("the state", seat.value(), 2)?;
+    all.assert_none(&rt);
+    Ok(())
+}
