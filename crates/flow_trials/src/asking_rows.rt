@@ -18,13 +18,13 @@ use std::test::Fail;
 
 // A flow whose runs count the polls that they get.
 #[derive(Drop)]
-struct Counted<'a, F> {
+pub struct Counted<'a, F> {
     source: F,
     count: &'a Cell<u32>,
 }
 
 #[derive(Drop)]
-struct CountedRun<'a, S> {
+pub struct CountedRun<'a, S> {
     source: S,
     count: &'a Cell<u32>,
 }
@@ -76,7 +76,7 @@ impl<S: Run> Run for CountedRun<'_, S> {
 }
 
 // Given steps, of which it is counted how often they are asked.
-fn counting<'a>(
+pub(crate) fn counting<'a>(
     alloc: Global,
     steps: &[Step<u64, u64>],
     count: &'a Cell<u32>,
@@ -95,7 +95,7 @@ struct Asking<'a> {
     polls: &'a [(Polling, u32, u32)],
 }
 
-const WAIT: Step<u64, u64> = Step::Pending;
+pub(crate) const WAIT: Step<u64, u64> = Step::Pending;
 
 const ENDED: Polling = Poll::Ready(Event::End(Cause::Finished));
 

@@ -8,11 +8,15 @@ mod body_rows;
 #[cfg(test)]
 mod buffer_rows;
 #[cfg(test)]
+mod cancel_rows;
+#[cfg(test)]
 mod cold_rows;
 #[cfg(test)]
 mod core_limits;
 #[cfg(test)]
 mod core_rows;
+#[cfg(test)]
+mod hostile;
 #[cfg(test)]
 mod lane_rows;
 #[cfg(test)]

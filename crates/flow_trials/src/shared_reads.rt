@@ -14,6 +14,7 @@ use crate::tools::assert_same;
 use cold_flow::Policy;
 use shared_core::{Config, Tried};
 use shared_flow::{Emitter, Held, Met, Receipt, SharedFlow, Subscription, Taken};
+use state_flow::{StateFlow, StateSeat};
 use std::alloc::AllocGlobal;
 use std::process::Abort;
 use std::random::RandomSource;
@@ -308,6 +309,95 @@ where
         (1, 0),
     );
     assert_same(rt, "the value", taken, Taken::Value(value));
+}
+
+/// What was answered while the lock was kept.
+#[derive(Clone, Copy, Debug, PartialEq, Eq)]
+struct Answered {
+    taken: [Taken<u64>; 2],
+    start: u64,
+    received: u64,
+    dropped: u64,
+    // Whether the state had the value that it was set to, and the value after that.
+    was_equal: bool,
+    value: u64,
+}
+
+// Makes each call that takes no lock.
+fn call_all(
+    subscription: &mut Subscription<u64>,
+    receipt: &mut Receipt,
+    seat: &mut StateSeat<u64>,
+) -> Answered
+    requires { OfFlow subscription.old.party (λ name. IsReceiptOf name.lane receipt.old) }
+{
+    subscription.told(receipt);
+    let taken = [subscription.try_next(), subscription.try_next()];
+    seat.set(5);
+    let was_equal = seat.compare_and_set(5, 6);
+    Answered {
+        taken,
+        start: subscription.start(),
+        received: subscription.received(),
+        dropped: subscription.dropped(),
+        was_equal,
+        value: seat.value(),
+    }
+}
+
+// The same once the lock is kept, which is then given back. `None` where it isn't kept in time.
+fn call_all_while_held(
+    subscription: &mut Subscription<u64>,
+    receipt: &mut Receipt,
+    seat: &mut StateSeat<u64>,
+    signals: &Signals,
+) -> Option<Answered>
+    requires { OfFlow subscription.old.party (λ name. IsReceiptOf name.lane receipt.old) }
+{
+    if !was_set(&signals.is_held) {
+        return None;
+    }
+    let answered = call_all(subscription, receipt, seat);
+    signals.is_over.store(true, Ordering::SeqCst);
+    Some(answered)
+}
+
+// A thread makes each call that takes no lock while another keeps it, on a subscription and on a state.
+#[test]
+fn all_that_takes_no_lock_passes_a_held_one(rt: HostRuntime) -> Result<(), Fail> {
+    let mut seat = StateFlow::new(rt.alloc(), 0u64, 1).map_err(|refusal| refusal.number())?;
+    let config = Config {
+        extra: 1,
+        first: 10,
+        ..PLAIN
+    };
+    let mut flow = SharedFlow::new(rt.alloc(), config)?;
+    let signals = Signals {
+        is_held: AtomicBool::new(false),
+        is_over: AtomicBool::new(false),
+    };
+    let mut emitter = flow.emitter(&rt, 1).expect(&rt, "an emitter");
+    let mut subscription = flow.subscribe(&rt).expect(&rt, "a subscription");
+    let mut receipt = receipt_of(&rt, &mut emitter, 9).expect(&rt, "a receipt");
+    let (kept, answered) = thread::join(
+        &rt,
+        || keep_lock(&rt, &mut flow, &signals),
+        || call_all_while_held(&mut subscription, &mut receipt, &mut seat, &signals),
+    );
+    subscription.cancel(&rt);
+    let _idle = emitter.close(&rt);
+    let wanted = Answered {
+        taken: [Taken::Value(9), Taken::Nothing],
+        start: 10,
+        received: 1,
+        dropped: 0,
+        was_equal: true,
+        value: 6,
+    };
+    let (_, _, is_over) = kept;
+    assert_same(&rt, "while the lock was kept", answered, Some(wanted));
+    assert!(rt; is_over);
+    Ok(())
 }
 
 #[test]
