@@ -1,6 +1,6 @@
 //! A caller of a sharing strategy.
 ghost use Rattle.std.specs.Prelude.{◌≡◌, Some};
-ghost use Rattle.flow_sharing.specs.declared.command.Command.TheVariants.{Start, Stop, StopAndReset};
+ghost use Rattle.flow_terms.specs.declared.command.Command.TheVariants.{Start, Stop, StopAndReset};
 
 use flow_sharing::{Command, Started, Strategy};
 

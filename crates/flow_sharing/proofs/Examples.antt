@@ -1,11 +1,20 @@
 -- Worked examples, computed by the definition: the commands of some polls, the first one first.
-use Rattle.std.proofs.Common.{◌≡◌, refl, ℕ, [], ◌∷◌, Some, None}
-use Rattle.flow_terms.specs.declared.started.Started.TheVariants.{Eagerly, Lazily, WhileSubscribed}
-use Rattle.flow_sharing.specs.declared.command.Command.TheVariants.{Start, Stop, StopAndReset}
+use Rattle.std.proofs.Common.{◌≡◌, refl, ℕ, List, [], ◌∷◌, length, Some, None}
+use Rattle.flow_terms.specs.declared.started.Started.{Started}
+use Rattle.flow_terms.specs.declared.started.Started.TheVariants.{Eagerly, Lazily, WhileSubscribed, Custom}
+use Rattle.flow_terms.specs.declared.plan.Entry.{Entry}
+use Rattle.flow_terms.specs.declared.command.Command.{Command}
+use Rattle.flow_terms.specs.declared.command.Command.TheVariants.{Start, Stop, StopAndReset}
 use Rattle.flow_sharing.specs.Strategies.{Look, commands}
 
 abbrev look : ℕ → ℕ → Look
 look moment count = record { moment = moment; count = count }
+
+abbrev entry : ℕ → ℕ → ℕ → Command → Entry
+entry at low high command = record { at = at; low = low; high = high; command = command }
+
+abbrev plan : List Entry → Started
+plan entries = Custom (record { entries = entries; count = length entries })
 
 -- on while subscribed, off 100 after the last subscription, reset 50 later
 while_subscribed : commands (WhileSubscribed 100 (Some 50))
@@ -42,3 +51,33 @@ lazily = refl
 at_the_end : commands (WhileSubscribed 18446744073709551615 (Some 18446744073709551615))
     (look 1 1 ∷ look 2 0 ∷ look 18446744073709551615 0 ∷ []) ≡ Some Start ∷ None ∷ None ∷ []
 at_the_end = refl
+
+-- each entry waits for its moment and for its count, the clearing one too, and one is taken in a poll
+plan_of_commands : commands (plan (entry 10 1 8 Start ∷ entry 20 0 0 Stop ∷ entry 30 0 8 StopAndReset ∷ entry 30 0 8 Start ∷ []))
+    (look 5 1 ∷ look 10 1 ∷ look 25 1 ∷ look 26 0 ∷ look 29 0 ∷ look 30 0 ∷ look 30 0 ∷ look 31 0 ∷ [])
+    ≡ None ∷ Some Start ∷ None ∷ Some Stop ∷ None ∷ Some StopAndReset ∷ Some Start ∷ None ∷ []
+plan_of_commands = refl
+
+-- a repeated command does nothing
+plan_repeats : commands (plan (entry 0 0 8 Start ∷ entry 0 0 8 Start ∷ [])) (look 0 0 ∷ look 0 0 ∷ [])
+    ≡ Some Start ∷ None ∷ []
+plan_repeats = refl
+
+plan_for_state : commands (plan (entry 0 0 9 Start ∷ entry 0 0 9 StopAndReset ∷ [])) (look 0 0 ∷ look 0 0 ∷ [])
+    ≡ Some Start ∷ Some StopAndReset ∷ []
+plan_for_state = refl
+
+-- a reset where sharing is off, and again after another command
+clears_again : commands (plan (entry 0 0 8 StopAndReset ∷ entry 0 0 8 Stop ∷ entry 0 0 8 StopAndReset ∷ entry 0 0 8 StopAndReset ∷ []))
+    (look 0 0 ∷ look 0 0 ∷ look 0 0 ∷ look 0 0 ∷ [])
+    ≡ Some StopAndReset ∷ None ∷ Some StopAndReset ∷ None ∷ []
+clears_again = refl
+
+-- the first entry keeps the second from being taken before it; a moment that goes back is the latest one
+in_order : commands (plan (entry 20 0 8 Start ∷ entry 10 0 8 Stop ∷ [])) (look 10 0 ∷ look 20 0 ∷ look 5 0 ∷ [])
+    ≡ None ∷ Some Start ∷ Some Stop ∷ []
+in_order = refl
+
+-- without entries it is never on
+no_entries : commands (plan []) (look 0 0 ∷ look 5 3 ∷ []) ≡ None ∷ None ∷ []
+no_entries = refl

@@ -7,7 +7,7 @@ use Rattle.cold_flow.specs.declared.cause.Cause.TheVariants.{Finished, Failed, C
 use Rattle.flow_terms.specs.declared.refusal.Refusal.{Refusal}
 use Rattle.cold_flow.specs.Trace.{so_far}
 use Rattle.cold_flow.specs.Poll.{Traces}
-use Rattle.flow_sharing.specs.declared.command.Command.{Command}
+use Rattle.flow_terms.specs.declared.command.Command.{Command}
 use Rattle.flow_sharing.specs.declared.course.Course.{Course}
 use Rattle.flow_sharing.specs.declared.course.Course.TheVariants.{Idle, Running, Broken}
 use Rattle.flow_sharing.specs.Courses.{Asked, GoesOn, is_running, after_end}

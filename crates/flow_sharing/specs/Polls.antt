@@ -1,7 +1,7 @@
 -- What a poll of a sharing answers and commands, by all polls so far.
 use Rattle.std.specs.Prelude.{◌≡◌, ℕ, false, ◌∷◌, Option, Some, None}
 use Rattle.cold_flow.specs.declared.cause.Cause.{Cause}
-use Rattle.flow_sharing.specs.declared.command.Command.{Command}
+use Rattle.flow_terms.specs.declared.command.Command.{Command}
 use Rattle.flow_sharing.specs.declared.polled.Polled.{Polled}
 use Rattle.flow_sharing.specs.declared.strategy.Strategy.{Strategy}
 use Rattle.flow_terms.specs.declared.started.Started.{Started}

@@ -4,8 +4,8 @@ use Rattle.cold_flow.specs.declared.cause.Cause.{Cause}
 use Rattle.cold_flow.specs.declared.cause.Cause.TheVariants.{Refused}
 use Rattle.flow_terms.specs.declared.refusal.Refusal.{Refusal}
 use Rattle.cold_flow.specs.Poll.{Traces}
-use Rattle.flow_sharing.specs.declared.command.Command.{Command}
-use Rattle.flow_sharing.specs.declared.command.Command.TheVariants.{Start, Stop, StopAndReset}
+use Rattle.flow_terms.specs.declared.command.Command.{Command}
+use Rattle.flow_terms.specs.declared.command.Command.TheVariants.{Start, Stop, StopAndReset}
 use Rattle.flow_sharing.specs.declared.course.Course.{Course}
 use Rattle.flow_sharing.specs.declared.course.Course.TheVariants.{Broken}
 use Rattle.flow_sharing.specs.declared.polled.Polled.{Polled}

@@ -4,8 +4,10 @@ use Rattle.std.specs.List.{list_any}
 use Rattle.flow_terms.specs.declared.started.Started.{Started}
 use Rattle.flow_sharing.specs.declared.audience.Audience.{Audience}
 use Rattle.flow_sharing.specs.declared.audience.Audience.TheVariants.{Awaited, Present, Gone}
+use Rattle.flow_sharing.specs.declared.kept.Kept.{Kept}
+use Rattle.flow_sharing.specs.declared.progress.Progress.{Progress}
 use Rattle.flow_sharing.specs.declared.strategy.Strategy.{Strategy}
-use Rattle.flow_sharing.specs.Strategies.{History, latest, was_visited, is_visited, stretch, beginning, is_due, is_on}
+use Rattle.flow_sharing.specs.Strategies.{History, latest, was_visited, is_visited, stretch, beginning, is_due, is_on, entries_in, taken, last_taken}
 
 -- of the counts: whether there was one over 0 before the present stretch, when that began, and whether a reset was due in it
 abbrev pub audience_of : Started → History → Audience
@@ -14,8 +16,20 @@ audience_of started history =
     else if was_visited history then Gone (beginning history) (list_any (is_due started) (stretch history))
     else Awaited
 
+-- of a plan
+abbrev pub progress_of : Started → History → Progress
+progress_of started history = record {
+  taken = taken (entries_in started) history;
+  last = last_taken (entries_in started) history;
+}
+
 -- the strategy keeps what this history comes to
 pub record Shows (strategy : Strategy) (history : History) : Type 0 where
-  pub latest_is : strategy.latest ≡ latest history
-  pub audience_is : strategy.audience ≡ audience_of strategy.started history
-  pub on_is : strategy.on ≡ is_on strategy.started history
+  pub latest_is : strategy.kept.latest ≡ latest history
+  pub audience_is : strategy.kept.audience ≡ audience_of strategy.started history
+  pub progress_is : strategy.kept.progress ≡ progress_of strategy.started history
+  pub on_is : strategy.kept.on ≡ is_on strategy.started history
+
+-- the strategy, where it keeps this
+abbrev pub keeping : Kept → Strategy → Strategy
+keeping kept strategy = record strategy { kept = kept }

@@ -3,6 +3,8 @@ ghost use Rattle.std.specs.Prelude.{◌≡◌, ◌==◌, ◌&&◌, not};
 ghost use Rattle.flow_sharing.specs.Keeping.{counted, is_past, is_expired, marked, on_by};
 ghost use Rattle.flow_sharing.specs.Strategies.{expires};
 
+use crate::command::starts;
+use crate::progress::Progress;
 use flow_terms::Started;
 
 /// What a strategy keeps of the counts that its polls found.
@@ -22,10 +24,10 @@ pub(crate) enum Audience {
 }
 
 // Whether the replay cache is reset once there has been no subscription for so long.
-fn expires(started: Started, lasted: u64) -> bool
-    ensures { result ≡ expires started lasted }
+fn expires(started: &Started, lasted: u64) -> bool
+    ensures { result ≡ expires started.now lasted }
 {
-    match started {
+    match *started {
         Started::WhileSubscribed {
             stop,
             expire: Some(expire),
@@ -53,9 +55,9 @@ impl Audience {
     }
 
     // Whether a reset falls at the moment `latest`, and what is kept of that.
-    pub(crate) fn expired(self, started: Started, latest: u64) -> (Audience, bool)
-        ensures kept { result.0 ≡ marked (is_past started self latest) self }
-        ensures falls { result.1 ≡ (is_past started self latest && not (is_expired self)) }
+    pub(crate) fn expired(self, started: &Started, latest: u64) -> (Audience, bool)
+        ensures kept { result.0 ≡ marked (is_past started.now self latest) self }
+        ensures falls { result.1 ≡ (is_past started.now self latest && not (is_expired self)) }
     {
         match self {
             Audience::Gone { since, expired } if expires(started, latest.saturating_sub(since)) => {
@@ -71,11 +73,11 @@ impl Audience {
         }
     }
 
-    // Whether sharing is on at the moment `latest`.
-    pub(crate) fn is_on(self, started: Started, latest: u64) -> bool
-        ensures { result ≡ on_by started self latest }
+    // Whether sharing is on at the moment `latest`, where a plan is done so far.
+    pub(crate) fn is_on(self, started: &Started, progress: Progress, latest: u64) -> bool
+        ensures { result ≡ on_by started.now self progress latest }
     {
-        match started {
+        match *started {
             Started::Eagerly => true,
             Started::Lazily => self != Audience::Awaited,
             Started::WhileSubscribed { stop, .. } => match self {
@@ -83,6 +85,7 @@ impl Audience {
                 Audience::Present => true,
                 Audience::Gone { since, .. } => latest.saturating_sub(since) < stop,
             },
+            Started::Custom(_) => starts(progress.last),
         }
     }
 }

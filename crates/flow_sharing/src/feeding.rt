@@ -3,15 +3,15 @@
 ghost use Rattle.std.specs.Prelude.{◌≡◌, Some, true, IsTrue, IfErr, OnOk, OnErr};
 ghost use Rattle.futures.specs.Task.{IsArmed, Keeps};
 ghost use Rattle.flow_terms.specs.declared.refusal.Refusal.TheVariants.{NoMemory};
-ghost use Rattle.flow_sharing.specs.declared.command.Command.TheVariants.{Start};
+ghost use Rattle.flow_terms.specs.declared.command.Command.TheVariants.{Start};
 ghost use Rattle.flow_sharing.specs.Courses.{is_running};
 ghost use Rattle.flow_sharing.specs.Sharings.{Obeys, Takes, Shares};
 
-use crate::command::Command;
 use crate::destination::Destination;
 use crate::offer::Offer;
 use crate::upstream::Upstream;
 use cold_flow::{Flow, Refusal, Word};
+use flow_terms::Command;
 use futures::task::{Context, Poll};
 
 // How many events of its upstream a poll takes at most. The end of a run is one of them.

@@ -6,6 +6,10 @@
 //! neither stops. `WhileSubscribed` is on while there are subscriptions, and for `stop` milliseconds after. Its time is counted from
 //! the poll that first found none. Once `expire` milliseconds more have passed, what is shared is reset, once.
 //!
+//! `Custom` is a strategy of a caller's own, by a [`Plan`]: a list of at most 32 commands. Each poll takes at most the next [`Entry`]
+//! of it, where the poll comes at its moment or later and finds a count in its range. What that commands is done, unless the command
+//! before it was the same.
+//!
 //! # Who keeps the time
 //! Nothing runs by itself. A sharing is polled by whoever has it, with the moment handed in, so a stop comes at the first poll after
 //! its time. A moment earlier than one already handed in is taken as the latest one.
@@ -44,12 +48,14 @@ mod course;
 mod destination;
 mod feeding;
 mod flow_destination;
+mod kept;
 mod live_run;
 mod offer;
 mod outlet;
 mod polled;
 mod polling;
 pub mod polls;
+mod progress;
 mod share;
 mod sharing;
 mod state_destination;
@@ -58,8 +64,7 @@ mod strategy;
 mod turn;
 mod upstream;
 
-pub use command::Command;
-pub use flow_terms::Started;
+pub use flow_terms::{Command, Entry, Plan, Started};
 pub use polled::Polled;
 pub use share::share_in;
 pub use sharing::Sharing;

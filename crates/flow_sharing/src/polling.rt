@@ -40,13 +40,13 @@ pub(crate) fn poll_sharing<T: Word, F: Flow<Item = T>, D: Destination<T>>(
     ensures wakes { Keeps cx.old cx.new }
 {
     let count = destination.count();
-    let turn = Turn::of(*strategy, now, count);
+    let turn = Turn::of(strategy, now, count);
     if upstream.fault().is_some() {
-        *strategy = turn.strategy;
+        strategy.kept = turn.kept;
         return Ok(turn.polled.over());
     }
     upstream.obey(destination, turn.command)?;
-    *strategy = turn.strategy;
+    strategy.kept = turn.kept;
     if turn.polled.on {
         upstream.share(destination, cx);
     }

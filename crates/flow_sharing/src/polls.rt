@@ -3,9 +3,8 @@ ghost use Rattle.std.specs.Prelude.{◌≡◌, length, map, reverse};
 ghost use Rattle.flow_sharing.specs.Strategies.{commands, look_of};
 ghost use Rattle.flow_sharing.specs.Shown.{Shows};
 
-use crate::command::Command;
 use crate::strategy::Strategy;
-use flow_terms::Started;
+use flow_terms::{Command, Started};
 
 /// Hands these polls, each a moment and a count, to a new strategy, and writes down what each one commands: what
 /// the definition says of the list of all polls up to that one.

@@ -1,17 +1,19 @@
 //! One poll of a sharing, as its strategy sees it.
 ghost use Rattle.std.specs.Prelude.{◌≡◌};
-ghost use Rattle.flow_sharing.specs.Strategies.{resets};
 ghost use Rattle.flow_sharing.specs.Polls.{ShowsMore, PolledSo, Commands};
+ghost use Rattle.flow_sharing.specs.Shown.{keeping};
 
-use crate::command::Command;
+use crate::command::resets;
+use crate::kept::Kept;
 use crate::polled::Polled;
 use crate::strategy::Strategy;
+use flow_terms::Command;
 
 // What a strategy makes of one poll of a sharing.
 #[derive(Clone, Copy)]
 pub(crate) struct Turn {
-    // The strategy after the poll.
-    pub(crate) strategy: Strategy,
+    // What the strategy keeps after the poll.
+    pub(crate) kept: Kept,
     // What the poll answers.
     pub(crate) polled: Polled,
     // What the sharing is to do.
@@ -19,31 +21,24 @@ pub(crate) struct Turn {
 }
 
 impl Turn {
-    // Takes a copy of the strategy: a poll whose start is refused leaves the sharing's own as it was.
-    pub(crate) fn of(mut strategy: Strategy, now: u64, count: u32) -> Turn
-        ensures started { result.strategy.started ≡ strategy.started }
+    // Leaves the strategy as it was, as a poll does whose start is refused.
+    pub(crate) fn of(strategy: &Strategy, now: u64, count: u32) -> Turn
         ensures count { result.polled.count ≡ count }
-        ensures shows { ShowsMore strategy now count result.strategy }
-        ensures polled { PolledSo strategy now count result.polled }
-        ensures command { Commands strategy now count result.command }
+        ensures shows { ShowsMore strategy.now now count (keeping result.kept strategy.now) }
+        ensures polled { PolledSo strategy.now now count result.polled }
+        ensures command { Commands strategy.now now count result.command }
     {
-        let command = strategy.step(now, count);
+        let (kept, command) = strategy.after(now, count);
         let polled = Polled {
-            now: strategy.latest(),
+            now: kept.latest,
             count,
-            on: strategy.on(),
+            on: kept.on,
             reset: resets(command),
         };
         Turn {
-            strategy,
+            kept,
             polled,
             command,
         }
     }
-}
-
-fn resets(command: Option<Command>) -> bool
-    ensures { result ≡ resets command }
-{
-    matches!(command, Some(Command::StopAndReset))
 }

@@ -4,16 +4,20 @@
 #![tactic(auto)]
 
 mod answers;
+mod command;
 mod fill;
 mod ids;
+mod plan;
 mod policy;
 mod refusal;
 mod started;
 mod word;
 
 pub use answers::{Begun, Emit, Next, Tried, Withdrawn};
+pub use command::Command;
 pub use fill::Fill;
 pub use ids::{SubId, Ticket};
+pub use plan::{Entry, Plan};
 pub use policy::Policy;
 pub use refusal::Refusal;
 pub use started::Started;

@@ -39,10 +39,13 @@ pub enum Refusal {
     /// More than 1,024 inner flows at once.
     #[error("more than 1,024 inner flows at once")]
     TooManyWorkers,
+    /// A plan with more than 32 entries, or with an entry whose least count is above its greatest.
+    #[error("a plan has over 32 entries, or one whose least count is above its greatest")]
+    BadPlan,
 }
 
 impl Refusal {
-    /// The number under which the refusal is printed and documented, from 1 to 9.
+    /// The number under which the refusal is printed and documented.
     pub fn number(self) -> u8
         ensures { result ≡ number_of self }
     {
@@ -56,6 +59,7 @@ impl Refusal {
             Refusal::Spent => 7,
             Refusal::NotPositive => 8,
             Refusal::TooManyWorkers => 9,
+            Refusal::BadPlan => 11,
         }
     }
 }

@@ -1,5 +1,7 @@
 //! When a sharing is on: Kotlin's `SharingStarted`.
 
+use crate::plan::Plan;
+
 /// When the upstream of a sharing is collected, by the moments of its polls and the live subscriptions that they found:
 /// Kotlin's `SharingStarted`. Moments and spans are whole milliseconds.
 #[derive(Clone, Copy, Debug, PartialEq, Eq)]
@@ -15,4 +17,6 @@ pub enum Started {
         /// How long after the stop the replay cache is reset, None for never: `replayExpirationMillis`.
         expire: Option<u64>,
     },
+    /// As a plan commands: a strategy of the caller's own, `SharingStarted { }`.
+    Custom(Plan),
 }

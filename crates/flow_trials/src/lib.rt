@@ -57,3 +57,5 @@ mod tools;
 mod unfold_rows;
 #[cfg(test)]
 mod waiting_rows;
+#[cfg(test)]
+mod when;

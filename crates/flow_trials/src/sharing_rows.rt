@@ -7,8 +7,9 @@ use crate::shared_stage::Call::{Cancel, Next, Subscribe};
 use crate::shared_stage::{Answer, Call, Listening};
 use crate::ticks::Tick;
 use crate::tools::{Differences, broken, listed};
+use crate::when::When;
 use cold_flow::{Cause, Flow, Refusal, Step, range, scripted};
-use flow_sharing::{Sharing, Started, share_in};
+use flow_sharing::{Sharing, share_in};
 use futures::test::MockTask;
 use shared_core::{Config, Withdrawn};
 use shared_flow::{Receipt, SharedFlow};
@@ -33,7 +34,7 @@ enum Line<'a> {
 struct Row<'a> {
     name: &'a str,
     config: Config,
-    started: Started,
+    when: When,
     lines: &'a [Line<'a>],
     closed: Answer,
     rest: &'a [Line<'a>],
@@ -43,7 +44,7 @@ const REPLAYS_ONE: Config = Config { replay: 1, ..PLAIN };
 
 const HOLDS_ONE: Config = Config { extra: 1, ..PLAIN };
 
-const AT_ONCE: Started = Started::WhileSubscribed {
+const AT_ONCE: When = When::WhileSubscribed {
     stop: 0,
     expire: None,
 };
@@ -51,7 +52,7 @@ const AT_ONCE: Started = Started::WhileSubscribed {
 const STOPS: &Row<'_> = &Row {
     name: "share_while_subscribed",
     config: REPLAYS_ONE,
-    started: Started::WhileSubscribed {
+    when: When::WhileSubscribed {
         stop: 100,
         expire: Some(50),
     },
@@ -83,7 +84,7 @@ const STOPS: &Row<'_> = &Row {
 const NEVER_EXPIRES: &Row<'_> = &Row {
     name: "share_never_expires",
     config: REPLAYS_ONE,
-    started: AT_ONCE,
+    when: AT_ONCE,
     lines: &[
         Line::Call(Subscribe, Subscribed),
         Line::Poll(0, 1, Tick::On),
@@ -104,7 +105,7 @@ const NEVER_EXPIRES: &Row<'_> = &Row {
 const TAKES_32_EVENTS: &Row<'_> = &Row {
     name: "share_takes_32_events",
     config: REPLAYS_ONE,
-    started: Started::Eagerly,
+    when: When::Eagerly,
     lines: &[
         Line::Poll(0, 0, Tick::On),
         Line::Cache(&[31]),
@@ -120,7 +121,7 @@ const TAKES_32_EVENTS: &Row<'_> = &Row {
 const ENDS_AT_32: &Row<'_> = &Row {
     name: "the end is an event",
     config: REPLAYS_ONE,
-    started: Started::Eagerly,
+    when: When::Eagerly,
     lines: &[
         Line::Poll(0, 0, Tick::On),
         Line::Poll(0, 0, Tick::Ends(Cause::Failed(9))),
@@ -132,7 +133,7 @@ const ENDS_AT_32: &Row<'_> = &Row {
 const FAILS: &Row<'_> = &Row {
     name: "of stated_and_shared, the flow that fails",
     config: REPLAYS_ONE,
-    started: Started::Eagerly,
+    when: When::Eagerly,
     lines: &[
         Line::Poll(5, 0, Tick::Ends(Cause::Failed(7))),
         Line::Cache(&[1]),
@@ -146,7 +147,7 @@ const FAILS: &Row<'_> = &Row {
 const GOES_ON: &Row<'_> = &Row {
     name: "of stated_and_shared, the flow whose emission waits until its value is received",
     config: HOLDS_ONE,
-    started: Started::Lazily,
+    when: When::Lazily,
     lines: &[
         Line::Call(Subscribe, Subscribed),
         Line::Poll(0, 1, Tick::On),
@@ -166,7 +167,7 @@ const GOES_ON: &Row<'_> = &Row {
 const KEEPS: &Row<'_> = &Row {
     name: "sharing_keeps_what_waits",
     config: HOLDS_ONE,
-    started: Started::Lazily,
+    when: When::Lazily,
     lines: &[
         Line::Call(Subscribe, Subscribed),
         Line::Poll(0, 1, Tick::On),
@@ -185,7 +186,7 @@ const KEEPS: &Row<'_> = &Row {
 const WITHDRAWN: &Row<'_> = &Row {
     name: "a waiting value is never accepted once it was withdrawn",
     config: HOLDS_ONE,
-    started: Started::Lazily,
+    when: When::Lazily,
     lines: &[
         Line::Call(Subscribe, Subscribed),
         Line::Poll(0, 1, Tick::On),
@@ -202,7 +203,7 @@ const WITHDRAWN: &Row<'_> = &Row {
 const STOP_WITHDRAWS: &Row<'_> = &Row {
     name: "a stop withdraws the emission in flight",
     config: HOLDS_ONE,
-    started: AT_ONCE,
+    when: AT_ONCE,
     lines: &[
         Line::Call(Subscribe, Subscribed),
         Line::Poll(0, 1, Tick::On),
@@ -220,7 +221,7 @@ const IS_REFUSED: &Row<'_> = &Row {
         first: (1 << 62) - 1,
         ..REPLAYS_ONE
     },
-    started: Started::Eagerly,
+    when: When::Eagerly,
     lines: &[
         Line::Poll(0, 0, Tick::Ends(Cause::Refused(Refusal::Spent))),
         Line::Cache(&[1]),
@@ -234,7 +235,7 @@ const IS_REFUSED: &Row<'_> = &Row {
 const STARTS_LATER: &Row<'_> = &Row {
     name: "a refused start is made again",
     config: REPLAYS_ONE,
-    started: Started::Eagerly,
+    when: When::Eagerly,
     lines: &[
         Line::Poll(100, 0, Tick::Refused),
         Line::Poll(100, 0, Tick::Refused),
@@ -352,7 +353,7 @@ where
         task: MockTask::new(rt).expect(rt, "a task"),
         latest: 0,
     };
-    let made = share_in(rt, &mut stage.flow, upstream, row.started);
+    let made = share_in(rt, &mut stage.flow, upstream, row.when.started());
     let mut sharing = made.expect(rt, "a sharing");
     let lines = stage.shared(rt, &mut sharing, row.lines);
     let closed = closed_with(sharing.close(rt));

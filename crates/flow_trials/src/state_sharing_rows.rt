@@ -3,8 +3,9 @@
 use crate::merge_rows::one_and_two;
 use crate::ticks::Tick;
 use crate::tools::{Differences, broken, listed};
+use crate::when::When;
 use cold_flow::{Cause, EndingRun, Flow, Numbers, Refusal, Step, range, scripted};
-use flow_sharing::{Started, StateSharing, state_in};
+use flow_sharing::{StateSharing, state_in};
 use futures::test::MockTask;
 use state_flow::{Collector, StateFlow, StateSeat};
 use std::alloc::AllocGlobal;
@@ -29,14 +30,14 @@ enum Line {
 struct Row<'a> {
     name: &'a str,
     initial: u64,
-    started: Started,
+    when: When,
     lines: &'a [Line],
 }
 
 const STATED_AND_SHARED: &Row<'_> = &Row {
     name: "stated_and_shared",
     initial: 7,
-    started: Started::WhileSubscribed {
+    when: When::WhileSubscribed {
         stop: 0,
         expire: Some(0),
     },
@@ -54,7 +55,7 @@ const STATED_AND_SHARED: &Row<'_> = &Row {
 const TAKES_32_EVENTS: &Row<'_> = &Row {
     name: "32 events in a poll",
     initial: 0,
-    started: Started::Eagerly,
+    when: When::Eagerly,
     lines: &[
         Line::Poll(0, 0, Tick::On),
         Line::Value(31),
@@ -68,7 +69,7 @@ const TAKES_32_EVENTS: &Row<'_> = &Row {
 const FAILS_AFTER_31: &Row<'_> = &Row {
     name: "a failure after 31 values",
     initial: 99,
-    started: Started::Eagerly,
+    when: When::Eagerly,
     lines: &[
         Line::Poll(4, 0, Tick::Ends(Cause::Failed(6))),
         Line::Poll(3, 0, Tick::Over(Cause::Failed(6))),
@@ -80,7 +81,7 @@ const FAILS_AFTER_31: &Row<'_> = &Row {
 const FAILS_AFTER_32: &Row<'_> = &Row {
     name: "a failure after 32 values",
     initial: 99,
-    started: Started::Eagerly,
+    when: When::Eagerly,
     lines: &[
         Line::Poll(4, 0, Tick::On),
         Line::Poll(3, 0, Tick::Ends(Cause::Failed(6))),
@@ -92,7 +93,7 @@ const FAILS_AFTER_32: &Row<'_> = &Row {
 const STARTS_ANEW: &Row<'_> = &Row {
     name: "a stop cancels and a start begins anew",
     initial: 0,
-    started: Started::WhileSubscribed {
+    when: When::WhileSubscribed {
         stop: 0,
         expire: None,
     },
@@ -117,7 +118,7 @@ const STARTS_ANEW: &Row<'_> = &Row {
 const NEVER_STARTS: &Row<'_> = &Row {
     name: "a refused start changes nothing",
     initial: 8,
-    started: Started::Lazily,
+    when: When::Lazily,
     lines: &[
         Line::Collect,
         Line::Poll(100, 1, Tick::Refused),
@@ -132,7 +133,7 @@ const NEVER_STARTS: &Row<'_> = &Row {
 const STARTS_LATER: &Row<'_> = &Row {
     name: "a refused start is made again",
     initial: 8,
-    started: Started::Eagerly,
+    when: When::Eagerly,
     lines: &[
         Line::Poll(100, 0, Tick::Refused),
         Line::Poll(100, 0, Tick::Refused),
@@ -256,7 +257,7 @@ fn compare_row<R: RandomSource + AllocGlobal, F: Flow<Item = u64, Fault = u64>>(
         task,
         latest: 0,
     };
-    let mut sharing = state_in(shared, row.initial, upstream, row.started);
+    let mut sharing = state_in(shared, row.initial, upstream, row.when.started());
     let initial = stage.seat.value();
     let lines = stage.answered(&mut sharing, row.lines);
     drop(sharing.close());

@@ -1,7 +1,9 @@
 //! Worked examples of sharing strategies: what each poll commands.
 use crate::tools::Differences;
+use crate::when::When;
+use cold_flow::Refusal;
 use flow_sharing::polls::commands_of;
-use flow_sharing::{Command, Started, Strategy};
+use flow_sharing::{Command, Entry, Plan, Started, Strategy};
 use std::test::Fail;
 
 const START: Option<Command> = Some(Command::Start);
@@ -44,7 +46,7 @@ fn while_subscribed(rt: HostRuntime) -> Result<(), Fail> {
 /// is the greatest one.
 struct Row<'a> {
     name: &'a str,
-    started: Started,
+    when: When,
     polls: &'a [(u64, u32)],
     commands: &'a [Option<Command>],
     is_on: bool,
@@ -54,7 +56,7 @@ struct Row<'a> {
 const ROWS: &[Row<'_>] = &[
     Row {
         name: "a moment that goes back",
-        started: Started::WhileSubscribed {
+        when: When::WhileSubscribed {
             stop: 10,
             expire: Some(5),
         },
@@ -73,7 +75,7 @@ const ROWS: &[Row<'_>] = &[
     },
     Row {
         name: "stop and reset at once",
-        started: Started::WhileSubscribed {
+        when: When::WhileSubscribed {
             stop: 0,
             expire: Some(0),
         },
@@ -84,7 +86,7 @@ const ROWS: &[Row<'_>] = &[
     },
     Row {
         name: "eagerly",
-        started: Started::Eagerly,
+        when: When::Eagerly,
         polls: &[(0, 0), (1, 3), (u64::MAX, 0)],
         commands: &[START, None, None],
         is_on: true,
@@ -92,7 +94,7 @@ const ROWS: &[Row<'_>] = &[
     },
     Row {
         name: "lazily",
-        started: Started::Lazily,
+        when: When::Lazily,
         polls: &[(0, 0), (1, 3), (u64::MAX, 0)],
         commands: &[None, START, None],
         is_on: true,
@@ -100,7 +102,7 @@ const ROWS: &[Row<'_>] = &[
     },
     Row {
         name: "a stop after the end of the range",
-        started: Started::WhileSubscribed {
+        when: When::WhileSubscribed {
             stop: u64::MAX,
             expire: Some(u64::MAX),
         },
@@ -111,7 +113,7 @@ const ROWS: &[Row<'_>] = &[
     },
     Row {
         name: "a stop and a reset at the end of the range",
-        started: Started::WhileSubscribed {
+        when: When::WhileSubscribed {
             stop: u64::MAX - 2,
             expire: Some(1),
         },
@@ -127,11 +129,106 @@ fn commands(rt: HostRuntime) -> Result<(), Fail> {
     let mut differences = Differences::none(rt.alloc());
     for row in ROWS {
         let mut commands = vec![in rt.alloc(); None; row.polls.len()]?;
-        let strategy = commands_of(row.started, row.polls, &mut commands);
+        let strategy = commands_of(row.when.started(), row.polls, &mut commands);
         differences.compare(row.name, commands.as_slice(), row.commands)?;
         differences.compare(row.name, strategy.on(), row.is_on)?;
         differences.compare(row.name, strategy.latest(), row.latest)?;
     }
     differences.assert_none(&rt);
+    Ok(())
+}
+
+/// Entries of a plan, each a moment, the least and the greatest count, and a command; polls of its strategy, each a moment and a
+/// count; and what they command.
+struct PlanRow<'a> {
+    name: &'a str,
+    entries: &'a [(u64, u32, u32, Command)],
+    polls: &'a [(u64, u32)],
+    commands: &'a [Option<Command>],
+}
+
+const PLANS: &[PlanRow<'_>] = &[
+    PlanRow {
+        name: "plan_of_commands",
+        entries: &[
+            (10, 1, 8, Command::Start),
+            (20, 0, 0, Command::Stop),
+            (30, 0, 8, Command::StopAndReset),
+            (30, 0, 8, Command::Start),
+        ],
+        polls: &[(5, 1), (10, 1), (25, 1), (26, 0), (29, 0), (30, 0), (30, 0)],
+        commands: &[None, START, None, STOP, None, RESET, START],
+    },
+    PlanRow {
+        name: "plan_repeats",
+        entries: &[(0, 0, 8, Command::Start), (0, 0, 8, Command::Start)],
+        polls: &[(0, 0), (0, 0)],
+        commands: &[START, None],
+    },
+    PlanRow {
+        name: "plan_for_state",
+        entries: &[(0, 0, 9, Command::Start), (0, 0, 9, Command::StopAndReset)],
+        polls: &[(0, 0), (0, 0)],
+        commands: &[START, RESET],
+    },
+    PlanRow {
+        name: "entries are taken in order, and a moment that goes back is the latest",
+        entries: &[(20, 0, 8, Command::Start), (10, 0, 8, Command::Stop)],
+        polls: &[(10, 0), (20, 0), (5, 0)],
+        commands: &[None, START, STOP],
+    },
+    PlanRow {
+        name: "a reset where sharing is off, and again after another command",
+        entries: &[
+            (0, 0, 8, Command::StopAndReset),
+            (0, 0, 8, Command::Stop),
+            (0, 0, 8, Command::StopAndReset),
+            (0, 0, 8, Command::StopAndReset),
+        ],
+        polls: &[(0, 0), (0, 0), (0, 0), (0, 0)],
+        commands: &[RESET, None, RESET, None],
+    },
+    PlanRow {
+        name: "no entries",
+        entries: &[],
+        polls: &[(0, 0), (5, 3)],
+        commands: &[None, None],
+    },
+];
+
+fn entry_of(entry: (u64, u32, u32, Command)) -> Entry {
+    Entry {
+        at: entry.0,
+        low: entry.1,
+        high: entry.2,
+        command: entry.3,
+    }
+}
+
+#[test]
+fn plans(rt: HostRuntime) -> Result<(), Fail> {
+    let mut differences = Differences::none(rt.alloc());
+    for row in PLANS {
+        let mut entries = Vec::new(rt.alloc());
+        for entry in row.entries {
+            entries.push(entry_of(*entry))?;
+        }
+        let mut commands = vec![in rt.alloc(); None; row.polls.len()]?;
+        let plan = Plan::of(&entries)?;
+        commands_of(Started::Custom(plan), row.polls, &mut commands);
+        differences.compare(row.name, commands.as_slice(), row.commands)?;
+    }
+    differences.assert_none(&rt);
+    Ok(())
+}
+
+#[test]
+fn bad_plans(rt: HostRuntime) -> Result<(), Fail> {
+    let entry = entry_of((0, 1, 1, Command::Start));
+    let upside_down = entry_of((0, 2, 1, Command::Start));
+    assert!(rt; Plan::of(&[entry; 32]).is_ok());
+    assert_eq!(rt; Plan::of(&[entry; 33]), Err(Refusal::BadPlan));
+    assert_eq!(rt; Plan::of(&[entry, upside_down]), Err(Refusal::BadPlan));
+    assert_eq!(rt; Refusal::BadPlan.number(), 11);
     Ok(())
 }

@@ -35,6 +35,7 @@ use Rattle.script_flows.specs.Findings.{cached_in, ticked_in, tried_in, begun_in
 use Rattle.script_flows.specs.Parts.{subscription_in, emission_in}
 use Rattle.script_flows.specs.Ticks.{tick_answer}
 use Rattle.script_flows.specs.Watching.{collecting}
+use Rattle.script_words.specs.Starts.{start_refusal}
 use Rattle.script_words.specs.Words.{◌>>=◌}
 
 -- who joined a flow on a lane
@@ -66,13 +67,18 @@ pub data Thing : Type 0 where
 abbrev pub config_of : ℕ → ℕ → Policy → Config
 config_of replay extra policy = record { replay = replay; extra = extra; policy = policy; subscribers = 8; emits = 8; first = 0 }
 
--- why it is refused, by what it is made with
+-- one reason before another
+abbrev pub first_refusal : Option Refusal → Option Refusal → Option Refusal
+first_refusal None other = other
+first_refusal (Some refusal) other = Some refusal
+
+-- why it is refused, by what it is made with: a plan of its start comes first
 abbrev pub refused_with : Made → Option Refusal
 refused_with (commands.shared replay extra policy) = making_refusal (config_of replay extra policy)
 refused_with (commands.state value) = None
 refused_with (commands.buffer capacity policy origin) = refused_capacity capacity
-refused_with (commands.share replay extra policy started origin) = making_refusal (config_of replay extra policy)
-refused_with (commands.stated value started origin) = None
+refused_with (commands.share replay extra policy starting origin) = first_refusal (start_refusal starting) (making_refusal (config_of replay extra policy))
+refused_with (commands.stated value starting origin) = start_refusal starting
 
 -- a flow stands on the script's engine
 abbrev pub flow_on : Engine → Config → Thing
@@ -83,8 +89,8 @@ abbrev pub thing_of : Engine → Made → Thing
 thing_of engine (commands.shared replay extra policy) = flow_on engine (config_of replay extra policy)
 thing_of engine (commands.state value) = state []
 thing_of engine (commands.buffer capacity policy origin) = buffer (begun capacity policy origin)
-thing_of engine (commands.share replay extra policy started origin) = share []
-thing_of engine (commands.stated value started origin) = stated []
+thing_of engine (commands.share replay extra policy starting origin) = share []
+thing_of engine (commands.stated value starting origin) = stated []
 
 -- ---- what is asked: the answer and what stands after it, or nothing where it is no command for that part
 

@@ -56,7 +56,8 @@ impl<'a> Object<'a> {
         }
     }
 
-    /// Makes what a line says, a shared flow on this engine. Refused for what it is made with, in the order of its kind, and then with 4.
+    /// Makes what a line says, a shared flow on this engine. Refused for the plan of its start, then for what it is made with, in
+    /// the order of its kind, and then with 4.
     pub fn new(
         rt: &impl Wait,
         alloc: Global,
@@ -84,18 +85,20 @@ impl<'a> Object<'a> {
                 replay,
                 extra,
                 policy,
-                started,
+                start,
                 source,
             } => {
+                let started = start.started()?;
                 let config = config_of(replay, extra, policy);
                 let source = SourceFlow::new(alloc, source);
                 Ok(Object::Share(Share::new(rt, alloc, config, started, source)?))
             }
             Making::Stated {
                 value,
-                started,
+                start,
                 source,
             } => {
+                let started = start.started()?;
                 let source = SourceFlow::new(alloc, source);
                 Ok(Object::Stated(Stated::new(alloc, value, started, source)?))
             }

@@ -2,7 +2,6 @@
 use Rattle.std.specs.Prelude.{ℕ, List, [], ◌∷◌, Option, Some, None, bytes_eq, codes, if◌then◌else◌}
 use Rattle.std.specs.Option.{option_map}
 use Rattle.flow_terms.specs.declared.policy.Policy.{Policy}
-use Rattle.flow_terms.specs.declared.started.Started.{Started}
 use Rattle.script_pipes.specs.declared.command.Command.{Command}
 use Rattle.script_pipes.specs.declared.command.Command.TheVariants as commands
 use Rattle.script_pipes.specs.declared.making.Making.{Making}
@@ -13,15 +12,16 @@ use Rattle.script_pipes.specs.declared.request.Party.{Party}
 use Rattle.script_pipes.specs.declared.request.Party.TheVariants as parties_of
 use Rattle.script_pipes.specs.Pipes.{Pipe, pipe_in, pipe_of}
 use Rattle.script_pipes.specs.Sources.{Origin, origin_in, origin_of}
-use Rattle.script_words.specs.Words.{◌>>=◌, name_at, number_at, policy_at, start_at, ended}
+use Rattle.script_words.specs.Starts.{Starting, starting_in, starting_at}
+use Rattle.script_words.specs.Words.{◌>>=◌, name_at, number_at, policy_at, ended}
 
 -- what is made
 pub data Made : Type 0 where
   shared : ℕ → ℕ → Policy → Made
   state : ℕ → Made
   buffer : ℕ → Policy → Origin → Made
-  share : ℕ → ℕ → Policy → Started → Origin → Made
-  stated : ℕ → Started → Origin → Made
+  share : ℕ → ℕ → Policy → Starting → Origin → Made
+  stated : ℕ → Starting → Origin → Made
 
 -- what a command asks for, its names as bytes
 pub data Order : Type 0 where
@@ -34,8 +34,8 @@ abbrev pub made_in : Making → Made
 made_in (makings.Shared replay extra policy) = shared replay extra policy
 made_in (makings.State value) = state value
 made_in (makings.Buffer capacity policy source) = buffer capacity policy (origin_in source)
-made_in (makings.Share replay extra policy started source) = share replay extra policy started (origin_in source)
-made_in (makings.Stated value started source) = stated value started (origin_in source)
+made_in (makings.Share replay extra policy start source) = share replay extra policy (starting_in start) (origin_in source)
+made_in (makings.Stated value start source) = stated value (starting_in start) (origin_in source)
 
 abbrev pub order_of : Command → Order
 order_of (commands.Make name making) = make name.now (made_in making)
@@ -113,17 +113,17 @@ share_of words = do
   replay ← number_at name.1
   extra ← number_at replay.1
   policy ← policy_at extra.1
-  started ← start_at policy.1
-  origin ← origin_of started.1
-  Some (make name.0 (share replay.0 extra.0 policy.0 started.0 origin))
+  starting ← starting_at policy.1
+  origin ← origin_of starting.1
+  Some (make name.0 (share replay.0 extra.0 policy.0 starting.0 origin))
 
 unfoldable pub stated_of : List (List ℕ) → Option Order
 stated_of words = do
   name ← name_at words
   value ← number_at name.1
-  started ← start_at value.1
-  origin ← origin_of started.1
-  Some (make name.0 (stated value.0 started.0 origin))
+  starting ← starting_at value.1
+  origin ← origin_of starting.1
+  Some (make name.0 (stated value.0 starting.0 origin))
 
 unfoldable pub cold_of : List (List ℕ) → Option Order
 cold_of words = do

@@ -7,8 +7,8 @@ ghost use Rattle.script_pipes.specs.Commands.{order_of, shared_of, state_of, buf
 
 use crate::command::Command;
 use crate::source::Source;
-use flow_terms::{Policy, Started};
-use script_words::Words;
+use flow_terms::Policy;
+use script_words::{Start, Words};
 
 /// What a line makes, for a name to stand for.
 #[derive(Clone, Copy)]
@@ -34,13 +34,13 @@ pub enum Making<'a> {
         replay: u64,
         extra: u64,
         policy: Policy,
-        started: Started,
+        start: Start<'a>,
         source: Source<'a>,
     },
     /// A state that is set from a source: `stated`.
     Stated {
         value: u64,
-        started: Started,
+        start: Start<'a>,
         source: Source<'a>,
     },
 }
@@ -97,13 +97,13 @@ pub(crate) fn share<'a>(mut words: Words<'a>) -> Option<Command<'a>>
     let replay = words.number()?;
     let extra = words.number()?;
     let policy = words.policy()?;
-    let started = words.start()?;
+    let start = Start::take(&mut words)?;
     let source = Source::parse(words)?;
     let making = Making::Share {
         replay,
         extra,
         policy,
-        started,
+        start,
         source,
     };
     Some(Command::Make { name, making })
@@ -115,11 +115,11 @@ pub(crate) fn stated<'a>(mut words: Words<'a>) -> Option<Command<'a>>
 {
     let name = words.name()?;
     let value = words.number()?;
-    let started = words.start()?;
+    let start = Start::take(&mut words)?;
     let source = Source::parse(words)?;
     let making = Making::Stated {
         value,
-        started,
+        start,
         source,
     };
     Some(Command::Make { name, making })

@@ -3,3 +3,5 @@ pub mod Fields
 pub mod Words
 pub mod Cuts
 pub mod Segments
+pub mod Plans
+pub mod Starts

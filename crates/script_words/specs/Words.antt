@@ -36,17 +36,13 @@ while_at words = do
   expire ← expiry_at stop.1
   Some (WhileSubscribed stop.0 expire.0, expire.1)
 
+-- as a word says when a source is collected
 abbrev pub start_by : List ℕ → List (List ℕ) → Option (Started × List (List ℕ))
 start_by first words =
     if bytes_eq first (codes "eager") then Some (Eagerly, words)
     else (if bytes_eq first (codes "lazy") then Some (Lazily, words)
     else (if bytes_eq first (codes "while") then while_at words
     else None))
-
--- when a source is collected
-abbrev pub start_at : List (List ℕ) → Option (Started × List (List ℕ))
-start_at [] = None
-start_at (first ∷ words) = start_by first words
 
 -- no word is left
 abbrev pub ended : List (List ℕ) → Option (Unit {0})

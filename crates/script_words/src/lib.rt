@@ -4,9 +4,11 @@
 mod fields;
 mod lines;
 mod segments;
+mod start;
 mod words;
 
 pub use fields::number_of;
 pub use lines::Lines;
 pub use segments::Segments;
+pub use start::{Entries, Start};
 pub use words::Words;

@@ -2,12 +2,13 @@
 
 ghost use Rattle.std.specs.Prelude.{◌≡◌, ◌∷◌, [], IfSome, IsNone, OnSome, position};
 ghost use Rattle.std.specs.Option.{option_map};
+ghost use Rattle.flow_terms.specs.declared.started.Started.TheVariants.{WhileSubscribed};
 ghost use Rattle.script_words.specs.Cuts.{LeavesEnd};
 ghost use Rattle.script_words.specs.Lines.{words_of, is_space, is_no_space};
-ghost use Rattle.script_words.specs.Words.{name_at, number_at, policy_at, expiry_at, while_at, start_at, ended};
+ghost use Rattle.script_words.specs.Words.{name_at, number_at, policy_at, expiry_at, while_at, ended};
 
 use crate::fields::{expiry_of, is_name, number_of, policy_of};
-use flow_terms::{Policy, Started};
+use flow_terms::Policy;
 
 /// What is left of a line, taken word by word.
 #[derive(Clone, Copy)]
@@ -94,29 +95,13 @@ impl<'a> Words<'a> {
         expiry_of(word)
     }
 
-    /// Takes the two words after `while`.
-    fn while_subscribed(&mut self) -> Option<Started>
-        ensures { option_map (λ started. (started, words_of self.new.rest.now)) result ≡ while_at (words_of self.old.rest.now) }
+    /// Takes the two words after `while`: how long after the last subscription it stops, and how long after that it resets.
+    pub(crate) fn spans(&mut self) -> Option<(u64, Option<u64>)>
+        ensures { option_map (λ spans. (WhileSubscribed spans.0 spans.1, words_of self.new.rest.now)) result ≡ while_at (words_of self.old.rest.now) }
     {
         let stop = self.number()?;
         let expire = self.expiry()?;
-        Some(Started::WhileSubscribed { stop, expire })
-    }
-
-    /// Takes the words that say when a source is collected.
-    pub fn start(&mut self) -> Option<Started>
-        ensures { option_map (λ started. (started, words_of self.new.rest.now)) result ≡ start_at (words_of self.old.rest.now) }
-    {
-        let first = self.next()?;
-        if first == b"eager".as_slice() {
-            Some(Started::Eagerly)
-        } else if first == b"lazy".as_slice() {
-            Some(Started::Lazily)
-        } else if first == b"while".as_slice() {
-            self.while_subscribed()
-        } else {
-            None
-        }
+        Some((stop, expire))
     }
 
     /// Nothing where a word is left.

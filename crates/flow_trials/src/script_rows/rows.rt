@@ -144,4 +144,19 @@ pub const ROWS: &[Row] = &[
         script: "share g 1 0 suspend eager range 0 33 ; tick g 0 ; cache g ; tick g 0 ; cache g",
         answers: "ok ; on ; [31] ; on ; [32]",
     },
+    Row {
+        name: "plan_of_commands",
+        script: "share f 1 0 suspend plan 10:1:8:start,20:0:0:stop,30:0:8:clear,30:0:8:start of 1,p,2 ; sub f a ; tick f 5 ; tick f 10 ; next a ; tick f 25 ; next a ; cancel a ; tick f 26 ; tick f 29 ; cache f ; tick f 30 ; cache f ; tick f 30 ; cache f",
+        answers: "ok ; ok ; off ; on ; value 1 ; on ; value 2 ; ok ; off ; off ; [2] ; off ; [] ; on ; [1]",
+    },
+    Row {
+        name: "plan_repeats",
+        script: "share g 2 0 suspend plan 0:0:8:start,0:0:8:start of 1 ; tick g 0 ; tick g 0 ; cache g",
+        answers: "ok ; on ; on ; [1]",
+    },
+    Row {
+        name: "plan_for_state",
+        script: "stated s 7 plan 0:0:9:start,0:0:9:clear of 1 ; tick s 0 ; value s ; tick s 0 ; value s ; share h 0 0 oldest plan 0:2:1:start of 1 ; share h 0 0 oldest plan 0:1:2:start of 1",
+        answers: "ok ; on ; value 1 ; off ; value 7 ; refused 11 ; refused 2",
+    },
 ];

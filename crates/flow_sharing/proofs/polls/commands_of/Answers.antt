@@ -1,4 +1,5 @@
-use Rattle.std.proofs.Common.{◌≡◌, ◌∷◌, ◌<◌, map, reverse, take, length, arith, get_or, refl, ◌∙◌}
+use Rattle.std.proofs.Common.{◌≡◌, ◌∷◌, ◌<◌, map, reverse, take, length, arith, get_or, refl, ap, ◌∙◌}
+use Rattle.flow_terms.specs.declared.started.Started.{Started}
 use Rattle.std.proofs.lemmas.List.{map_more, take_more_set}
 use Rattle.flow_sharing.specs.Strategies.{command, look_of}
 use Rattle.flow_sharing.specs.Shown.{Shows}
@@ -14,7 +15,7 @@ loop-index-preserved c =
     let look = look_of (get_or polls c.loop-index.index (0, 0)) in
     let shown : Shows c.step.new.self (look ∷ reverse looks) = c.step.ensures.shows (reverse looks) c.loop-index.invariant.shows in
     let commanded : c.step.result ≡ command c.args.started (look ∷ reverse looks) =
-    rw (← c.loop-index.invariant.started) (c.step.ensures.commands (reverse looks) c.loop-index.invariant.shows) in
+    c.step.ensures.commands (reverse looks) c.loop-index.invariant.shows ∙ ap (λ (started : Started). command started (look ∷ reverse looks)) c.loop-index.invariant.started in
     let more = map_more look_of polls c.loop-index.index (0, 0) within in
     record {
       started = c.step.ensures.started ∙ c.loop-index.invariant.started;

@@ -6,9 +6,8 @@ use Rattle.flow_sharing.proofs.turn.Turn.of.Goals as goal
 pub returns-clause-polled : goal.returns-clause-polled
 returns-clause-polled c history shows =
     let look : Look = record { moment = c.args.now; count = c.args.count } in
-    let after = c.step-command.ensures.shows history shows in
-    let at = c.latest.ensures (look ∷ history) after in
-    let on = c.on.ensures (look ∷ history) after in
-    let reset = c.resets.ensures ∙ ap resets (c.step-command.ensures.commands history shows) ∙ resets-command c.args.strategy.started (look ∷ history) in
-    let started = c.step-command.ensures.started in
+    let after = c.after-command.ensures.shows history shows in
+    let reset = c.resets.ensures ∙ ap resets (c.after-command.ensures.commands history shows) ∙ resets-command c.args.strategy.now.started (look ∷ history) in
+    let latest = after.latest_is in
+    let on = after.on_is in
     cc

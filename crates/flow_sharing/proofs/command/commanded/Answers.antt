@@ -1,5 +1,5 @@
 use Rattle.std.proofs.Common.{rules}
-use Rattle.flow_sharing.proofs.command.Command.of.Goals as goal
+use Rattle.flow_sharing.proofs.command.commanded.Goals as goal
 
 -- A wrong body makes these false: so answered, it is refused at once.
 pub returns-then-not-on : goal.returns-then-not-on
