@@ -1,6 +1,7 @@
 //! Hostile schedules: emissions given up at each point of a hand-over, a place used again a thousand times, and readers that are
 //! overtaken.
 
+ghost use Rattle.std.specs.Prelude.{◌≡◌};
 ghost use Rattle.shared_lane.specs.Readers.{IsReaderOf};
 ghost use Rattle.shared_lane.specs.Sequencers.{IsSequencerOf};
 
@@ -13,14 +14,14 @@ use crate::tools::assert_same;
 use cold_flow::Policy;
 use shared_core::{Config, Tried};
 use shared_flow::SharedFlow;
-use shared_lane::{Lane, Reader, Sequencer, Taken};
+use shared_lane::{Lane, Reader, Sequencer, Taken, meet};
 use std::alloc::{AllocGlobal, Global};
 use std::process::Abort;
 use std::random::RandomSource;
 use std::sync::Wait;
 use std::sync::atomic::{AtomicBool, Ordering};
 use std::test::Fail;
-use std::thread::{Threads, join, yield_now};
+use std::thread::{Threads, join_mut, yield_now};
 
 /// How many words an emitter has that overtakes its readers.
 const WORDS: u64 = 100_000;
@@ -169,7 +170,9 @@ struct Sending<'a> {
 }
 
 impl<'a> Sending<'a> {
-    fn admit<R: Abort>(&mut self, rt: &R) -> Reading<'a> {
+    fn admit<R: Abort>(&mut self, rt: &R) -> Reading<'a>
+        ensures { (self.new.lane ≡ self.old.lane) × (result.lane ≡ self.old.lane) }
+    {
         Reading {
             lane: self.lane,
             reader: self.sequencer.admit(self.lane).expect(rt, "a reader"),
@@ -179,7 +182,9 @@ impl<'a> Sending<'a> {
     }
 
     // Emits the words from 0 on, none of which waits, and says whether all were accepted.
-    fn emit_all(&mut self, over: &AtomicBool) -> bool {
+    fn emit_all(&mut self, over: &AtomicBool) -> bool
+        ensures { self.new.lane ≡ self.old.lane }
+    {
         let mut are_accepted = true;
         for word in 0..WORDS {
             let tried = self.sequencer.try_emit(self.lane, 0, word);
@@ -187,6 +192,22 @@ impl<'a> Sending<'a> {
         }
         over.store(true, Ordering::SeqCst);
         are_accepted
+    }
+
+    // Ends a reader of this lane. Whether its words rose, and how many it received or lost by the sequencer's count too.
+    fn dismiss(&mut self, reading: Reading<'_>) -> (bool, u64)
+        requires { reading.lane ≡ self.old.lane }
+        ensures { self.new.lane ≡ self.old.lane }
+    {
+        let Reading {
+            lane,
+            mut reader,
+            last: _,
+            rises,
+        } = reading;
+        let met = meet(lane, &mut self.sequencer, &mut reader);
+        reader.close(lane);
+        (rises, met.received.saturating_add(met.dropped))
     }
 }
 
@@ -200,7 +221,9 @@ struct Reading<'a> {
 }
 
 impl Reading<'_> {
-    fn note(&mut self, word: u64) {
+    fn note(&mut self, word: u64)
+        ensures { self.new.lane ≡ self.old.lane }
+    {
         if self.last.is_some_and(|last| word <= last) {
             self.rises = false;
         }
@@ -208,7 +231,9 @@ impl Reading<'_> {
     }
 
     // Takes words until there is nothing once all were emitted.
-    fn take_all(&mut self, over: &AtomicBool) {
+    fn take_all(&mut self, over: &AtomicBool)
+        ensures { self.new.lane ≡ self.old.lane }
+    {
         for _ in 0..TURNS {
             let was_over = over.load(Ordering::SeqCst);
             match self.reader.try_next(self.lane) {
@@ -220,35 +245,49 @@ impl Reading<'_> {
         }
         self.rises = false;
     }
-
-    // Ends the reader. Whether its words rose, and how many it received or lost.
-    fn leave(self) -> (bool, u64) {
-        let Reading {
-            lane,
-            reader,
-            last: _,
-            rises,
-        } = self;
-        let count = reader.received().saturating_add(reader.dropped());
-        reader.close(lane);
-        (rises, count)
-    }
 }
 
-// One thread emits, and each of two others takes what it can.
+// One thread emits, and each of two others takes what it can. Whether all was emitted.
+fn run_all<R: Threads + Sync>(
+    rt: &R,
+    stage: &mut Sending<'_>,
+    first: &mut Reading<'_>,
+    second: &mut Reading<'_>,
+) -> bool
+    ensures { (stage.new.lane ≡ stage.old.lane) × (first.new.lane ≡ first.old.lane) × (second.new.lane ≡ second.old.lane) }
+{
+    let over = AtomicBool::new(false);
+    let (are_accepted, ()) = join_mut(
+        rt,
+        &mut || stage.emit_all(&over),
+        &mut || take_both(rt, first, second, &over),
+    );
+    are_accepted
+}
+
+fn take_both<R: Threads + Sync>(
+    rt: &R,
+    first: &mut Reading<'_>,
+    second: &mut Reading<'_>,
+    over: &AtomicBool,
+)
+    ensures { (first.new.lane ≡ first.old.lane) × (second.new.lane ≡ second.old.lane) }
+{
+    join_mut(
+        rt,
+        &mut || first.take_all(over),
+        &mut || second.take_all(over),
+    );
+}
+
 fn assert_overtaken<R>(rt: &R, stage: &mut Sending<'_>)
 where
     R: Threads + Abort + Sync,
 {
-    let over = AtomicBool::new(false);
     let mut first = stage.admit(rt);
     let mut second = stage.admit(rt);
-    let (are_accepted, _) = join(
-        rt,
-        || stage.emit_all(&over),
-        || join(rt, || first.take_all(&over), || second.take_all(&over)),
-    );
-    let heard = (first.leave(), second.leave());
+    let are_accepted = run_all(rt, stage, &mut first, &mut second);
+    let heard = (stage.dismiss(first), stage.dismiss(second));
     assert!(rt; are_accepted);
     assert_same(
         rt,
