@@ -66,7 +66,7 @@ impl fmt::Display for Unit {
 #[derive(Clone, Copy, Debug)]
 pub struct Figure {
     pub part: Part,
-    /// The scenario in full, as `S1-n4`.
+    /// The scenario in full, as `receipts-n4`.
     pub scenario: &'static str,
     /// What was counted, as `receipt`.
     pub name: &'static str,

@@ -12,7 +12,7 @@ use std::fmt;
 #[derive(Clone, Copy, Debug)]
 pub struct Share {
     pub part: Part,
-    /// The scenario in full, as `S3-n2`.
+    /// The scenario in full, as `lossy-n2`.
     pub scenario: &'static str,
     /// What was counted, as `kept`.
     pub name: &'static str,

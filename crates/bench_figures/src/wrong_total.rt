@@ -3,6 +3,6 @@
 /// What arrived isn't what was sent.
 #[derive(Clone, Copy, Debug, PartialEq, Eq)]
 pub struct WrongTotal {
-    /// The scenario in full, as `S1-n4`.
+    /// The scenario in full, as `receipts-n4`.
     pub scenario: &'static str,
 }

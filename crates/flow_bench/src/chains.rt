@@ -70,12 +70,12 @@ where
     // The even ones of 1 to `elements`: twice the numbers up to half of them.
     let even = sum_to(elements / 2).wrapping_mul(2);
     let chain = filter(map(numbers, OneMore), IsEven);
-    let chained = folded(rt, "S6-chain", chain, elements)?;
+    let chained = folded(rt, "cold-chain", chain, elements)?;
     report(rt, chained.checked(even)?, size)?;
     // Both sides have the numbers from 0 to below `elements`.
     let pairs = sum_to(elements.saturating_sub(1)).wrapping_mul(2);
     let zipped = zip(numbers, numbers, Sum);
-    let paired = folded(rt, "S6-zip", zipped, elements)?;
+    let paired = folded(rt, "cold-zip", zipped, elements)?;
     report(rt, paired.checked(pairs)?, size)
 }
 

@@ -25,7 +25,7 @@ struct Taken {
 
 /// Makes the measurement with 1, 4 and 8 subscriptions.
 pub(crate) fn measure<R: Clock + Print + AllocGlobal>(rt: &R, size: Size) -> Result<(), Fault> {
-    for (scenario, subscriptions) in [("S1-n1", 1), ("S1-n4", 4), ("S1-n8", 8)] {
+    for (scenario, subscriptions) in [("receipts-n1", 1), ("receipts-n4", 4), ("receipts-n8", 8)] {
         let figure = receipts(rt, scenario, subscriptions, size.of(VALUES))?;
         report(rt, figure, size)?;
     }

@@ -23,7 +23,7 @@ pub(crate) fn measure<R>(rt: &R, size: Size) -> Result<(), Fault>
 where
     R: Clock + Print + AllocGlobal + Threads + Wait + Sync,
 {
-    for (scenario, readers) in [("S2-n1", 1), ("S2-n2", 2), ("S2-n4", 4)] {
+    for (scenario, readers) in [("fan-out-n1", 1), ("fan-out-n2", 2), ("fan-out-n4", 4)] {
         let figure = values_to(rt, scenario, readers, size.of(VALUES))?;
         report(rt, figure, size)?;
     }

@@ -38,7 +38,7 @@ pub(crate) fn measure<R>(rt: &R, size: Size) -> Result<(), Fault>
 where
     R: Clock + Print + AllocGlobal + Threads + Wait + Sync,
 {
-    for (scenario, readers) in [("S3-n1", 1), ("S3-n2", 2), ("S3-n4", 4)] {
+    for (scenario, readers) in [("lossy-n1", 1), ("lossy-n2", 2), ("lossy-n4", 4)] {
         losses(rt, scenario, readers, size)?;
     }
     Ok(())

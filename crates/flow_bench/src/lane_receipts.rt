@@ -27,7 +27,7 @@ struct Received {
 
 /// Makes the measurement with 1, 4 and 8 readers.
 pub(crate) fn measure<R: Clock + Print + AllocGlobal>(rt: &R, size: Size) -> Result<(), Fault> {
-    for (scenario, readers) in [("S1-n1", 1), ("S1-n4", 4), ("S1-n8", 8)] {
+    for (scenario, readers) in [("receipts-n1", 1), ("receipts-n4", 4), ("receipts-n8", 8)] {
         let figure = receipts(rt, scenario, readers, size.of(VALUES))?;
         report(rt, figure, size)?;
     }

@@ -1,7 +1,8 @@
-//! Measures what the flows cost: `flow_bench [SCENARIO..]`.
+//! Measures what the flows cost: `flow_bench [SCENARIO..]`. Or lets four threads work at random: `flow_bench soak MINUTES`.
 //!
 //! With scenarios it makes each of their measurements five times, and writes a line for each figure. Without one it makes
 //! every measurement a thousandth of its size, once, and writes only what never varies: that is what the gate asks for.
+//! `soak` checks the place of every value for so many minutes, and writes how many there were.
 //!
 //! The status is 0 where every check held, 1 for a fault, which is named on standard error, and 2, with nothing written,
 //! where the command line names no scenario.
@@ -16,11 +17,15 @@ mod lane_fan_out;
 mod lane_lossy;
 mod lane_receipts;
 mod pause;
+mod random;
 mod report;
 mod scenario;
 mod script_lines;
 mod shared_fan_out;
 mod shared_receipts;
+mod soak;
+mod soak_state;
+mod soak_worker;
 mod split_values;
 mod state_alone;
 mod state_threads;
@@ -31,7 +36,7 @@ use clap::error::ErrorKind;
 use clap::{Arg, ArgAction, Command};
 use fault::Fault;
 use scenario::Scenario;
-use std::alloc::{AllocGlobal, Global};
+use std::alloc::{AllocError, AllocGlobal, Global};
 use std::process::ExitCode;
 use std::random::RandomSource;
 use std::rt::{Clock, Env};
@@ -50,13 +55,30 @@ enum Stop {
     Fault(Fault),
 }
 
-/// The scenarios that the command line names, in its order.
-fn scenarios_of(alloc: Global, words: &[String]) -> Result<Vec<Scenario>, Stop> {
+/// What the command line asks for.
+#[derive(Drop)]
+enum Asked {
+    /// These scenarios, in this order.
+    Measure(Vec<Scenario>),
+    /// So many minutes.
+    Soak(u64),
+}
+
+/// The command lines that there are.
+fn command_of<'a>(alloc: Global) -> Result<Command<'a>, AllocError> {
     let names = Arg::new(alloc, "scenario")
         .num_args(0..)
         .action(ArgAction::Append)
         .value_parser(Scenario::NAMES.as_slice());
-    let Ok(command) = Command::new(alloc, "flow_bench").arg(names) else {
+    let minutes = Arg::new(alloc, "minutes").required(true);
+    let soak = Command::new(alloc, "soak").arg(minutes)?;
+    let command = Command::new(alloc, "flow_bench").arg(names)?;
+    command.subcommand(soak)
+}
+
+/// What the command line asks for.
+fn asked_for(alloc: Global, words: &[String]) -> Result<Asked, Stop> {
+    let Ok(command) = command_of(alloc) else {
         return Err(Stop::Fault(Fault::NoMemory));
     };
     let matches = match command.try_get_matches_from(words) {
@@ -68,7 +90,19 @@ fn scenarios_of(alloc: Global, words: &[String]) -> Result<Vec<Scenario>, Stop> 
             });
         }
     };
-    named(alloc, matches.get_strs("scenario").unwrap_or(&[]))
+    if let Some(soak) = matches.subcommand_matches("soak") {
+        return minutes_of(soak.get_str("minutes"));
+    }
+    let names = matches.get_strs("scenario").unwrap_or(&[]);
+    Ok(Asked::Measure(named(alloc, names)?))
+}
+
+/// So many minutes, where the word is a number.
+fn minutes_of(word: Option<&str>) -> Result<Asked, Stop> {
+    match word.unwrap_or("").parse::<u64>() {
+        Ok(minutes) => Ok(Asked::Soak(minutes)),
+        Err(_) => Err(Stop::Usage),
+    }
 }
 
 /// The scenarios of these names.
@@ -118,7 +152,10 @@ where
     R: Env + Clock + Print + AllocGlobal + RandomSource + Threads + Wait + Sync,
 {
     let words = words_of(rt)?;
-    let scenarios = scenarios_of(rt.alloc(), words.as_slice())?;
+    let scenarios = match asked_for(rt.alloc(), words.as_slice())? {
+        Asked::Measure(scenarios) => scenarios,
+        Asked::Soak(minutes) => return soak::soak(rt, minutes).map_err(Stop::Fault),
+    };
     if scenarios.is_empty() {
         return measure_all(rt, Scenario::ALL.as_slice(), Size::Small).map_err(Stop::Fault);
     }

@@ -15,25 +15,27 @@ use std::thread::Threads;
 /// A scenario: a name that the command line may have, for some measurements.
 #[derive(Clone, Copy, Debug, PartialEq, Eq)]
 pub enum Scenario {
-    /// `S1`: receipts of a shared flow on one thread, by the core, by the flow for threads and by a lane.
+    /// `receipts`: receipts of a shared flow on one thread, by the core, by the flow for threads and by a lane.
     Receipts,
-    /// `S2`: a lane between threads that loses no value, and a shared flow.
+    /// `fan-out`: a lane between threads that loses no value, and a shared flow.
     FanOut,
-    /// `S3`: a lane between threads that drops the oldest values.
+    /// `lossy`: a lane between threads that drops the oldest values.
     Lossy,
-    /// `S4`: a state flow, alone and between threads.
+    /// `state`: a state flow, alone and between threads.
     State,
-    /// `S5`: a buffer between two threads.
+    /// `split`: a buffer between two threads.
     Split,
-    /// `S6`: chains of cold flows.
-    Chains,
-    /// `S8`: lines of a script.
+    /// `cold`: chains of cold flows.
+    Cold,
+    /// `script`: lines of a script.
     Script,
 }
 
 impl Scenario {
     /// The names, as a command line has them.
-    pub const NAMES: [&'static str; 7] = ["S1", "S2", "S3", "S4", "S5", "S6", "S8"];
+    pub const NAMES: [&'static str; 7] = [
+        "receipts", "fan-out", "lossy", "state", "split", "cold", "script",
+    ];
 
     /// Every scenario.
     pub const ALL: [Scenario; 7] = [
@@ -42,20 +44,20 @@ impl Scenario {
         Scenario::Lossy,
         Scenario::State,
         Scenario::Split,
-        Scenario::Chains,
+        Scenario::Cold,
         Scenario::Script,
     ];
 
     /// The scenario of that name.
     pub(crate) fn of(name: &str) -> Option<Scenario> {
         match name {
-            "S1" => Some(Scenario::Receipts),
-            "S2" => Some(Scenario::FanOut),
-            "S3" => Some(Scenario::Lossy),
-            "S4" => Some(Scenario::State),
-            "S5" => Some(Scenario::Split),
-            "S6" => Some(Scenario::Chains),
-            "S8" => Some(Scenario::Script),
+            "receipts" => Some(Scenario::Receipts),
+            "fan-out" => Some(Scenario::FanOut),
+            "lossy" => Some(Scenario::Lossy),
+            "state" => Some(Scenario::State),
+            "split" => Some(Scenario::Split),
+            "cold" => Some(Scenario::Cold),
+            "script" => Some(Scenario::Script),
             _ => None,
         }
     }
@@ -81,7 +83,7 @@ impl Scenario {
                 state_threads::measure(rt, size)
             }
             Scenario::Split => split_values::measure(rt, size),
-            Scenario::Chains => chains::measure(rt, size),
+            Scenario::Cold => chains::measure(rt, size),
             Scenario::Script => script_lines::measure(rt, size),
         }
     }

@@ -48,7 +48,7 @@ where
     let is_right = answers.as_slice() == script.answers.as_bytes();
     Ok(Figure {
         part: Part::Runner,
-        scenario: "S8",
+        scenario: "script",
         name: "line",
         unit: Unit::Nanoseconds,
         operations: script.lines,

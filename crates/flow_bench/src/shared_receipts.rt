@@ -34,7 +34,7 @@ pub(crate) fn measure<R>(rt: &R, size: Size) -> Result<(), Fault>
 where
     R: Clock + Print + AllocGlobal + RandomSource + Wait,
 {
-    for (scenario, subscriptions) in [("S1-n1", 1), ("S1-n4", 4), ("S1-n8", 8)] {
+    for (scenario, subscriptions) in [("receipts-n1", 1), ("receipts-n4", 4), ("receipts-n8", 8)] {
         let figure = receipts(rt, scenario, subscriptions, size.of(VALUES))?;
         report(rt, figure, size)?;
     }

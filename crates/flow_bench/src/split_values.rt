@@ -21,9 +21,9 @@ where
     R: Clock + Print + AllocGlobal + RandomSource + Threads + Wait + Sync,
 {
     for (scenario, capacity, values) in [
-        ("S5-k4", 4, 500_000),
-        ("S5-k64", 64, 5_000_000),
-        ("S5-k1024", 1024, 5_000_000),
+        ("split-k4", 4, 500_000),
+        ("split-k64", 64, 5_000_000),
+        ("split-k1024", 1024, 5_000_000),
     ] {
         let figure = values_through(rt, scenario, capacity, size.of(values))?;
         report(rt, figure, size)?;

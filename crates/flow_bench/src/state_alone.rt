@@ -14,7 +14,7 @@ use std::time::Instant;
 /// How often each call is made.
 const CALLS: u64 = 5_000_000;
 
-const SCENARIO: &str = "S4-alone";
+const SCENARIO: &str = "state-alone";
 
 /// Makes the three measurements.
 pub(crate) fn measure<R: Clock + Print + AllocGlobal>(rt: &R, size: Size) -> Result<(), Fault> {

@@ -55,7 +55,7 @@ where
         move || write(rt, writer, sets),
         move || collect(rt, reader, sets),
     );
-    report_both(rt, "S4-c1", size, set?, asked?)
+    report_both(rt, "state-c1", size, set?, asked?)
 }
 
 /// One thread sets, and two ask. The asks of both are one figure.
@@ -77,7 +77,7 @@ where
             )
         },
     );
-    report_both(rt, "S4-c2", size, set?, both(one?, two?))
+    report_both(rt, "state-c2", size, set?, both(one?, two?))
 }
 
 /// Reports what the one thread set, and what the others asked. The last value of both is the number of the sets.

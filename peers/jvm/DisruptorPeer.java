@@ -1,0 +1,141 @@
+import com.lmax.disruptor.BlockingWaitStrategy;
+import com.lmax.disruptor.EventHandler;
+import com.lmax.disruptor.EventPoller;
+import com.lmax.disruptor.RingBuffer;
+import com.lmax.disruptor.WaitStrategy;
+import com.lmax.disruptor.YieldingWaitStrategy;
+import com.lmax.disruptor.dsl.Disruptor;
+import com.lmax.disruptor.dsl.ProducerType;
+import java.util.ArrayList;
+import java.util.List;
+import java.util.Map;
+import java.util.concurrent.CountDownLatch;
+import java.util.concurrent.ThreadFactory;
+import java.util.stream.IntStream;
+
+/** The Disruptor: one sequencer and a cursor for each reader. */
+final class DisruptorPeer {
+    private static final long VALUES = 2_000_000;
+    private static final int CAPACITY = 1024;
+
+    private DisruptorPeer() {}
+
+    /** An event: one number. */
+    static final class Cell {
+        long value;
+    }
+
+    /** A reader that adds up what it gets. */
+    static final class Adder implements EventHandler<Cell> {
+        private final long last;
+        private final CountDownLatch left;
+        private final long[] sum = new long[16];
+
+        Adder(long last, CountDownLatch left) {
+            this.last = last;
+            this.left = left;
+        }
+
+        @Override
+        public void onEvent(Cell cell, long number, boolean endOfBatch) {
+            sum[8] += cell.value;
+            if (number == last) {
+                left.countDown();
+            }
+        }
+
+        long sum() {
+            return sum[8];
+        }
+    }
+
+    public static void main(String[] words) {
+        Figures.main(
+                words,
+                Map.of(
+                        "receipts", DisruptorPeer::receipts,
+                        "fan-out", DisruptorPeer::fanOut,
+                        "split", DisruptorPeer::split));
+    }
+
+    private static void receipts() {
+        for (int readers : new int[] {1, 4, 8}) {
+            String scenario = "receipts-n" + readers;
+            Figures.cost("disruptor", scenario, "receipt", VALUES, readers, count -> polled(readers, count));
+        }
+    }
+
+    private static long polled(int readers, long count) {
+        RingBuffer<Cell> ring = RingBuffer.createSingleProducer(Cell::new, 64);
+        List<EventPoller<Cell>> pollers = new ArrayList<>();
+        IntStream.range(0, readers).forEach(which -> pollers.add(ring.newPoller()));
+        pollers.forEach(poller -> ring.addGatingSequences(poller.getSequence()));
+        long[] sum = new long[1];
+        EventPoller.Handler<Cell> handler = (cell, number, endOfBatch) -> {
+            sum[0] += cell.value;
+            return false;
+        };
+        long start = System.nanoTime();
+        try {
+            for (long value = 0; value < count; value++) {
+                publish(ring, value);
+                for (EventPoller<Cell> poller : pollers) {
+                    poller.poll(handler);
+                }
+            }
+        } catch (Exception fault) {
+            throw new IllegalStateException(fault);
+        }
+        long time = System.nanoTime() - start;
+        Figures.check(sum[0] == Figures.sumBelow(count) * readers, "disruptor: a value was lost");
+        return time;
+    }
+
+    private static void publish(RingBuffer<Cell> ring, long value) {
+        long number = ring.next();
+        ring.get(number).value = value;
+        ring.publish(number);
+    }
+
+    private static void fanOut() {
+        for (int readers : new int[] {1, 2, 4}) {
+            String scenario = "fan-out-n" + readers;
+            Figures.rate("disruptor", scenario, "values", VALUES, count ->
+                    handled(new YieldingWaitStrategy(), CAPACITY, readers, count));
+            Figures.rate("disruptor-wait", scenario, "values", VALUES, count ->
+                    handled(new BlockingWaitStrategy(), CAPACITY, readers, count));
+        }
+    }
+
+    private static void split() {
+        // At a capacity of 4 its producer parks between two values, and a value takes 5,000 ns and more.
+        for (int capacity : new int[] {64, 1024}) {
+            String scenario = "split-k" + capacity;
+            Figures.cost("disruptor", scenario, "value", 5_000_000, 1, count ->
+                    handled(new YieldingWaitStrategy(), capacity, 1, count));
+        }
+    }
+
+    private static long handled(WaitStrategy waits, int capacity, int readers, long count) {
+        ThreadFactory threads = Thread::new;
+        Disruptor<Cell> disruptor = new Disruptor<>(Cell::new, capacity, threads, ProducerType.SINGLE, waits);
+        CountDownLatch left = new CountDownLatch(readers);
+        Adder[] adders = new Adder[readers];
+        for (int i = 0; i < readers; i++) {
+            adders[i] = new Adder(count - 1, left);
+        }
+        disruptor.handleEventsWith(adders);
+        RingBuffer<Cell> ring = disruptor.start();
+        long start = System.nanoTime();
+        for (long value = 0; value < count; value++) {
+            publish(ring, value);
+        }
+        Race.await(left);
+        long time = System.nanoTime() - start;
+        disruptor.shutdown();
+        for (Adder adder : adders) {
+            Figures.check(adder.sum() == Figures.sumBelow(count), "disruptor: a value was lost");
+        }
+        return time;
+    }
+}
