@@ -4,6 +4,10 @@
 //! written, where the command line is no engine.
 #![tactic(auto)]
 
+ghost use Rattle.std.specs.Prelude.{◌≡◌};
+ghost use Rattle.std.specs.Process.{exit_status};
+ghost use Rattle.flow_runner.specs.Statuses.{status_by};
+
 use flow_script::{Engine, ScriptFault, run_script};
 use runner_arguments::{ArgumentsFault, EngineName, engine_name};
 use std::io::{BufWriter, Write};
@@ -48,11 +52,14 @@ fn asked_engine(rt: &HostRuntime) -> Result<Engine, Stop> {
     }
 }
 
-/// Names the fault on standard error, and gives the status of such an end.
-fn status_of(rt: &HostRuntime, stop: Stop) -> ExitCode {
-    match stop {
-        Stop::Usage => ExitCode::from(2),
-        Stop::Fault(fault) => {
+/// Gives the status of such an end, and names a fault on standard error.
+fn status_of(rt: &HostRuntime, ended: Result<(), Stop>) -> ExitCode
+    ensures { exit_status result ≡ status_by ended }
+{
+    match ended {
+        Ok(()) => ExitCode::SUCCESS,
+        Err(Stop::Usage) => ExitCode::from(2),
+        Err(Stop::Fault(fault)) => {
             let _ = eprintln!(rt; "flow_runner: {fault}");
             ExitCode::from(1)
         }
@@ -62,10 +69,10 @@ fn status_of(rt: &HostRuntime, stop: Stop) -> ExitCode {
 fn main(rt: HostRuntime) -> ExitCode {
     let engine = match asked_engine(&rt) {
         Ok(engine) => engine,
-        Err(stop) => return status_of(&rt, stop),
+        Err(stop) => return status_of(&rt, Err(stop)),
     };
     let Ok(mut writer) = BufWriter::new(rt.alloc(), io::writer(&rt)) else {
-        return status_of(&rt, Stop::Fault(ScriptFault::NoMemory));
+        return status_of(&rt, Err(Stop::Fault(ScriptFault::NoMemory)));
     };
     let ran = run_script(&rt, &mut rt.reader(), &mut writer, engine);
     // A script that ended early leaves the answers of the lines before in the buffer. After a write that failed nothing
@@ -73,8 +80,5 @@ fn main(rt: HostRuntime) -> ExitCode {
     if ran == Err(ScriptFault::Write) || writer.flush().is_err() {
         let _ = writer.into_parts();
     }
-    match ran {
-        Ok(()) => ExitCode::SUCCESS,
-        Err(fault) => status_of(&rt, Stop::Fault(fault)),
-    }
+    status_of(&rt, ran.map_err(Stop::Fault))
 }
