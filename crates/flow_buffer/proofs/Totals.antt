@@ -6,7 +6,8 @@ use Rattle.flow_buffer.specs.declared.side.Fate.TheVariants.{Taken, Stored, Drop
 use Rattle.cold_flow.specs.declared.cause.Cause.{Cause}
 use Rattle.flow_buffer.specs.History.{is_taken, is_stored, is_dropped, picked, marked, IsDecided}
 use Rattle.flow_buffer.specs.Channel.{Agree}
-use Rattle.flow_buffer.specs.Sides.{drops, IsEndKnown}
+use Rattle.cold_flow.specs.declared.event.Event.{Event}
+use Rattle.flow_buffer.specs.Sides.{drops, NothingAfter, IsEndKnown}
 
 module _ {T : Type 0} where
   -- each value has one fate
@@ -22,6 +23,11 @@ module _ {T : Type 0} where
   all_taken n ((Taken, x) ∷ l) held dropped = ap (λ t. x ∷ t) (all_taken (n + 1) l held dropped)
   all_taken n ((Stored, x) ∷ l) held dropped = cc
   all_taken n ((Dropped, x) ∷ l) held dropped = cc
+
+-- where the drain has the end, nothing waits in the feed
+pub none_waits : {T E : Type 0} (sent got : Option (Cause E)) (waiting : Option (Event T E)) → NothingAfter sent waiting → got ≡ sent → got ≢ None → waiting ≡ None
+none_waits None got waiting after same some = absurd (some same)
+none_waits (Some cause) got waiting after same some = after
 
 module _ {T E : Type 0} (produced : List (Bool × T)) (sent : Option (Cause E)) (taken : List (ℕ × T)) (known : List (Fate × T)) (lossy : Bool) where
   decided_is : (got : Option (Cause E)) → IsEndKnown got lossy taken known → got ≢ None → IsDecided lossy taken known

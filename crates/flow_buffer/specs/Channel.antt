@@ -78,9 +78,9 @@ module _ {T E : Type 0} where
   Sends v (Value x) w = w ≡ feed_side v.lossy None (v.produced ++ (false, x) ∷ [])
   Sends v (End cause) w = w ≡ feed_side v.lossy (Some cause) v.produced
 
-  -- a value that is offered joins at the back, or the channel was full
-  abbrev pub Offers : ℕ → Side T E → T → Bool → Side T E → Type 0
-  Offers k v x sent w = MatchBool sent (Sends v (Value x) w) ((w ≡ v) × WasFull k v.produced)
+  -- what is offered joins at the back, or the channel was full
+  abbrev pub Offers : ℕ → Side T E → Event T E → Bool → Side T E → Type 0
+  Offers k v item sent w = MatchBool sent (Sends v item w) ((w ≡ v) × WasFull k v.produced)
 
   -- the feed takes the oldest out, which is dropped
   abbrev pub Overwrites : Side T E → Event T E → Side T E → Type 0
@@ -94,6 +94,11 @@ module _ {T E : Type 0} where
   abbrev pub Takes : Side T E → Event T E → Side T E → Type 0
   Takes v (Value x) w = ((i : ℕ) × (w ≡ drain_side v.lossy None (v.taken ++ (i, x) ∷ []) v.history)) × Rises 0 w.taken
   Takes v (End cause) w = (w ≡ drain_side v.lossy (Some cause) v.taken w.history) × IsDecided v.lossy v.taken w.history
+
+  -- the drain takes the oldest, if there is one
+  abbrev pub MayTake : Side T E → Option (Event T E) → Side T E → Type 0
+  MayTake v None w = w ≡ v
+  MayTake v (Some item) w = Takes v item w
 
   -- what the feed learns of the channel's content before the end: it is what a history of the produced values holds
   abbrev pub Looks : Side T E → List (Event T E) → Type 0

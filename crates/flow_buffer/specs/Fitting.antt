@@ -12,23 +12,31 @@ use Rattle.flow_terms.specs.declared.policy.Policy.{Policy}
 use Rattle.flow_buffer.specs.declared.side.Side.{Side}
 use Rattle.flow_buffer.specs.Channel.{feed_side, drain_side}
 use Rattle.flow_buffer.specs.History.{Rises}
-use Rattle.flow_buffer.specs.Sides.{Channel, Feeding, Draining, may_drop, saturated, drops, IsEndKnown}
+use Rattle.flow_buffer.specs.Sides.{Channel, Feeding, Draining, may_drop, saturated, drops, NothingAfter, IsEndKnown}
 
 module _ {T E Q M L A : Type 0} (c : Rows (Badge (Key (Event T E))) (Doing (Event T E) (Side T E)) Q M (Key (Event T E)) L A) where
   -- which channel an end belongs to
   abbrev pub channel_of : Channel T E
   channel_of = record { table = c.stamps.shared.table_id; key = c.stamps.shared.key }
 
-  -- what contracts see of a feed: what its pass knows, and the end that was sent
-  abbrev pub feed_view : Policy → Pass (Event T E) (Side T E) → Option (Cause E) → Feeding T E
-  feed_view policy pass sent =
-      record { channel = channel_of; capacity = ruled_capacity c; policy = policy; produced = (knows pass).produced; sent = sent }
+  -- what contracts see of a feed: what its pass knows, what waits, and the end that was sent
+  abbrev pub feed_view : Policy → Pass (Event T E) (Side T E) → Option (Event T E) → Option (Cause E) → Feeding T E
+  feed_view policy pass waiting sent = record {
+    channel = channel_of;
+    capacity = ruled_capacity c;
+    policy = policy;
+    produced = (knows pass).produced;
+    waiting = waiting;
+    sent = sent;
+  }
 
-  -- a feed has both ends of the channel, its pass knows what was produced and which end was sent, and what was dropped is counted
+  -- A feed has both ends of the channel, its pass knows what was produced and which end was sent, and what was dropped is counted.
+  -- Nothing waits behind the end.
   abbrev pub IsFeed : Rows (Badge (Key (Event T E))) (Doing (Event T E) (Side T E)) Q M (Key (Event T E)) L A → Policy
-      → Pass (Event T E) (Side T E) → ℕ → Option (Cause E) → Type 0
-  IsFeed other policy pass dropped sent = (other ≡ c) × IsSeatAt c pass
+      → Pass (Event T E) (Side T E) → ℕ → Option (Event T E) → Option (Cause E) → Type 0
+  IsFeed other policy pass dropped waiting sent = (other ≡ c) × IsSeatAt c pass
       × (knows pass ≡ feed_side (may_drop policy) sent (knows pass).produced) × (dropped ≡ saturated (drops (knows pass).produced))
+      × NothingAfter sent waiting
 
   -- what contracts see of a drain: what its pass knows, and the end that came
   abbrev pub drain_view : Pass (Event T E) (Side T E) → Option (Cause E) → Draining T E

@@ -1,5 +1,5 @@
 -- How contracts see the two sides.
-use Rattle.std.specs.Prelude.{◌≡◌, ℕ, ◌+◌, ◌-◌, ◌^◌, min, Bool, true, false, cond, ◌⊎◌, Option, Some, None, List, [], ◌∷◌, ◌++◌, length}
+use Rattle.std.specs.Prelude.{◌≡◌, ℕ, ◌+◌, ◌-◌, ◌^◌, min, Bool, true, false, cond, ◌⊎◌, ⊤, Option, Some, None, List, [], ◌∷◌, ◌++◌, length}
 use Rattle.atomic_table.specs.Seated.{TableId}
 use Rattle.atomic_table.specs.declared.badge.Badge.{Badge}
 use Rattle.crossbeam_channel.specs.declared.flavors.array.Key.{Key}
@@ -18,12 +18,13 @@ pub record Channel (T E : Type 0) : Type 0 where
   pub table : TableId
   pub key : Badge (Key (Event T E))
 
--- a feed: what was produced, with what was dropped of it
+-- a feed: what was produced, with what was dropped of it, what came and waits for a place, and the end that was sent
 pub record Feeding (T E : Type 0) : Type 0 where
   pub channel : Channel T E
   pub capacity : ℕ
   pub policy : Policy
   pub produced : List (Bool × T)
+  pub waiting : Option (Event T E)
   pub sent : Option (Cause E)
 
 -- a drain: what was taken, with its indexes, and with the end what became of all that was produced
@@ -73,6 +74,23 @@ module _ {T : Type 0} where
   Filled k policy old x Ended new = ⊥
 
 module _ {T E : Type 0} where
+  -- the end that the upstream gave, if it did: it was sent, or it waits for a place
+  abbrev pub seen_end : Option (Cause E) → Option (Event T E) → Option (Cause E)
+  seen_end (Some cause) waiting = Some cause
+  seen_end None None = None
+  seen_end None (Some (Value x)) = None
+  seen_end None (Some (End cause)) = Some cause
+
+  -- once an end was sent nothing waits
+  abbrev pub NothingAfter : Option (Cause E) → Option (Event T E) → Type 0
+  NothingAfter None waiting = ⊤
+  NothingAfter (Some cause) waiting = waiting ≡ None
+
+  -- what has to wait where the channel is full: a value as the policy says, and the end always
+  abbrev pub HasToWait : Policy → Event T E → Type 0
+  HasToWait policy (Value x) = policy ≡ Suspend
+  HasToWait policy (End cause) = ⊤
+
   -- with the end it is known what became of all that was produced
   abbrev pub IsEndKnown : Option (Cause E) → Bool → List (ℕ × T) → List (Fate × T) → Type 0
   IsEndKnown None lossy taken history = Unit {0}
@@ -83,3 +101,8 @@ module _ {T E : Type 0} where
   Gave old (Value x) new = (old.end ≡ None) × ((i : ℕ) × (new ≡ record old { taken = old.taken ++ (i, x) ∷ [] })) × Rises 0 new.taken
   Gave old (End cause) new = (new.end ≡ Some cause) × (new.channel ≡ old.channel) × (new.lossy ≡ old.lossy) × (new.taken ≡ old.taken)
       × IsDecided new.lossy new.taken new.history × ((old.end ≡ None) ⊎ (new ≡ old))
+
+  -- what a drain gave that did not wait: the same, or nothing, which changed nothing
+  abbrev pub MayGive : Draining T E → Option (Event T E) → Draining T E → Type 0
+  MayGive old None new = (old.end ≡ None) × (new ≡ old)
+  MayGive old (Some event) new = Gave old event new

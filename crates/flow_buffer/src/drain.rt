@@ -3,9 +3,9 @@
 ghost use Rattle.std.specs.Prelude.{◌≡◌, length, Option};
 ghost use Rattle.crossbeam_channel.specs.Ends.{receives_on};
 ghost use Rattle.flow_buffer.specs.Fitting.{drain_view, IsDrain};
-ghost use Rattle.flow_buffer.specs.Sides.{Draining, saturated, Gave};
+ghost use Rattle.flow_buffer.specs.Sides.{Draining, saturated, Gave, MayGive};
 
-use crate::steps::{Knowledge, Receiver, receive};
+use crate::steps::{Knowledge, Receiver, receive, try_receive};
 use cold_flow::{Cause, Event};
 use std::marker::Model;
 use std::sync::Wait;
@@ -51,6 +51,27 @@ impl<T: Copy, E: Copy> Drain<T, E> {
                 self.end = Some(cause);
                 Event::End(cause)
             }
+        }
+    }
+
+    /// What [`Drain::next`] gives, without waiting for it: `None` where the buffer was empty and no end was received, and then
+    /// nothing has changed.
+    pub fn try_next(&mut self, rt: &impl Wait) -> Option<Event<T, E>>
+        ensures gave { MayGive self.old result self.new }
+    {
+        if let Some(cause) = self.end {
+            return Some(Event::End(cause));
+        }
+        match try_receive(rt, &self.receiver, &mut self.pass) {
+            Some(Event::Value(value)) => {
+                self.taken = self.taken.saturating_add(1);
+                Some(Event::Value(value))
+            }
+            Some(Event::End(cause)) => {
+                self.end = Some(cause);
+                Some(Event::End(cause))
+            }
+            None => None,
         }
     }
 

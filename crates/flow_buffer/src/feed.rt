@@ -1,13 +1,14 @@
 //! The side of a buffer between two threads that puts values in.
 
-ghost use Rattle.std.specs.Prelude.{◌≡◌, ◌≢◌, ◌||◌, Option, Some, None, IsTrue, MatchOption, is_none};
+ghost use Rattle.std.specs.Prelude.{◌≡◌, ◌≢◌, ◌||◌, Option, Some, None, IsTrue, IsSome, MatchOption, is_none};
+ghost use Rattle.futures.specs.Poll.{OnPending};
 ghost use Rattle.futures.specs.Task.{IsArmed, Keeps};
 ghost use Rattle.futures.specs.declared.task.Poll.TheVariants.{Pending as Waiting};
-ghost use Rattle.cold_flow.specs.Poll.{after_cancel};
+ghost use Rattle.cold_flow.specs.Poll.{end_of};
 ghost use Rattle.cold_flow.specs.Polled.{WasCancelled};
 ghost use Rattle.flow_terms.specs.declared.fill.Fill.TheVariants.{Pending};
-ghost use Rattle.flow_buffer.specs.Sides.{saturated, drops};
-ghost use Rattle.flow_buffer.specs.Feed.{Pumps};
+ghost use Rattle.flow_buffer.specs.Sides.{saturated, drops, seen_end};
+ghost use Rattle.flow_buffer.specs.Feed.{Brings, Pumps, MayPump, Closes};
 
 use crate::inlet::Inlet;
 use cold_flow::{Cause, Event, Run};
@@ -21,12 +22,13 @@ use std::sync::Wait;
 pub struct Feed<U: Run> {
     pub(crate) upstream: U,
     pub(crate) inlet: Inlet<U::Item, U::Fault>,
-    // Once an end was sent, the upstream is asked no more.
-    ghost upstream_stopped: { IsTrue (is_none inlet.sent || U.stopped upstream) },
+    // Once it gave its end, the upstream is asked no more.
+    ghost upstream_stopped: { IsTrue (is_none (seen_end inlet.sent inlet.waiting) || U.stopped upstream) },
 }
 
 impl<U: Run> Feed<U> {
-    /// Asks the upstream once, and puts its answer into the buffer.
+    /// Asks the upstream once, and puts its answer into the buffer. What [`Feed::try_pump`] left waiting is put first, and then
+    /// the upstream isn't asked.
     ///
     /// Under `Policy::Suspend` a value waits for a place, and so does the end under every policy. The end is never
     /// dropped; it is `Fill::Ended`, as is every later pump, which asks nothing. It never answers `Fill::Full`.
@@ -40,13 +42,55 @@ impl<U: Run> Feed<U> {
         if self.inlet.has_ended() {
             return Fill::Ended;
         }
-        match self.upstream.poll_next(cx) {
+        match self.bring(cx) {
             Poll::Ready(Event::Value(value)) => self.inlet.fill(rt, value),
             Poll::Ready(Event::End(cause)) => {
                 self.inlet.finish(rt, cause);
                 Fill::Ended
             }
             Poll::Pending => Fill::Pending,
+        }
+    }
+
+    /// Does what [`Feed::pump`] does, unless that would wait for a place: then what came stays in the feed, and the answer
+    /// is `None`.
+    ///
+    /// So it is for a value under `Policy::Suspend`, and for the end under every policy. The next call puts what stayed,
+    /// and asks the upstream nothing before it is put. `None` comes only where the buffer was full at a moment of the call.
+    pub fn try_pump(&mut self, rt: &impl Wait, cx: &mut Context<'_>) -> Option<Fill>
+        ensures pumps { MayPump U.may self.old.upstream self.old.inlet result self.new.upstream self.new.inlet }
+        ensures waits { result ≡ Some Pending → U.polled self.old.upstream Waiting self.new.upstream }
+        ensures armed { result ≡ Some Pending → IsArmed cx.new }
+        ensures kept { Keeps cx.old cx.new }
+    {
+        if self.inlet.has_ended() {
+            return Some(Fill::Ended);
+        }
+        match self.bring(cx) {
+            Poll::Ready(Event::Value(value)) => self.inlet.try_fill(rt, value),
+            Poll::Ready(Event::End(cause)) => {
+                if self.inlet.try_finish(rt, cause) {
+                    return Some(Fill::Ended);
+                }
+                None
+            }
+            Poll::Pending => Some(Fill::Pending),
+        }
+    }
+
+    // What waits for a place, or where nothing does, what the upstream gives.
+    fn bring(&mut self, cx: &mut Context<'_>) -> Poll<Event<U::Item, U::Fault>>
+        requires unended { self.old.inlet.sent ≡ None }
+        ensures brings { Brings U.may self.old.upstream self.old.inlet.waiting result self.new.upstream }
+        ensures same { self.new.inlet ≡ self.old.inlet }
+        ensures stops { IsSome (end_of result) → IsTrue (U.stopped self.new.upstream) }
+        ensures polled { OnPending result (U.polled self.old.upstream Waiting self.new.upstream) }
+        ensures armed { OnPending result (IsArmed cx.new) }
+        ensures kept { Keeps cx.old cx.new }
+    {
+        match self.inlet.waiting() {
+            Some(event) => Poll::Ready(event),
+            None => self.upstream.poll_next(cx),
         }
     }
 
@@ -57,10 +101,10 @@ impl<U: Run> Feed<U> {
         self.inlet.dropped_count()
     }
 
-    /// Cancels the upstream and sends the drain `Cause::Cancelled`, which waits for a place. Where an end was sent
-    /// before, it sends nothing: the upstream has ended.
+    /// Puts what waits, cancels the upstream and sends the drain `Cause::Cancelled`; each waits for a place. Where the upstream's
+    /// end was sent before or waits, it sends no other, and the upstream has stopped.
     pub fn cancel(mut self, rt: &impl Wait)
-        ensures source { MatchOption self.inlet.sent (WasCancelled U.cancelled U.stopped self.upstream) (λ _. IsTrue (U.stopped self.upstream)) }
+        ensures source { MatchOption (seen_end self.inlet.sent self.inlet.waiting) (WasCancelled U.cancelled U.stopped self.upstream) (λ _. IsTrue (U.stopped self.upstream)) }
     {
         // What it does is what `close` ensures, and `spend` takes no feed without that.
         self.close(rt);
@@ -69,9 +113,15 @@ impl<U: Run> Feed<U> {
 
     fn close(&mut self, rt: &impl Wait)
         ensures stopped { IsTrue (U.stopped self.new.upstream) }
-        ensures cancels { self.old.inlet.sent ≡ None → U.cancelled self.old.upstream self.new.upstream }
-        ensures ended { self.new.inlet ≡ record self.old.inlet { sent = Some (after_cancel self.old.inlet.sent) } }
+        ensures cancels { seen_end self.old.inlet.sent self.old.inlet.waiting ≡ None → U.cancelled self.old.upstream self.new.upstream }
+        ensures stays { seen_end self.old.inlet.sent self.old.inlet.waiting ≢ None → self.new.upstream ≡ self.old.upstream }
+        ensures closes { Closes self.old.inlet.sent self.old.inlet self.new.inlet }
+        ensures ended { self.new.inlet.sent ≢ None }
     {
+        if self.inlet.has_ended() {
+            return;
+        }
+        self.inlet.settle(rt);
         if self.inlet.has_ended() {
             return;
         }

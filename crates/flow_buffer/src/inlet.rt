@@ -1,15 +1,18 @@
 //! The feed's end of the channel.
 
-ghost use Rattle.std.specs.Prelude.{◌≡◌, ◌≢◌, ◌+◌, [], true, false, length, map, Option, Some, None, is_some};
+ghost use Rattle.std.specs.Prelude.{◌≡◌, ◌≢◌, ◌+◌, [], true, false, length, map, Option, Some, None, is_some, MatchBool, MatchOption};
 ghost use Rattle.crossbeam_channel.specs.Claims.{view as knows, IsSeatAt};
 ghost use Rattle.crossbeam_channel.specs.Ends.{sends_on, receives_on, ruled_capacity};
 ghost use Rattle.flow_buffer.specs.Channel.{feed_side, Agree};
 ghost use Rattle.flow_buffer.specs.Fitting.{channel_of, feed_view, IsFeed};
-ghost use Rattle.flow_buffer.specs.Sides.{Feeding, may_drop, saturated, drops, is_loss, Filled};
+ghost use Rattle.cold_flow.specs.declared.event.Event.TheVariants.{Value, End};
+ghost use Rattle.flow_terms.specs.declared.policy.Policy.TheVariants.{Suspend};
+ghost use Rattle.flow_buffer.specs.Feed.{Settles};
+ghost use Rattle.flow_buffer.specs.Sides.{Feeding, may_drop, saturated, drops, is_loss, Filled, WasFull};
 
 use crate::drain::Drain;
 use crate::rule::{Agreeing, Together};
-use crate::steps::{Knowledge, Receiver, Sender, put, send};
+use crate::steps::{Knowledge, Receiver, Sender, offer, put, send};
 use cold_flow::{Cause, Event, Policy};
 use flow_terms::Fill;
 use std::marker::Model;
@@ -25,6 +28,8 @@ pub struct Inlet<T: Copy, E: Copy> {
     policy: Policy,
     // How many values were dropped. It stays at its greatest.
     dropped: u64,
+    // What came and found no place.
+    waiting: Option<Event<T, E>>,
     // The end that was sent.
     sent: Option<Cause<E>>,
 }
@@ -32,9 +37,9 @@ pub struct Inlet<T: Copy, E: Copy> {
 impl<T: Copy, E: Copy> Model for Inlet<T, E> {
     ghost Value = { Feeding T E };
 
-    ghost view = { λ f. feed_view (sends_on f.sender) f.policy f.pass f.sent };
+    ghost view = { λ f. feed_view (sends_on f.sender) f.policy f.pass f.waiting f.sent };
 
-    ghost invariant = { λ f. IsFeed (sends_on f.sender) (receives_on f.receiver) f.policy f.pass f.dropped f.sent };
+    ghost invariant = { λ f. IsFeed (sends_on f.sender) (receives_on f.receiver) f.policy f.pass f.dropped f.waiting f.sent };
 }
 
 // Whether a value was dropped.
@@ -60,6 +65,7 @@ impl<T: Copy, E: Copy> Inlet<T, E> {
           capacity = ruled_capacity (sends_on sender);
           policy = policy;
           produced = [];
+          waiting = None;
           sent = None;
         } }
     {
@@ -69,6 +75,7 @@ impl<T: Copy, E: Copy> Inlet<T, E> {
             pass,
             policy,
             dropped: 0,
+            waiting: None,
             sent: None,
         }
     }
@@ -77,7 +84,7 @@ impl<T: Copy, E: Copy> Inlet<T, E> {
     pub(crate) fn fill(&mut self, rt: &impl Wait, value: T) -> Fill
         requires unended { self.old.sent ≡ None }
         ensures fill { Filled self.old.capacity self.old.policy self.old.produced value result self.new.produced }
-        ensures same { self.new ≡ record self.old { produced = self.new.produced } }
+        ensures same { self.new ≡ record self.old { produced = self.new.produced; waiting = None } }
     {
         let fill = put(
             rt,
@@ -87,6 +94,7 @@ impl<T: Copy, E: Copy> Inlet<T, E> {
             self.policy,
             value,
         );
+        self.waiting = None;
         if is_loss(fill) {
             self.dropped = self.dropped.saturating_add(1);
         }
@@ -96,10 +104,63 @@ impl<T: Copy, E: Copy> Inlet<T, E> {
     // Sends the end, which waits for a place and is never dropped.
     pub(crate) fn finish(&mut self, rt: &impl Wait, cause: Cause<E>)
         requires unended { self.old.sent ≡ None }
-        ensures { self.new ≡ record self.old { sent = Some cause } }
+        ensures { self.new ≡ record self.old { waiting = None; sent = Some cause } }
     {
         send(rt, &self.sender, &mut self.pass, Event::End(cause));
+        self.waiting = None;
         self.sent = Some(cause);
+    }
+
+    // Puts a value in as `fill` does. Where that would wait for a place, the value waits here, and the answer is `None`.
+    pub(crate) fn try_fill(&mut self, rt: &impl Wait, value: T) -> Option<Fill>
+        requires unended { self.old.sent ≡ None }
+        ensures fill { MatchOption result ((self.old.policy ≡ Suspend) × WasFull self.old.capacity self.old.produced) (λ fill. Filled self.old.capacity self.old.policy self.old.produced value fill self.new.produced) }
+        ensures same { MatchOption result (self.new ≡ record self.old { waiting = Some (Value value) }) (λ _. self.new ≡ record self.old { produced = self.new.produced; waiting = None }) }
+    {
+        if self.policy != Policy::Suspend {
+            return Some(self.fill(rt, value));
+        }
+        if offer(rt, &self.sender, &mut self.pass, Event::Value(value)) {
+            self.waiting = None;
+            return Some(Fill::Took);
+        }
+        self.waiting = Some(Event::Value(value));
+        None
+    }
+
+    // Sends the end if there is a place, and says whether it did. Where there is none, the end waits here.
+    pub(crate) fn try_finish(&mut self, rt: &impl Wait, cause: Cause<E>) -> bool
+        requires unended { self.old.sent ≡ None }
+        ensures { MatchBool result (self.new ≡ record self.old { waiting = None; sent = Some cause }) (WasFull self.old.capacity self.old.produced × (self.new ≡ record self.old { waiting = Some (End cause) })) }
+    {
+        if offer(rt, &self.sender, &mut self.pass, Event::End(cause)) {
+            self.waiting = None;
+            self.sent = Some(cause);
+            return true;
+        }
+        self.waiting = Some(Event::End(cause));
+        false
+    }
+
+    // Puts what waits, which waits for a place.
+    pub(crate) fn settle(&mut self, rt: &impl Wait)
+        requires unended { self.old.sent ≡ None }
+        ensures { Settles self.old.waiting self.old self.new }
+    {
+        match self.waiting {
+            Some(Event::Value(value)) => {
+                self.fill(rt, value);
+            }
+            Some(Event::End(cause)) => self.finish(rt, cause),
+            None => {}
+        }
+    }
+
+    // What waits for a place.
+    pub(crate) fn waiting(&self) -> Option<Event<T, E>>
+        ensures { result ≡ self.now.waiting }
+    {
+        self.waiting
     }
 
     pub(crate) fn has_ended(&self) -> bool
@@ -124,6 +185,7 @@ impl<T: Copy, E: Copy> Inlet<T, E> {
             pass: _,
             policy: _,
             dropped: _,
+            waiting: _,
             sent: _,
         } = self;
     }
@@ -132,6 +194,7 @@ impl<T: Copy, E: Copy> Inlet<T, E> {
     pub(crate) fn meet(self, drain: Drain<T, E>)
         requires { drain.channel ≡ self.channel }
         ensures agree { Agree self.produced self.sent drain.taken drain.end drain.history }
+        ensures put { drain.end ≢ None → self.waiting ≡ None }
         ensures all { drain.end ≢ None → length drain.taken + drops self.produced ≡ length self.produced }
         ensures whole { drain.end ≢ None → drain.lossy ≡ false → map (λ e. e.1) drain.taken ≡ map (λ e. e.1) self.produced }
     {
@@ -141,6 +204,7 @@ impl<T: Copy, E: Copy> Inlet<T, E> {
             mut pass,
             policy: _,
             dropped: _,
+            waiting: _,
             sent: _,
         } = self;
         let Drain {

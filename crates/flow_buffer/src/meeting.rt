@@ -12,12 +12,13 @@ use cold_flow::Run;
 /// Brings a feed and its drain together, once their threads have let them go, and spends both. The upstream is cancelled.
 ///
 /// They tell of one history: the feed of what was produced and dropped in it, the drain of what was taken, and the
-/// drain's end is the one that the feed sent. Then taken and dropped values are all that were produced; under
-/// `Policy::Suspend` the taken ones are the produced ones, in order.
+/// drain's end is the one that the feed sent. Then taken and dropped values are all that were produced, and none waits;
+/// under `Policy::Suspend` the taken ones are the produced ones, in order.
 pub fn agree<U: Run>(feed: Feed<U>, drain: Drain<U::Item, U::Fault>)
     requires { drain.channel ≡ feed.inlet.channel }
     ensures source { WasCancelled U.cancelled U.stopped feed.upstream }
     ensures agree { Agree feed.inlet.produced feed.inlet.sent drain.taken drain.end drain.history }
+    ensures put { drain.end ≢ None → feed.inlet.waiting ≡ None }
     ensures all { drain.end ≢ None → length drain.taken + drops feed.inlet.produced ≡ length feed.inlet.produced }
     ensures whole { drain.end ≢ None → drain.lossy ≡ false → map (λ e. e.1) drain.taken ≡ map (λ e. e.1) feed.inlet.produced }
 {

@@ -4,7 +4,7 @@ ghost use Rattle.std.specs.Prelude.{◌≡◌, ◌++◌, [], ◌∷◌, ◌<◌,
 ghost use Rattle.crossbeam_channel.specs.Claims.{view as knows, IsSeatAt};
 ghost use Rattle.crossbeam_channel.specs.Ends.{sends_on, receives_on, ruled_capacity};
 ghost use Rattle.crossbeam_channel.specs.Fifo.{Held};
-ghost use Rattle.flow_buffer.specs.Channel.{Sends, Offers, Overwrites, DropsOldest, Takes, Looks, feed_side, drain_side};
+ghost use Rattle.flow_buffer.specs.Channel.{Sends, Offers, Overwrites, DropsOldest, Takes, MayTake, Looks, feed_side, drain_side};
 ghost use Rattle.flow_buffer.specs.Sides.{Filled, may_drop};
 
 use crate::rule::{Buffering, Missed, Missing, Overwriting, Sending, Taking};
@@ -41,20 +41,20 @@ pub(crate) fn send<T: Copy, E: Copy, R: Wait>(
     unreachable!()
 }
 
-// Sends the value unless the channel is full.
+// Sends it unless the channel is full.
 pub(crate) fn offer<T: Copy, E: Copy, R: Wait>(
     rt: &R,
     sender: &Sender<T, E>,
     pass: &mut Knowledge<T, E>,
-    value: T,
+    item: Event<T, E>,
 ) -> bool
     requires channel { IsSeatAt (sends_on sender.now) pass.old }
     requires unended { knows pass.old ≡ feed_side (knows pass.old).lossy None (knows pass.old).produced }
     ensures channel { IsSeatAt (sends_on sender.now) pass.new }
-    ensures sent { Offers (ruled_capacity (sends_on sender.now)) (knows pass.old) value result (knows pass.new) }
+    ensures sent { Offers (ruled_capacity (sends_on sender.now)) (knows pass.old) item result (knows pass.new) }
 {
     for _ in rt.forever() {
-        match sender.try_send_as::<Sending, R>(rt, pass, Event::Value(value)) {
+        match sender.try_send_as::<Sending, R>(rt, pass, item) {
             Ok(()) => return true,
             Err(TrySendError::Full(_)) => return false,
             Err(_) => {}
@@ -142,7 +142,7 @@ fn put_over_oldest<T: Copy, E: Copy, R: Wait>(
     ensures unended { knows pass.new ≡ feed_side true None (knows pass.new).produced }
     ensures fill { Filled (ruled_capacity (sends_on sender.now)) Policy.DropOldest (knows pass.old).produced value result (knows pass.new).produced }
 {
-    if offer(rt, sender, pass, value) {
+    if offer(rt, sender, pass, Event::Value(value)) {
         return Fill::Took;
     }
     let dropped = drop_oldest(rt, receiver, pass);
@@ -163,7 +163,7 @@ fn put_or_drop<T: Copy, E: Copy, R: Wait>(
     ensures unended { knows pass.new ≡ feed_side true None (knows pass.new).produced }
     ensures fill { Filled (ruled_capacity (sends_on sender.now)) Policy.DropLatest (knows pass.old).produced value result (knows pass.new).produced }
 {
-    if offer(rt, sender, pass, value) {
+    if offer(rt, sender, pass, Event::Value(value)) {
         return Fill::Took;
     }
     drop_latest(sender, pass, value);
@@ -187,4 +187,18 @@ pub(crate) fn receive<T: Copy, E: Copy, R: Wait>(
         }
     }
     unreachable!()
+}
+
+// Takes the oldest message, if there is one.
+pub(crate) fn try_receive<T: Copy, E: Copy, R: Wait>(
+    rt: &R,
+    receiver: &Receiver<T, E>,
+    pass: &mut Knowledge<T, E>,
+) -> Option<Event<T, E>>
+    requires channel { IsSeatAt (receives_on receiver.now) pass.old }
+    requires unended { knows pass.old ≡ drain_side (knows pass.old).lossy None (knows pass.old).taken (knows pass.old).history }
+    ensures channel { IsSeatAt (receives_on receiver.now) pass.new }
+    ensures taken { MayTake (knows pass.old) result (knows pass.new) }
+{
+    receiver.try_recv_as::<Taking, R>(rt, pass).ok()
 }

@@ -8,6 +8,7 @@ invariant_of-self g c = (
   search rules,
   search rules,
   loses _ _ _ _ _ _ c.put-fill.ensures.fill (sym c.is_loss.ensures ∙ c.if-is_loss.true) _ _ c.self.invariant.3 c.saturating_add-self-inside.ensures,
+  search rules,
 )
 
 pub invariant_of-self-else-is_loss : goal.invariant_of-self-else-is_loss
@@ -16,4 +17,5 @@ invariant_of-self-else-is_loss g c = (
   search rules,
   search rules,
   keeps _ _ _ _ _ _ c.put-fill.ensures.fill (sym c.is_loss.ensures ∙ c.if-is_loss.false) _ c.self.invariant.3,
+  search rules,
 )

@@ -2,7 +2,8 @@ use Rattle.std.proofs.Common.{rules, ap}
 use Rattle.flow_buffer.specs.Channel.{Agree}
 use Rattle.flow_buffer.specs.Sides.{IsEndKnown}
 use Rattle.flow_buffer.proofs.ChannelSteps.{merges, agrees}
-use Rattle.flow_buffer.proofs.Totals.{totals, wholes}
+use Rattle.flow_buffer.specs.Sides.{NothingAfter}
+use Rattle.flow_buffer.proofs.Totals.{none_waits, totals, wholes}
 use Rattle.flow_buffer.proofs.inlet.Inlet.meet.Goals as goal
 
 pub absorb-requires-clause-rule : goal.absorb-requires-clause-rule
@@ -10,6 +11,12 @@ absorb-requires-clause-rule g c = merges _ _ _ _ (ap (λ s. s.feeds) c.self.inva
 
 pub learn_as-requires-clause-rule : goal.learn_as-requires-clause-rule
 learn_as-requires-clause-rule g c = agrees _ _ (ap (λ s. s.feeds) c.absorb.ensures.rule) (ap (λ s. s.drains) c.absorb.ensures.rule)
+
+pub returns-clause-put : goal.returns-clause-put
+returns-clause-put g c some =
+    let agree : Agree c.args.self.produced c.args.self.sent c.args.drain.taken c.args.drain.end c.args.drain.history = search rules in
+    let after : NothingAfter c.args.self.sent c.args.self.waiting = rw (← c.self.view_is) c.self.invariant.4 in
+    none_waits _ _ _ after (agree.3 some).0 some
 
 pub returns-clause-all : goal.returns-clause-all
 returns-clause-all g c some =
