@@ -4,11 +4,12 @@ use Rattle.std.specs.List.{flat_map}
 use Rattle.std.proofs.lemmas.Grind.{flat_map-append}
 use Rattle.std.proofs.Common.{ap, sym, ◌∙◌, subst, inl, inr, append_assoc}
 use Rattle.cold_flow.specs.declared.cause.Cause.{Cause}
-use Rattle.cold_flow.specs.declared.operators.few.Few.{Few}
-use Rattle.cold_flow.specs.declared.operators.few.Few.TheVariants.{Zero, One, Two, Three, Four}
+use Rattle.flow_terms.specs.declared.few.Few.{Few}
+use Rattle.flow_terms.specs.declared.few.Few.TheVariants.{Zero, One, Two, Three, Four}
 use Rattle.cold_flow.specs.Trace.{Trace, ◌⊑◌, ended_by, led_by}
 use Rattle.cold_flow.specs.Poll.{Traces, Within, After, Through, is_going}
-use Rattle.cold_flow.specs.Few.{values_of, is_zero, split, held_then}
+use Rattle.flow_terms.specs.Few.{values_of, is_zero, split}
+use Rattle.cold_flow.specs.Transform.{held_then}
 use Rattle.cold_flow.specs.Laws.{Monotone, Through-after, Through-skip, Through-over, led-begins}
 
 module _ {A : Type 0} where

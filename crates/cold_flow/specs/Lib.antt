@@ -6,7 +6,7 @@ pub mod ClosingLaws
 pub mod TakeLaws
 pub mod Finale
 pub mod FinaleLaws
-pub mod Few
+pub mod Transform
 pub mod FewLaws
 pub mod Steps
 pub mod Scripted

@@ -19,7 +19,7 @@
 //! for long. So do `collect`, `fold` and `first` after 64 values.
 //!
 //! The crate gives on what all flows share: why a call is refused (`Refusal`), what a full flow does with an emission
-//! (`Policy`), and the values that fit an atomic word (`Word`).
+//! (`Policy`), the values that fit an atomic word (`Word`), and up to four values (`Few`).
 #![tactic(auto)]
 
 mod apply;
@@ -45,12 +45,11 @@ pub use ends::fold::{Folding, fold};
 pub use ends::to_list::to_list;
 pub use event::Event;
 pub use flow::Flow;
-pub use flow_terms::{Policy, Refusal, Word};
+pub use flow_terms::{Few, Policy, Refusal, Word};
 pub use operators::catch_with::{Catching, CatchingRun, Caught, catch_with};
 pub use operators::closing::Closing;
 pub use operators::distinct::{Differing, distinct};
 pub use operators::drop_first::{Skipping, drop_first};
-pub use operators::few::Few;
 pub use operators::filter::{Testing, filter};
 pub use operators::map::{Mapped, map};
 pub use operators::on_completion::{Completing, CompletingRun, on_completion};

@@ -4,7 +4,6 @@ pub mod catch_with;
 pub mod closing;
 pub mod distinct;
 pub mod drop_first;
-pub mod few;
 pub mod filter;
 pub mod map;
 pub mod on_completion;

@@ -1,24 +1,23 @@
 -- What callers of a shared flow between threads say of its parties.
-use Rattle.std.specs.Prelude.{◌≡◌, ℕ, List, Option, Some}
-use Rattle.shared_lane.specs.Headline.{Lived, given}
+use Rattle.std.specs.Prelude.{◌≡◌, ℕ, List, Some}
 use Rattle.shared_lane.specs.Readers.{IsReaderOf}
-use Rattle.shared_lane.specs.Views.{ReaderSeen}
 use Rattle.shared_flow.specs.declared.round.Round.TheVariants as round
+use Rattle.shared_flow.specs.Lives.{Turn, LivesOn, received_in}
 use Rattle.shared_flow.specs.Names.{FlowName, SharedSeen}
 use Rattle.shared_flow.specs.Parties.{Emitting, Subscribed, named}
 use Rattle.shared_flow.specs.Reach.{Party}
 use Rattle.shared_flow.specs.Rounds.{Does}
 
 -- it is the same subscription, at the same flow
-abbrev pub IsSameSubscription : Subscribed → Subscribed → Type 0
+abbrev pub IsSameSubscription : Subscribed ℕ → Subscribed ℕ → Type 0
 IsSameSubscription old new = (named new.party ≡ named old.party) × (new.number ≡ old.number)
 
--- by one look after another the reader took these words, and no other
-abbrev pub HasTaken : ReaderSeen → List ℕ → ReaderSeen → Type 0
-HasTaken old words new = (calls : List (Option ℕ)) × Lived old calls new × (given calls ≡ words)
+-- turn by turn the subscription received these values, those that were left of its prelude first, and no other
+abbrev pub HasTaken : Subscribed ℕ → List ℕ → Subscribed ℕ → Type 0
+HasTaken old values new = (turns : List (Turn ℕ)) × LivesOn old.rest old.reader turns new.rest new.reader × (received_in (λ word. word) turns ≡ values)
 
 -- both are of one flow, whose lane the subscription reads
-abbrev pub AreOfOneFlow : Emitting → Subscribed → Type 0
+abbrev pub AreOfOneFlow : Emitting → Subscribed ℕ → Type 0
 AreOfOneFlow e s = (name : FlowName) × (e.party.flow ≡ Some name) × (s.party.flow ≡ Some name) × IsReaderOf name.lane s.reader
 
 -- at one moment, with the lock taken once, so many subscribed to the party's flow, and these were the words of its replay cache

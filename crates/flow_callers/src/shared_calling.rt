@@ -70,8 +70,8 @@ pub fn received<R>(rt: &R, subscription: &mut Subscription<u64>) -> Option<u64>
 where
     R: Wait + RandomSource + AllocGlobal,
     ensures same { IsSameSubscription subscription.old subscription.new }
-    ensures value { IfSome result (λ value. HasTaken subscription.old.reader (value ∷ []) subscription.new.reader) }
-    ensures nothing { IfNone result (HasTaken subscription.old.reader [] subscription.new.reader) }
+    ensures value { IfSome result (λ value. HasTaken subscription.old (value ∷ []) subscription.new) }
+    ensures nothing { IfNone result (HasTaken subscription.old [] subscription.new) }
 {
     let queue = Queue::new(rt, Doorbell::parking()).ok()?;
     queue.add().ok()?.schedule();
@@ -145,8 +145,8 @@ pub fn awaited(
     parker: &mut Parker,
     subscription: &mut Subscription<u64>,
 ) -> Result<u64, Refusal>
-    ensures value { IfOk result (λ value. HasTaken subscription.old.reader (value ∷ []) subscription.new.reader) }
-    ensures nothing { IfErr result (λ refusal. (refusal ≡ NoMemory) × HasTaken subscription.old.reader [] subscription.new.reader) }
+    ensures value { IfOk result (λ value. HasTaken subscription.old (value ∷ []) subscription.new) }
+    ensures nothing { IfErr result (λ refusal. (refusal ≡ NoMemory) × HasTaken subscription.old [] subscription.new) }
 {
     subscription.next(rt, parker)
 }
@@ -162,7 +162,7 @@ pub fn asked(
 ) -> Result<Option<u64>, Refusal>
     requires idle { emitter.old.ticket ≡ None }
     ensures asked { IfOk result (λ _. (receipt : Option ReceiptSeen) × Emits emitter.old (emission_by emitter.old question) (Ok receipt) emitter.new) }
-    ensures answered { IfOk result (λ answer. IfSome answer (λ value. HasTaken subscription.old.reader (value ∷ []) subscription.new.reader)) }
+    ensures answered { IfOk result (λ answer. IfSome answer (λ value. HasTaken subscription.old (value ∷ []) subscription.new)) }
     ensures dropped { IfOk result (λ answer. IfNone answer (subscription.new ≡ subscription.old)) }
     ensures idle { emitter.new.ticket ≡ None }
 {

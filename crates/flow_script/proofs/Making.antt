@@ -4,8 +4,7 @@ use Rattle.std.specs.Option.{option_map}
 use Rattle.flow_terms.specs.declared.refusal.Refusal.{Refusal}
 use Rattle.script_pipes.specs.declared.answer.Answer.{Answer}
 use Rattle.script_pipes.specs.declared.answer.Answer.TheVariants.{Done, Refused}
-use Rattle.script_pipes.specs.declared.request.Party.{Party}
-use Rattle.script_pipes.specs.Commands.{Made, cold}
+use Rattle.script_pipes.specs.Commands.{Made, Joining, cold}
 use Rattle.script_pipes.specs.Pipes.{Pipe}
 use Rattle.script_pipes.specs.Piping.{pipe_answer}
 use Rattle.script_flows.specs.declared.object.Object.{Object}
@@ -86,16 +85,16 @@ refused_one made old new world name refusal p unbound (inr why) engine keeps ite
 -- ---- joins
 
 -- the host's name stands for nothing
-pub no_host : (party : Party) (runner : Runner) (world : World) (host name : List ℕ) → Pictures runner world → None ≡ bound_to runner.names host → Meets (join_step plain host name party world) world runner None
-no_host party runner world host name p none = rw (sym (none ∙ p.names host)) (record { answered = refl; pictured = p })
+pub no_host : (joining : Joining) (runner : Runner) (world : World) (host name : List ℕ) → Pictures runner world → None ≡ bound_to runner.names host → Meets (join_step plain host name joining world) world runner None
+no_host joining runner world host name p none = rw (sym (none ∙ p.names host)) (record { answered = refl; pictured = p })
 
-pub party_taken : (party : Party) (runner : Runner) (world : World) (host name : List ℕ) (binding : Binding) → Pictures runner world → Some binding ≡ bound_to runner.names host → is_some (bound_to runner.names name) ≡ true → Meets (join_step plain host name party world) world runner None
-party_taken party runner world host name binding p bound already = rw (sym (bound ∙ p.names host)) (taken runner world name _ p already)
+pub party_taken : (joining : Joining) (runner : Runner) (world : World) (host name : List ℕ) (binding : Binding) → Pictures runner world → Some binding ≡ bound_to runner.names host → is_some (bound_to runner.names name) ≡ true → Meets (join_step plain host name joining world) world runner None
+party_taken joining runner world host name binding p bound already = rw (sym (bound ∙ p.names host)) (taken runner world name _ p already)
 
 -- the host is a part of nothing
-pub host_unmade : (party : Party) (old new : Runner) (world : World) (host name : List ℕ) (binding : Binding) → Pictures old world → Some binding ≡ bound_to old.names host → is_some (bound_to old.names name) ≡ false → (binding.object_index < vec_len old.objects → false ≡ true) → new.engine ≡ old.engine → Keeps old.names new.names → new.objects.items ≡ old.objects.items
-    → Meets (join_step plain host name party world) world new None
-host_unmade party old new world host name binding p bound unbound past engine keeps items =
+pub host_unmade : (joining : Joining) (old new : Runner) (world : World) (host name : List ℕ) (binding : Binding) → Pictures old world → Some binding ≡ bound_to old.names host → is_some (bound_to old.names name) ≡ false → (binding.object_index < vec_len old.objects → false ≡ true) → new.engine ≡ old.engine → Keeps old.names new.names → new.objects.items ≡ old.objects.items
+    → Meets (join_step plain host name joining world) world new None
+host_unmade joining old new world host name binding p bound unbound past engine keeps items =
     rw (sym (bound ∙ p.names host), free old world name p unbound, none_found old world binding.object_index p past) (record { answered = refl; pictured = same_world old new world p engine keeps items })
 
 -- what came of it, and the name that was bound
@@ -126,13 +125,13 @@ came_of (Some came) thing old new names world name index object' result p is sam
 }
 
 -- the object was asked to let the party join
-pub joined : (party : Party) (old new : Runner) (names : Names) (world : World) (host name : List ℕ) (binding : Binding) (object object' : Object) (result : Option Joined) → Pictures old world → Some binding ≡ bound_to old.names host → is_some (bound_to old.names name) ≡ false → binding.object_index < vec_len old.objects → object ≡ get_or old.objects.items binding.object_index object
-    → Joins binding.part party object result object' → new.engine ≡ old.engine → Keeps old.names names → Binds names new.names name (option_map (part_of binding.object_index) (part_in result)) → new.objects.items ≡ set old.objects.items binding.object_index object' → (finding : Finding) × Meets (join_step finding host name party world) world new (answer_in result)
-joined party old new names world host name binding object object' result p bound unbound small is joins engine keeps more items =
+pub joined : (joining : Joining) (old new : Runner) (names : Names) (world : World) (host name : List ℕ) (binding : Binding) (object object' : Object) (result : Option Joined) → Pictures old world → Some binding ≡ bound_to old.names host → is_some (bound_to old.names name) ≡ false → binding.object_index < vec_len old.objects → object ≡ get_or old.objects.items binding.object_index object
+    → Joins binding.part joining object result object' → new.engine ≡ old.engine → Keeps old.names names → Binds names new.names name (option_map (part_of binding.object_index) (part_in result)) → new.objects.items ≡ set old.objects.items binding.object_index object' → (finding : Finding) × Meets (join_step finding host name joining world) world new (answer_in result)
+joined joining old new names world host name binding object object' result p bound unbound small is joins engine keeps more items =
     let f = found old world binding.object_index object p small is in
     let came = joins f.thing f.stands in (
       came.0,
-      rw (sym (bound ∙ p.names host), free old world name p unbound, f.is) (came_of (join came.0 binding.part party f.thing) f.thing old new names world name binding.object_index object' result p f.is came.1 came.2 engine keeps more items),
+      rw (sym (bound ∙ p.names host), free old world name p unbound, f.is) (came_of (join came.0 binding.part joining f.thing) f.thing old new names world name binding.object_index object' result p f.is came.1 came.2 engine keeps more items),
     )
 
 -- ---- a pipe, which changes nothing

@@ -5,9 +5,8 @@ use Rattle.flow_terms.specs.declared.refusal.Refusal.{Refusal}
 use Rattle.flow_terms.specs.declared.refusal.Refusal.TheVariants.{NoMemory}
 use Rattle.script_pipes.specs.declared.answer.Answer.{Answer}
 use Rattle.script_pipes.specs.declared.answer.Answer.TheVariants as answers
-use Rattle.script_pipes.specs.declared.request.Party.{Party}
 use Rattle.script_pipes.specs.declared.request.Request.{Request}
-use Rattle.script_pipes.specs.Commands.{Order, Made}
+use Rattle.script_pipes.specs.Commands.{Order, Made, Joining}
 use Rattle.script_pipes.specs.Commands as commands
 use Rattle.script_pipes.specs.Piping.{pipe_answer}
 use Rattle.script_flows.specs.declared.engine.Engine.{Engine}
@@ -99,20 +98,20 @@ new_party name index joined thing world = record {
   after = record world { names = bound name (option_map (part_of index) joined.1) world.names; things = slice_set world.things index thing };
 }
 
-abbrev pub join_at : Finding → List ℕ → Party → World → Binding → Option Outcome
-join_at finding name party world binding = do
+abbrev pub join_at : Finding → List ℕ → Joining → World → Binding → Option Outcome
+join_at finding name joining world binding = do
   thing ← slice_get world.things binding.object_index
-  came ← join finding binding.part party thing
+  came ← join finding binding.part joining thing
   Some (new_party name binding.object_index came.0 came.1 world)
 
-abbrev pub join_step : Finding → List ℕ → List ℕ → Party → World → Option Outcome
-join_step finding host name party world = do
+abbrev pub join_step : Finding → List ℕ → List ℕ → Joining → World → Option Outcome
+join_step finding host name joining world = do
   binding ← binding_of world.names host
-  unless_bound name world (join_at finding name party world binding)
+  unless_bound name world (join_at finding name joining world binding)
 
 -- WHAT A COMMAND ANSWERS AND CHANGES, by what it found
 abbrev pub step : Finding → Order → World → Option Outcome
 step finding (commands.make name made) world = make_step finding name made world
-step finding (commands.join host name party) world = join_step finding host name party world
+step finding (commands.join host name joining) world = join_step finding host name joining world
 step finding (commands.ask name request) world = ask_step finding name request world
 step finding (commands.cold pipe) world = Some (only (pipe_answer (was_refused finding) pipe) world)

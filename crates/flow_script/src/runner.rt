@@ -1,7 +1,7 @@
 //! What the names of a script stand for, and what its lines do.
 
 ghost use Rattle.std.specs.Prelude.{◌≡◌, Bool, length, IfOk};
-ghost use Rattle.script_pipes.specs.Commands.{order_of, made_in, make, join, ask};
+ghost use Rattle.script_pipes.specs.Commands.{order_of, made_in, joining_in, make, join, ask};
 ghost use Rattle.script_pipes.specs.Pipes.{pipe_in};
 ghost use Rattle.script_pipes.specs.Piping.{pipe_answer};
 ghost use Rattle.script_words.specs.Lines.{starts_with_hash};
@@ -90,9 +90,9 @@ impl<'a> Runner<'a> {
         rt: &impl Wait,
         host: &[u8],
         name: &'a [u8],
-        party: Party,
+        party: Party<'_>,
     ) -> Result<Option<Answer>, AllocError>
-        ensures { IfOk result (λ answer. Executes (join host.now name.entry.now party) self.old self.new answer) }
+        ensures { IfOk result (λ answer. Executes (join host.now name.entry.now (joining_in party.entry)) self.old self.new answer) }
     {
         let Some(binding) = self.names.get(host) else {
             return Ok(None);

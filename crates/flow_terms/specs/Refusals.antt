@@ -1,6 +1,6 @@
 use Rattle.std.specs.Prelude.{ℕ}
 use Rattle.flow_terms.specs.declared.refusal.Refusal.{Refusal}
-use Rattle.flow_terms.specs.declared.refusal.Refusal.TheVariants.{TooLarge, PolicyNeedsBuffer, BadLimit, NoMemory, SubscribersFull, EmitsFull, Spent, NotPositive, TooManyWorkers, BadPlan}
+use Rattle.flow_terms.specs.declared.refusal.Refusal.TheVariants.{TooLarge, PolicyNeedsBuffer, BadLimit, NoMemory, SubscribersFull, EmitsFull, Spent, NotPositive, TooManyWorkers, PreludeTooLong, BadPlan}
 
 -- the number under which a refusal is printed
 abbrev pub number_of : Refusal → ℕ
@@ -13,4 +13,5 @@ number_of EmitsFull = 6
 number_of Spent = 7
 number_of NotPositive = 8
 number_of TooManyWorkers = 9
+number_of PreludeTooLong = 10
 number_of BadPlan = 11

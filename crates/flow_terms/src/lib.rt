@@ -5,6 +5,7 @@
 
 mod answers;
 mod command;
+mod few;
 mod fill;
 mod ids;
 mod plan;
@@ -15,6 +16,7 @@ mod word;
 
 pub use answers::{Begun, Emit, Next, Tried, Withdrawn};
 pub use command::Command;
+pub use few::Few;
 pub use fill::Fill;
 pub use ids::{SubId, Ticket};
 pub use plan::{Entry, Plan};

@@ -39,6 +39,9 @@ pub enum Refusal {
     /// More than 1,024 inner flows at once.
     #[error("more than 1,024 inner flows at once")]
     TooManyWorkers,
+    /// A prelude of more than 16 values.
+    #[error("a prelude has more than 16 values")]
+    PreludeTooLong,
     /// A plan with more than 32 entries, or with an entry whose least count is above its greatest.
     #[error("a plan has over 32 entries, or one whose least count is above its greatest")]
     BadPlan,
@@ -59,6 +62,7 @@ impl Refusal {
             Refusal::Spent => 7,
             Refusal::NotPositive => 8,
             Refusal::TooManyWorkers => 9,
+            Refusal::PreludeTooLong => 10,
             Refusal::BadPlan => 11,
         }
     }

@@ -7,7 +7,7 @@ use Rattle.flow_terms.specs.declared.answers.Tried.{Tried}
 use Rattle.shared_core.specs.declared.config.Config.{Config}
 use Rattle.shared_core.specs.Flow.{State, number, number_limit, empty, live_count}
 use Rattle.shared_core.specs.Kept.{making_refusal, parameters_of, suspends}
-use Rattle.shared_core.specs.Calls.{Fate, enters, pushes_in, handed_over, dropped, held_up, fate, numbers_spent, try_by, try_emit, subscribe}
+use Rattle.shared_core.specs.Calls.{Fate, enters, pushes_in, handed_over, dropped, held_up, fate, numbers_spent, try_by, try_emit, subscribe, subscribe_with}
 use Rattle.shared_core.specs.Shown.{Seen, Shows, Follows}
 
 abbrev TrySpent : Result (Tried ℕ) Refusal → Type 0
@@ -42,7 +42,7 @@ some_seats config made =
     (third (not (nat_le (config.replay + config.extra) 65536)) ((config.replay + config.extra) == 0 && not (suspends config.policy)) (config.subscribers == 0) (not (nat_le config.subscribers 1024)) TooLarge PolicyNeedsBuffer BadLimit _ made)
 
 subscribe_spent : (T : Type 0) (config : Config) → making_refusal config ≡ None → SubscribeSpent (subscribe (empty {T = T} (parameters_of config))).0
-unfolding subscribe live_count
+unfolding subscribe_with live_count
 subscribe_spent T config made =
     either SubscribeSpent (number (empty {T = T} (parameters_of config)) 0 == number_limit) _ _ refl
     (otherwise SubscribeSpent (0 == config.subscribers) _ _ (some_seats config made) tt)

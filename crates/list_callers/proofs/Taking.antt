@@ -31,7 +31,7 @@ module _ {T : Type 0} (p : Parameters) (n : ℕ) where
 
   pub took_first : (flow new : Seen T) (result : Result SubId Refusal) → Shows flow (empty p) → Follows subscribe flow result new → Took p n new [] []
   took_first flow new result shows follows = record {
-    execution = and_then (execution_begun flow) subscribing (to_subscribe result) new;
+    execution = and_then (execution_begun flow) (subscribing []) (to_subscribe result) new;
     is_execution = after_subscribe p (execution_begun flow) new (begun_execution p flow shows) result follows;
     left = refl;
     gave_them = refl;

@@ -12,11 +12,12 @@ use Rattle.flow_terms.specs.declared.answers.Withdrawn.TheVariants as withdrawn
 use Rattle.script_pipes.specs.declared.answer.Answer.{Answer}
 use Rattle.script_pipes.specs.declared.answer.Answer.TheVariants as answers
 use Rattle.script_pipes.specs.declared.request.Request.TheVariants as requests
-use Rattle.script_pipes.specs.declared.request.Party.TheVariants as parties
+use Rattle.script_pipes.specs.Commands as commands
 use Rattle.script_pipes.specs.Replies.{try_answer, next_answer, cancel_answer, poll_answer, withdraw_answer}
 use Rattle.script_flows.specs.declared.part.Part.TheVariants.{Whole, Finished, Subscriber, Emission}
 use Rattle.script_flows.specs.Findings.{Finding, plain, lack_in, tried, begun, begun_in, done, given_up, of_memory, of_numbers, of_places}
 use Rattle.script_flows.specs.Lives.{MayFinish, after_poll, Polls, MayLeave, Withdraws}
+use Rattle.script_flows.specs.Preludes.{prelude_refusal, IsUnsubscribed}
 use Rattle.script_flows.specs.Things.{Parties, kept, receive, cancelled, as_parties, with_subscriptions, with_emissions, poll_one, give_up_one, ask_lane, join_emission, join_lane, join_subscriptions, Joined}
 use Rattle.script_flows.specs.Watching.{Asked, ended}
 use Rattle.script_flows.proofs.Standing.{unjoined_subscription}
@@ -126,12 +127,12 @@ lane_unbegun those after refusal (inr (inr full)) same = (begun (Err of_places),
 
 -- ---- who subscribes
 
-pub lane_joins : (those : Parties) (after : List Bool) (index : ℕ) → index ≡ length those.subscriptions → after ≡ those.subscriptions ++ (true ∷ [])
-    → (Some (answers.Done, Some (Subscriber index)), with_subscriptions those after) ≡ kept those (join_lane plain Whole parties.Subscription those)
-lane_joins those after index last more = rw (last, more) refl
+pub lane_joins : (those : Parties) (after : List Bool) (numbers : List ℕ) (index : ℕ) → prelude_refusal numbers ≡ None → index ≡ length those.subscriptions → after ≡ those.subscriptions ++ (true ∷ [])
+    → (Some (answers.Done, Some (Subscriber index)), with_subscriptions those after) ≡ kept those (join_lane plain Whole (commands.subscription numbers) those)
+lane_joins those after numbers index fits last more = rw (fits, last, more) refl
 
-pub lane_unjoined : (those : Parties) (after : List Bool) (refusal : Refusal) → (refusal ≡ NoMemory) ⊎ ((refusal ≡ Spent) ⊎ (refusal ≡ SubscribersFull)) → after ≡ those.subscriptions
-    → (finding : Finding) × ((Some (answers.Refused refusal, None), with_subscriptions those after) ≡ kept those (join_lane finding Whole parties.Subscription those))
-lane_unjoined those after refusal why same =
-    let found = unjoined_subscription refusal those.subscriptions after why same in
-    (found.0, of_some (with_subscriptions those) those.subscriptions after (Some (answers.Refused refusal, None)) (Some (join_subscriptions (lack_in found.0) those.subscriptions)) found.1)
+pub lane_unjoined : (those : Parties) (after : List Bool) (numbers : List ℕ) (refusal : Refusal) → IsUnsubscribed numbers refusal → after ≡ those.subscriptions
+    → (finding : Finding) × ((Some (answers.Refused refusal, None), with_subscriptions those after) ≡ kept those (join_lane finding Whole (commands.subscription numbers) those))
+lane_unjoined those after numbers refusal why same =
+    let found = unjoined_subscription numbers refusal those.subscriptions after why same in
+    (found.0, of_some (with_subscriptions those) those.subscriptions after (Some (answers.Refused refusal, None)) (Some (join_subscriptions (prelude_refusal numbers) (lack_in found.0) those.subscriptions)) found.1)

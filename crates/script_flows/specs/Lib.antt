@@ -3,6 +3,7 @@ pub mod Buffers
 pub mod Buffered
 pub mod Ticks
 pub mod Parts
+pub mod Preludes
 pub mod Findings
 pub mod Things
 pub mod Lives

@@ -8,7 +8,7 @@ use Rattle.flow_terms.specs.declared.answers.Emit.TheVariants as emit
 use Rattle.flow_terms.specs.declared.answers.Withdrawn.{Withdrawn}
 use Rattle.flow_terms.specs.declared.answers.Withdrawn.TheVariants as withdrawn
 use Rattle.shared_flow.specs.declared.round.Round.TheVariants as round
-use Rattle.shared_flow.specs.Parties.{with_round}
+use Rattle.shared_flow.specs.Parties.{Subscribed, with_round}
 use Rattle.shared_flow.specs.Owners.{Owning, at_rest}
 use Rattle.script_flows.specs.declared.emissions.Emissions.{Emissions}
 use Rattle.script_flows.specs.declared.subscriptions.Subscriptions.{Subscriptions}
@@ -25,6 +25,11 @@ IsAdded before index after = (index ≡ length before) × (after ≡ before ++ (
 -- the flow's owner made one call, by which a subscription was let in
 abbrev pub HasJoined : Owning → Owning → Type 0
 HasJoined old new = (number : ℕ) × (new ≡ at_rest (with_round (round.Subscribe (Ok number)) old.party))
+
+-- the last of them is a subscription to which all of this prelude is still to be given
+abbrev pub HasPrelude : List ℕ → Subscriptions → Type 0
+HasPrelude numbers subscriptions =
+    (before : List (Option (Subscribed ℕ))) × (last : Subscribed ℕ) × (subscriptions.places.items ≡ before ++ (Some last ∷ [])) × (last.rest ≡ numbers)
 
 -- of each emission that had to wait: whether it is in flight still
 abbrev pub in_flight : Emissions → List Bool

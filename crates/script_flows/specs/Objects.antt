@@ -3,9 +3,8 @@ use Rattle.std.specs.Prelude.{◌≡◌, ℕ, Bool, List, [], ◌∷◌, Option,
 use Rattle.shared_core.specs.Shown.{Shows}
 use Rattle.flow_terms.specs.declared.refusal.Refusal.{Refusal}
 use Rattle.script_pipes.specs.declared.answer.Answer.{Answer}
-use Rattle.script_pipes.specs.declared.request.Party.{Party}
 use Rattle.script_pipes.specs.declared.request.Request.{Request}
-use Rattle.script_pipes.specs.Commands.{Made}
+use Rattle.script_pipes.specs.Commands.{Made, Joining}
 use Rattle.script_flows.specs.declared.engine.Engine.{Engine}
 use Rattle.script_flows.specs.declared.object.Object.{Object}
 use Rattle.script_flows.specs.declared.object.Object.TheVariants as objects
@@ -42,8 +41,8 @@ Comes call old result new =
 abbrev pub Asks : Part → Request → Object → Option Answer → Object → Type 0
 Asks part request old answer new = Comes (λ finding. ask finding part request) old answer new
 
-abbrev pub Joins : Part → Party → Object → Option Joined → Object → Type 0
-Joins part party old joined new = Comes (λ finding. join finding part party) old joined new
+abbrev pub Joins : Part → Joining → Object → Option Joined → Object → Type 0
+Joins part joining old joined new = Comes (λ finding. join finding part joining) old joined new
 
 -- What is left of an object that was closed: of a state the seat, to which all collectors gave theirs back, beside the one that
 -- set it from a source; of a flow for threads the flow

@@ -18,9 +18,7 @@ use Rattle.script_pipes.specs.declared.answer.Answer.{Answer}
 use Rattle.script_pipes.specs.declared.answer.Answer.TheVariants as answers
 use Rattle.script_pipes.specs.declared.request.Request.{Request}
 use Rattle.script_pipes.specs.declared.request.Request.TheVariants as requests
-use Rattle.script_pipes.specs.declared.request.Party.{Party}
-use Rattle.script_pipes.specs.declared.request.Party.TheVariants as parties
-use Rattle.script_pipes.specs.Commands.{Made}
+use Rattle.script_pipes.specs.Commands.{Made, Joining}
 use Rattle.script_pipes.specs.Commands as commands
 use Rattle.script_pipes.specs.Replies.{try_answer, emit_answer, poll_answer, withdraw_answer, subscribe_answer, next_answer}
 use Rattle.script_pipes.specs.Replies.{cancel_answer, fill_answer, take_answer}
@@ -33,6 +31,7 @@ use Rattle.script_flows.specs.Findings.{Finding, Lack, refusal_for, emission_ref
 use Rattle.script_flows.specs.Findings.{was_refused, lack_in, read_in, compared_in, received_in, has_waited}
 use Rattle.script_flows.specs.Findings.{cached_in, ticked_in, tried_in, begun_in, is_done, given_up_in}
 use Rattle.script_flows.specs.Parts.{subscription_in, emission_in}
+use Rattle.script_flows.specs.Preludes.{prelude_refusal, subscribed}
 use Rattle.script_flows.specs.Ticks.{tick_answer}
 use Rattle.script_flows.specs.Watching.{collecting}
 use Rattle.script_words.specs.Starts.{start_refusal}
@@ -237,10 +236,10 @@ Joined = Answer × Option Part
 abbrev pub joined_as : {R : Type 0} → (R → Answer) → (R → Option Part) → R × State ℕ → Option (Joined × State ℕ)
 joined_as answer_of part_in came = Some ((answer_of came.0, part_in came.0), came.1)
 
-abbrev pub join_flow : Part → Party → State ℕ → Option (Joined × State ℕ)
-join_flow Whole parties.Subscription M = joined_as subscribe_answer subscription_in (calls.subscribe M)
-join_flow Whole (parties.Emission value) M = joined_as emit_answer emission_in (calls.start_emit 0 value M)
-join_flow part party M = None
+abbrev pub join_flow : Part → Joining → State ℕ → Option (Joined × State ℕ)
+join_flow Whole (commands.subscription numbers) M = joined_as subscribe_answer subscription_in (subscribed numbers M)
+join_flow Whole (commands.emission value) M = joined_as emit_answer emission_in (calls.start_emit 0 value M)
+join_flow part joining M = None
 
 -- one more of them, the last
 abbrev pub one_more : (ℕ → Part) → List Bool → Joined × List Bool
@@ -255,17 +254,19 @@ join_collectors refused collectors =
     if refused then not_joined NoMemory collectors
     else (if nat_lt (collecting collectors) 8 then one_more Collector collectors else not_joined SubscribersFull collectors)
 
-abbrev pub join_state : Finding → Part → Party → List Bool → Option (Joined × List Bool)
-join_state finding Whole parties.Collector collectors = Some (join_collectors (was_refused finding) collectors)
-join_state finding part party collectors = None
+abbrev pub join_state : Finding → Part → Joining → List Bool → Option (Joined × List Bool)
+join_state finding Whole commands.collector collectors = Some (join_collectors (was_refused finding) collectors)
+join_state finding part joining collectors = None
 
-abbrev pub join_subscriptions : Option Lack → List Bool → Joined × List Bool
-join_subscriptions (Some lack) subscriptions = not_joined (refusal_for lack) subscriptions
-join_subscriptions None subscriptions = one_more Subscriber subscriptions
+-- it is refused for its prelude, and then for what it lacked
+abbrev pub join_subscriptions : Option Refusal → Option Lack → List Bool → Joined × List Bool
+join_subscriptions (Some refusal) lack subscriptions = not_joined refusal subscriptions
+join_subscriptions None (Some lack) subscriptions = not_joined (refusal_for lack) subscriptions
+join_subscriptions None None subscriptions = one_more Subscriber subscriptions
 
-abbrev pub join_share : Finding → Part → Party → List Bool → Option (Joined × List Bool)
-join_share finding Whole parties.Subscription subscriptions = Some (join_subscriptions (lack_in finding) subscriptions)
-join_share finding part party subscriptions = None
+abbrev pub join_share : Finding → Part → Joining → List Bool → Option (Joined × List Bool)
+join_share finding Whole (commands.subscription numbers) subscriptions = Some (join_subscriptions (prelude_refusal numbers) (lack_in finding) subscriptions)
+join_share finding part joining subscriptions = None
 
 -- an emission is named, and one that has to wait is one more of those in flight
 abbrev pub join_emission : Result (Begun ℕ (Unit {0})) Lack → Parties → Joined × Parties
@@ -275,16 +276,17 @@ join_emission (Ok (starts.Waiting ticket)) those =
     ((answers.Waiting, Some (Emission (length those.emissions))), with_emissions those (those.emissions ++ (true ∷ [])))
 join_emission (Err lack) those = ((answers.Refused (emission_refusal_for lack), None), those)
 
-abbrev pub join_lane : Finding → Part → Party → Parties → Option (Joined × Parties)
-join_lane finding Whole parties.Subscription those = as_parties (with_subscriptions those) (Some (join_subscriptions (lack_in finding) those.subscriptions))
-join_lane finding Whole (parties.Emission value) those = Some (join_emission (begun_in finding) those)
-join_lane finding part party those = None
+abbrev pub join_lane : Finding → Part → Joining → Parties → Option (Joined × Parties)
+join_lane finding Whole (commands.subscription numbers) those =
+    as_parties (with_subscriptions those) (Some (join_subscriptions (prelude_refusal numbers) (lack_in finding) those.subscriptions))
+join_lane finding Whole (commands.emission value) those = Some (join_emission (begun_in finding) those)
+join_lane finding part joining those = None
 
 -- WHAT JOINS A THING, where this is a name's part of it, and what stands after it
-abbrev pub join : Finding → Part → Party → Thing → Option (Joined × Thing)
-join finding part party (flow M) = as_thing flow (join_flow part party M)
-join finding part party (lane those) = as_thing lane (join_lane finding part party those)
-join finding part party (state collectors) = as_thing state (join_state finding part party collectors)
-join finding part party (stated collectors) = as_thing stated (join_state finding part party collectors)
-join finding part party (buffer buffering) = None
-join finding part party (share subscriptions) = as_thing share (join_share finding part party subscriptions)
+abbrev pub join : Finding → Part → Joining → Thing → Option (Joined × Thing)
+join finding part joining (flow M) = as_thing flow (join_flow part joining M)
+join finding part joining (lane those) = as_thing lane (join_lane finding part joining those)
+join finding part joining (state collectors) = as_thing state (join_state finding part joining collectors)
+join finding part joining (stated collectors) = as_thing stated (join_state finding part joining collectors)
+join finding part joining (buffer buffering) = None
+join finding part joining (share subscriptions) = as_thing share (join_share finding part joining subscriptions)

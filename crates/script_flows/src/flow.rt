@@ -5,11 +5,16 @@ ghost use Rattle.shared_core.specs.Flow.{cache, empty};
 ghost use Rattle.shared_core.specs.Kept.{making_refusal, parameters_of};
 ghost use Rattle.shared_core.specs.Shown.{Shows, Follows, Reads};
 ghost use Rattle.script_flows.specs.Findings.{MadeUnless};
+ghost use Rattle.script_flows.specs.Preludes.{subscribed};
 ghost use Rattle.script_flows.specs.Things.{config_of, kept, ask_flow, join_flow};
+ghost use Rattle.script_pipes.specs.Commands.{joining_in};
+ghost use Rattle.script_words.specs.Numbers.{written};
 
 use crate::part::Part;
-use flow_terms::{Policy, Refusal};
+use crate::preludes::prelude_of;
+use flow_terms::{Policy, Refusal, SubId};
 use script_pipes::{Answer, Listing, Party, Request};
+use script_words::Numbers;
 use shared_core::{Config, SharedState};
 use std::alloc::{AllocError, Global};
 
@@ -43,6 +48,14 @@ fn cached(alloc: Global, flow: &SharedState<u64>) -> Result<Vec<u64>, AllocError
         values.push_reserved(flow.replay_at(index));
     }
     Ok(values)
+}
+
+/// A new subscription with a prelude of these numbers. Refused with 10, and then as `SharedState::subscribe_with`.
+fn subscribe(flow: &mut SharedState<u64>, numbers: Numbers<'_>) -> Result<SubId, Refusal>
+    ensures { Follows (subscribed (written numbers.entry)) flow.old result flow.new }
+{
+    let prelude = prelude_of(numbers)?;
+    flow.subscribe_with(prelude)
 }
 
 /// A shared flow of a script that stands on one thread.
@@ -92,12 +105,12 @@ impl ScriptFlow {
     }
 
     /// Lets a party join, and says what its name is, if anything was made; nothing where a flow takes no such party.
-    pub fn join(&mut self, part: Part, party: Party) -> Option<(Answer, Option<Part>)>
-        ensures { Follows (λ M. kept M (join_flow part party M)) self.old.state result self.new.state }
+    pub fn join(&mut self, part: Part, party: Party<'_>) -> Option<(Answer, Option<Part>)>
+        ensures { Follows (λ M. kept M (join_flow part (joining_in party.entry) M)) self.old.state result self.new.state }
     {
         match (part, party) {
-            (Part::Whole, Party::Subscription) => {
-                let subscribed = self.state.subscribe();
+            (Part::Whole, Party::Subscription(numbers)) => {
+                let subscribed = subscribe(&mut self.state, numbers);
                 Some((Answer::from(subscribed), Part::of_subscription(subscribed)))
             }
             (Part::Whole, Party::Emission(value)) => {

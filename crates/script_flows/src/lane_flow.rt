@@ -8,6 +8,7 @@ ghost use Rattle.shared_flow.specs.Parties.{IsSameEmitter, named};
 ghost use Rattle.script_flows.specs.Findings.{MadeUnless};
 ghost use Rattle.script_flows.specs.Lives.{parties_of};
 ghost use Rattle.script_flows.specs.Things.{AnswersAsFound, ask_lane, join_lane, nobody};
+ghost use Rattle.script_pipes.specs.Commands.{joining_in};
 
 use crate::answers::{cache_answer, count_answer};
 use crate::emissions::Emissions;
@@ -104,14 +105,14 @@ impl LaneFlow {
         &mut self,
         rt: &impl Wait,
         part: Part,
-        party: Party,
+        party: Party<'_>,
     ) -> Option<(Answer, Option<Part>)>
-        ensures { AnswersAsFound (λ finding. join_lane finding part party)
+        ensures { AnswersAsFound (λ finding. join_lane finding part (joining_in party.entry))
             (parties_of self.old.subscriptions self.old.emissions) result (parties_of self.new.subscriptions self.new.emissions) }
     {
         match (part, party) {
-            (Part::Whole, Party::Subscription) => {
-                match self.subscriptions.subscribe(rt, &mut self.flow) {
+            (Part::Whole, Party::Subscription(numbers)) => {
+                match self.subscriptions.subscribe(rt, &mut self.flow, numbers) {
                     Ok(index) => Some((Answer::Done, Some(Part::Subscriber(index)))),
                     Err(refusal) => Some((Answer::Refused(refusal), None)),
                 }

@@ -12,6 +12,7 @@ mod flow;
 mod lane_flow;
 mod object;
 mod part;
+mod preludes;
 mod remains;
 mod share;
 mod stated;

@@ -1,7 +1,7 @@
 //! What the names of a script stand for: one kind of object, which answers the commands that it knows.
 
 ghost use Rattle.std.specs.Prelude.{IfOk};
-ghost use Rattle.script_pipes.specs.Commands.{made_in};
+ghost use Rattle.script_pipes.specs.Commands.{made_in, joining_in};
 ghost use Rattle.shared_core.specs.Kept.{making_refusal};
 ghost use Rattle.script_flows.specs.Findings.{MadeUnless};
 ghost use Rattle.script_flows.specs.Things.{flow_on};
@@ -133,9 +133,9 @@ impl<'a> Object<'a> {
         &mut self,
         rt: &impl Wait,
         part: Part,
-        party: Party,
+        party: Party<'_>,
     ) -> Option<(Answer, Option<Part>)>
-        ensures { Joins part party self.old result self.new }
+        ensures { Joins part (joining_in party.entry) self.old result self.new }
     {
         match self {
             Object::Flow(flow) => flow.join(part, party),

@@ -1,15 +1,16 @@
 //! A shared flow of a script that shares a source.
 
-ghost use Rattle.std.specs.Prelude.{◌≡◌, ◌⊎◌, [], IfOk, IfErr, IfSome, IfNone, IsOkUnless};
-ghost use Rattle.flow_terms.specs.declared.refusal.Refusal.TheVariants.{NoMemory};
+ghost use Rattle.std.specs.Prelude.{◌≡◌, [], None, IfOk, IfErr, IfSome, IfNone, IsOkUnless};
 ghost use Rattle.shared_core.specs.Kept.{making_refusal};
 ghost use Rattle.shared_flow.specs.Names.{IsMadeWith};
 ghost use Rattle.shared_flow.specs.Parties.{named};
-ghost use Rattle.shared_flow.specs.Rounds.{IsAtLimit};
 ghost use Rattle.flow_sharing.specs.Shown.{Shows};
 ghost use Rattle.script_flows.specs.Lives.{live, IsAdded};
 ghost use Rattle.script_flows.specs.Ticks.{Ticks};
+ghost use Rattle.script_flows.specs.Preludes.{IsUnsubscribed, prelude_refusal};
 ghost use Rattle.script_flows.specs.Things.{AnswersAsFound, ask_share, join_share};
+ghost use Rattle.script_pipes.specs.Commands.{joining_in};
+ghost use Rattle.script_words.specs.Numbers.{written};
 
 use crate::answers::{cache_answer, count_answer};
 use crate::part::Part;
@@ -19,6 +20,7 @@ use flow_sharing::{Sharing, share_in};
 use flow_terms::{Refusal, Started};
 use futures::task::Context;
 use script_pipes::{Answer, Party, Request, SourceFlow};
+use script_words::Numbers;
 use shared_core::Config;
 use shared_flow::SharedFlow;
 use std::alloc::Global;
@@ -58,14 +60,15 @@ impl<'a> Share<'a> {
         })
     }
 
-    /// Makes a subscription and says its index. Refused with 4, 7 or 5.
-    pub fn subscribe(&mut self, rt: &impl Wait) -> Result<usize, Refusal>
+    /// Makes a subscription with a prelude of these numbers, and says its index. Refused with 10, 4, 7 or 5.
+    pub fn subscribe(&mut self, rt: &impl Wait, numbers: Numbers<'_>) -> Result<usize, Refusal>
         ensures made { IfOk result (λ index. IsAdded (live self.old.subscriptions) index (live self.new.subscriptions)) }
+        ensures fits { IfOk result (λ _. prelude_refusal (written numbers.entry) ≡ None) }
         ensures unchanged { IfErr result (λ _. live self.new.subscriptions ≡ live self.old.subscriptions) }
-        ensures refusals { IfErr result (λ refusal. (refusal ≡ NoMemory) ⊎ IsAtLimit refusal) }
+        ensures refusals { IfErr result (IsUnsubscribed (written numbers.entry)) }
         ensures sharing { self.new.sharing ≡ self.old.sharing }
     {
-        self.subscriptions.subscribe(rt, &mut self.flow)
+        self.subscriptions.subscribe(rt, &mut self.flow, numbers)
     }
 
     /// One poll of the sharing, at this moment in milliseconds.
@@ -108,12 +111,12 @@ impl<'a> Share<'a> {
         &mut self,
         rt: &impl Wait,
         part: Part,
-        party: Party,
+        party: Party<'_>,
     ) -> Option<(Answer, Option<Part>)>
-        ensures { AnswersAsFound (λ finding. join_share finding part party) (live self.old.subscriptions) result (live self.new.subscriptions) }
+        ensures { AnswersAsFound (λ finding. join_share finding part (joining_in party.entry)) (live self.old.subscriptions) result (live self.new.subscriptions) }
     {
         match (part, party) {
-            (Part::Whole, Party::Subscription) => match self.subscribe(rt) {
+            (Part::Whole, Party::Subscription(numbers)) => match self.subscribe(rt, numbers) {
                 Ok(index) => Some((Answer::Done, Some(Part::Subscriber(index)))),
                 Err(refusal) => Some((Answer::Refused(refusal), None)),
             },

@@ -8,6 +8,7 @@ ghost use Rattle.flow_sharing.specs.Shown.{Shows};
 ghost use Rattle.script_flows.specs.Things.{AnswersAsFound, ask_stated, join_state};
 ghost use Rattle.script_flows.specs.Ticks.{Ticks};
 ghost use Rattle.script_flows.specs.Watching.{standing};
+ghost use Rattle.script_pipes.specs.Commands.{joining_in};
 
 use crate::part::Part;
 use crate::ticked::Ticked;
@@ -72,8 +73,8 @@ impl<'a> Stated<'a> {
     }
 
     /// Lets a collector join, and says what its name is, if one was made; nothing where a state takes no such party.
-    pub fn join(&mut self, part: Part, party: Party) -> Option<(Answer, Option<Part>)>
-        ensures { AnswersAsFound (λ finding. join_state finding part party) (standing self.old.state) result (standing self.new.state) }
+    pub fn join(&mut self, part: Part, party: Party<'_>) -> Option<(Answer, Option<Part>)>
+        ensures { AnswersAsFound (λ finding. join_state finding part (joining_in party.entry)) (standing self.old.state) result (standing self.new.state) }
     {
         self.state.join(part, party)
     }

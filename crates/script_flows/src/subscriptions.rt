@@ -1,14 +1,17 @@
 //! The subscriptions that a script made of a flow for threads.
 
-ghost use Rattle.std.specs.Prelude.{◌≡◌, ◌⊎◌, [], true, false, IfOk, IfErr, slice_set};
-ghost use Rattle.flow_terms.specs.declared.refusal.Refusal.TheVariants.{NoMemory};
+ghost use Rattle.std.specs.Prelude.{◌≡◌, ◌⊎◌, [], None, true, false, IfOk, IfErr, slice_set};
+ghost use Rattle.flow_terms.specs.declared.refusal.Refusal.TheVariants.{PreludeTooLong};
 ghost use Rattle.shared_flow.specs.Owners.{IsLeftOut};
-ghost use Rattle.shared_flow.specs.Rounds.{IsAtLimit};
-ghost use Rattle.script_flows.specs.Lives.{live, IsAdded, HasJoined};
+ghost use Rattle.script_flows.specs.Lives.{live, IsAdded, HasJoined, HasPrelude};
+ghost use Rattle.script_flows.specs.Preludes.{IsUnsubscribed, prelude_refusal};
 ghost use Rattle.script_flows.specs.Watching.{Asked, ended};
+ghost use Rattle.script_words.specs.Numbers.{written};
 
+use crate::preludes::prelude_of;
 use flow_terms::{Next, Refusal};
 use futures::task::{Context, Poll};
+use script_words::Numbers;
 use shared_flow::{SharedFlow, Subscription};
 use std::alloc::Global;
 use std::sync::Wait;
@@ -29,20 +32,24 @@ impl Subscriptions {
         }
     }
 
-    /// Makes a subscription of this flow and says its index. Refused with 4, 7 or 5.
+    /// Makes a subscription of this flow, with a prelude of these numbers, and says its index. Refused with 10, 4, 7 or 5.
     pub(crate) fn subscribe(
         &mut self,
         rt: &impl Wait,
         flow: &mut SharedFlow<u64>,
+        numbers: Numbers<'_>,
     ) -> Result<usize, Refusal>
         ensures made { IfOk result (λ index. IsAdded (live self.old) index (live self.new)) }
         ensures joined { IfOk result (λ _. HasJoined flow.old flow.new) }
         ensures unchanged { IfErr result (λ _. live self.new ≡ live self.old) }
-        ensures left_out { IfErr result (λ refusal. IsLeftOut flow.old refusal flow.new) }
-        ensures refusals { IfErr result (λ refusal. (refusal ≡ NoMemory) ⊎ IsAtLimit refusal) }
+        ensures fits { IfOk result (λ _. prelude_refusal (written numbers.entry) ≡ None) }
+        ensures prelude { IfOk result (λ _. HasPrelude (written numbers.entry) self.new) }
+        ensures left_out { IfErr result (λ refusal. ((refusal ≡ PreludeTooLong) × (flow.new ≡ flow.old)) ⊎ IsLeftOut flow.old refusal flow.new) }
+        ensures refusals { IfErr result (IsUnsubscribed (written numbers.entry)) }
     {
+        let prelude = prelude_of(numbers)?;
         self.places.reserve(1)?;
-        let subscription = flow.subscribe(rt)?;
+        let subscription = flow.subscribe_with(rt, prelude)?;
         let index = self.places.len();
         self.places.push_reserved(Some(subscription));
         Ok(index)

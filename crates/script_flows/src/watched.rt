@@ -6,6 +6,7 @@ ghost use Rattle.state_flow.specs.Calls.{Reads, Sets, Compares, Counts};
 ghost use Rattle.state_flow.specs.Views.{opening, giver, taker};
 ghost use Rattle.script_flows.specs.Watching.{standing, collecting, Asked, ended, AsksOne, AddsOne, TakesOne};
 ghost use Rattle.script_flows.specs.Things.{AnswersAsFound, ask_state, join_state};
+ghost use Rattle.script_pipes.specs.Commands.{joining_in};
 
 use crate::part::Part;
 use flow_terms::{Next, Refusal};
@@ -171,8 +172,8 @@ impl Watched {
     }
 
     /// Lets a collector join, and says what its name is, if one was made; nothing where a state takes no such party.
-    pub fn join(&mut self, part: Part, party: Party) -> Option<(Answer, Option<Part>)>
-        ensures { AnswersAsFound (λ finding. join_state finding part party) (standing self.old) result (standing self.new) }
+    pub fn join(&mut self, part: Part, party: Party<'_>) -> Option<(Answer, Option<Part>)>
+        ensures { AnswersAsFound (λ finding. join_state finding part (joining_in party.entry)) (standing self.old) result (standing self.new) }
     {
         match (part, party) {
             (Part::Whole, Party::Collector) => match self.collect() {

@@ -11,7 +11,7 @@ use Rattle.cold_flow.specs.declared.operators.catch_with.Caught.TheVariants.{End
 use Rattle.flow_terms.specs.declared.refusal.Refusal.{Refusal}
 use Rattle.flow_terms.specs.declared.refusal.Refusal.TheVariants.{NoMemory}
 use Rattle.cold_flow.specs.Poll.{Traces, Fixes, Beginnings}
-use Rattle.cold_flow.specs.Few.{values_of}
+use Rattle.flow_terms.specs.Few.{values_of}
 use Rattle.cold_flow.specs.Laws.{ended-begins}
 use Rattle.cold_flow.specs.Trace.{Trace, ended_by, cause_of, take_trace}
 use Rattle.cold_flow.specs.Finale.{changed, catching, completing}

@@ -12,6 +12,7 @@ use Rattle.script_pipes.specs.declared.request.Party.{Party}
 use Rattle.script_pipes.specs.declared.request.Party.TheVariants as parties_of
 use Rattle.script_pipes.specs.Pipes.{Pipe, pipe_in, pipe_of}
 use Rattle.script_pipes.specs.Sources.{Origin, origin_in, origin_of}
+use Rattle.script_words.specs.Numbers.{written, list_at}
 use Rattle.script_words.specs.Starts.{Starting, starting_in, starting_at}
 use Rattle.script_words.specs.Words.{◌>>=◌, name_at, number_at, policy_at, ended}
 
@@ -23,10 +24,17 @@ pub data Made : Type 0 where
   share : ℕ → ℕ → Policy → Starting → Origin → Made
   stated : ℕ → Starting → Origin → Made
 
+-- who joins
+pub data Joining : Type 0 where
+  -- with a prelude of these numbers
+  subscription : List ℕ → Joining
+  collector : Joining
+  emission : ℕ → Joining
+
 -- what a command asks for, its names as bytes
 pub data Order : Type 0 where
   make : List ℕ → Made → Order
-  join : List ℕ → List ℕ → Party → Order
+  join : List ℕ → List ℕ → Joining → Order
   ask : List ℕ → Request → Order
   cold : Pipe → Order
 
@@ -37,9 +45,14 @@ made_in (makings.Buffer capacity policy source) = buffer capacity policy (origin
 made_in (makings.Share replay extra policy start source) = share replay extra policy (starting_in start) (origin_in source)
 made_in (makings.Stated value start source) = stated value (starting_in start) (origin_in source)
 
+abbrev pub joining_in : Party → Joining
+joining_in (parties_of.Subscription numbers) = subscription (written numbers)
+joining_in parties_of.Collector = collector
+joining_in (parties_of.Emission value) = emission value
+
 abbrev pub order_of : Command → Order
 order_of (commands.Make name making) = make name.now (made_in making)
-order_of (commands.Join host name party) = join host.now name.now party
+order_of (commands.Join host name party) = join host.now name.now (joining_in party)
 order_of (commands.Ask name request) = ask name.now request
 order_of (commands.Cold pipe) = cold (pipe_in pipe)
 
@@ -71,19 +84,38 @@ asks_with_two request words = do
   and_end (ask name.0 (request one.0 other.0)) other.1
 
 -- NAME NAME
-unfoldable pub joins : Party → List (List ℕ) → Option Order
-joins party words = do
+unfoldable pub joins : Joining → List (List ℕ) → Option Order
+joins joining words = do
   host ← name_at words
   name ← name_at host.1
-  and_end (join host.0 name.0 party) name.1
+  and_end (join host.0 name.0 joining) name.1
 
 -- NAME NAME NUMBER
-unfoldable pub joins_with : (ℕ → Party) → List (List ℕ) → Option Order
-joins_with party words = do
+unfoldable pub joins_with : (ℕ → Joining) → List (List ℕ) → Option Order
+joins_with joining words = do
   host ← name_at words
   name ← name_at host.1
   number ← number_at name.1
-  and_end (join host.0 name.0 (party number.0)) number.1
+  and_end (join host.0 name.0 (joining number.0)) number.1
+
+-- the numbers of a prelude, after `with`
+abbrev pub handed : List (List ℕ) → Option Joining
+handed words = do
+  numbers ← list_at words
+  option_map (λ _. subscription numbers.0) (ended numbers.1)
+
+-- nothing, or `with` and the numbers of a prelude
+unfoldable pub subscribing : List (List ℕ) → Option Joining
+subscribing [] = Some (subscription [])
+subscribing (word ∷ words) = if bytes_eq word (codes "with") then handed words else None
+
+-- NAME NAME, or NAME NAME with NUMBERS
+unfoldable pub subscribes : List (List ℕ) → Option Order
+subscribes words = do
+  host ← name_at words
+  name ← name_at host.1
+  joining ← subscribing name.1
+  Some (join host.0 name.0 joining)
 
 unfoldable pub shared_of : List (List ℕ) → Option Order
 shared_of words = do
@@ -154,9 +186,9 @@ requests =
 
 abbrev pub parties : List Form
 parties =
-    (codes "sub", joins parties_of.Subscription)
-    ∷ (codes "collect", joins parties_of.Collector)
-    ∷ (codes "emit", joins_with parties_of.Emission)
+    (codes "sub", subscribes)
+    ∷ (codes "collect", joins collector)
+    ∷ (codes "emit", joins_with emission)
     ∷ requests
 
 abbrev pub forms : List Form

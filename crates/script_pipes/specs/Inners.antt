@@ -1,6 +1,6 @@
 -- The inner flow of a value, as it is held.
 use Rattle.std.specs.Prelude.{ℕ, Option, Some, None}
-use Rattle.cold_flow.specs.declared.operators.few.Few.TheVariants.{One, Two}
+use Rattle.flow_terms.specs.declared.few.Few.TheVariants.{One, Two}
 use Rattle.script_pipes.specs.declared.inner.Inner.{Inner}
 use Rattle.script_pipes.specs.Piping.{plus}
 

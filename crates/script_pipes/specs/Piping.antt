@@ -5,13 +5,13 @@ use Rattle.std.specs.List.{range_with_len}
 use Rattle.cold_flow.specs.declared.cause.Cause.{Cause}
 use Rattle.cold_flow.specs.declared.cause.Cause.TheVariants.{Finished, Failed}
 use Rattle.cold_flow.specs.declared.cause.Cause.TheVariants as causes
-use Rattle.cold_flow.specs.declared.operators.few.Few.{Few}
-use Rattle.cold_flow.specs.declared.operators.few.Few.TheVariants.{Two}
+use Rattle.flow_terms.specs.declared.few.Few.{Few}
+use Rattle.flow_terms.specs.declared.few.Few.TheVariants.{Two}
 use Rattle.flow_terms.specs.declared.refusal.Refusal.TheVariants.{NotPositive, NoMemory}
 use Rattle.cold_flow.specs.Poll.{Traces, Fixes}
 use Rattle.cold_flow.specs.Trace.{Trace, ended_by, cause_of, map_trace, on_values, take_trace}
 use Rattle.cold_flow.specs.Distinct.{distinct_after}
-use Rattle.cold_flow.specs.Few.{transform_trace}
+use Rattle.cold_flow.specs.Transform.{transform_trace}
 use Rattle.cold_flow.specs.Finale.{with_finale, catching, completing}
 use Rattle.flow_merge.specs.Zip.{zip_trace}
 use Rattle.flow_merge.specs.Combine.{combine_trace}

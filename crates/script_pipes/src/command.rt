@@ -4,13 +4,12 @@ ghost use Rattle.std.specs.Prelude.{◌≡◌};
 ghost use Rattle.std.specs.Option.{option_map};
 ghost use Rattle.script_words.specs.Lines.{words_of};
 ghost use Rattle.script_pipes.specs.declared.request.Request.TheVariants.{Try, Set, CompareAndSet, Tick};
-ghost use Rattle.script_pipes.specs.declared.request.Party.TheVariants.{Emission};
-ghost use Rattle.script_pipes.specs.Commands.{order_of, asks, asks_with, asks_with_two, joins, joins_with, cold_of, form_in, requests, parties, command_of};
+ghost use Rattle.script_pipes.specs.Commands.{order_of, asks, asks_with, asks_with_two, joins, joins_with, collector, emission, joining_in, subscribes, subscribing, cold_of, form_in, requests, parties, command_of};
 
 use crate::making::{self, Making};
 use crate::pipe::Pipe;
 use crate::request::{Party, Request};
-use script_words::Words;
+use script_words::{Numbers, Words};
 
 /// What a line asks for. Names are parts of the script.
 #[derive(Clone, Copy)]
@@ -24,7 +23,7 @@ pub enum Command<'a> {
     Join {
         host: &'a [u8],
         name: &'a [u8],
-        party: Party,
+        party: Party<'a>,
     },
     /// What a name stands for is asked something.
     Ask {
@@ -89,20 +88,46 @@ fn compare_and_set<'a>(mut words: Words<'a>) -> Option<Command<'a>>
     Some(Command::Ask { name, request })
 }
 
-/// Two names, and nothing after them.
 #[tactic(auto, unfolding(crate::specs::Commands::joins))]
-fn join<'a>(mut words: Words<'a>, party: Party) -> Option<Command<'a>>
-    ensures { option_map order_of result ≡ joins party (words_of words.entry.rest.now) }
+fn collect<'a>(mut words: Words<'a>) -> Option<Command<'a>>
+    ensures { option_map order_of result ≡ joins collector (words_of words.entry.rest.now) }
 {
     let host = words.name()?;
     let name = words.name()?;
     words.end()?;
+    let party = Party::Collector;
+    Some(Command::Join { host, name, party })
+}
+
+/// A subscription, by the words after its name: none, or `with` and the numbers of its prelude.
+#[tactic(auto, unfolding(crate::specs::Commands::subscribing))]
+fn subscription<'a>(mut words: Words<'a>) -> Option<Party<'a>>
+    ensures { option_map joining_in result ≡ subscribing (words_of words.entry.rest.now) }
+{
+    let Some(word) = words.next() else {
+        return Some(Party::Subscription(Numbers::none()));
+    };
+    if word != b"with".as_slice() {
+        return None;
+    }
+    let numbers = Numbers::take(&mut words)?;
+    words.end()?;
+    Some(Party::Subscription(numbers))
+}
+
+#[tactic(auto, unfolding(crate::specs::Commands::subscribes))]
+fn subscribe<'a>(mut words: Words<'a>) -> Option<Command<'a>>
+    ensures { option_map order_of result ≡ subscribes (words_of words.entry.rest.now) }
+{
+    let host = words.name()?;
+    let name = words.name()?;
+    let party = subscription(words)?;
     Some(Command::Join { host, name, party })
 }
 
 #[tactic(auto, unfolding(crate::specs::Commands::joins_with))]
 fn emit<'a>(mut words: Words<'a>) -> Option<Command<'a>>
-    ensures { option_map order_of result ≡ joins_with Emission (words_of words.entry.rest.now) }
+    ensures { option_map order_of result ≡ joins_with emission (words_of words.entry.rest.now) }
 {
     let host = words.name()?;
     let name = words.name()?;
@@ -147,9 +172,9 @@ impl<'a> Command<'a> {
         ensures { option_map order_of result ≡ form_in parties first.now (words_of words.entry.rest.now) }
     {
         if first == b"sub".as_slice() {
-            join(words, Party::Subscription)
+            subscribe(words)
         } else if first == b"collect".as_slice() {
-            join(words, Party::Collector)
+            collect(words)
         } else if first == b"emit".as_slice() {
             emit(words)
         } else {

@@ -2,7 +2,7 @@
 
 ghost use Rattle.std.specs.Prelude.{is_some, true};
 ghost use Rattle.std.specs.Iterator.{at_most};
-ghost use Rattle.cold_flow.specs.Few.{few_len, values_of};
+ghost use Rattle.flow_terms.specs.Few.{few_len, values_of};
 ghost use Rattle.cold_flow.specs.Poll.{Beginnings, Unless};
 ghost use Rattle.cold_flow.specs.Trace.{ended_by, cause_of};
 

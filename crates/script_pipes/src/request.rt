@@ -1,4 +1,6 @@
-//! What is asked of what a name stands for.
+//! What is asked of what a name stands for, and what joins it.
+
+use script_words::Numbers;
 
 /// What a command asks of what a name stands for.
 #[derive(Clone, Copy, Debug, PartialEq, Eq)]
@@ -31,11 +33,11 @@ pub enum Request {
     Tick(u64),
 }
 
-/// What joins a flow or a state, under a name of its own.
-#[derive(Clone, Copy, Debug, PartialEq, Eq)]
-pub enum Party {
-    /// A subscription: `sub`.
-    Subscription,
+/// What joins a flow or a state, under a name of its own. A prelude is read where it is wanted, so that a command stays small.
+#[derive(Clone, Copy)]
+pub enum Party<'a> {
+    /// A subscription with a prelude of these numbers: `sub`.
+    Subscription(Numbers<'a>),
     /// A collector of a state: `collect`.
     Collector,
     /// An emission of this value: `emit`.

@@ -5,3 +5,4 @@ pub mod Cuts
 pub mod Segments
 pub mod Plans
 pub mod Starts
+pub mod Numbers

@@ -3,12 +3,14 @@
 
 mod fields;
 mod lines;
+mod numbers;
 mod segments;
 mod start;
 mod words;
 
 pub use fields::number_of;
 pub use lines::Lines;
+pub use numbers::Numbers;
 pub use segments::Segments;
 pub use start::{Entries, Start};
 pub use words::Words;

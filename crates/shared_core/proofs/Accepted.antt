@@ -6,20 +6,21 @@ use Rattle.std.proofs.lemmas.Bool.{eqb-true, lt-ltb, le-ltb, cases_lt}
 use Rattle.std.specs.List.{AllByRecursion, list_all, range_with_len}
 use Rattle.shared_core.specs.Flow.{cache_start, State, Subscription, accept, lose_oldest, contains, pending, pending_values, values, cache, number, capacity, places, has_room, lost_next}
 use Rattle.shared_core.specs.Calls.{is_done}
-use Rattle.shared_core.specs.Shown.{live_from, seen_of}
+use Rattle.shared_core.specs.Shown.{live_from, rests_from, seen_of}
 use Rattle.shared_core.specs.Accepting.{IsSound, with_accepted, without_oldest_of, room_in, finished_in}
 use Rattle.shared_core.specs.Story.{IsTold}
 use Rattle.shared_core.proofs.Lists.{range_above, range_within}
 use Rattle.shared_core.proofs.Pending.{position, pending-live, pending-closed, length-pending, pending_values-live, IsTold-later, lost_next-some, IsTold-lost}
 use Rattle.shared_core.proofs.Steps.{lives, length-pending_values}
 use Rattle.shared_core.proofs.Numbered.{passing, failing}
+use Rattle.shared_core.proofs.Rests.{rests-lost}
 
 drop-append : {X : Type 0} (n : ℕ) (xs ys : List X) → n ≤ length xs → drop n (xs ++ ys) ≡ drop n xs ++ ys
 drop-append zero xs ys within = refl
 drop-append (suc n) [] ys within = absurd (omega arith)
 drop-append (suc n) (x ∷ xs) ys within = drop-append n xs ys (omega arith)
 
-abbrev lose_at : ℕ → ℕ → Subscription → Subscription
+abbrev lose_at : {T : Type 0} → ℕ → ℕ → Subscription T → Subscription T
 lose_at total limit s = cond (s.live && eqb (length (pending total s)) limit) (lost_next total s) s
 
 -- an index is pending where fewer values are left out than it counts
@@ -35,7 +36,7 @@ module _ {T : Type 0} where
   length-values accepted = length-map accepted (λ e. e.1)
 
   -- one more value is pending
-  pending_values-accepted : (accepted : List (ℕ × T)) (emitter : ℕ) (v : T) (s : Subscription) → IsTold (length accepted) s → s.live ≡ true
+  pending_values-accepted : (accepted : List (ℕ × T)) (emitter : ℕ) (v : T) (s : Subscription T) → IsTold (length accepted) s → s.live ≡ true
       → pending_values (accepted ++ (emitter, v) ∷ []) s ≡ pending_values accepted s ++ v ∷ []
   pending_values-accepted accepted emitter v s told live =
       let longer : length accepted ≤ length (accepted ++ (emitter, v) ∷ []) = omega (arith, length-append accepted ((emitter, v) ∷ [])) in
@@ -44,7 +45,7 @@ module _ {T : Type 0} where
       ∙ drop-append (position s) (values accepted) (v ∷ []) (omega (arith, told.within, length-values accepted))
       ∙ ap (λ ps. ps ++ v ∷ []) (sym (pending_values-live accepted s told live))
 
-  live_from-accepted : (accepted : List (ℕ × T)) (emitter : ℕ) (v : T) (n : ℕ) (subscriptions : List Subscription) → AllByRecursion (IsTold (length accepted)) subscriptions
+  live_from-accepted : (accepted : List (ℕ × T)) (emitter : ℕ) (v : T) (n : ℕ) (subscriptions : List (Subscription T)) → AllByRecursion (IsTold (length accepted)) subscriptions
       → live_from (accepted ++ (emitter, v) ∷ []) n subscriptions ≡ map (λ e. (e.0, e.1 ++ v ∷ [])) (live_from accepted n subscriptions)
   live_from-accepted accepted emitter v n [] told = refl
   live_from-accepted accepted emitter v n (s ∷ rest) told =
@@ -80,9 +81,9 @@ module _ {T : Type 0} where
       ∙ ap (λ n. record (with_accepted v (seen_of M)) { next_number = n }) more
 
   -- a test of each subscription that a closed one passes, as contracts see it
-  all_live : (test : Subscription → Bool) (seen : List T → Bool) (accepted : List (ℕ × T)) → ((s : Subscription) → s.live ≡ false → test s ≡ true)
-      → ((s : Subscription) → IsTold (length accepted) s → s.live ≡ true → test s ≡ seen (pending_values accepted s))
-      → (n : ℕ) (subscriptions : List Subscription) → AllByRecursion (IsTold (length accepted)) subscriptions
+  all_live : (test : Subscription T → Bool) (seen : List T → Bool) (accepted : List (ℕ × T)) → ((s : Subscription T) → s.live ≡ false → test s ≡ true)
+      → ((s : Subscription T) → IsTold (length accepted) s → s.live ≡ true → test s ≡ seen (pending_values accepted s))
+      → (n : ℕ) (subscriptions : List (Subscription T)) → AllByRecursion (IsTold (length accepted)) subscriptions
       → list_all test subscriptions ≡ list_all (λ e. seen e.1) (live_from accepted n subscriptions)
   all_live test seen accepted closed open_ones n [] told = refl
   all_live test seen accepted closed open_ones n (s ∷ rest) told =
@@ -101,7 +102,7 @@ module _ {T : Type 0} where
       (λ s told live. ap (λ k. ltb k p) (length-pending_values M.accepted s told live))
       M.parameters.first M.subscriptions sound.told
 
-  finished_one : (accepted : List (ℕ × T)) (i : ℕ) (s : Subscription) → i < length accepted → IsTold (length accepted) s → s.live ≡ true
+  finished_one : (accepted : List (ℕ × T)) (i : ℕ) (s : Subscription T) → i < length accepted → IsTold (length accepted) s → s.live ≡ true
       → not (contains (pending (length accepted) s) i) ≡ ltb (i + length (pending_values accepted s)) (length accepted)
   finished_one accepted i s within told live =
       let total = length accepted in
@@ -124,22 +125,22 @@ module _ {T : Type 0} where
       ∙ ap (λ k. list_all (λ e. ltb (i + length e.1) k) (live_from M.accepted M.parameters.first M.subscriptions)) (sym same))
 
   -- a loss, as contracts see it
-  lost_values : (accepted : List (ℕ × T)) (s : Subscription) → IsTold (length accepted) s → s.live ≡ true → 0 < length (pending (length accepted) s)
+  lost_values : (accepted : List (ℕ × T)) (s : Subscription T) → IsTold (length accepted) s → s.live ≡ true → 0 < length (pending (length accepted) s)
       → (pending_values accepted (lost_next (length accepted) s) ≡ drop 1 (pending_values accepted s)) × ((lost_next (length accepted) s).live ≡ true)
   lost_values accepted s told live some =
       let below : position s < length accepted = omega (arith, length-pending (length accepted) s told live) in
-      let next : Subscription = record s { lost = s.lost ++ position s ∷ [] } in
+      let next : Subscription T = record s { lost = s.lost ++ position s ∷ [] } in
       let is_next : lost_next (length accepted) s ≡ next = lost_next-some (length accepted) s told live below in
       let further : position next ≡ position s + 1 = omega (arith, length-append s.lost (position s ∷ [])) in (
         ap (pending_values accepted) is_next ∙ pending_values-live accepted next (IsTold-lost (length accepted) s told below) live
             ∙ ap (λ i. drop i (values accepted)) further ∙ sym (drop-drop 1 (position s) (values accepted)) ∙ ap (drop 1) (sym (pending_values-live accepted s told live)),
-        ap (λ (t : Subscription). t.live) is_next ∙ live,
+        ap (λ (t : Subscription T). t.live) is_next ∙ live,
       )
 
   abbrev without_first : ℕ → ℕ × List T → ℕ × List T
   without_first limit e = cond (eqb (length e.1) limit) (e.0, drop 1 e.1) e
 
-  live_from-lost : (limit : ℕ) (accepted : List (ℕ × T)) (n : ℕ) (subscriptions : List Subscription) → 0 < limit → AllByRecursion (IsTold (length accepted)) subscriptions
+  live_from-lost : (limit : ℕ) (accepted : List (ℕ × T)) (n : ℕ) (subscriptions : List (Subscription T)) → 0 < limit → AllByRecursion (IsTold (length accepted)) subscriptions
       → live_from accepted n (map (lose_at (length accepted) limit) subscriptions) ≡ map (without_first limit) (live_from accepted n subscriptions)
   live_from-lost limit accepted n [] some told = refl
   live_from-lost limit accepted n (s ∷ rest) some told =
@@ -180,6 +181,13 @@ module _ {T : Type 0} where
   pub seen-lose_oldest : (M : State T) → IsSound M → 0 < capacity M.parameters → seen_of (lose_oldest M) ≡ without_oldest_of (capacity M.parameters) (seen_of M)
   unfolding seen_of
   seen-lose_oldest M sound some =
-      ap (λ live. record (seen_of M) { live = live; subscriptions = length (map (lose_at (length M.accepted) (capacity M.parameters)) M.subscriptions) })
-      (live_from-lost (capacity M.parameters) M.accepted M.parameters.first M.subscriptions some sound.told)
+      ap (λ live. record (seen_of M) {
+        live = live;
+        rests = rests_from M.parameters.first (map (lose_at (length M.accepted) (capacity M.parameters)) M.subscriptions);
+        subscriptions = length (map (lose_at (length M.accepted) (capacity M.parameters)) M.subscriptions);
+      }) (live_from-lost (capacity M.parameters) M.accepted M.parameters.first M.subscriptions some sound.told)
+      ∙ ap (λ rests. record (without_oldest_of (capacity M.parameters) (seen_of M)) {
+        rests = rests;
+        subscriptions = length (map (lose_at (length M.accepted) (capacity M.parameters)) M.subscriptions);
+      }) (rests-lost (λ s. s.live && eqb (length (pending (length M.accepted) s)) (capacity M.parameters)) (length M.accepted) M.parameters.first M.subscriptions)
       ∙ ap (λ count. record (without_oldest_of (capacity M.parameters) (seen_of M)) { subscriptions = count }) (length-map M.subscriptions (lose_at (length M.accepted) (capacity M.parameters)))

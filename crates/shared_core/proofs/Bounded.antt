@@ -3,13 +3,14 @@ use Rattle.std.proofs.Common.{◌≡◌, ◌≢◌, ℕ, suc, ◌+◌, ◌-◌, 
 use Rattle.std.proofs.Math.ListN.{length-map}
 use Rattle.std.proofs.lemmas.Bool.{eqb-true, eqb-false, ltb-true, ltb-false, cases_lt}
 use Rattle.std.specs.List.{AllByRecursion, filter_map, list_all, list_any}
-use Rattle.shared_core.specs.Flow.{cache_start, Parameters, State, Subscription, Standing, waits, stands, gone, does_wait, empty, accept, lose_oldest, has_room, pending, pending_values, places, capacity, received_next, lost_next, values}
+use Rattle.shared_core.specs.Flow.{cache_start, rest, greeted, Parameters, State, Subscription, Standing, waits, stands, gone, does_wait, empty, accept, lose_oldest, has_room, pending, pending_values, places, capacity, received_next, lost_next, values}
 use Rattle.shared_core.specs.Calls.{Call, after, reset}
 use Rattle.shared_core.specs.Shown.{seen_of, live_from}
 use Rattle.shared_core.specs.Story.{IsTold, if_waiting}
 use Rattle.shared_core.specs.Headline.{OfEveryExecution, AtMostItsPlacesPending, NoneWaitsBesideRoom}
 use Rattle.shared_core.proofs.Emissions.{waiting_is}
-use Rattle.shared_core.proofs.Pending.{position, length-pending, pending-closed, pending-live, none_left, pending_values-live, received_next-some, received_next-none, lost_next-some, IsTold-received, IsTold-received_next, IsTold-lost, IsTold-later, IsTold-opened}
+use Rattle.shared_core.proofs.Greeting.{pending-greeted, rest-live}
+use Rattle.shared_core.proofs.Pending.{position, length-pending, pending-closed, pending-live, none_left, pending_values-live, received_next-some, received_next-none, lost_next-some, received_next-left, IsTold-received, IsTold-greeted, IsTold-received_next, IsTold-lost, IsTold-later, opened_with, IsTold-opened}
 use Rattle.shared_core.proofs.Receiving.{at_contains, contains_at, shown_at, shown_one}
 use Rattle.shared_core.proofs.Sequence.{calm_queued, queued-after}
 use Rattle.shared_core.proofs.Sound.{all_at, all_changed, all_pushed, all_weaker}
@@ -18,20 +19,20 @@ use Rattle.shared_core.proofs.Walks.{OverEvents, after_over}
 -- ---- one subscription
 
 -- it is told, and has at most so many pending
-pub record Fits (most total : ℕ) (s : Subscription) : Type 0 where
+pub record Fits {T : Type 0} (most total : ℕ) (s : Subscription T) : Type 0 where
   pub told : IsTold total s
   pub at_most : length (pending total s) ≤ most
 
 -- it is told, and has a place left
-record Has (most total : ℕ) (s : Subscription) : Type 0 where
+record Has {T : Type 0} (most total : ℕ) (s : Subscription T) : Type 0 where
   told : IsTold total s
   less : length (pending total s) < most
 
-none_pending : (total : ℕ) (s : Subscription) → s.live ≡ false → length (pending total s) ≡ 0
+none_pending : {T : Type 0} (total : ℕ) (s : Subscription T) → s.live ≡ false → length (pending total s) ≡ 0
 none_pending total s closed = ap length (pending-closed total s closed)
 
 -- one more acceptance is one more value at most
-fits-later : (most total : ℕ) (s : Subscription) → Has most total s → Fits most (total + 1) s
+fits-later : {T : Type 0} (most total : ℕ) (s : Subscription T) → Has most total s → Fits most (total + 1) s
 fits-later most total s has =
     let later = IsTold-later total (total + 1) s (omega arith) has.told in
     record {
@@ -42,16 +43,26 @@ fits-later most total s has =
       ] refl;
     }
 
--- a receipt leaves no more pending
-fits-received : (most total : ℕ) (s : Subscription) → Fits most total s → Fits most total (received_next total s)
+-- a greeting leaves as many pending, a receipt no more
+fits-greeted : {T : Type 0} (most total : ℕ) (s : Subscription T) → Fits most total s → Fits most total (greeted s)
+fits-greeted most total s fits = record {
+  told = IsTold-greeted total s fits.told;
+  at_most = omega (arith, ap length (pending-greeted total s), fits.at_most);
+}
+
+fits-received : {T : Type 0} (most total : ℕ) (s : Subscription T) → Fits most total s → Fits most total (received_next total s)
 fits-received most total s fits = record {
   told = IsTold-received_next total s fits.told;
   at_most = elim s.live as (λ b. s.live ≡ b → length (pending total (received_next total s)) ≤ most) [
     | true ↦ λ live. ⊎_elim
         (λ (below : position s < total).
-        let next = IsTold-received total s fits.told below in
-        rw (received_next-some total s fits.told live below)
-        (omega (arith, length-pending total s fits.told live, length-pending total (record s { received = s.received ++ position s ∷ [] }) next live, length-append s.received (position s ∷ []), fits.at_most)))
+        elim (rest s) as (λ vs. rest s ≡ vs → length (pending total (received_next total s)) ≤ most) [
+          | v ∷ more ↦ λ left. rw (received_next-left total s v more left) fits.at_most
+          | [] ↦ λ none.
+              let next = IsTold-received total s fits.told (sym (rest-live s live) ∙ none) below in
+              rw (received_next-some total s fits.told live none below)
+              (omega (arith, length-pending total s fits.told live, length-pending total (record s { received = s.received ++ position s ∷ [] }) next live, length-append s.received (position s ∷ []), fits.at_most))
+        ] refl)
         (λ (above : total ≤ position s). rw (received_next-none total s (pending-live total s fits.told live ∙ none_left total (position s) above)) fits.at_most)
         (cases_lt (position s) total)
     | false ↦ λ closed. rw (received_next-none total s (pending-closed total s closed)) fits.at_most
@@ -59,7 +70,7 @@ fits-received most total s fits = record {
 }
 
 -- where all places are taken a loss leaves one
-fits-lost : (all total : ℕ) (s : Subscription) → all ≢ 0 → Fits all total s → Has all total (cond (s.live && (length (pending total s) == all)) (lost_next total s) s)
+fits-lost : {T : Type 0} (all total : ℕ) (s : Subscription T) → all ≢ 0 → Fits all total s → Has all total (cond (s.live && (length (pending total s) == all)) (lost_next total s) s)
 fits-lost all total s some fits =
     elim s.live as (λ b. s.live ≡ b → Has all total (cond (b && (length (pending total s) == all)) (lost_next total s) s)) [
       | true ↦ λ live. elim (length (pending total s) == all) as (λ b. (length (pending total s) == all) ≡ b → Has all total (cond b (lost_next total s) s)) [
@@ -77,38 +88,38 @@ fits-lost all total s some fits =
       | false ↦ λ closed. record { told = fits.told; less = omega (arith, none_pending total s closed, some) }
     ] refl
 
-fits-closed : (most total : ℕ) (s : Subscription) → Fits most total s → Fits most total (record s { live = false })
+fits-closed : {T : Type 0} (most total : ℕ) (s : Subscription T) → Fits most total s → Fits most total (record s { live = false })
 fits-closed most total s fits = record {
-  told = record { together = fits.told.together; within = fits.told.within };
+  told = record { together = fits.told.together; within = fits.told.within; prelude_first = fits.told.prelude_first };
   at_most = omega (arith, none_pending total (record s { live = false }) refl);
 }
 
-fits-opened : (most total start : ℕ) → start ≤ total → total - start ≤ most → Fits most total (record { start = start; received = []; lost = []; live = true })
-fits-opened most total start low within =
-    let told = IsTold-opened total start low in
-    record { told = told; at_most = omega (arith, length-pending total (record { start = start; received = []; lost = []; live = true }) told refl, within) }
+fits-opened : {T : Type 0} (prelude : List T) (most total start : ℕ) → start ≤ total → total - start ≤ most → Fits most total (opened_with prelude start)
+fits-opened prelude most total start low within =
+    let told = IsTold-opened prelude total start low in
+    record { told = told; at_most = omega (arith, length-pending total (opened_with prelude start) told refl, within) }
 
 -- ---- all of them
 
-has_each : (most total : ℕ) (xs : List Subscription) → AllByRecursion (Fits most total) xs → list_all (λ s. ltb (length (pending total s)) most) xs ≡ true → AllByRecursion (Has most total) xs
+has_each : {T : Type 0} (most total : ℕ) (xs : List (Subscription T)) → AllByRecursion (Fits most total) xs → list_all (λ s. ltb (length (pending total s)) most) xs ≡ true → AllByRecursion (Has most total) xs
 has_each most total [] all room = tt
 has_each most total (s ∷ xs) all room =
     elim (ltb (length (pending total s)) most) as (λ b. ltb (length (pending total s)) most ≡ b → (b && list_all (λ s. ltb (length (pending total s)) most) xs) ≡ true → AllByRecursion (Has most total) (s ∷ xs)) [
-      | true ↦ λ is rest. (record { told = all.0.told; less = ltb-true (length (pending total s)) most is }, has_each most total xs all.1 rest)
+      | true ↦ λ is later. (record { told = all.0.told; less = ltb-true (length (pending total s)) most is }, has_each most total xs all.1 later)
       | false ↦ λ _ no. absurd (cc)
     ] refl room
 
-lost_each : (all total : ℕ) (xs : List Subscription) → all ≢ 0 → AllByRecursion (Fits all total) xs
+lost_each : {T : Type 0} (all total : ℕ) (xs : List (Subscription T)) → all ≢ 0 → AllByRecursion (Fits all total) xs
     → AllByRecursion (Has all total) (map (λ s. cond (s.live && (length (pending total s) == all)) (lost_next total s) s) xs)
 lost_each all total [] some fits = tt
 lost_each all total (s ∷ xs) some fits = (fits-lost all total s some fits.0, lost_each all total xs some fits.1)
 
 -- where there is no room, somebody has all places taken
-full_one : (most total : ℕ) (xs : List Subscription) → list_all (λ s. ltb (length (pending total s)) most) xs ≡ false → (k : ℕ) × (s : Subscription) × (slice_get xs k ≡ Some s) × (most ≤ length (pending total s))
+full_one : {T : Type 0} (most total : ℕ) (xs : List (Subscription T)) → list_all (λ s. ltb (length (pending total s)) most) xs ≡ false → (k : ℕ) × (s : Subscription T) × (slice_get xs k ≡ Some s) × (most ≤ length (pending total s))
 full_one most total [] full = absurd (cc)
-full_one most total (s ∷ xs) full =
+full_one {T = T} most total (s ∷ xs) full =
     elim (ltb (length (pending total s)) most) as (λ b. ltb (length (pending total s)) most ≡ b → (b && list_all (λ s. ltb (length (pending total s)) most) xs) ≡ false
-    → (k : ℕ) × (t : Subscription) × (slice_get (s ∷ xs) k ≡ Some t) × (most ≤ length (pending total t))) [
+    → (k : ℕ) × (t : Subscription T) × (slice_get (s ∷ xs) k ≡ Some t) × (most ≤ length (pending total t))) [
       | true ↦ λ _ later. let found = full_one most total xs later in (suc found.0, found.1, found.2, found.3)
       | false ↦ λ is _. (0, s, refl, ltb-false (length (pending total s)) most is)
     ] refl full
@@ -150,15 +161,19 @@ module _ {T : Type 0} where
       then = λ first second bounded. second (first bounded);
       accepts = bounded-accept;
       pushes = bounded-push;
-      opens = λ M bounded. record {
+      opens = λ prelude M bounded. record {
         reset = bounded.reset;
-        each = all_pushed (Fits (places M.parameters) (length M.accepted)) M.subscriptions _ bounded.each (fits-opened (places M.parameters) (length M.accepted) (cache_start M) (omega (arith, bounded.reset)) (omega arith));
+        each = all_pushed (Fits (places M.parameters) (length M.accepted)) M.subscriptions _ bounded.each (fits-opened prelude (places M.parameters) (length M.accepted) (cache_start M) (omega (arith, bounded.reset)) (omega arith));
       };
       closes = λ k M bounded. record {
         reset = bounded.reset;
         each = all_changed (Fits (places M.parameters) (length M.accepted)) (λ s. record s { live = false }) (fits-closed (places M.parameters) (length M.accepted)) k M.subscriptions bounded.each;
       };
       tickets = λ M tickets bounded. record { reset = bounded.reset; each = bounded.each };
+    };
+    greets = λ k M bounded. record {
+      reset = bounded.reset;
+      each = all_changed (Fits (places M.parameters) (length M.accepted)) greeted (fits-greeted (places M.parameters) (length M.accepted)) k M.subscriptions bounded.each;
     };
     receives = λ k M bounded. record {
       reset = bounded.reset;
@@ -171,7 +186,7 @@ module _ {T : Type 0} where
   bounded-after p calls = after_over bounded-events calls (empty p) (record { reset = omega arith; each = tt })
 
   -- as many values are pending as indexes
-  length-pending_values : (accepted : List (ℕ × T)) (s : Subscription) → IsTold (length accepted) s → s.live ≡ true → length (pending_values accepted s) ≡ length (pending (length accepted) s)
+  length-pending_values : (accepted : List (ℕ × T)) (s : Subscription T) → IsTold (length accepted) s → s.live ≡ true → length (pending_values accepted s) ≡ length (pending (length accepted) s)
   length-pending_values accepted s told live =
       ap length (pending_values-live accepted s told live) ∙ length-drop (position s) (values accepted) ∙ ap (λ m. m - position s) (length-map accepted (λ (e : ℕ × T). e.1))
       ∙ sym (length-pending (length accepted) s told live)
@@ -183,7 +198,7 @@ module _ {T : Type 0} where
   some_waits (gone ∷ rest) some = some_waits rest some
 
   full_live : (M : State T) → IsBounded M → has_room M ≡ false
-      → (k : ℕ) × (s : Subscription) × (slice_get M.subscriptions k ≡ Some s) × (s.live ≡ true) × (length (pending_values M.accepted s) ≡ places M.parameters)
+      → (k : ℕ) × (s : Subscription T) × (slice_get M.subscriptions k ≡ Some s) × (s.live ≡ true) × (length (pending_values M.accepted s) ≡ places M.parameters)
   unfolding has_room
   full_live M bounded full =
       let most = places M.parameters in

@@ -32,7 +32,7 @@ module _ {T : Type 0} where
     then = λ first second. reset_then first second;
     accepts = λ emitter v M _. record { same = refl; more = omega (arith, length-append M.accepted ((emitter, v) ∷ [])); reset = refl };
     pushes = λ emitter v M _. record { same = refl; more = omega (arith, length-append M.accepted ((emitter, v) ∷ [])); reset = refl };
-    opens = λ M. record { same = refl; more = omega arith; reset = refl };
+    opens = λ prelude M. record { same = refl; more = omega arith; reset = refl };
     closes = λ k M. record { same = refl; more = omega arith; reset = refl };
     tickets = λ M tickets. record { same = refl; more = omega arith; reset = refl };
   }
@@ -43,7 +43,8 @@ module _ {T : Type 0} where
   caches_since calls M calm now =
       let N = after calls M in
       let all = values N.accepted in
-      let on = after_calm as_before (λ k M. record { same = refl; more = omega arith; reset = refl }) calls calm M in
+      let on = after_calm as_before (λ k M. record { same = refl; more = omega arith; reset = refl })
+      (λ k M. record { same = refl; more = omega arith; reset = refl }) calls calm M in
       let since : length (drop (length M.accepted) all) ≡ length N.accepted - length M.accepted =
       length-drop (length M.accepted) all ∙ ap (λ m. m - length M.accepted) (length-map N.accepted (λ (e : ℕ × T). e.1)) in
       let replay : N.parameters.replay ≡ M.parameters.replay = ap (λ q. q.replay) on.same in

@@ -17,7 +17,7 @@ use Rattle.shared_core.proofs.Sequence.{fixed_parameters}
 use Rattle.shared_core.proofs.Walks.{step_over, after_over, settle_over}
 
 -- the entry that a change is about
-pub get_changed : (k : ℕ) (f : Subscription → Subscription) (s : Subscription) (xs : List Subscription) → slice_get xs k ≡ Some s → slice_get (change k f xs) k ≡ Some (f s)
+pub get_changed : {X : Type 0} (k : ℕ) (f : X → X) (s : X) (xs : List X) → slice_get xs k ≡ Some s → slice_get (change k f xs) k ≡ Some (f s)
 get_changed k f s [] gets = absurd (none-some _ gets)
 get_changed zero f s (x ∷ xs) gets = ap (λ t. Some (f t)) (same_Some x s gets)
 get_changed (suc k) f s (x ∷ xs) gets = get_changed k f s xs gets
@@ -51,7 +51,7 @@ module _ {T : Type 0} where
   given_one n (starting emitter v) M none = refl
   given_one n (polling m) M none = refl
   given_one n (withdrawing m) M none = refl
-  given_one n subscribing M none = refl
+  given_one n (subscribing prelude) M none = refl
   given_one n (receiving m) M none =
       elim (eqb m n) as (λ b. eqb m n ≡ b → given_to n (receiving m ∷ []) (to_receive (next_value m M).0 ∷ []) ≡ []) [
         | true ↦ λ is. given_other m n (next_value m M).0 (inr (ap (λ i. (next_at (live_one M i) M).0) (eqb-true m n is) ∙ ap (λ found. (next_at found M).0) none))
@@ -69,7 +69,7 @@ module _ {T : Type 0} where
       ∙ ap (λ xs. xs ++ given_to n calls (replies calls (step call M).1)) (given_one n call M over.0)
       ∙ over_given n calls (step call M).1 over.1
 
-  none_found : (M : State T) (n : ℕ) → ((k : ℕ) (s : Subscription) → IsFound M n k s → ⊥) → live_one M n ≡ None
+  none_found : (M : State T) (n : ℕ) → ((k : ℕ) (s : Subscription T) → IsFound M n k s → ⊥) → live_one M n ≡ None
   none_found M n missing =
       elim (live_one M n) as (λ o. live_one M n ≡ o → o ≡ None) [
         | None ↦ λ _. refl
@@ -77,7 +77,7 @@ module _ {T : Type 0} where
       ] refl
 
   -- a closed subscription stays so
-  pub over_when_closed : (n : ℕ) (calls : List (Call T)) (M : State T) (k : ℕ) (s : Subscription) → n ≡ number M k → slice_get M.subscriptions k ≡ Some s → s.live ≡ false → IsOver n calls M
+  pub over_when_closed : (n : ℕ) (calls : List (Call T)) (M : State T) (k : ℕ) (s : Subscription T) → n ≡ number M k → slice_get M.subscriptions k ≡ Some s → s.live ≡ false → IsOver n calls M
   over_when_closed n [] M k s named gets closed = tt
   over_when_closed n (call ∷ calls) M k s named gets closed =
       let on = (growth_law T M (call ∷ [])).subscriptions k s gets in (
@@ -85,9 +85,9 @@ module _ {T : Type 0} where
             let same : j ≡ k = omega (arith, found.named) in
             let this : t ≡ s = same_Some t s (sym found.gets ∙ ap (slice_get M.subscriptions) same ∙ gets) in
             let lives = found.lives in
-            let no : t.live ≡ false = ap (λ (u : Subscription). u.live) this ∙ closed in cc),
+            let no : t.live ≡ false = ap (λ (u : Subscription T). u.live) this ∙ closed in cc),
         over_when_closed n calls (step call M).1 k on.0 (named ∙ ap (λ p. p.first + k) (sym (step_over fixed_parameters call M))) on.1
-            (ap (λ (u : Subscription). u.live) (on.2.closed closed) ∙ closed),
+            (ap (λ (u : Subscription T). u.live) (on.2.closed closed) ∙ closed),
       )
 
   -- nor is there ever a subscription below the first number, or past the last
@@ -135,10 +135,10 @@ module _ {T : Type 0} where
             refl
       ] refl answered
 
-  pub found_by_cancel : (n : ℕ) (M : State T) → (step (cancelling n) M).0 ≡ to_cancel true → (k : ℕ) × (s : Subscription) × IsFound M n k s
+  pub found_by_cancel : (n : ℕ) (M : State T) → (step (cancelling n) M).0 ≡ to_cancel true → (k : ℕ) × (s : Subscription T) × IsFound M n k s
   unfolding cancel
   found_by_cancel n M answered =
-      elim (live_one M n) as (λ o. live_one M n ≡ o → ◌≡◌ {A = Reply T} (to_cancel (cancel_at o M).0) (to_cancel true) → (k : ℕ) × (s : Subscription) × IsFound M n k s) [
+      elim (live_one M n) as (λ o. live_one M n ≡ o → ◌≡◌ {A = Reply T} (to_cancel (cancel_at o M).0) (to_cancel true) → (k : ℕ) × (s : Subscription T) × IsFound M n k s) [
         | None ↦ λ _ no. absurd (cc)
         | Some (k, s) ↦ λ is _. (k, s, found_one M n k s is)
       ] refl answered

@@ -23,7 +23,7 @@ use Rattle.shared_core.proofs.Closing.{nothing_without_opening}
 use Rattle.shared_core.proofs.Emissions.{each_emitter_in_its_own_order, numbers_count_what_was_accepted}
 use Rattle.shared_core.proofs.Given.{given_append}
 use Rattle.shared_core.proofs.Moments.{after-append, replies-append, length-replies}
-use Rattle.shared_core.proofs.Receiving.{each_live_was_opened, each_receives_cache_then_later, live_until_cancelled, nothing_after_cancellation}
+use Rattle.shared_core.proofs.Receiving.{each_live_was_opened, each_receives_prelude_cache_then_later, live_until_cancelled, nothing_after_cancellation}
 
 module _ {T : Type 0} where
   -- the headline holds of it
@@ -31,7 +31,7 @@ module _ {T : Type 0} where
   headline_of p execution is =
       subst Headline (sym is)
       record {
-        each_receives_cache_then_later = each_receives_cache_then_later T p execution.calls;
+        each_receives_prelude_cache_then_later = each_receives_prelude_cache_then_later T p execution.calls;
         each_emitter_in_its_own_order = each_emitter_in_its_own_order T p execution.calls;
         numbers_count_what_was_accepted = numbers_count_what_was_accepted T p execution.calls;
         each_live_was_opened = each_live_was_opened T p execution.calls;
@@ -75,8 +75,11 @@ module _ {T : Type 0} where
     pub after_withdrawal : (ticket : ℕ) (result : Withdrawn ℕ) → Follows (calls.cancel_emit ticket) execution.seen result new → IsExecutionOf p (and_then execution (withdrawing ticket) (to_withdraw result) new)
     after_withdrawal ticket result follows = one_more p execution (withdrawing ticket) (to_withdraw result) new is (λ M shows. let so = follows M shows in (ap (λ a. to_withdraw a) so.0, so.1))
 
-    pub after_subscribe : (result : Result SubId Refusal) → Follows calls.subscribe execution.seen result new → IsExecutionOf p (and_then execution subscribing (to_subscribe result) new)
-    after_subscribe result follows = one_more p execution subscribing (to_subscribe result) new is (λ M shows. let so = follows M shows in (ap (λ a. to_subscribe a) so.0, so.1))
+    pub after_subscribe_with : (prelude : List T) (result : Result SubId Refusal) → Follows (calls.subscribe_with prelude) execution.seen result new → IsExecutionOf p (and_then execution (subscribing prelude) (to_subscribe result) new)
+    after_subscribe_with prelude result follows = one_more p execution (subscribing prelude) (to_subscribe result) new is (λ M shows. let so = follows M shows in (ap (λ a. to_subscribe a) so.0, so.1))
+
+    pub after_subscribe : (result : Result SubId Refusal) → Follows calls.subscribe execution.seen result new → IsExecutionOf p (and_then execution (subscribing []) (to_subscribe result) new)
+    after_subscribe result follows = after_subscribe_with [] result follows
 
     pub after_next : (n : ℕ) (result : Next T) → Follows (calls.next_value n) execution.seen result new → IsExecutionOf p (and_then execution (receiving n) (to_receive result) new)
     after_next n result follows = one_more p execution (receiving n) (to_receive result) new is (λ M shows. let so = follows M shows in (ap (λ a. to_receive a) so.0, so.1))

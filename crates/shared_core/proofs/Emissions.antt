@@ -103,7 +103,7 @@ module _ {T : Type 0} where
       ] number emission same
   entering (polling n) M number emission same = absurd (none-some _ same)
   entering (withdrawing n) M number emission same = absurd (none-some _ same)
-  entering subscribing M number emission same = absurd (none-some _ same)
+  entering (subscribing prelude) M number emission same = absurd (none-some _ same)
   entering (receiving n) M number emission same = absurd (none-some _ same)
   entering (cancelling n) M number emission same = absurd (none-some _ same)
   entering resetting M number emission same = absurd (none-some _ same)

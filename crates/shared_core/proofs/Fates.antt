@@ -7,7 +7,7 @@ use Rattle.shared_core.specs.Calls.{Fate, enters, pushes_in, handed_over, held_u
 use Rattle.shared_core.proofs.Pending.{pending-closed}
 
 -- where nobody is live there is room
-room_alone : (p total : ℕ) (subscriptions : List Subscription) → 0 < p → length (filter (λ s. s.live) subscriptions) ≡ 0 → list_all (λ s. ltb (length (pending total s)) p) subscriptions ≡ true
+room_alone : {T : Type 0} (p total : ℕ) (subscriptions : List (Subscription T)) → 0 < p → length (filter (λ s. s.live) subscriptions) ≡ 0 → list_all (λ s. ltb (length (pending total s)) p) subscriptions ≡ true
 room_alone p total [] some none = refl
 room_alone p total (s ∷ rest) some none =
     elim s.live as (λ b. s.live ≡ b → length (cond b (s ∷ filter (λ s. s.live) rest) (filter (λ s. s.live) rest)) ≡ 0 → (ltb (length (pending total s)) p && list_all (λ s. ltb (length (pending total s)) p) rest) ≡ true) [

@@ -2,22 +2,23 @@
 use Rattle.std.proofs.Common.{true, false, cond, List, [], ◌∷◌, length}
 use Rattle.shared_core.specs.Flow.{State, empty, lost_next, open_next}
 use Rattle.shared_core.specs.Story.{IsTold, Grows}
-use Rattle.shared_core.specs.Events.{Event, accepts, receives, loses, opens, closes, resets, may_occur, occur, happen, EventLaw, EventGrowthLaw, EventCacheLaw}
+use Rattle.shared_core.specs.Events.{Event, accepts, greets, receives, loses, opens, closes, resets, may_occur, occur, happen, EventLaw, EventGrowthLaw, EventCacheLaw}
 use Rattle.shared_core.proofs.Pending.{IsTold-lost_next}
 use Rattle.shared_core.specs.Accepting.{IsSound}
-use Rattle.shared_core.proofs.Sound.{sound-empty, sound-accept, sound-receive, sound-open, sound-close, sound-reset, all_changed}
-use Rattle.shared_core.proofs.Growing.{grows_same, grows_then, grows_accept, grows_lose, grows-events, begins_with_cache}
+use Rattle.shared_core.proofs.Sound.{sound-empty, sound-accept, sound-greet, sound-receive, sound-open, sound-close, sound-reset, all_changed}
+use Rattle.shared_core.proofs.Growing.{grows_same, grows_then, grows_accept, grows_lose, grows-events, begins_with_prelude}
 use Rattle.shared_core.proofs.Telling.{stories}
 
 module _ {T : Type 0} where
   sound-occur : (event : Event T) (M : State T) → IsSound M → IsSound (occur event M)
   sound-occur (accepts emitter v) M sound = sound-accept emitter v M sound
+  sound-occur (greets k) M sound = sound-greet k M sound
   sound-occur (receives k) M sound = sound-receive k M sound
   sound-occur (loses k) M sound = record {
     told = all_changed (IsTold (length M.accepted)) (lost_next (length M.accepted)) (IsTold-lost_next (length M.accepted)) k M.subscriptions sound.told;
     reset = sound.reset;
   }
-  sound-occur opens M sound = sound-open M sound
+  sound-occur (opens prelude) M sound = sound-open prelude M sound
   sound-occur (closes k) M sound = sound-close k M sound
   sound-occur resets M sound = sound-reset M sound
 
@@ -29,9 +30,10 @@ module _ {T : Type 0} where
 
   grows-occur : (event : Event T) (M : State T) → Grows M (occur event M)
   grows-occur (accepts emitter v) M = grows_accept emitter v M
+  grows-occur (greets k) M = grows-events.greets k M
   grows-occur (receives k) M = grows-events.receives k M
   grows-occur (loses k) M = grows_lose k M
-  grows-occur opens M = grows-events.quiet.opens M
+  grows-occur (opens prelude) M = grows-events.quiet.opens prelude M
   grows-occur (closes k) M = grows-events.quiet.closes k M
   grows-occur resets M = grows-events.resets M
 
@@ -49,6 +51,6 @@ pub event_growth_law : (T : Type 0) → EventGrowthLaw T
 event_growth_law T M events = grows-happen events M
 
 pub event_cache_law : (T : Type 0) → EventCacheLaw T
-event_cache_law T p events later =
+event_cache_law T p prelude events later =
     let M = happen events (empty p) in
-    begins_with_cache M (happen later (open_next M)) (sound-happen events (empty p) (sound-empty p)) (grows-happen later (open_next M))
+    begins_with_prelude prelude M (happen later (open_next prelude M)) (sound-happen events (empty p) (sound-empty p)) (grows-happen later (open_next prelude M))

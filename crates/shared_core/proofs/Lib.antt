@@ -31,6 +31,9 @@ pub mod Bodies
 pub mod Steps
 pub mod Sound
 pub mod Numbered
+pub mod Rests
 pub mod Settling
+pub mod Handed
+pub mod Greeting
 pub mod Pending
 pub mod Examples

@@ -1,5 +1,5 @@
 -- The numbered entries of those that pass a test, against the list that they are taken from.
-use Rattle.std.proofs.Common.{◌≡◌, ℕ, zero, suc, ◌+◌, ◌-◌, ◌<◌, ◌≤◌, Bool, true, false, ◌||◌, cond, eqb, List, [], ◌∷◌, ◌++◌, length, take, set, Some, slice_get, refl, sym, ap, ◌∙◌, ⊎_elim, arith}
+use Rattle.std.proofs.Common.{◌≡◌, ℕ, zero, suc, ◌+◌, ◌-◌, ◌<◌, ◌≤◌, Bool, true, false, ◌||◌, cond, eqb, List, [], ◌∷◌, ◌++◌, length, map, take, set, Some, slice_get, refl, sym, ap, ◌∙◌, ⊎_elim, arith}
 use Rattle.std.proofs.lemmas.Bool.{eq-eqb, cases_lt}
 use Rattle.std.proofs.lemmas.Option.{none-some, same_Some, some_pair_parts}
 use Rattle.std.specs.List.{filter, list_any, remove}
@@ -135,6 +135,41 @@ module _ {X Y : Type 0} (test : X → Bool) (shape : X → Y) where
         | true ↦ ap (λ xs. (n, shape first) ∷ xs) later
         | false ↦ later
       ]
+
+  -- one more that fails is no entry
+  pub numbered-push_failing : (n : ℕ) (xs : List X) (x : X) → test x ≡ false → numbered test shape n (xs ++ x ∷ []) ≡ numbered test shape n xs
+  numbered-push_failing n [] x fails = failing n x [] fails
+  numbered-push_failing n (first ∷ rest) x fails =
+      let later = numbered-push_failing (n + 1) rest x fails in
+      elim (test first) as (λ b. cond b ((n, shape first) ∷ numbered test shape (n + 1) (rest ++ x ∷ [])) (numbered test shape (n + 1) (rest ++ x ∷ []))
+      ≡ cond b ((n, shape first) ∷ numbered test shape (n + 1) rest) (numbered test shape (n + 1) rest)) [
+        | true ↦ ap (λ xs. (n, shape first) ∷ xs) later
+        | false ↦ later
+      ]
+
+  -- what changes neither test nor shape of one changes no entry
+  one_changed : (n : ℕ) (x y : X) (xs ys : List X) → test y ≡ test x → shape y ≡ shape x → numbered test shape (n + 1) ys ≡ numbered test shape (n + 1) xs → numbered test shape n (y ∷ ys) ≡ numbered test shape n (x ∷ xs)
+  one_changed n x y xs ys same shown later =
+      ap (λ b. cond b ((n, shape y) ∷ numbered test shape (n + 1) ys) (numbered test shape (n + 1) ys)) same
+      ∙ ap (λ s. cond (test x) ((n, s) ∷ numbered test shape (n + 1) ys) (numbered test shape (n + 1) ys)) shown
+      ∙ ap (λ es. cond (test x) ((n, shape x) ∷ es) es) later
+
+  pub numbered-changed : (f : X → X) → ((x : X) → test (f x) ≡ test x) → ((x : X) → shape (f x) ≡ shape x) → (n k : ℕ) (xs : List X) → numbered test shape n (change k f xs) ≡ numbered test shape n xs
+  numbered-changed f same shown n k [] = refl
+  numbered-changed f same shown n zero (x ∷ xs) = one_changed n x (f x) xs xs (same x) (shown x) refl
+  numbered-changed f same shown n (suc k) (x ∷ xs) = one_changed n x x xs (change k f xs) refl refl (numbered-changed f same shown (n + 1) k xs)
+
+  pub numbered-mapped : (f : X → X) → ((x : X) → test (f x) ≡ test x) → ((x : X) → shape (f x) ≡ shape x) → (n : ℕ) (xs : List X) → numbered test shape n (map f xs) ≡ numbered test shape n xs
+  numbered-mapped f same shown n [] = refl
+  numbered-mapped f same shown n (x ∷ xs) = one_changed n x (f x) xs (map f xs) (same x) (shown x) (numbered-mapped f same shown (n + 1) xs)
+
+  -- nor does what fails before and after
+  pub numbered-failing : (f : X → X) (n k : ℕ) (xs : List X) (t : X) → slice_get xs k ≡ Some t → test t ≡ false → test (f t) ≡ false → numbered test shape n (change k f xs) ≡ numbered test shape n xs
+  numbered-failing f n k [] t gets before after = refl
+  numbered-failing f n zero (x ∷ xs) t gets before after =
+      let this = same_Some x t gets in
+      failing n (f x) xs (ap (λ y. test (f y)) this ∙ after) ∙ sym (failing n x xs (ap test this ∙ before))
+  numbered-failing f n (suc k) (x ∷ xs) t gets before after = one_changed n x x xs (change k f xs) refl refl (numbered-failing f (n + 1) k xs t gets before after)
 
   -- as many entries as pass
   pub count_numbered : (n : ℕ) (xs : List X) → length (filter test xs) ≡ length (numbered test shape n xs)

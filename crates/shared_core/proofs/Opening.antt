@@ -5,16 +5,16 @@ use Rattle.std.proofs.lemmas.Bool.{cases_lt}
 use Rattle.flow_terms.specs.declared.refusal.Refusal.{Refusal}
 use Rattle.flow_terms.specs.declared.refusal.Refusal.TheVariants.{Spent, SubscribersFull}
 use Rattle.flow_terms.specs.declared.ids.SubId.{SubId}
-use Rattle.shared_core.specs.Flow.{State, Standing, waits, stands, gone, Subscription, receive, open_next, close_at, received_next, live_count, number, number_limit, index}
-use Rattle.shared_core.specs.Calls.{Fate, enters, pushes_in, handed_over, dropped, held_up, fate, try_by, try_emit, start_by, start_emit, is_done, take_back, ticket_at, poll_at, poll_emit, cancel_emit_at, cancel_emit, subscribe, next_of, next_at, next_value, cancel_at, cancel, live_one, numbers_spent, tickets_spent, Call, trying, starting, polling, withdrawing, subscribing, receiving, cancelling, resetting, counting, Reply, to_subscribe, step, after}
+use Rattle.shared_core.specs.Flow.{State, Standing, waits, stands, gone, Subscription, rest, receive, open_next, close_at, greeted, received_next, live_count, number, number_limit, index}
+use Rattle.shared_core.specs.Calls.{Fate, enters, pushes_in, handed_over, dropped, held_up, fate, try_by, try_emit, start_by, start_emit, is_done, take_back, ticket_at, poll_at, poll_emit, cancel_emit_at, cancel_emit, subscribe_with, next_of, next_at, next_value, cancel_at, cancel, live_one, numbers_spent, tickets_spent, Call, trying, starting, polling, withdrawing, subscribing, receiving, cancelling, resetting, counting, Reply, to_subscribe, step, after}
 use Rattle.shared_core.proofs.Closing.{settled_subscriptions}
 use Rattle.shared_core.proofs.Losing.{Once, once_now, once_later}
 use Rattle.shared_core.proofs.Steps.{length-change}
 
 module _ {T : Type 0} where
-  -- the call opens the subscription at index k
+  -- the call opens the subscription at index k, with some prelude
   abbrev pub Opens : ℕ → State T → Call T → Reply T → Type 0
-  Opens k M call reply = (call ≡ subscribing) × (reply ≡ to_subscribe (Ok (record { 0 = number M k })))
+  Opens k M call reply = (prelude : List T) × (call ≡ subscribing prelude) × (reply ≡ to_subscribe (Ok (record { 0 = number M k })))
 
   abbrev SameCount : State T → State T → Type 0
   SameCount M N = length N.subscriptions ≡ length M.subscriptions
@@ -51,15 +51,16 @@ module _ {T : Type 0} where
   count_withdraw_at k (stands i) M = count_take_back k M
   count_withdraw_at k gone M = refl
 
-  count_next_of : (k : ℕ) (ps : List T) (M : State T) → SameCount M (next_of k ps M).1
-  count_next_of k [] M = refl
-  count_next_of k (v ∷ rest) M = ap length (settled_subscriptions (receive k M)) ∙ length-change k (received_next (length M.accepted)) M.subscriptions
+  count_next_of : (k : ℕ) (vs ps : List T) (M : State T) → SameCount M (next_of k vs ps M).1
+  count_next_of k [] [] M = refl
+  count_next_of k (v ∷ vs) ps M = length-change k greeted M.subscriptions
+  count_next_of k [] (v ∷ ps) M = ap length (settled_subscriptions (receive k M)) ∙ length-change k (received_next (length M.accepted)) M.subscriptions
 
-  count_next_at : (found : Option (ℕ × Subscription)) (M : State T) → SameCount M (next_at found M).1
+  count_next_at : (found : Option (ℕ × Subscription T)) (M : State T) → SameCount M (next_at found M).1
   count_next_at None M = refl
-  count_next_at (Some (k, s)) M = count_next_of k _ M
+  count_next_at (Some (k, s)) M = count_next_of k (rest s) _ M
 
-  count_cancel_at : (found : Option (ℕ × Subscription)) (M : State T) → SameCount M (cancel_at found M).1
+  count_cancel_at : (found : Option (ℕ × Subscription T)) (M : State T) → SameCount M (cancel_at found M).1
   count_cancel_at None M = refl
   count_cancel_at (Some (k, s)) M = ap length (settled_subscriptions (close_at k M)) ∙ length-change k (λ t. record t { live = false }) M.subscriptions
 
@@ -67,17 +68,17 @@ module _ {T : Type 0} where
   abbrev Counted : Call T → State T → Reply T → State T → Type 0
   Counted call M reply N = SameCount M N ⊎ (Opens (length M.subscriptions) M call reply × (length N.subscriptions ≡ length M.subscriptions + 1))
 
-  counted_subscribe : (M : State T) → Counted subscribing M (to_subscribe (subscribe M).0) (subscribe M).1
-  unfolding subscribe
-  counted_subscribe M =
-      let made : Result SubId Refusal × State T = (Ok (record { 0 = number M (length M.subscriptions) }), open_next M) in
+  counted_subscribe : (prelude : List T) (M : State T) → Counted (subscribing prelude) M (to_subscribe (subscribe_with prelude M).0) (subscribe_with prelude M).1
+  unfolding subscribe_with
+  counted_subscribe prelude M =
+      let made : Result SubId Refusal × State T = (Ok (record { 0 = number M (length M.subscriptions) }), open_next prelude M) in
       let full : Result SubId Refusal × State T = (Err SubscribersFull, M) in
       let spent : Result SubId Refusal × State T = (Err Spent, M) in
-      elim (number M (length M.subscriptions) == number_limit) as (λ b. let x : Result SubId Refusal × State T = cond b spent (cond (live_count M == M.parameters.subscribers) full made) in Counted subscribing M (to_subscribe x.0) x.1) [
+      elim (number M (length M.subscriptions) == number_limit) as (λ b. let x : Result SubId Refusal × State T = cond b spent (cond (live_count M == M.parameters.subscribers) full made) in Counted (subscribing prelude) M (to_subscribe x.0) x.1) [
         | true ↦ inl refl
-        | false ↦ elim (live_count M == M.parameters.subscribers) as (λ b. let x : Result SubId Refusal × State T = cond b full made in Counted subscribing M (to_subscribe x.0) x.1) [
+        | false ↦ elim (live_count M == M.parameters.subscribers) as (λ b. let x : Result SubId Refusal × State T = cond b full made in Counted (subscribing prelude) M (to_subscribe x.0) x.1) [
           | true ↦ inl refl
-          | false ↦ inr ((refl, refl), length-append M.subscriptions _)
+          | false ↦ inr ((prelude, refl, refl), length-append M.subscriptions _)
         ]
       ]
 
@@ -87,7 +88,7 @@ module _ {T : Type 0} where
   counted (starting emitter v) M = inl (if_count M (numbers_spent M || tickets_spent M) (Err Spent, M) (start_by (fate M) emitter v M) refl (count_start_by (fate M) emitter v M))
   counted (polling n) M = inl (count_poll_at (index M n) (ticket_at M.tickets (index M n)) M)
   counted (withdrawing n) M = inl (count_withdraw_at (index M n) (ticket_at M.tickets (index M n)) M)
-  counted subscribing M = counted_subscribe M
+  counted (subscribing prelude) M = counted_subscribe prelude M
   counted (receiving n) M = inl (count_next_at (live_one M n) M)
   counted (cancelling n) M = inl (count_cancel_at (live_one M n) M)
   counted resetting M = inl refl

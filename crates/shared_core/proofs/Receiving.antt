@@ -1,30 +1,33 @@
--- From its opening on, a live subscription receives the replay cache as it stood then, and what was accepted later.
+-- From its opening on, a live subscription receives its prelude, the replay cache as it stood then, and what was accepted later.
 use Rattle.std.proofs.Common.{◌≡◌, ◌≢◌, ℕ, zero, suc, ◌+◌, ◌-◌, ◌<◌, ◌≤◌, ◌⊎◌, inl, inr, ⊎_elim, true, false, cond, ◌||◌, ◌==◌, eqb, List, [], ◌∷◌, ◌++◌, length, take, drop, map, Some, slice_get, Result, Ok, Err, refl, sym, ap, ◌∙◌, subst, arith, append_assoc, length-drop}
 use Rattle.std.proofs.Math.Bool.{or-true}
 use Rattle.std.proofs.Math.ListN.{length-map}
 use Rattle.std.proofs.Math.Seq.{drop-append_seam}
 use Rattle.std.proofs.lemmas.Bool.{eq-eqb}
-use Rattle.std.proofs.lemmas.List.{map-append, drop-append-le, take-append-drop}
-use Rattle.std.proofs.lemmas.List.Elements.{filter_map-append, All-nil, All-cons}
+use Rattle.std.proofs.lemmas.List.{append-nil, map-append, drop-append-le, take-append-drop}
+use Rattle.std.proofs.lemmas.List.Elements.{All-nil, All-cons}
 use Rattle.std.proofs.lemmas.Option.{none-some, same_Some, some_pair_parts, slice_get_within, slice_get-get_or, get_or_from_slice_get}
 use Rattle.std.specs.List.{Contains, All, cons_option, range_with_len}
 use Rattle.flow_terms.specs.declared.refusal.Refusal.{Refusal}
 use Rattle.flow_terms.specs.declared.refusal.Refusal.TheVariants.{Spent, SubscribersFull}
 use Rattle.flow_terms.specs.declared.ids.SubId.{SubId}
-use Rattle.shared_core.specs.Flow.{cache_start, Parameters, State, Subscription, empty, contains, pending, pending_values, values, values_at, cache, open_next, live_count, number, number_limit, capacity, drop_oldest}
-use Rattle.shared_core.specs.Calls.{Call, subscribing, subscribe, Reply, to_subscribe, step, replies, after, cancelling, to_cancel}
-use Rattle.shared_core.specs.Shown.{seen_of, live_from, Seen}
-use Rattle.shared_core.specs.Story.{Interleaves, none, left, right, IsTold, told_count, BeginsWith, GoesOn, Grows, given_to}
-use Rattle.shared_core.specs.Headline.{Execution, execution_of, Moment, until, accepted, Opening, cache_then_later, IsDropped, ReceivesCacheThenLater, Cancellation, EachReceivesCacheThenLater, LiveUntilCancelled, OfEveryExecution, EachLiveWasOpened, NothingAfterCancellation}
+use Rattle.shared_core.specs.Flow.{cache_start, Parameters, State, Subscription, empty, contains, pending, pending_values, rest, values, values_at, cache, open_next, live_count, number, number_limit, capacity, drop_oldest}
+use Rattle.shared_core.specs.Calls.{Call, subscribing, subscribe_with, Reply, to_subscribe, step, replies, after, cancelling, to_cancel}
+use Rattle.shared_core.specs.Shown.{seen_of, live_from, rests_from, rest_of, Seen}
+use Rattle.shared_core.specs.Story.{Interleaves, none, left, right, IsTold, told_count, received_values, BeginsWith, GoesOn, Grows, given_to}
+use Rattle.shared_core.specs.Headline.{Execution, execution_of, Moment, until, accepted, received, Opening, until_opened, cache_then_later, IsDropped, ReceivesPreludeCacheThenLater, Cancellation, EachReceivesPreludeCacheThenLater, LiveUntilCancelled, OfEveryExecution, EachLiveWasOpened, NothingAfterCancellation}
 use Rattle.shared_core.proofs.Emissions.{accepted_is}
 use Rattle.shared_core.proofs.Growing.{growth_law}
 use Rattle.shared_core.proofs.Losing.{Once, Loses, lost_once, IsCancelled, live_until}
 use Rattle.shared_core.proofs.Lists.{range_bounds, range-append, contains-Interleaves}
 use Rattle.shared_core.proofs.Moments.{slice_get-seam, after-append, until_is, answered, ends_as, moment_at}
-use Rattle.shared_core.proofs.Pending.{position, pending-live, pending_values-live, length-pending}
+use Rattle.shared_core.proofs.Greeting.{rest-live}
+use Rattle.shared_core.proofs.Pending.{position, pending-live, pending_values-live, length-pending, opened_with}
+use Rattle.shared_core.proofs.Rests.{rest_of-shown}
 use Rattle.shared_core.proofs.Sequence.{fixed_parameters}
 use Rattle.shared_core.proofs.Sound.{sound-empty, sound-after, sound-open, all_at}
 use Rattle.shared_core.proofs.Given.{received_law}
+use Rattle.shared_core.proofs.Telling.{received_whole}
 use Rattle.shared_core.proofs.Closing.{nothing_more, found_by_cancel}
 use Rattle.shared_core.proofs.Opening.{Opens, opened_once}
 use Rattle.shared_core.proofs.Walks.{after_over}
@@ -76,7 +79,7 @@ Interleaves-append ws (right y r) = right y (Interleaves-append ws r)
 -- ---- one subscription
 
 -- what it received, what is pending for it and what it lost are its story
-kept_whole : (total : ℕ) (s : Subscription) → IsTold total s → s.live ≡ true → Interleaves (s.received ++ pending total s) s.lost (range_with_len s.start (total - s.start))
+kept_whole : {T : Type 0} (total : ℕ) (s : Subscription T) → IsTold total s → s.live ≡ true → Interleaves (s.received ++ pending total s) s.lost (range_with_len s.start (total - s.start))
 kept_whole total s told live =
     let rest = total - position s in
     let split : told_count s + rest ≡ total - s.start = omega (arith, told.within) in
@@ -115,20 +118,20 @@ none_contained [] missing = refl
 none_contained (i ∷ ns) missing = absurd (missing i (ap (λ b. b || contains ns i) (eq-eqb i i refl)))
 
 module _ {T : Type 0} where
-  shown_live : (accepted : List (ℕ × T)) (n : ℕ) (s : Subscription) (rest : List Subscription) → s.live ≡ true → live_from accepted n (s ∷ rest) ≡ (n, pending_values accepted s) ∷ live_from accepted (n + 1) rest
+  shown_live : (accepted : List (ℕ × T)) (n : ℕ) (s : Subscription T) (rest : List (Subscription T)) → s.live ≡ true → live_from accepted n (s ∷ rest) ≡ (n, pending_values accepted s) ∷ live_from accepted (n + 1) rest
   shown_live accepted n s rest live = ap (λ b. cond b ((n, pending_values accepted s) ∷ live_from accepted (n + 1) rest) (live_from accepted (n + 1) rest)) live
 
-  shown_closed : (accepted : List (ℕ × T)) (n : ℕ) (s : Subscription) (rest : List Subscription) → s.live ≡ false → live_from accepted n (s ∷ rest) ≡ live_from accepted (n + 1) rest
+  shown_closed : (accepted : List (ℕ × T)) (n : ℕ) (s : Subscription T) (rest : List (Subscription T)) → s.live ≡ false → live_from accepted n (s ∷ rest) ≡ live_from accepted (n + 1) rest
   shown_closed accepted n s rest closed = ap (λ b. cond b ((n, pending_values accepted s) ∷ live_from accepted (n + 1) rest) (live_from accepted (n + 1) rest)) closed
 
   -- a live subscription is among those that contracts see
-  pub shown_at : (accepted : List (ℕ × T)) (n : ℕ) (subscriptions : List Subscription) (k : ℕ) (s : Subscription) → slice_get subscriptions k ≡ Some s → s.live ≡ true
+  pub shown_at : (accepted : List (ℕ × T)) (n : ℕ) (subscriptions : List (Subscription T)) (k : ℕ) (s : Subscription T) → slice_get subscriptions k ≡ Some s → s.live ≡ true
       → (at : ℕ) × (slice_get (live_from accepted n subscriptions) at ≡ Some (n + k, pending_values accepted s))
   shown_at accepted n [] k s gets live = absurd (none-some _ gets)
   shown_at accepted n (x ∷ rest) zero s gets live =
       let same = same_Some x s gets in (
         0,
-        ap (λ xs. slice_get xs 0) (shown_live accepted n x rest (ap (λ (u : Subscription). u.live) same ∙ live))
+        ap (λ xs. slice_get xs 0) (shown_live accepted n x rest (ap (λ (u : Subscription T). u.live) same ∙ live))
             ∙ ap (λ u. Some (n, pending_values accepted u)) same ∙ ap (λ m. Some (m, pending_values accepted s)) (omega arith),
       )
   shown_at accepted n (x ∷ rest) (suc k) s gets live =
@@ -141,18 +144,18 @@ module _ {T : Type 0} where
       ] refl
 
   -- and of each that they see, the subscription
-  pub record IsShown (accepted : List (ℕ × T)) (n : ℕ) (subscriptions : List Subscription) (m : ℕ) (waits : List T) : Type 0 where
+  pub record IsShown (accepted : List (ℕ × T)) (n : ℕ) (subscriptions : List (Subscription T)) (m : ℕ) (waits : List T) : Type 0 where
     pub k : ℕ
-    pub s : Subscription
+    pub s : Subscription T
     pub gets : slice_get subscriptions k ≡ Some s
     pub lives : s.live ≡ true
     pub numbered : m ≡ n + k
     pub shows : waits ≡ pending_values accepted s
 
-  one_further : (accepted : List (ℕ × T)) (n : ℕ) (x : Subscription) (rest : List Subscription) (m : ℕ) (waits : List T) → IsShown accepted (n + 1) rest m waits → IsShown accepted n (x ∷ rest) m waits
+  one_further : (accepted : List (ℕ × T)) (n : ℕ) (x : Subscription T) (rest : List (Subscription T)) (m : ℕ) (waits : List T) → IsShown accepted (n + 1) rest m waits → IsShown accepted n (x ∷ rest) m waits
   one_further accepted n x rest m waits e = record { k = suc e.k; s = e.s; gets = e.gets; lives = e.lives; numbered = omega (arith, e.numbered); shows = e.shows }
 
-  pub shown_one : (accepted : List (ℕ × T)) (n : ℕ) (subscriptions : List Subscription) (at m : ℕ) (waits : List T) → slice_get (live_from accepted n subscriptions) at ≡ Some (m, waits) → IsShown accepted n subscriptions m waits
+  pub shown_one : (accepted : List (ℕ × T)) (n : ℕ) (subscriptions : List (Subscription T)) (at m : ℕ) (waits : List T) → slice_get (live_from accepted n subscriptions) at ≡ Some (m, waits) → IsShown accepted n subscriptions m waits
   shown_one accepted n [] at m waits found = absurd (none-some _ found)
   shown_one accepted n (x ∷ rest) at m waits found =
       elim x.live as (λ b. x.live ≡ b → IsShown accepted n (x ∷ rest) m waits) [
@@ -171,16 +174,16 @@ module _ {T : Type 0} where
   opened_number (to_subscribe (Ok id)) = id.0
   opened_number _ = 0
 
-  opened_as : (M : State T) (n : ℕ) → (step subscribing M).0 ≡ to_subscribe (Ok (record { 0 = n })) → ((step subscribing M).1 ≡ open_next M) × (n ≡ number M (length M.subscriptions))
-  unfolding subscribe opened_number
-  opened_as M n answered =
-      let made : Result SubId Refusal × State T = (Ok (record { 0 = number M (length M.subscriptions) }), open_next M) in
+  opened_as : (prelude : List T) (M : State T) (n : ℕ) → (step (subscribing prelude) M).0 ≡ to_subscribe (Ok (record { 0 = n })) → ((step (subscribing prelude) M).1 ≡ open_next prelude M) × (n ≡ number M (length M.subscriptions))
+  unfolding subscribe_with opened_number
+  opened_as prelude M n answered =
+      let made : Result SubId Refusal × State T = (Ok (record { 0 = number M (length M.subscriptions) }), open_next prelude M) in
       let full : Result SubId Refusal × State T = (Err SubscribersFull, M) in
       let spent : Result SubId Refusal × State T = (Err Spent, M) in
       let asked : Reply T = to_subscribe (Ok (record { 0 = n })) in
-      elim (number M (length M.subscriptions) == number_limit) as (λ b. to_subscribe (cond b spent (cond (live_count M == M.parameters.subscribers) full made)).0 ≡ asked → ((cond b spent (cond (live_count M == M.parameters.subscribers) full made)).1 ≡ open_next M) × (n ≡ number M (length M.subscriptions))) [
+      elim (number M (length M.subscriptions) == number_limit) as (λ b. to_subscribe (cond b spent (cond (live_count M == M.parameters.subscribers) full made)).0 ≡ asked → ((cond b spent (cond (live_count M == M.parameters.subscribers) full made)).1 ≡ open_next prelude M) × (n ≡ number M (length M.subscriptions))) [
         | true ↦ λ no. absurd (cc)
-        | false ↦ elim (live_count M == M.parameters.subscribers) as (λ b. to_subscribe (cond b full made).0 ≡ asked → ((cond b full made).1 ≡ open_next M) × (n ≡ number M (length M.subscriptions))) [
+        | false ↦ elim (live_count M == M.parameters.subscribers) as (λ b. to_subscribe (cond b full made).0 ≡ asked → ((cond b full made).1 ≡ open_next prelude M) × (n ≡ number M (length M.subscriptions))) [
           | true ↦ λ no. absurd (cc)
           | false ↦ λ yes. (refl, sym (ap opened_number yes))
         ]
@@ -188,7 +191,7 @@ module _ {T : Type 0} where
 
   module _ (p : Parameters) (calls : List (Call T)) (n : ℕ) (opening : Opening (execution_of p calls) n) where
     abbrev M : State T
-    M = after opening.before (empty p)
+    M = after opening.moment.before (empty p)
 
     abbrev N : State T
     N = after calls (empty p)
@@ -196,37 +199,37 @@ module _ {T : Type 0} where
     abbrev k : ℕ
     k = length M.subscriptions
 
-    opened : ((step subscribing M).1 ≡ open_next M) × (n ≡ number M k)
-    opened = opened_as M n (answered p calls opening)
+    opened : ((step (subscribing opening.prelude) M).1 ≡ open_next opening.prelude M) × (n ≡ number M k)
+    opened = opened_as opening.prelude M n (answered p calls opening.moment)
 
-    abbrev new : Subscription
-    new = record { start = cache_start M; received = []; lost = []; live = true }
+    abbrev new : Subscription T
+    new = opened_with opening.prelude (cache_start M)
 
-    new_there : slice_get (open_next M).subscriptions k ≡ Some new
+    new_there : slice_get (open_next opening.prelude M).subscriptions k ≡ Some new
     new_there = slice_get-seam M.subscriptions new []
 
-    N_is : N ≡ after opening.later (open_next M)
-    N_is = ends_as p calls opening ∙ ap (after opening.later) opened.0
+    N_is : N ≡ after opening.moment.later (open_next opening.prelude M)
+    N_is = ends_as p calls opening.moment ∙ ap (after opening.moment.later) opened.0
 
-    grown : Grows (open_next M) N
-    grown = subst (Grows (open_next M)) (sym N_is) (growth_law T (open_next M) opening.later)
+    grown : Grows (open_next opening.prelude M) N
+    grown = subst (Grows (open_next opening.prelude M)) (sym N_is) (growth_law T (open_next opening.prelude M) opening.moment.later)
 
     -- the subscription as it is at the end
-    abbrev now : (later : Subscription) × (slice_get N.subscriptions k ≡ Some later) × GoesOn new later
+    abbrev now : (later : Subscription T) × (slice_get N.subscriptions k ≡ Some later) × GoesOn new later
     now = grown.subscriptions k new new_there
 
     same_first : M.parameters.first ≡ N.parameters.first
-    same_first = ap (λ (q : Parameters). q.first) (after_over fixed_parameters opening.before (empty p) ∙ sym (after_over fixed_parameters calls (empty p)))
+    same_first = ap (λ (q : Parameters). q.first) (after_over fixed_parameters opening.moment.before (empty p) ∙ sym (after_over fixed_parameters calls (empty p)))
 
     -- the list of the subscription, at any later moment
-    story_at : (later : Execution T) (all : List (ℕ × T)) → accepted later ≡ all → BeginsWith M.accepted all → cache_then_later (until opening) later ≡ drop new.start (values all)
+    story_at : (later : Execution T) (all : List (ℕ × T)) → accepted later ≡ all → BeginsWith M.accepted all → cache_then_later (until_opened opening) later ≡ drop new.start (values all)
     unfolding seen_of
     story_at later all is begins =
-        let before : accepted (until opening) ≡ M.accepted = ap accepted (until_is p calls opening) ∙ accepted_is p opening.before in
+        let before : accepted (until_opened opening) ≡ M.accepted = ap accepted (until_is p calls opening.moment) ∙ accepted_is p opening.moment.before in
         let parts : values all ≡ values M.accepted ++ values begins.0 = ap values begins.1 ∙ map-append (λ (e : ℕ × T). e.1) M.accepted begins.0 in
-        let sound = sound-after opening.before (empty {T = T} p) (sound-empty p) in
+        let sound = sound-after opening.moment.before (empty {T = T} p) (sound-empty p) in
         let within : new.start ≤ length (values M.accepted) = omega (arith, sound.reset, length-map M.accepted (λ (e : ℕ × T). e.1)) in
-        ap (λ (r : Execution T). r.seen.cache ++ drop (length (accepted (until opening))) (values (accepted later))) (until_is p calls opening)
+        ap (λ (r : Execution T). r.seen.cache ++ drop (length (accepted (until_opened opening))) (values (accepted later))) (until_is p calls opening.moment)
         ∙ ap (λ xs. cache M ++ drop (length xs) (values (accepted later))) before
         ∙ ap (λ xs. cache M ++ drop (length M.accepted) (values xs)) is
         ∙ ap (λ i. cache M ++ drop i (values all)) (sym (length-map M.accepted (λ (e : ℕ × T). e.1)))
@@ -234,26 +237,26 @@ module _ {T : Type 0} where
         ∙ ap (λ xs. cache M ++ xs) (drop-append_seam (values M.accepted) (values begins.0))
         ∙ sym (ap (drop new.start) parts ∙ drop-append-le new.start (values M.accepted) (values begins.0) within)
 
-    story_is : cache_then_later (until opening) (execution_of p calls) ≡ drop new.start (values N.accepted)
+    story_is : cache_then_later (until_opened opening) (execution_of p calls) ≡ drop new.start (values N.accepted)
     story_is = story_at (execution_of p calls) N.accepted (accepted_is p calls) grown.accepted
 
     n_is : n ≡ N.parameters.first + k
     n_is = opened.1 ∙ ap (λ f. f + k) same_first
 
     -- a later call, in the whole execution
-    module _ {P : State T → Call T → Reply T → Type 0} (once : Once opening.later (open_next M) P) where
+    module _ {P : State T → Call T → Reply T → Type 0} (once : Once opening.moment.later (open_next opening.prelude M) P) where
       abbrev K : State T
-      K = after once.before (open_next M)
+      K = after once.before (open_next opening.prelude M)
 
       abbrev before_it : List (Call T)
-      before_it = opening.before ++ subscribing ∷ once.before
+      before_it = opening.moment.before ++ subscribing opening.prelude ∷ once.before
 
       reached : after before_it (empty p) ≡ K
-      reached = after-append opening.before (subscribing ∷ once.before) (empty p) ∙ ap (after once.before) opened.0
+      reached = after-append opening.moment.before (subscribing opening.prelude ∷ once.before) (empty p) ∙ ap (after once.before) opened.0
 
       abbrev moment : Moment (execution_of p calls) once.call (step once.call K).0
       moment = moment_at p calls before_it once.call once.later K
-          (opening.called ∙ ap (λ cs. opening.before ++ subscribing ∷ cs) once.called ∙ sym (append_assoc opening.before (subscribing ∷ once.before) (once.call ∷ once.later)))
+          (opening.moment.called ∙ ap (λ cs. opening.moment.before ++ subscribing opening.prelude ∷ cs) once.called ∙ sym (append_assoc opening.moment.before (subscribing opening.prelude ∷ once.before) (once.call ∷ once.later)))
           reached
 
       seen_there : (until moment).seen ≡ seen_of K
@@ -262,12 +265,12 @@ module _ {T : Type 0} where
       same_parameters : K.parameters ≡ N.parameters
       same_parameters = ap (λ (L : State T). L.parameters) (sym reached) ∙ after_over fixed_parameters before_it (empty p) ∙ sym (after_over fixed_parameters calls (empty p))
 
-    dropped_once : (i : ℕ) → contains now.0.lost i ≡ true → Once opening.later (open_next M) (Loses k i)
+    dropped_once : (i : ℕ) → contains now.0.lost i ≡ true → Once opening.moment.later (open_next opening.prelude M) (Loses k i)
     dropped_once i has =
         ⊎_elim
         (λ no. absurd (cc))
-        (λ (once : Once opening.later (open_next M) (Loses k i)). once)
-        (lost_once opening.later (open_next M) k new now.0 new_there (ap (λ (L : State T). slice_get L.subscriptions k) (sym N_is) ∙ now.1) i has)
+        (λ (once : Once opening.moment.later (open_next opening.prelude M) (Loses k i)). once)
+        (lost_once opening.moment.later (open_next opening.prelude M) k new now.0 new_there (ap (λ (L : State T). slice_get L.subscriptions k) (sym N_is) ∙ now.1) i has)
 
     -- each lost value was the oldest one pending when an emission was accepted and all places were taken
     is_dropped : (i : ℕ) → contains now.0.lost i ≡ true → IsDropped (execution_of p calls) n opening (i - new.start)
@@ -278,12 +281,12 @@ module _ {T : Type 0} where
         let loses = once.holds in
         let s = loses.s in
         let all = values L.accepted in
-        let told = all_at (IsTold (length L.accepted)) L.subscriptions k s (sound-after once.before (open_next M) (sound-open M (sound-after opening.before (empty p) (sound-empty p)))).told loses.gets in
+        let told = all_at (IsTold (length L.accepted)) L.subscriptions k s (sound-after once.before (open_next opening.prelude M) (sound-open opening.prelude M (sound-after opening.moment.before (empty p) (sound-empty p)))).told loses.gets in
         let live = loses.drops.lives in
         let first = range_head (position s) (length L.accepted - position s) i loses.rest (sym (pending-live (length L.accepted) s told live) ∙ loses.oldest) in
-        let grows = growth_law T (open_next M) once.before in
+        let grows = growth_law T (open_next opening.prelude M) once.before in
         let on = grows.subscriptions k new new_there in
-        let begun : s.start ≡ new.start = ap (λ (u : Subscription). u.start) (same_Some s on.0 (sym loses.gets ∙ on.1)) ∙ on.2.start in
+        let begun : s.start ≡ new.start = ap (λ (u : Subscription T). u.start) (same_Some s on.0 (sym loses.gets ∙ on.1)) ∙ on.2.start in
         let shows = pending_values-live L.accepted s told live in
         let entry = shown_at L.accepted L.parameters.first L.subscriptions k s loses.gets live in
         let named : L.parameters.first + k ≡ n = ap (λ q. q.first + k) (same_parameters once) ∙ sym n_is in
@@ -310,7 +313,7 @@ module _ {T : Type 0} where
     none_dropped keeps = none_contained now.0.lost (λ i has.
         let once = dropped_once i has in keeps (ap (λ q. q.overflow) (sym (same_parameters once)) ∙ once.holds.drops.policy))
 
-    receives : (pending : List T) → Contains (execution_of p calls).seen.live (n, pending) → ReceivesCacheThenLater (execution_of p calls) n opening pending
+    receives : (pending : List T) → Contains (execution_of p calls).seen.live (n, pending) → ReceivesPreludeCacheThenLater (execution_of p calls) n opening pending
     unfolding seen_of
     receives waits has =
         let t = now.0 in
@@ -322,23 +325,42 @@ module _ {T : Type 0} where
         let numbered = e.numbered in
         let same_index : e.k ≡ k = omega (arith, n_is) in
         let same_one : e.s ≡ t = same_Some e.s t (sym e.gets ∙ ap (slice_get N.subscriptions) same_index ∙ now.1) in
-        let live : t.live ≡ true = ap (λ (u : Subscription). u.live) (sym same_one) ∙ e.lives in
+        let live : t.live ≡ true = ap (λ (u : Subscription T). u.live) (sym same_one) ∙ e.lives in
         let told = all_at (IsTold total) N.subscriptions k t (sound-after calls (empty p) (sound-empty p)).told now.1 in
         let kept = t.received ++ pending total t in
         let whole : Interleaves kept t.lost (range_with_len new.start (total - new.start)) =
         subst (λ a. Interleaves kept t.lost (range_with_len a (total - a))) now.2.start (kept_whole total t told live) in
         let first : p.first + k ≡ n = ap (λ (q : Parameters). q.first + k) (sym (after_over fixed_parameters calls (empty p))) ∙ sym n_is in
-        let count : length (cache_then_later (until opening) (execution_of p calls)) ≡ total - new.start =
+        let count : length (cache_then_later (until_opened opening) (execution_of p calls)) ≡ total - new.start =
         ap length story_is ∙ length-drop new.start all ∙ ap (λ m. m - new.start) (length-map N.accepted (λ (x : ℕ × T). x.1)) in
+        let had : received n (execution_of p calls) ≡ received_values N.accepted t =
+        ap (λ m. given_to m calls (replies calls (empty p))) (sym first) ∙ sym (received_law T p calls k t now.1) in
+        let left : rest_of n (rests_from N.parameters.first N.subscriptions) ≡ rest t =
+        ap (λ m. rest_of m (rests_from N.parameters.first N.subscriptions)) n_is ∙ rest_of-shown N.parameters.first k N.subscriptions t now.1 in
+        let handed : t.prelude ≡ opening.prelude = now.2.prelude in
         record {
           kept = map low kept;
           dropped = map low t.lost;
-          received_then_pending_is_cache_then_later =
-              ap (λ xs. xs ++ waits) (ap (λ m. given_to m calls (replies calls (empty p))) (sym first) ∙ sym (received_law T p calls k t now.1))
-              ∙ ap (λ xs. values_at all t.received ++ xs) (e.shows ∙ ap (pending_values N.accepted) same_one)
-              ∙ sym (filter_map-append (slice_get all) t.received (pending total t))
-              ∙ sym (values_at-drop new.start all kept (λ i h. in_story new.start (total - new.start) whole i (ap (λ b. b || contains t.lost i) h)))
-              ∙ ap (λ xs. values_at xs (map low kept)) (sym story_is);
+          received_then_pending_is_prelude_cache_then_later =
+              ap (λ xs. xs ++ (rest_of n (rests_from N.parameters.first N.subscriptions) ++ waits)) had
+              ∙ ap (λ vs. received_values N.accepted t ++ (vs ++ waits)) left
+              ∙ ap (λ xs. received_values N.accepted t ++ (rest t ++ xs)) (e.shows ∙ ap (pending_values N.accepted) same_one)
+              ∙ received_whole N.accepted t told live
+              ∙ ap (λ xs. xs ++ values_at all kept) handed
+              ∙ ap (λ xs. opening.prelude ++ xs)
+              (sym (values_at-drop new.start all kept (λ i h. in_story new.start (total - new.start) whole i (ap (λ b. b || contains t.lost i) h)))
+              ∙ ap (λ xs. values_at xs (map low kept)) (sym story_is));
+          prelude_comes_first =
+              ⊎_elim
+              (λ (wholly : drop t.given t.prelude ≡ []). inl (left ∙ rest-live t live ∙ wholly))
+              (λ (fresh : t.received ≡ []). inr (
+              ap (λ xs. xs ++ rest_of n (rests_from N.parameters.first N.subscriptions)) had
+              ∙ ap (λ vs. received_values N.accepted t ++ vs) (left ∙ rest-live t live)
+              ∙ ap (λ is. (take t.given t.prelude ++ values_at all is) ++ drop t.given t.prelude) fresh
+              ∙ ap (λ xs. xs ++ drop t.given t.prelude) (append-nil (take t.given t.prelude))
+              ∙ take-append-drop t.given t.prelude ∙ handed
+              ))
+              told.prelude_first;
           in_order_and_once = subst (λ m. Interleaves (map low kept) (map low t.lost) (range_with_len 0 m)) (sym count) (lowered_whole new.start (total - new.start) whole);
           in_order_of_acceptance = (
             take new.start all,
@@ -352,20 +374,20 @@ module _ {T : Type 0} where
     unfolding seen_of
     lasts =
         ⊎_elim
-        (λ (lives : (t : Subscription) × (slice_get (after opening.later (open_next M)).subscriptions k ≡ Some t) × (t.live ≡ true)).
+        (λ (lives : (t : Subscription T) × (slice_get (after opening.moment.later (open_next opening.prelude M)).subscriptions k ≡ Some t) × (t.live ≡ true)).
         let entry = shown_at N.accepted N.parameters.first N.subscriptions k lives.0 (ap (λ (L : State T). slice_get L.subscriptions k) N_is ∙ lives.1) lives.2 in
         inl (
           pending_values N.accepted lives.0,
           contains_at (live_from N.accepted N.parameters.first N.subscriptions) entry.0 (n, pending_values N.accepted lives.0) (entry.1 ∙ ap (λ m. Some (m, pending_values N.accepted lives.0)) (sym n_is)),
         ))
-        (λ (once : Once opening.later (open_next M) (IsCancelled k)).
+        (λ (once : Once opening.moment.later (open_next opening.prelude M) (IsCancelled k)).
         let named : number (K once) k ≡ n = ap (λ q. q.first + k) (same_parameters once) ∙ sym n_is in
         inr (subst (λ call. Moment (execution_of p calls) call (to_cancel true)) (once.holds.0 ∙ ap (λ m. cancelling m) named)
         (subst (Moment (execution_of p calls) once.call) once.holds.1 (moment once))))
-        (live_until opening.later (open_next M) k new new_there refl)
+        (live_until opening.moment.later (open_next opening.prelude M) k new new_there refl)
 
-pub each_receives_cache_then_later : (T : Type 0) → OfEveryExecution T EachReceivesCacheThenLater
-each_receives_cache_then_later T p calls n opening pending has = receives p calls n opening pending has
+pub each_receives_prelude_cache_then_later : (T : Type 0) → OfEveryExecution T EachReceivesPreludeCacheThenLater
+each_receives_prelude_cache_then_later T p calls n opening pending has = receives p calls n opening pending has
 
 pub live_until_cancelled : (T : Type 0) → OfEveryExecution T LiveUntilCancelled
 live_until_cancelled T p calls n opening = lasts p calls n opening
@@ -384,8 +406,12 @@ module _ {T : Type 0} (p : Parameters) (calls : List (Call T)) where
       let L = after once.before (empty p) in
       let named : number L e.k ≡ n =
       ap (λ (q : Parameters). q.first + e.k) (after_over fixed_parameters once.before (empty p) ∙ sym (after_over fixed_parameters calls (empty p))) ∙ sym e.numbered in
-      subst (λ call. Moment (execution_of p calls) call (asked n)) once.holds.0
-      (subst (Moment (execution_of p calls) once.call) (once.holds.1 ∙ ap asked named) (moment_at p calls once.before once.call once.later L once.called refl)))
+      record {
+        prelude = once.holds.0;
+        moment =
+            subst (λ call. Moment (execution_of p calls) call (asked n)) once.holds.1
+            (subst (Moment (execution_of p calls) once.call) (once.holds.2 ∙ ap asked named) (moment_at p calls once.before once.call once.later L once.called refl));
+      })
       (opened_once calls (empty p) e.k (slice_get_within N.subscriptions e.k e.s e.gets))
 
   was_live : (n : ℕ) (end : Cancellation (execution_of p calls) n) → (pending : List T) × Contains (until end).seen.live (n, pending)
@@ -412,15 +438,15 @@ nothing_after_cancellation T p calls n end =
     let is = until_is p calls end in
     let opening : Opening (until end) n =
     subst (λ (execution : Execution T). Opening execution n) (sym is) (was_opened p end.before n lived.0 (subst (λ (execution : Execution T). Contains execution.seen.live (n, lived.0)) is lived.1)) in
-    let before : EachReceivesCacheThenLater (until end) = subst EachReceivesCacheThenLater (sym is) (each_receives_cache_then_later T p end.before) in
+    let before : EachReceivesPreludeCacheThenLater (until end) = subst EachReceivesPreludeCacheThenLater (sym is) (each_receives_prelude_cache_then_later T p end.before) in
     let would = before n opening lived.0 lived.1 in
     record {
       was_live = lived;
       was_opened = opening;
       would_have_received = would;
       begins_what_it_would_have_received = (
-        lived.0,
-        sym would.received_then_pending_is_cache_then_later ∙ ap (λ xs. xs ++ lived.0) (sym more.1),
+        rest_of n (until end).seen.rests ++ lived.0,
+        sym would.received_then_pending_is_prelude_cache_then_later ∙ ap (λ xs. xs ++ (rest_of n (until end).seen.rests ++ lived.0)) (sym more.1),
       );
       has_what_it_had = more.1;
       closed = more.0;

@@ -13,9 +13,10 @@ use Rattle.flow_terms.specs.declared.answers.Tried.TheVariants as tried
 use Rattle.flow_terms.specs.declared.answers.Begun.TheVariants as begun
 use Rattle.flow_terms.specs.declared.answers.Emit.TheVariants as emit
 use Rattle.flow_terms.specs.declared.answers.Withdrawn.TheVariants as withdrawn
-use Rattle.shared_core.specs.Flow.{State, Standing, waits, stands, gone, does_wait, suspend, Subscription, empty, accept, receive, lose_oldest, open_next, close_at, give, put, settle, change, has_room, pending, places, capacity, live_count, number, number_limit, index, out_count}
-use Rattle.shared_core.specs.Calls.{Fate, enters, pushes_in, handed_over, dropped, held_up, fate, try_by, try_emit, start_by, start_emit, is_done, or_gone, ticket_at, take_back, poll_at, poll_emit, cancel_emit_at, cancel_emit, subscribe, next_of, next_at, next_value, cancel_at, cancel, reset, numbers_spent, tickets_spent, live_one, replied, Call, trying, starting, polling, withdrawing, subscribing, receiving, cancelling, resetting, counting, Reply, to_try, to_start, to_poll, to_withdraw, to_subscribe, to_receive, to_cancel, to_reset, to_count, step, replies, after}
+use Rattle.shared_core.specs.Flow.{State, Standing, waits, stands, gone, does_wait, suspend, Subscription, empty, rest, accept, receive, lose_oldest, open_next, close_at, give, put, settle, change, has_room, pending, places, capacity, live_count, number, number_limit, index, out_count}
+use Rattle.shared_core.specs.Calls.{Fate, enters, pushes_in, handed_over, dropped, held_up, fate, try_by, try_emit, start_by, start_emit, is_done, or_gone, ticket_at, take_back, poll_at, poll_emit, cancel_emit_at, cancel_emit, subscribe_with, next_of, next_at, next_value, cancel_at, cancel, reset, numbers_spent, tickets_spent, live_one, replied, Call, trying, starting, polling, withdrawing, subscribing, receiving, cancelling, resetting, counting, Reply, to_try, to_start, to_poll, to_withdraw, to_subscribe, to_receive, to_cancel, to_reset, to_count, step, replies, after}
 use Rattle.shared_core.specs.Story.{is_removed, emitted, if_waiting, by_emitter, OrderLaw}
+use Rattle.shared_core.proofs.Greeting.{greeted_room}
 use Rattle.shared_core.proofs.Steps.{index-low}
 use Rattle.shared_core.proofs.Walks.{OverEvents, step_over}
 use Rattle.shared_core.proofs.Queueing.{kept_from, kept-all, kept-none, Settled, settled_same, settled_put, settled_settle, Unnamed, settle_settles, fewer_wait}
@@ -178,17 +179,19 @@ module _ {T : Type 0} where
           settled.same ∙ parameters,
         )
 
-    order-next_of : (n k : ℕ) (ps : List T) → Unnamed at (next_of k ps M).1.tickets → CallOrder (receiving n) M (replied to_receive (next_of k ps M)) q
-    order-next_of n k [] unnamed = record { order = keeps_order; queued = queued; same = refl }
-    order-next_of n k (v ∷ rest) unnamed =
+    order-next_of : (n k : ℕ) (vs ps : List T) → Unnamed at (next_of k vs ps M).1.tickets → CallOrder (receiving n) M (replied to_receive (next_of k vs ps M)) q
+    order-next_of n k [] [] unnamed = record { order = keeps_order; queued = queued; same = refl }
+    order-next_of n k (v ∷ vs) ps unnamed =
+        record { order = keeps_order; queued = record { held = λ some. greeted_room k M ∙ queued.held some; suspends = queued.suspends }; same = refl }
+    order-next_of n k [] (v ∷ ps) unnamed =
         let settled = order-settled (receive k M) refl refl refl unnamed in
         record { order = settled.0; queued = settled.1; same = settled.2 }
 
-    order-next_at : (n : ℕ) (o : Option (ℕ × Subscription)) → Unnamed at (next_at o M).1.tickets → CallOrder (receiving n) M (replied to_receive (next_at o M)) q
+    order-next_at : (n : ℕ) (o : Option (ℕ × Subscription T)) → Unnamed at (next_at o M).1.tickets → CallOrder (receiving n) M (replied to_receive (next_at o M)) q
     order-next_at n None unnamed = record { order = keeps_order; queued = queued; same = refl }
-    order-next_at n (Some (k, s)) unnamed = order-next_of n k _ unnamed
+    order-next_at n (Some (k, s)) unnamed = order-next_of n k (rest s) _ unnamed
 
-    order-cancel_at : (n : ℕ) (o : Option (ℕ × Subscription)) → Unnamed at (cancel_at o M).1.tickets → CallOrder (cancelling n) M (replied to_cancel (cancel_at o M)) q
+    order-cancel_at : (n : ℕ) (o : Option (ℕ × Subscription T)) → Unnamed at (cancel_at o M).1.tickets → CallOrder (cancelling n) M (replied to_cancel (cancel_at o M)) q
     order-cancel_at n None unnamed = record { order = keeps_order; queued = queued; same = refl }
     order-cancel_at n (Some (k, s)) unnamed =
         let settled = order-settled (close_at k M) refl refl refl unnamed in
@@ -199,22 +202,22 @@ module _ {T : Type 0} where
     all_push p (y ∷ xs) x lacks =
         elim (p y) as (λ b. (b && list_all p xs) ≡ false → (b && list_all p (xs ++ x ∷ [])) ≡ false) [ true ↦ λ h. all_push p xs x h | false ↦ λ _. refl ] lacks
 
-    opened_room : has_room M ≡ false → has_room (open_next M) ≡ false
+    opened_room : (prelude : List T) → has_room M ≡ false → has_room (open_next prelude M) ≡ false
     unfolding has_room
-    opened_room full = all_push (λ s. ltb (length (pending (length M.accepted) s)) (places M.parameters)) M.subscriptions _ full
+    opened_room prelude full = all_push (λ s. ltb (length (pending (length M.accepted) s)) (places M.parameters)) M.subscriptions _ full
 
-    order-subscribe : CallOrder subscribing M (replied to_subscribe (subscribe M)) q
-    unfolding subscribe
-    order-subscribe =
-        let made : Result SubId Refusal × State T = (Ok (record { 0 = number M (length M.subscriptions) }), open_next M) in
+    order-subscribe : (prelude : List T) → CallOrder (subscribing prelude) M (replied to_subscribe (subscribe_with prelude M)) q
+    unfolding subscribe_with
+    order-subscribe prelude =
+        let made : Result SubId Refusal × State T = (Ok (record { 0 = number M (length M.subscriptions) }), open_next prelude M) in
         let full : Result SubId Refusal × State T = (Err SubscribersFull, M) in
         let spent : Result SubId Refusal × State T = (Err Spent, M) in
         let is_full = live_count M == M.parameters.subscribers in
-        elim (number M (length M.subscriptions) == number_limit) as (λ b. CallOrder subscribing M (replied to_subscribe (cond b spent (cond is_full full made))) q) [
+        elim (number M (length M.subscriptions) == number_limit) as (λ b. CallOrder (subscribing prelude) M (replied to_subscribe (cond b spent (cond is_full full made))) q) [
           | true ↦ record { order = keeps_order; queued = queued; same = refl }
-          | false ↦ elim is_full as (λ b. CallOrder subscribing M (replied to_subscribe (cond b full made)) q) [
+          | false ↦ elim is_full as (λ b. CallOrder (subscribing prelude) M (replied to_subscribe (cond b full made)) q) [
             | true ↦ record { order = keeps_order; queued = queued; same = refl }
-            | false ↦ record { order = keeps_order; queued = record { held = λ some. opened_room (queued.held some); suspends = queued.suspends }; same = refl }
+            | false ↦ record { order = keeps_order; queued = record { held = λ some. opened_room prelude (queued.held some); suspends = queued.suspends }; same = refl }
           ]
         ]
 
@@ -244,7 +247,7 @@ module _ {T : Type 0} where
   order-call (starting emitter v) M queued q unnamed = order-start M queued q emitter v unnamed
   order-call (polling n) M queued q unnamed = order-poll_at M queued q n (index M n) (ticket_at M.tickets (index M n)) refl
   order-call (withdrawing n) M queued q unnamed = order-withdraw M queued q n (index M n) refl
-  order-call subscribing M queued q unnamed = order-subscribe M queued q
+  order-call (subscribing prelude) M queued q unnamed = order-subscribe M queued q prelude
   order-call (receiving n) M queued q unnamed = order-next_at M queued q n (live_one M n) unnamed
   order-call (cancelling n) M queued q unnamed = order-cancel_at M queued q n (live_one M n) unnamed
   order-call resetting M queued q unnamed = record {
@@ -297,26 +300,27 @@ module _ {T : Type 0} where
   settled-withdraw_at k (stands i) M = settled-take_back k M
   settled-withdraw_at k gone M = settled_same M.tickets
 
-  settled-next_of : (k : ℕ) (ps : List T) (M : State T) → Settled M.tickets (next_of k ps M).1.tickets
-  settled-next_of k [] M = settled_same M.tickets
-  settled-next_of k (v ∷ rest) M = settled_settle (receive k M)
+  settled-next_of : (k : ℕ) (vs ps : List T) (M : State T) → Settled M.tickets (next_of k vs ps M).1.tickets
+  settled-next_of k [] [] M = settled_same M.tickets
+  settled-next_of k (v ∷ vs) ps M = settled_same M.tickets
+  settled-next_of k [] (v ∷ ps) M = settled_settle (receive k M)
 
-  settled-next_at : (o : Option (ℕ × Subscription)) (M : State T) → Settled M.tickets (next_at o M).1.tickets
+  settled-next_at : (o : Option (ℕ × Subscription T)) (M : State T) → Settled M.tickets (next_at o M).1.tickets
   settled-next_at None M = settled_same M.tickets
-  settled-next_at (Some (k, s)) M = settled-next_of k _ M
+  settled-next_at (Some (k, s)) M = settled-next_of k (rest s) _ M
 
-  settled-cancel_at : (o : Option (ℕ × Subscription)) (M : State T) → Settled M.tickets (cancel_at o M).1.tickets
+  settled-cancel_at : (o : Option (ℕ × Subscription T)) (M : State T) → Settled M.tickets (cancel_at o M).1.tickets
   settled-cancel_at None M = settled_same M.tickets
   settled-cancel_at (Some (k, s)) M = settled_settle (close_at k M)
 
   settled-call : (call : Call T) (M : State T) → Settled M.tickets (step call M).1.tickets
-  unfolding try_emit start_emit poll_emit cancel_emit subscribe next_value cancel
+  unfolding try_emit start_emit poll_emit cancel_emit subscribe_with next_value cancel
   settled-call (trying emitter v) M = settled_cond M (numbers_spent M) (Err Spent, M) (try_by (fate M) emitter v M) (settled_same M.tickets) (settled-try_by (fate M) emitter v M)
   settled-call (starting emitter v) M = settled_cond M (numbers_spent M || tickets_spent M) (Err Spent, M) (start_by (fate M) emitter v M) (settled_same M.tickets) (settled-start_by (fate M) emitter v M)
   settled-call (polling n) M = settled-poll_at (index M n) (ticket_at M.tickets (index M n)) M
   settled-call (withdrawing n) M = settled-withdraw_at (index M n) (ticket_at M.tickets (index M n)) M
-  settled-call subscribing M =
-      let made : Result SubId Refusal × State T = (Ok (record { 0 = number M (length M.subscriptions) }), open_next M) in
+  settled-call (subscribing prelude) M =
+      let made : Result SubId Refusal × State T = (Ok (record { 0 = number M (length M.subscriptions) }), open_next prelude M) in
       let full : Result SubId Refusal × State T = (Err SubscribersFull, M) in
       let is_full = live_count M == M.parameters.subscribers in
       settled_cond M (number M (length M.subscriptions) == number_limit) (Err Spent, M) (cond is_full full made) (settled_same M.tickets) (settled_cond M is_full full made (settled_same M.tickets) (settled_same M.tickets))
@@ -353,7 +357,7 @@ module _ {T : Type 0} where
   calm_call (starting emitter v) M k t gets calm = refl
   calm_call (polling n) M k t gets calm = refl
   calm_call (withdrawing n) M k t gets calm = calm_withdraw M n k t gets calm
-  calm_call subscribing M k t gets calm = refl
+  calm_call (subscribing prelude) M k t gets calm = refl
   calm_call (receiving n) M k t gets calm = refl
   calm_call (cancelling n) M k t gets calm = refl
   calm_call resetting M k t gets calm = refl
@@ -376,7 +380,7 @@ module _ {T : Type 0} where
   removed_cons n (withdrawing m) (to_cancel answer) calls rs = refl
   removed_cons n (withdrawing m) to_reset calls rs = refl
   removed_cons n (withdrawing m) (to_count answer) calls rs = refl
-  removed_cons n subscribing reply calls rs = refl
+  removed_cons n (subscribing prelude) reply calls rs = refl
   removed_cons n (receiving m) reply calls rs = refl
   removed_cons n (cancelling m) reply calls rs = refl
   removed_cons n resetting reply calls rs = refl
@@ -401,7 +405,7 @@ module _ {T : Type 0} where
   emitted_cons (starting emitter v) M calls rs = emitted_start emitter v (start_emit emitter v M).0 calls rs
   emitted_cons (polling n) M calls rs = refl
   emitted_cons (withdrawing n) M calls rs = refl
-  emitted_cons subscribing M calls rs = refl
+  emitted_cons (subscribing prelude) M calls rs = refl
   emitted_cons (receiving n) M calls rs = refl
   emitted_cons (cancelling n) M calls rs = refl
   emitted_cons resetting M calls rs = refl
@@ -445,10 +449,11 @@ module _ {T : Type 0} where
       then = λ first second. second ∙ first;
       accepts = λ emitter v M _. refl;
       pushes = λ emitter v M _. refl;
-      opens = λ M. refl;
+      opens = λ prelude M. refl;
       closes = λ k M. refl;
       tickets = λ M tickets. refl;
     };
+    greets = λ k M. refl;
     receives = λ k M. refl;
     resets = λ M. refl;
   }

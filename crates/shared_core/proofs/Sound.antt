@@ -1,11 +1,11 @@
 -- What holds of every state that some list of calls leaves.
 use Rattle.std.proofs.Common.{◌≡◌, ℕ, zero, suc, ◌+◌, Bool, true, false, cond, ◌&&◌, ◌==◌, List, [], ◌∷◌, ◌++◌, length, map, Some, slice_get, subst, arith, length-append}
 use Rattle.std.specs.List.{AllByRecursion}
-use Rattle.shared_core.specs.Flow.{cache_start, State, Subscription, Standing, Parameters, empty, accept, receive, lose_oldest, open_next, close_at, change, received_next, lost_next, pending, capacity}
+use Rattle.shared_core.specs.Flow.{cache_start, State, Subscription, Standing, Parameters, empty, accept, greet, receive, lose_oldest, open_next, close_at, change, greeted, received_next, lost_next, pending, capacity}
 use Rattle.shared_core.specs.Calls.{reset, Call, after}
 use Rattle.shared_core.specs.Story.{IsTold}
 use Rattle.shared_core.specs.Accepting.{IsSound}
-use Rattle.shared_core.proofs.Pending.{IsTold-later, IsTold-opened, IsTold-received_next, IsTold-lost_next}
+use Rattle.shared_core.proofs.Pending.{IsTold-later, IsTold-opened, IsTold-greeted, IsTold-received_next, IsTold-lost_next}
 use Rattle.shared_core.proofs.Walks.{OverEvents, after_over}
 
 -- ---- lists of subscriptions
@@ -32,7 +32,7 @@ all_at P [] k x all gets = absurd (cc)
 all_at P (y ∷ xs) zero x all gets = let same : y ≡ x = cc in subst P same all.0
 all_at P (y ∷ xs) (suc k) x all gets = all_at P xs k x all.1 gets
 
-told-cond : (b : Bool) (total : ℕ) (s : Subscription) → IsTold total s → IsTold total (cond b (lost_next total s) s)
+told-cond : {T : Type 0} (b : Bool) (total : ℕ) (s : Subscription T) → IsTold total s → IsTold total (cond b (lost_next total s) s)
 told-cond true total s told = IsTold-lost_next total s told
 told-cond false total s told = told
 
@@ -50,6 +50,12 @@ module _ {T : Type 0} where
         reset = omega (arith, longer, sound.reset);
       }
 
+  pub sound-greet : (k : ℕ) (M : State T) → IsSound M → IsSound (greet k M)
+  sound-greet k M sound = record {
+    told = all_changed (IsTold (length M.accepted)) greeted (IsTold-greeted (length M.accepted)) k M.subscriptions sound.told;
+    reset = sound.reset;
+  }
+
   pub sound-receive : (k : ℕ) (M : State T) → IsSound M → IsSound (receive k M)
   sound-receive k M sound = record {
     told = all_changed (IsTold (length M.accepted)) (received_next (length M.accepted)) (IsTold-received_next (length M.accepted)) k M.subscriptions sound.told;
@@ -62,15 +68,15 @@ module _ {T : Type 0} where
     reset = sound.reset;
   }
 
-  pub sound-open : (M : State T) → IsSound M → IsSound (open_next M)
-  sound-open M sound = record {
-    told = all_pushed (IsTold (length M.accepted)) M.subscriptions _ sound.told (IsTold-opened (length M.accepted) (cache_start M) (omega (arith, sound.reset)));
+  pub sound-open : (prelude : List T) (M : State T) → IsSound M → IsSound (open_next prelude M)
+  sound-open prelude M sound = record {
+    told = all_pushed (IsTold (length M.accepted)) M.subscriptions _ sound.told (IsTold-opened prelude (length M.accepted) (cache_start M) (omega (arith, sound.reset)));
     reset = sound.reset;
   }
 
   pub sound-close : (k : ℕ) (M : State T) → IsSound M → IsSound (close_at k M)
   sound-close k M sound = record {
-    told = all_changed (IsTold (length M.accepted)) (λ s. record s { live = false }) (λ s told. record { together = told.together; within = told.within }) k M.subscriptions sound.told;
+    told = all_changed (IsTold (length M.accepted)) (λ s. record s { live = false }) (λ s told. record { together = told.together; within = told.within; prelude_first = told.prelude_first }) k M.subscriptions sound.told;
     reset = sound.reset;
   }
 
@@ -92,6 +98,7 @@ module _ {T : Type 0} where
       closes = sound-close;
       tickets = sound-tickets;
     };
+    greets = sound-greet;
     receives = sound-receive;
     resets = sound-reset;
   }

@@ -1,13 +1,15 @@
 -- Each subscription's story, over any list of calls.
-use Rattle.std.proofs.Common.{◌≡◌, ℕ, zero, suc, ◌+◌, ◌-◌, ◌<◌, Bool, true, false, not, ◌||◌, cond, eqb, List, [], ◌∷◌, ◌++◌, length, slice_get, refl, sym, ap, ◌∙◌, arith}
+use Rattle.std.proofs.Common.{◌≡◌, ℕ, zero, suc, ◌+◌, ◌-◌, ◌<◌, inl, inr, ⊎_elim, ◌⊎◌, Bool, true, false, not, ◌||◌, cond, eqb, List, [], ◌∷◌, ◌++◌, length, take, drop, slice_get, refl, sym, ap, ◌∙◌, arith, append_assoc}
 use Rattle.std.proofs.Math.Bool.{or-true}
 use Rattle.std.proofs.lemmas.Bool.{eq-eqb, ne_eqb}
+use Rattle.std.proofs.lemmas.List.{append-nil, take-append-drop}
 use Rattle.std.proofs.lemmas.List.Elements.{filter-append, filter_map-append}
 use Rattle.std.specs.List.{AllByRecursion, filter, range_with_len}
-use Rattle.shared_core.specs.Flow.{State, Subscription, contains, empty, pending, values, values_at}
+use Rattle.shared_core.specs.Flow.{State, Subscription, contains, empty, rest, pending, pending_values, values, values_at}
 use Rattle.shared_core.specs.Calls.{after}
-use Rattle.shared_core.specs.Story.{Interleaves, none, left, right, told_count, IsTold, story, without, HasStory, StoryLaw}
+use Rattle.shared_core.specs.Story.{Interleaves, none, left, right, told_count, IsTold, story, without, received_values, HasStory, StoryLaw}
 use Rattle.shared_core.proofs.Lists.{range-append, range_bounds, range_below, contains-Interleaves, filter_all}
+use Rattle.shared_core.proofs.Greeting.{rest-live}
 use Rattle.shared_core.proofs.Pending.{position, pending-live}
 use Rattle.shared_core.specs.Accepting.{IsSound}
 use Rattle.shared_core.proofs.Sound.{sound-empty, sound-after, all_weaker}
@@ -53,7 +55,7 @@ without-Interleaves (right y {xs = xs} {ys = ys} {zs = zs} r) rising =
     let above = rising.0 i within in ap (λ b. not (b || contains ys i)) (ne_eqb i y (λ same. omega arith))) in
     ap (λ b. cond (not b) (y ∷ without (y ∷ ys) zs) (without (y ∷ ys) zs)) itself ∙ later ∙ without-Interleaves r rising.1
 
-pub in_order : (total : ℕ) (s : Subscription) → IsTold total s → s.live ≡ true → s.received ++ pending total s ≡ without s.lost (story total s)
+pub in_order : {T : Type 0} (total : ℕ) (s : Subscription T) → IsTold total s → s.live ≡ true → s.received ++ pending total s ≡ without s.lost (story total s)
 in_order total s told live =
     let k = told_count s in
     let p = position s in
@@ -69,14 +71,37 @@ in_order total s told live =
     ∙ ap (λ xs. xs ++ without s.lost (range_with_len p (total - p))) first
     ∙ ap (λ xs. s.received ++ xs) second)
 
+-- what was given of a prelude, what was received later and what is left of the prelude, which is nothing or comes first
+prelude_whole : {X : Type 0} (given : ℕ) (prelude received more : List X) → (drop given prelude ≡ []) ⊎ (received ≡ []) → (take given prelude ++ received) ++ (drop given prelude ++ more) ≡ prelude ++ (received ++ more)
+prelude_whole given prelude received more first =
+    ⊎_elim
+    (λ (wholly : drop given prelude ≡ []).
+    let all : take given prelude ≡ prelude = sym (append-nil (take given prelude)) ∙ ap (λ xs. take given prelude ++ xs) (sym wholly) ∙ take-append-drop given prelude in
+    ap (λ xs. (take given prelude ++ received) ++ (xs ++ more)) wholly ∙ ap (λ xs. (xs ++ received) ++ more) all ∙ append_assoc prelude received more)
+    (λ (fresh : received ≡ []).
+    ap (λ xs. (take given prelude ++ xs) ++ (drop given prelude ++ more)) fresh
+    ∙ ap (λ xs. xs ++ (drop given prelude ++ more)) (append-nil (take given prelude))
+    ∙ sym (append_assoc (take given prelude) (drop given prelude) more)
+    ∙ ap (λ xs. xs ++ more) (take-append-drop given prelude)
+    ∙ ap (λ xs. prelude ++ (xs ++ more)) (sym fresh))
+    first
+
 module _ {T : Type 0} where
-  has_story : (M : State T) (s : Subscription) → IsTold (length M.accepted) s → HasStory M s
+  -- what a live subscription received, then what is left of its prelude and what is pending
+  pub received_whole : (accepted : List (ℕ × T)) (s : Subscription T) → IsTold (length accepted) s → s.live ≡ true
+      → received_values accepted s ++ (rest s ++ pending_values accepted s) ≡ s.prelude ++ values_at (values accepted) (s.received ++ pending (length accepted) s)
+  received_whole accepted s told live =
+      let all = values accepted in
+      ap (λ vs. received_values accepted s ++ (vs ++ pending_values accepted s)) (rest-live s live)
+      ∙ prelude_whole s.given s.prelude (values_at all s.received) (pending_values accepted s) (⊎_elim (λ wholly. inl wholly) (λ fresh. inr (ap (values_at all) fresh)) told.prelude_first)
+      ∙ ap (λ xs. s.prelude ++ xs) (sym (filter_map-append (slice_get all) s.received (pending (length accepted) s)))
+
+  has_story : (M : State T) (s : Subscription T) → IsTold (length M.accepted) s → HasStory M s
   has_story M s told = record {
     told = told;
     in_order = λ live. in_order (length M.accepted) s told live;
     as_values = λ live.
-        sym (filter_map-append (slice_get (values M.accepted)) s.received (pending (length M.accepted) s))
-        ∙ ap (values_at (values M.accepted)) (in_order (length M.accepted) s told live);
+        received_whole M.accepted s told live ∙ ap (λ is. s.prelude ++ values_at (values M.accepted) is) (in_order (length M.accepted) s told live);
   }
 
   pub stories : (M : State T) → IsSound M → AllByRecursion (HasStory M) M.subscriptions

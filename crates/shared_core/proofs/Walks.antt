@@ -4,8 +4,8 @@ use Rattle.std.specs.List.{fold, list_any, range_with_len}
 use Rattle.flow_terms.specs.declared.refusal.Refusal.{Refusal}
 use Rattle.flow_terms.specs.declared.refusal.Refusal.TheVariants.{Spent, SubscribersFull}
 use Rattle.flow_terms.specs.declared.ids.SubId.{SubId}
-use Rattle.shared_core.specs.Flow.{State, Subscription, Standing, waits, stands, gone, capacity, accept, receive, lose_oldest, open_next, close_at, put, settle, settle_one, has_room, live_count, number, number_limit, index}
-use Rattle.shared_core.specs.Calls.{Fate, enters, pushes_in, handed_over, dropped, held_up, fate, try_by, try_emit, start_by, start_emit, is_done, take_back, poll_at, poll_emit, cancel_emit_at, cancel_emit, subscribe, next_of, next_at, next_value, cancel_at, cancel, reset, Call, trying, starting, polling, withdrawing, subscribing, receiving, cancelling, resetting, counting, step, after, numbers_spent, ticket_at, live_one}
+use Rattle.shared_core.specs.Flow.{State, Subscription, Standing, waits, stands, gone, capacity, rest, pending_values, accept, greet, receive, lose_oldest, open_next, close_at, put, settle, settle_one, has_room, live_count, number, number_limit, index}
+use Rattle.shared_core.specs.Calls.{Fate, enters, pushes_in, handed_over, dropped, held_up, fate, try_by, try_emit, start_by, start_emit, is_done, take_back, poll_at, poll_emit, cancel_emit_at, cancel_emit, subscribe_with, next_of, next_at, next_value, cancel_at, cancel, reset, Call, trying, starting, polling, withdrawing, subscribing, receiving, cancelling, resetting, counting, step, after, numbers_spent, ticket_at, live_one}
 use Rattle.shared_core.specs.Headline.{is_reset}
 use Rattle.shared_core.proofs.Fates.{entering_room, handing_room, pushing_places}
 
@@ -13,13 +13,13 @@ or_false : (a b : Bool) → (a || b) ≡ false → (a ≡ false) × (b ≡ false
 or_false true b none = absurd (cc)
 or_false false b none = (refl, none)
 
--- a relation that each event keeps, a receipt and a reset apart; a value is accepted where there is room, or pushed in
+-- a relation that each event keeps, a greeting, a receipt and a reset apart; a value is accepted where there is room, or pushed in
 pub record OverQuiet {T : Type 0} (R : State T → State T → Type 0) : Type 0 where
   pub same : (M : State T) → R M M
   pub then : {M N K : State T} → R M N → R N K → R M K
   pub accepts : (emitter : ℕ) (v : T) (M : State T) → has_room M ≡ true → R M (accept emitter v M)
   pub pushes : (emitter : ℕ) (v : T) (M : State T) → capacity M.parameters ≢ 0 → R M (accept emitter v (lose_oldest M))
-  pub opens : (M : State T) → R M (open_next M)
+  pub opens : (prelude : List T) (M : State T) → R M (open_next prelude M)
   pub closes : (k : ℕ) (M : State T) → R M (close_at k M)
   pub tickets : (M : State T) (tickets : List (Standing T)) → R M (record M { tickets = tickets })
 
@@ -32,6 +32,7 @@ IsQuiet _ = Unit {0}
 -- a relation that each event keeps
 pub record OverEvents {T : Type 0} (R : State T → State T → Type 0) : Type 0 where
   pub quiet : OverQuiet R
+  pub greets : (k : ℕ) (M : State T) → R M (greet k M)
   pub receives : (k : ℕ) (M : State T) → R M (receive k M)
   pub resets : (M : State T) → R M (reset M)
 
@@ -102,16 +103,16 @@ module _ {T : Type 0} {R : State T → State T → Type 0} (over : OverQuiet R) 
   unfolding cancel_emit
   withdraw_over n M = cancel_emit_at_over (index M n) (ticket_at M.tickets (index M n)) M
 
-  subscribe_over : (M : State T) → R M (subscribe M).1
-  unfolding subscribe
-  subscribe_over M =
-      let made : Result SubId Refusal × State T = (Ok (record { 0 = number M (length M.subscriptions) }), open_next M) in
+  subscribe_over : (prelude : List T) (M : State T) → R M (subscribe_with prelude M).1
+  unfolding subscribe_with
+  subscribe_over prelude M =
+      let made : Result SubId Refusal × State T = (Ok (record { 0 = number M (length M.subscriptions) }), open_next prelude M) in
       let full : Result SubId Refusal × State T = (Err SubscribersFull, M) in
       let is_full = live_count M == M.parameters.subscribers in
       if_over M (number M (length M.subscriptions) == number_limit) (Err Spent, M) (cond is_full full made) (over.same M)
-      (if_over M is_full full made (over.same M) (over.opens M))
+      (if_over M is_full full made (over.same M) (over.opens prelude M))
 
-  cancel_at_over : (found : Option (ℕ × Subscription)) (M : State T) → R M (cancel_at found M).1
+  cancel_at_over : (found : Option (ℕ × Subscription T)) (M : State T) → R M (cancel_at found M).1
   cancel_at_over None M = over.same M
   cancel_at_over (Some (k, s)) M = over.then (over.closes k M) (settle_over (close_at k M))
 
@@ -124,21 +125,22 @@ module _ {T : Type 0} {R : State T → State T → Type 0} (over : OverQuiet R) 
   step_quiet (starting emitter v) quiet M = start_over emitter v M
   step_quiet (polling n) quiet M = poll_over n M
   step_quiet (withdrawing n) quiet M = withdraw_over n M
-  step_quiet subscribing quiet M = subscribe_over M
+  step_quiet (subscribing prelude) quiet M = subscribe_over prelude M
   step_quiet (receiving n) quiet M = absurd quiet
   step_quiet (cancelling n) quiet M = cancel_over n M
   step_quiet resetting quiet M = absurd quiet
   step_quiet counting quiet M = over.same M
 
 -- a relation that each event keeps, a reset apart
-module _ {T : Type 0} {R : State T → State T → Type 0} (quiet : OverQuiet R) (receives : (k : ℕ) (M : State T) → R M (receive k M)) where
-  next_of_over : (k : ℕ) (pending : List T) (M : State T) → R M (next_of k pending M).1
-  next_of_over k [] M = quiet.same M
-  next_of_over k (v ∷ _) M = quiet.then (receives k M) (settle_over quiet (receive k M))
+module _ {T : Type 0} {R : State T → State T → Type 0} (quiet : OverQuiet R) (greets : (k : ℕ) (M : State T) → R M (greet k M)) (receives : (k : ℕ) (M : State T) → R M (receive k M)) where
+  next_of_over : (k : ℕ) (vs ps : List T) (M : State T) → R M (next_of k vs ps M).1
+  next_of_over k [] [] M = quiet.same M
+  next_of_over k [] (v ∷ _) M = quiet.then (receives k M) (settle_over quiet (receive k M))
+  next_of_over k (v ∷ _) ps M = greets k M
 
-  next_at_over : (found : Option (ℕ × Subscription)) (M : State T) → R M (next_at found M).1
+  next_at_over : (found : Option (ℕ × Subscription T)) (M : State T) → R M (next_at found M).1
   next_at_over None M = quiet.same M
-  next_at_over (Some (k, s)) M = next_of_over k _ M
+  next_at_over (Some (k, s)) M = next_of_over k (rest s) (pending_values M.accepted s) M
 
   next_over : (n : ℕ) (M : State T) → R M (next_value n M).1
   unfolding next_value
@@ -150,7 +152,7 @@ module _ {T : Type 0} {R : State T → State T → Type 0} (quiet : OverQuiet R)
   step_with (starting emitter v) M resets = step_quiet quiet (starting emitter v) tt M
   step_with (polling n) M resets = step_quiet quiet (polling n) tt M
   step_with (withdrawing n) M resets = step_quiet quiet (withdrawing n) tt M
-  step_with subscribing M resets = step_quiet quiet subscribing tt M
+  step_with (subscribing prelude) M resets = step_quiet quiet (subscribing prelude) tt M
   step_with (receiving n) M resets = next_over n M
   step_with (cancelling n) M resets = step_quiet quiet (cancelling n) tt M
   step_with resetting M resets = resets refl
@@ -166,7 +168,7 @@ module _ {T : Type 0} {R : State T → State T → Type 0} (quiet : OverQuiet R)
 
 module _ {T : Type 0} {R : State T → State T → Type 0} (events : OverEvents R) where
   pub step_over : (call : Call T) (M : State T) → R M (step call M).1
-  step_over call M = step_with events.quiet events.receives call M (λ _. events.resets M)
+  step_over call M = step_with events.quiet events.greets events.receives call M (λ _. events.resets M)
 
   pub after_over : (calls : List (Call T)) (M : State T) → R M (after calls M)
   after_over [] M = events.quiet.same M

@@ -17,9 +17,9 @@ use Rattle.flow_terms.specs.declared.answers.Withdrawn.TheVariants as withdrawn
 use Rattle.flow_terms.specs.declared.answers.Next.{Next}
 use Rattle.flow_terms.specs.declared.answers.Next.TheVariants as next
 use Rattle.shared_core.specs.Flow.{Overflow, suspend, drop_oldest, drop_latest, number_limit, capacity, State}
-use Rattle.shared_core.specs.Flow.{Standing, waits, stands, gone, Subscription, contains, pending, pending_values}
+use Rattle.shared_core.specs.Flow.{Standing, waits, stands, gone, Subscription, contains, rest, pending, pending_values}
 use Rattle.shared_core.specs.Flow.{has_room, live_count, waiting_count, out_count, number, index}
-use Rattle.shared_core.specs.Flow.{accept, receive, lose_oldest, open_next, close_at, give, put, settle}
+use Rattle.shared_core.specs.Flow.{accept, greet, receive, lose_oldest, open_next, close_at, give, put, settle}
 
 -- ---- emissions
 
@@ -131,47 +131,53 @@ cancel_emit n M = cancel_emit_at (index M n) (ticket_at M.tickets (index M n)) M
 
 -- ---- subscriptions
 
-unfoldable pub subscribe : {T : Type 0} → State T → Result SubId Refusal × State T
-subscribe M =
+-- a subscription with this prelude
+unfoldable pub subscribe_with : {T : Type 0} → List T → State T → Result SubId Refusal × State T
+subscribe_with prelude M =
     if number M (length M.subscriptions) == number_limit then (Err Spent, M)
     else if live_count M == M.parameters.subscribers then (Err SubscribersFull, M)
-    else (Ok (record { 0 = number M (length M.subscriptions) }), open_next M)
+    else (Ok (record { 0 = number M (length M.subscriptions) }), open_next prelude M)
+
+-- one without a prelude
+abbrev pub subscribe : {T : Type 0} → State T → Result SubId Refusal × State T
+subscribe M = subscribe_with [] M
 
 -- a subscription and its index, where it is live
-abbrev pub if_live : ℕ → Option Subscription → Option (ℕ × Subscription)
+abbrev pub if_live : {T : Type 0} → ℕ → Option (Subscription T) → Option (ℕ × Subscription T)
 if_live k None = None
 if_live k (Some s) = if s.live then Some (k, s) else None
 
-abbrev pub live_at : List Subscription → Option ℕ → Option (ℕ × Subscription)
+abbrev pub live_at : {T : Type 0} → List (Subscription T) → Option ℕ → Option (ℕ × Subscription T)
 live_at subscriptions None = None
 live_at subscriptions (Some k) = if_live k (slice_get subscriptions k)
 
 -- the live subscription with this number, and its index
-abbrev pub live_one : {T : Type 0} → State T → ℕ → Option (ℕ × Subscription)
+abbrev pub live_one : {T : Type 0} → State T → ℕ → Option (ℕ × Subscription T)
 live_one M n = live_at M.subscriptions (index M n)
 
--- the first of the pending values is received
-abbrev pub next_of : {T : Type 0} → ℕ → List T → State T → Next T × State T
-next_of k [] M = (next.Nothing, M)
-next_of k (v ∷ _) M = (next.Value v, settle (receive k M))
+-- the first value that is left of the prelude is given; where none is left, the first of the pending values is received
+abbrev pub next_of : {T : Type 0} → ℕ → List T → List T → State T → Next T × State T
+next_of k [] [] M = (next.Nothing, M)
+next_of k [] (v ∷ _) M = (next.Value v, settle (receive k M))
+next_of k (v ∷ _) _ M = (next.Value v, greet k M)
 
-abbrev pub next_at : {T : Type 0} → Option (ℕ × Subscription) → State T → Next T × State T
+abbrev pub next_at : {T : Type 0} → Option (ℕ × Subscription T) → State T → Next T × State T
 next_at None M = (next.Closed, M)
-next_at (Some (k, s)) M = next_of k (pending_values M.accepted s) M
+next_at (Some (k, s)) M = next_of k (rest s) (pending_values M.accepted s) M
 
 unfoldable pub next_value : {T : Type 0} → ℕ → State T → Next T × State T
 next_value n M = next_at (live_one M n) M
 
-abbrev pub cancel_at : {T : Type 0} → Option (ℕ × Subscription) → State T → Bool × State T
+abbrev pub cancel_at : {T : Type 0} → Option (ℕ × Subscription T) → State T → Bool × State T
 cancel_at None M = (false, M)
 cancel_at (Some (k, s)) M = (true, settle (close_at k M))
 
 unfoldable pub cancel : {T : Type 0} → ℕ → State T → Bool × State T
 cancel n M = cancel_at (live_one M n) M
 
-abbrev pub pending_count_at : {T : Type 0} → Option (ℕ × Subscription) → State T → ℕ
+abbrev pub pending_count_at : {T : Type 0} → Option (ℕ × Subscription T) → State T → ℕ
 pending_count_at None M = 0
-pending_count_at (Some (k, s)) M = length (pending (length M.accepted) s)
+pending_count_at (Some (k, s)) M = length (rest s) + length (pending (length M.accepted) s)
 
 unfoldable pub pending_count : {T : Type 0} → ℕ → State T → ℕ
 pending_count n M = pending_count_at (live_one M n) M
@@ -186,7 +192,7 @@ pub data Call (T : Type 0) : Type 0 where
   starting : ℕ → T → Call T
   polling : ℕ → Call T
   withdrawing : ℕ → Call T
-  subscribing : Call T
+  subscribing : List T → Call T
   receiving : ℕ → Call T
   cancelling : ℕ → Call T
   resetting : Call T
@@ -212,7 +218,7 @@ step (trying emitter v) M = replied to_try (try_emit emitter v M)
 step (starting emitter v) M = replied to_start (start_emit emitter v M)
 step (polling n) M = replied to_poll (poll_emit n M)
 step (withdrawing n) M = replied to_withdraw (cancel_emit n M)
-step subscribing M = replied to_subscribe (subscribe M)
+step (subscribing prelude) M = replied to_subscribe (subscribe_with prelude M)
 step (receiving n) M = replied to_receive (next_value n M)
 step (cancelling n) M = replied to_cancel (cancel n M)
 step resetting M = (to_reset, reset M)

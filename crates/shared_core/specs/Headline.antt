@@ -9,7 +9,7 @@ use Rattle.flow_terms.specs.declared.answers.Next.TheVariants.{Closed}
 use Rattle.shared_core.specs.Flow.{Parameters, suspend, drop_oldest, capacity, places, empty, values, values_at}
 use Rattle.shared_core.specs.Calls.{Call, trying, starting, subscribing, receiving, cancelling, resetting, Reply, to_try}
 use Rattle.shared_core.specs.Calls.{to_start, to_subscribe, to_receive, to_cancel, to_reset, replies, after}
-use Rattle.shared_core.specs.Shown.{Seen, seen_of}
+use Rattle.shared_core.specs.Shown.{Seen, seen_of, rest_of}
 use Rattle.shared_core.specs.Story.{Interleaves, BeginsWith, given_to, emitted, if_waiting, by_emitter}
 
 -- an execution of calls: those made on a new flow, the replies to them, and what contracts see afterwards
@@ -63,9 +63,14 @@ NumbersCountWhatWasAccepted {T} execution =
 
 -- ---- subscriptions
 
--- the moment when the subscription with this number was opened
-abbrev pub Opening : {T : Type 0} → Execution T → ℕ → Type 0
-Opening execution n = Moment execution subscribing (to_subscribe (Ok (record { 0 = n })))
+-- the moment when the subscription with this number was opened, and the prelude that it was handed
+pub record Opening {T : Type 0} (execution : Execution T) (n : ℕ) : Type 0 where
+  pub prelude : List T
+  pub moment : Moment execution (subscribing prelude) (to_subscribe (Ok (record { 0 = n })))
+
+-- the execution up to its opening
+abbrev pub until_opened : {T : Type 0} {execution : Execution T} {n : ℕ} → Opening execution n → Execution T
+until_opened opening = until opening.moment
 
 -- the moment when it was cancelled
 abbrev pub Cancellation : {T : Type 0} → Execution T → ℕ → Type 0
@@ -93,23 +98,27 @@ pub record IsDropped {T : Type 0} (execution : Execution T) (n : ℕ) (opening :
   pub pending : List T
   pub was_pending : Contains (until moment).seen.live (n, pending)
   pub was_full : length pending ≡ capacity execution.seen.parameters
-  pub was_oldest : pending ≡ drop index (cache_then_later (until opening) (until moment))
+  pub was_oldest : pending ≡ drop index (cache_then_later (until_opened opening) (until moment))
 
--- What a live subscription received, then what is pending for it, is the replay cache at its start followed by all later
--- accepted values, less those that its policy dropped. `kept` and `dropped` are indexes of that list.
-pub record ReceivesCacheThenLater {T : Type 0} (execution : Execution T) (n : ℕ) (opening : Opening execution n) (pending : List T) : Type 0 where
+-- What a live subscription received, then what is pending for it, is its prelude, the replay cache at its start and all
+-- later accepted values, less those that its policy dropped. `kept` and `dropped` are indexes of the list of the latter two;
+-- of the prelude none is dropped.
+pub record ReceivesPreludeCacheThenLater {T : Type 0} (execution : Execution T) (n : ℕ) (opening : Opening execution n) (pending : List T) : Type 0 where
   pub kept : List ℕ
   pub dropped : List ℕ
-  pub received_then_pending_is_cache_then_later : received n execution ++ pending ≡ values_at (cache_then_later (until opening) execution) kept
+  pub received_then_pending_is_prelude_cache_then_later : received n execution ++ (rest_of n execution.seen.rests ++ pending)
+      ≡ opening.prelude ++ values_at (cache_then_later (until_opened opening) execution) kept
+  -- while some of the prelude is left, nothing else was received
+  pub prelude_comes_first : (rest_of n execution.seen.rests ≡ []) ⊎ (received n execution ++ rest_of n execution.seen.rests ≡ opening.prelude)
   -- both rise, and together they are all indexes, each once
-  pub in_order_and_once : Interleaves kept dropped (range_with_len 0 (length (cache_then_later (until opening) execution)))
-  pub in_order_of_acceptance : EndsWith (cache_then_later (until opening) execution) (values (accepted execution))
+  pub in_order_and_once : Interleaves kept dropped (range_with_len 0 (length (cache_then_later (until_opened opening) execution)))
+  pub in_order_of_acceptance : EndsWith (cache_then_later (until_opened opening) execution) (values (accepted execution))
   pub only_drop_oldest_drops : execution.seen.parameters.overflow ≢ drop_oldest → dropped ≡ []
   pub only_the_oldest_when_full : All (IsDropped execution n opening) dropped
 
-abbrev pub EachReceivesCacheThenLater : {T : Type 0} → Execution T → Type 0
-EachReceivesCacheThenLater {T} execution =
-    (n : ℕ) (opening : Opening execution n) (pending : List T) → Contains execution.seen.live (n, pending) → ReceivesCacheThenLater execution n opening pending
+abbrev pub EachReceivesPreludeCacheThenLater : {T : Type 0} → Execution T → Type 0
+EachReceivesPreludeCacheThenLater {T} execution =
+    (n : ℕ) (opening : Opening execution n) (pending : List T) → Contains execution.seen.live (n, pending) → ReceivesPreludeCacheThenLater execution n opening pending
 
 -- each live subscription was opened by one of the calls
 abbrev pub EachLiveWasOpened : {T : Type 0} → Execution T → Type 0
@@ -131,8 +140,9 @@ pub record ReceivesNoMore {T : Type 0} (execution : Execution T) (n : ℕ) (end 
   pub was_live : (pending : List T) × Contains (until end).seen.live (n, pending)
   pub was_opened : Opening (until end) n
   -- what was pending at the cancellation is given up
-  pub would_have_received : ReceivesCacheThenLater (until end) n was_opened was_live.0
-  pub begins_what_it_would_have_received : BeginsWith (received n execution) (values_at (cache_then_later (until was_opened) (until end)) would_have_received.kept)
+  pub would_have_received : ReceivesPreludeCacheThenLater (until end) n was_opened was_live.0
+  pub begins_what_it_would_have_received : BeginsWith (received n execution)
+      (was_opened.prelude ++ values_at (cache_then_later (until_opened was_opened) (until end)) would_have_received.kept)
   pub has_what_it_had : received n execution ≡ received n (until end)
   pub closed : IsClosedFrom (length end.before) n execution
 
@@ -178,7 +188,7 @@ pub record CachesTheLatest {T : Type 0} (execution : Execution T) : Type 0 where
 -- ---- the whole
 
 pub record Headline {T : Type 0} (execution : Execution T) : Type 0 where
-  pub each_receives_cache_then_later : EachReceivesCacheThenLater execution
+  pub each_receives_prelude_cache_then_later : EachReceivesPreludeCacheThenLater execution
   pub each_emitter_in_its_own_order : EachEmitterInItsOwnOrder execution
   pub numbers_count_what_was_accepted : NumbersCountWhatWasAccepted execution
   pub each_live_was_opened : EachLiveWasOpened execution

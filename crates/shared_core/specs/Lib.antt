@@ -3,6 +3,7 @@ pub mod Calls
 pub mod Shown
 pub mod Queues
 pub mod Ringed
+pub mod Preludes
 pub mod Places
 pub mod Kept
 pub mod Story

@@ -1,11 +1,12 @@
 -- A list of calls of the program, as a list of calls of the model.
-use Rattle.std.specs.Prelude.{◌≡◌, List, ◌++◌, map}
+use Rattle.std.specs.Prelude.{◌≡◌, List, [], ◌++◌, map}
 use Rattle.shared_core.specs.declared.call.Call.{Call}
 use Rattle.shared_core.specs.declared.call.Call.TheVariants as asked
 use Rattle.shared_core.specs.declared.call.Reply.{Reply}
 use Rattle.shared_core.specs.declared.call.Reply.TheVariants as told
 use Rattle.shared_core.specs.Flow.{State}
 use Rattle.shared_core.specs.Calls as model
+use Rattle.shared_core.specs.Preludes.{prelude_values}
 use Rattle.shared_core.specs.Shown.{Seen, Shows}
 
 abbrev pub call_of : {T : Type 0} → Call T → model.Call T
@@ -13,7 +14,8 @@ call_of (asked.Try emitter v) = model.trying emitter v
 call_of (asked.Start emitter v) = model.starting emitter v
 call_of (asked.Poll ticket) = model.polling ticket.0
 call_of (asked.Withdraw ticket) = model.withdrawing ticket.0
-call_of asked.Subscribe = model.subscribing
+call_of asked.Subscribe = model.subscribing []
+call_of (asked.SubscribeWith prelude) = model.subscribing (prelude_values prelude)
 call_of (asked.Next id) = model.receiving id.0
 call_of (asked.Cancel id) = model.cancelling id.0
 call_of asked.Reset = model.resetting

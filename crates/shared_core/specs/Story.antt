@@ -1,9 +1,9 @@
 -- What a subscription received and lost, over any list of calls.
-use Rattle.std.specs.Prelude.{◌≡◌, ℕ, ◌+◌, ◌-◌, ◌≤◌, Bool, false, not, ◌||◌, ◌==◌, if◌then◌else◌, List}
-use Rattle.std.specs.Prelude.{[], ◌∷◌, ◌++◌, length, drop, Option, Some, None, Ok, slice_get, IsTrue}
+use Rattle.std.specs.Prelude.{◌≡◌, ℕ, ◌+◌, ◌-◌, ◌≤◌, ◌⊎◌, Bool, false, not, ◌||◌, ◌==◌, if◌then◌else◌, List}
+use Rattle.std.specs.Prelude.{[], ◌∷◌, ◌++◌, length, take, drop, Option, Some, None, Ok, slice_get, IsTrue}
 use Rattle.std.specs.List.{AllByRecursion, filter, filter_map, range_with_len}
 use Rattle.shared_core.specs.Flow.{State, Standing, waits, stands, gone, Subscription, Parameters, contains}
-use Rattle.shared_core.specs.Flow.{empty, pending, pending_values, values, values_at, cache, open_next}
+use Rattle.shared_core.specs.Flow.{empty, rest, pending, pending_values, values, values_at, cache, open_next}
 use Rattle.flow_terms.specs.declared.answers.Next.TheVariants.{Value}
 use Rattle.flow_terms.specs.declared.answers.Withdrawn.TheVariants.{Removed}
 use Rattle.flow_terms.specs.declared.answers.Tried.TheVariants as tried
@@ -17,31 +17,37 @@ pub data Interleaves {X : Type 0} : List X → List X → List X → Type 0 wher
   right : (y : X) {xs ys zs : List X} → Interleaves xs ys zs → Interleaves xs (y ∷ ys) (y ∷ zs)
 
 -- how many indexes a subscription received or lost
-abbrev pub told_count : Subscription → ℕ
+abbrev pub told_count : {T : Type 0} → Subscription T → ℕ
 told_count s = length s.received + length s.lost
 
 -- The indexes that a subscription received and those that it lost are together its start and the indexes after it, each
--- once and each list rising, and all of them were accepted.
-pub record IsTold (total : ℕ) (s : Subscription) : Type 0 where
+-- once and each list rising, and all of them were accepted. It received none of them while some of its prelude was left.
+pub record IsTold {T : Type 0} (total : ℕ) (s : Subscription T) : Type 0 where
   pub together : Interleaves s.received s.lost (range_with_len s.start (told_count s))
   pub within : s.start + told_count s ≤ total
+  pub prelude_first : (drop s.given s.prelude ≡ []) ⊎ (s.received ≡ [])
 
 -- the indexes of a subscription's story: all emissions from its start on
-abbrev pub story : ℕ → Subscription → List ℕ
+abbrev pub story : {T : Type 0} → ℕ → Subscription T → List ℕ
 story total s = range_with_len s.start (total - s.start)
 
 -- those of the indexes that aren't lost
 abbrev pub without : List ℕ → List ℕ → List ℕ
 without lost indexes = filter (λ i. not (contains lost i)) indexes
 
+-- the values that a subscription received: those given of its prelude, and then those at the indexes that it received
+abbrev pub received_values : {T : Type 0} → List (ℕ × T) → Subscription T → List T
+received_values accepted s = take s.given s.prelude ++ values_at (values accepted) s.received
+
 -- What a subscription received and lost is the beginning of its story, each index once and each list rising. While it is
--- live, what it received and then what is pending is its story without what it lost.
-pub record HasStory {T : Type 0} (M : State T) (s : Subscription) : Type 0 where
+-- live, what it received, then what is left of its prelude, and then what is pending is its prelude and its story without
+-- what it lost.
+pub record HasStory {T : Type 0} (M : State T) (s : Subscription T) : Type 0 where
   pub told : IsTold (length M.accepted) s
   pub in_order : IsTrue s.live → s.received ++ pending (length M.accepted) s ≡ without s.lost (story (length M.accepted) s)
   pub as_values : IsTrue s.live
-      → values_at (values M.accepted) s.received ++ pending_values M.accepted s
-      ≡ values_at (values M.accepted) (without s.lost (story (length M.accepted) s))
+      → received_values M.accepted s ++ (rest s ++ pending_values M.accepted s)
+      ≡ s.prelude ++ values_at (values M.accepted) (without s.lost (story (length M.accepted) s))
 
 -- whatever calls are made, each subscription has its story
 abbrev pub StoryLaw : (T : Type 0) → Type 0
@@ -51,8 +57,11 @@ StoryLaw T = (p : Parameters) (calls : List (Call T)) → let M = after calls (e
 abbrev pub BeginsWith : {X : Type 0} → List X → List X → Type 0
 BeginsWith {X} front xs = (rest : List X) × (xs ≡ front ++ rest)
 
--- A subscription later on: its start is the same, what it received and lost comes first, and once closed it stays as it was.
-pub record GoesOn (s later : Subscription) : Type 0 where
+-- A subscription later on: its prelude and its start are the same, what it received and lost comes first, and once closed it
+-- stays as it was.
+pub record GoesOn {T : Type 0} (s later : Subscription T) : Type 0 where
+  pub prelude : later.prelude ≡ s.prelude
+  pub given : s.given ≤ later.given
   pub start : later.start ≡ s.start
   pub received : BeginsWith s.received later.received
   pub lost : BeginsWith s.lost later.lost
@@ -61,13 +70,14 @@ pub record GoesOn (s later : Subscription) : Type 0 where
 -- no acceptance is taken back, and each subscription goes on
 pub record Grows {T : Type 0} (M N : State T) : Type 0 where
   pub accepted : BeginsWith M.accepted N.accepted
-  pub subscriptions : (k : ℕ) (s : Subscription) → slice_get M.subscriptions k ≡ Some s
-      → (later : Subscription) × (slice_get N.subscriptions k ≡ Some later) × GoesOn s later
+  pub subscriptions : (k : ℕ) (s : Subscription T) → slice_get M.subscriptions k ≡ Some s
+      → (later : Subscription T) × (slice_get N.subscriptions k ≡ Some later) × GoesOn s later
 
--- the story of a subscription is the replay cache as it stood when it was opened, and then each value accepted later
-abbrev pub BeginsWithCache : {T : Type 0} → State T → State T → Type 0
-BeginsWithCache {T} M N =
-    (s : Subscription) × (slice_get N.subscriptions (length M.subscriptions) ≡ Some s)
+-- the story of a subscription is its prelude, then the replay cache as it stood when it was opened, and then each value
+-- accepted later
+abbrev pub BeginsWithPrelude : {T : Type 0} → List T → State T → State T → Type 0
+BeginsWithPrelude {T} prelude M N =
+    (s : Subscription T) × (slice_get N.subscriptions (length M.subscriptions) ≡ Some s) × (s.prelude ≡ prelude)
     × ((more : List (ℕ × T)) × (N.accepted ≡ M.accepted ++ more) × (drop s.start (values N.accepted) ≡ cache M ++ values more))
 
 abbrev pub GrowthLaw : (T : Type 0) → Type 0
@@ -75,7 +85,8 @@ GrowthLaw T = (M : State T) (calls : List (Call T)) → Grows M (after calls M)
 
 abbrev pub CacheLaw : (T : Type 0) → Type 0
 CacheLaw T =
-    (p : Parameters) (calls later : List (Call T)) → let M = after calls (empty p) in BeginsWithCache M (after later (open_next M))
+    (p : Parameters) (prelude : List T) (calls later : List (Call T)) → let M = after calls (empty p) in
+    BeginsWithPrelude prelude M (after later (open_next prelude M))
 
 -- the values that the replies to `next` of this subscription gave
 abbrev pub given_to : {T : Type 0} → ℕ → List (Call T) → List (Reply T) → List T
@@ -86,8 +97,8 @@ given_to n _ _ = []
 -- what each subscription received are the values that it was given
 abbrev pub ReceivedLaw : (T : Type 0) → Type 0
 ReceivedLaw T =
-    (p : Parameters) (calls : List (Call T)) (k : ℕ) (s : Subscription) → let M = after calls (empty p) in slice_get M.subscriptions k ≡ Some s
-    → values_at (values M.accepted) s.received ≡ given_to (p.first + k) calls (replies calls (empty p))
+    (p : Parameters) (calls : List (Call T)) (k : ℕ) (s : Subscription T) → let M = after calls (empty p) in slice_get M.subscriptions k ≡ Some s
+    → received_values M.accepted s ≡ given_to (p.first + k) calls (replies calls (empty p))
 
 -- whether some later reply says that the emission with this ticket was removed while it waited
 abbrev pub is_removed : {T : Type 0} → ℕ → List (Call T) → List (Reply T) → Bool

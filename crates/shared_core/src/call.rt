@@ -1,5 +1,6 @@
 //! A call of a shared flow as a value, and its reply.
 
+use crate::prelude::Prelude;
 use flow_terms::{Begun, Emit, Next, Refusal, SubId, Ticket, Tried, Withdrawn};
 
 /// A call of a shared flow.
@@ -15,6 +16,8 @@ pub enum Call<T> {
     Withdraw(Ticket),
     /// `subscribe`
     Subscribe,
+    /// `subscribe_with`
+    SubscribeWith(Prelude<T>),
     /// `next`
     Next(SubId),
     /// `cancel`
@@ -36,7 +39,7 @@ pub enum Reply<T> {
     Emit(Emit),
     /// To `cancel_emit`.
     Withdrawn(Withdrawn<u64>),
-    /// To `subscribe`.
+    /// To `subscribe` and `subscribe_with`.
     Sub(Result<SubId, Refusal>),
     /// To `next`.
     Next(Next<T>),

@@ -176,7 +176,8 @@ impl<T: Copy> Ring<T> {
     /// How many values the live subscription at this index has pending.
     pub fn pending_at(&self, at: usize) -> u64
         requires { at < length self.now.live }
-        ensures { (e : _) × (slice_get self.now.live at ≡ Some e) × (result ≡ length e.1) }
+        ensures count { (e : _) × (slice_get self.now.live at ≡ Some e) × (result ≡ length e.1) }
+        ensures bound { result ≤ number_limit }
     {
         self.next_number - self.places[at].position
     }

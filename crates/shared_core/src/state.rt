@@ -31,6 +31,12 @@
 //! each live subscription, and the emission isn't finished until all of them received it or were cancelled. Its ticket stands
 //! in `accepted` from the start. A `try_emit` can't wait for that and answers `Full`.
 //!
+//! # A prelude
+//!
+//! Whoever subscribes may hand in values for this subscription alone (`subscribe_with`). It receives these first, then the replay
+//! cache as it stood at its start, then what is accepted later. They take no place: an emission waits for room only where values
+//! of the flow fill the places, and no policy drops them. To be given one makes no room, so nothing that waits is accepted then.
+//!
 //! # Memory
 //!
 //! `new` reserves all memory. Of the calls only `run` takes more, for the replies.
@@ -48,6 +54,7 @@ mod subscriptions;
 
 use crate::call::{Call, Reply};
 use crate::config::Config;
+use crate::greetings::Greetings;
 use crate::queue::Queue;
 use crate::ring::Ring;
 use crate::tickets::{Accepted, OutTicket, Waiting};
@@ -57,8 +64,8 @@ use std::marker::Model;
 
 /// A shared flow on one thread: Kotlin's `MutableSharedFlow`. It never completes.
 ///
-/// Contracts see its parameters, the next number, the replay cache, each live subscription with what it has pending, how
-/// many subscriptions and tickets were given, and the tickets that are out. They see neither which emissions were accepted
+/// Contracts see its parameters, the next number, the replay cache, each live subscription with what it has pending, what is
+/// left of preludes, how many subscriptions and tickets were given, and the tickets that are out. They see neither which emissions were accepted
 /// nor what was received or lost: the states of the model have these, and each shows as such a picture. A call answers what
 /// the model answers, whichever state it is that shows so, and leaves a flow that shows the model after the call.
 #[derive(Drop)]
@@ -66,6 +73,8 @@ pub struct SharedState<T: Copy> {
     config: Config,
     /// The last accepted values, with the replay cache and the place of each live subscription.
     ring: Ring<T>,
+    /// The preludes that subscriptions are still being given.
+    greetings: Greetings<T>,
     /// How many subscriptions were made.
     subscribed: u64,
     /// How many tickets were given.
@@ -77,7 +86,7 @@ pub struct SharedState<T: Copy> {
 }
 
 impl<T: Copy> Model for SharedState<T> {
-    ghost use Rattle.std.specs.Prelude.{◌++◌, map, length};
+    ghost use Rattle.std.specs.Prelude.{◌≡◌, ◌++◌, map, length};
     ghost use Rattle.shared_core.specs.Shown.{Seen};
     ghost use Rattle.shared_core.specs.Kept.{AreNumbered, IsRingOf, AreTickets, parameters_of, shown_accepted, shown_waiting};
 
@@ -88,6 +97,7 @@ impl<T: Copy> Model for SharedState<T> {
       next_number = s.ring.next_number;
       cache = s.ring.cache;
       live = s.ring.live;
+      rests = s.greetings.values;
       subscriptions = s.subscribed;
       tickets = s.given;
       out = map shown_accepted s.accepted.values ++ map shown_waiting s.waiting.values;
@@ -97,6 +107,7 @@ impl<T: Copy> Model for SharedState<T> {
       numbers : AreNumbered s.config s.ring.next_number s.subscribed s.given (length s.waiting.values);
       ring : IsRingOf s.config s.ring;
       tickets : AreTickets s.config s.ring.next_number s.accepted s.waiting;
+      greetings : s.greetings.limit ≡ s.config.subscribers;
     } };
 }
 
@@ -115,11 +126,13 @@ impl<T: Copy> SharedState<T> {
             return Err(refusal);
         }
         let ring = Ring::new(alloc, &config)?;
+        let greetings = Greetings::new(alloc, config.subscribers as usize)?;
         let accepted = Queue::new(alloc, config.emits as usize)?;
         let waiting = Queue::new(alloc, config.emits as usize)?;
         Ok(SharedState {
             config,
             ring,
+            greetings,
             subscribed: 0,
             given: 0,
             accepted,
@@ -137,6 +150,7 @@ impl<T: Copy> SharedState<T> {
             Call::Poll(ticket) => Reply::Emit(self.poll_emit(ticket)),
             Call::Withdraw(ticket) => Reply::Withdrawn(self.cancel_emit(ticket)),
             Call::Subscribe => Reply::Sub(self.subscribe()),
+            Call::SubscribeWith(prelude) => Reply::Sub(self.subscribe_with(prelude)),
             Call::Next(id) => Reply::Next(self.next(id)),
             Call::Cancel(id) => Reply::Cancelled(self.cancel(id)),
             Call::Reset => {

@@ -14,7 +14,8 @@ use Rattle.shared_flow.specs.declared.round.Round.{Round}
 use Rattle.shared_flow.specs.Names.{SharedSeen, IsNew}
 use Rattle.shared_flow.specs.Queue.{progress_of}
 use Rattle.shared_flow.specs.Rounds.{Does}
-use Rattle.shared_flow.specs.Laws.{IsLeftBy, IsOneFlow, IsRuled, HasOneList, knowing}
+use Rattle.shared_flow.specs.Laws.{IsLeftBy, IsOneFlow, IsRuled, HasOneList, EachSubscriptionLaw, knowing}
+use Rattle.shared_flow.proofs.Lives.{looks, reader_lived, with_prelude}
 use Rattle.shared_flow.proofs.Numbers.{Left, same_name}
 use Rattle.shared_flow.proofs.Ordering.{each_in_its_own_order}
 use Rattle.shared_flow.proofs.Queueing.{comes_to}
@@ -44,12 +45,21 @@ module _ {S : Type 0} (value : S → SharedSeen) where
 heard : (now : SharedSeen) (r : ReaderSeen) → Went r None (knowing now r)
 heard now r = let none : 0 ≡ at r - at r = omega arith in (at r, (omega arith, (λ kept. refl), sym (append-nil r.story) ∙ ap (λ k. r.story ++ replicate k false) none))
 
-pub each_subscription : (made now : SharedSeen) (log : List (ℕ × Round)) (cache : List ℕ) (start reader : ReaderSeen) (calls : List (Option ℕ))
-    → IsLeftBy made log now → WasLetIn cache start → Lived start calls reader → at reader ≤ reader.shape.first + length reader.seen → Begins (seen now.sequencer) reader.seen
-    → IsOneFlow made log now × ReceivesCacheThenLater cache start (knowing now reader) (given calls)
-each_subscription made now log cache start reader calls left begun lived far begins =
+-- what its reader received
+each_reader : (now : SharedSeen) (cache : List ℕ) (start reader : ReaderSeen) (calls : List (Option ℕ))
+    → WasLetIn cache start → Lived start calls reader → at reader ≤ reader.shape.first + length reader.seen → Begins (seen now.sequencer) reader.seen
+    → ReceivesCacheThenLater cache start (knowing now reader) (given calls)
+each_reader now cache start reader calls begun lived far begins =
     let same : IsSameReader reader (knowing now reader) = (refl, refl, refl, begins, refl) in
     let told = lived_more start reader (knowing now reader) calls None lived (heard now reader) same in
     let none : given (calls ++ None ∷ []) ≡ given calls = given_one calls None ∙ append-nil (given calls) in
     let longer : at reader ≤ reader.shape.first + length (seen now.sequencer) = let more = ap length begins.1 ∙ length-append reader.seen begins.0 in omega (arith, far, more) in
-    (one_flow made now log left, subst (ReceivesCacheThenLater cache start (knowing now reader)) none (receives cache start (knowing now reader) (calls ++ None ∷ []) begun told longer))
+    subst (ReceivesCacheThenLater cache start (knowing now reader)) none (receives cache start (knowing now reader) (calls ++ None ∷ []) begun told longer)
+
+pub each_subscription : {T : Type 0} (read_as : ℕ → T) → EachSubscriptionLaw read_as
+each_subscription read_as = λ made now log prelude left cache start reader turns was begun lives far begins.
+    let lived = reader_lived prelude start turns left reader lives in (
+      one_flow made now log was,
+      with_prelude read_as prelude left cache start reader (knowing now reader) turns lives
+          (each_reader now cache start reader (looks turns) begun lived far begins),
+    )

@@ -7,4 +7,5 @@ pub mod Rising
 pub mod Queueing
 pub mod Ordering
 pub mod Histories
+pub mod Lives
 pub mod Waiting

@@ -6,12 +6,13 @@ use Rattle.std.specs.Global.{Box}
 use Rattle.round_lock.specs.declared.log.Log.{Log}
 use Rattle.round_lock.specs.History.{After, OneHistory, own_of}
 use Rattle.lane_steps.specs.Law.{Begins}
-use Rattle.shared_lane.specs.Headline.{Lived, WasLetIn, given, ReceivesCacheThenLater}
+use Rattle.shared_lane.specs.Headline.{WasLetIn}
 use Rattle.shared_lane.specs.Readers.{at}
 use Rattle.shared_lane.specs.Sequencers.{seen}
 use Rattle.shared_lane.specs.Views.{ReaderSeen}
 use Rattle.shared_flow.specs.declared.round.Round.{Round}
 use Rattle.shared_flow.specs.Names.{SharedSeen, IsNew}
+use Rattle.shared_flow.specs.Lives.{Turn, LivesOn, received_in, ReceivesPreludeCacheThenLater}
 use Rattle.shared_flow.specs.Queue.{progress_of, ComesTo, EachInItsOwnOrder}
 use Rattle.shared_flow.specs.Rounds.{Does}
 
@@ -51,11 +52,12 @@ OneListLaw = (items : List (Box SharedSeen)) (views : List (Log (Box SharedSeen)
 abbrev pub knowing : SharedSeen → ReaderSeen → ReaderSeen
 knowing now r = record r { seen = seen now.sequencer }
 
--- What a subscription received, then what is pending for it, is the replay cache at its start followed by the emissions that were
--- accepted later in the one list of rounds, in order and once, less just those that its policy dropped. So it is at each moment when
--- the subscription has seen as far as its position, and what it has seen is the beginning of what was accepted.
-abbrev pub EachSubscriptionLaw : Type 0
-EachSubscriptionLaw = (made now : SharedSeen) (log : List (ℕ × Round)) (cache : List ℕ) (start reader : ReaderSeen) (calls : List (Option ℕ))
-    → IsLeftBy made log now → WasLetIn cache start → Lived start calls reader
+-- What a subscription received, then what is pending for it, is its prelude, the replay cache at its start and the emissions that
+-- were accepted later in the one list of rounds, in order and once, less just those that its policy dropped. So it is at each moment
+-- when the subscription has seen as far as its position, and what it has seen is the beginning of what was accepted.
+abbrev pub EachSubscriptionLaw : {T : Type 0} → (ℕ → T) → Type 0
+EachSubscriptionLaw {T} read_as =
+    (made now : SharedSeen) (log : List (ℕ × Round)) (prelude left : List T) (cache : List ℕ) (start reader : ReaderSeen) (turns : List (Turn T))
+    → IsLeftBy made log now → WasLetIn cache start → LivesOn prelude start turns left reader
     → at reader ≤ reader.shape.first + length reader.seen → Begins (seen now.sequencer) reader.seen
-    → IsOneFlow made log now × ReceivesCacheThenLater cache start (knowing now reader) (given calls)
+    → IsOneFlow made log now × ReceivesPreludeCacheThenLater read_as prelude left cache start (knowing now reader) (received_in read_as turns)

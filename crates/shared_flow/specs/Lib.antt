@@ -7,5 +7,7 @@ pub mod Parties
 pub mod Emitters
 pub mod Laws
 pub mod Looks
+pub mod Preludes
+pub mod Lives
 pub mod Owners
 pub mod Meeting

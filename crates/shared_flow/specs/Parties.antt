@@ -59,10 +59,11 @@ pub record Emitting : Type 0 where
   pub ticket : Option Ticket
   pub last : Option ℕ
 
--- a subscription: its flow and its rounds, its number, and its reader
-pub record Subscribed : Type 0 where
+-- a subscription: its flow and its rounds, its number, what is left of its prelude, and its reader
+pub record Subscribed (T : Type 0) : Type 0 where
   pub party : Party
   pub number : ℕ
+  pub rest : List T
   pub reader : ReaderSeen
 
 -- the party's rounds grew by this one

@@ -8,6 +8,7 @@ ghost use Rattle.shared_flow.specs.Parties.{with_round, newcomer_of};
 ghost use Rattle.shared_flow.specs.Owners.{at_rest, IsLeftOut, AddsCache};
 ghost use Rattle.shared_flow.specs.Looks.{WasLetInto};
 ghost use Rattle.shared_flow.specs.Rounds.{IsAtLimit};
+ghost use Rattle.shared_core.specs.Preludes.{prelude_values};
 
 use crate::access::Access;
 use crate::emitter::Emitter;
@@ -15,7 +16,7 @@ use crate::round::Round;
 use crate::shared::{Admitted, Shared};
 use crate::subscription::Subscription;
 use flow_terms::{Refusal, Word};
-use shared_core::Config;
+use shared_core::{Config, Prelude};
 use std::alloc::Global;
 use std::marker::{Model, PhantomData};
 use std::sync::Wait;
@@ -99,6 +100,24 @@ impl<T: Word> SharedFlow<T> {
     pub fn subscribe(&mut self, rt: &impl Wait) -> Result<Subscription<T>, Refusal>
         ensures flow { IfOk result (λ subscription. subscription.party ≡ newcomer_of self.old.party) }
         ensures round { IfOk result (λ subscription. self.new ≡ at_rest (with_round (round.Subscribe (Ok subscription.number)) self.old.party)) }
+        ensures prelude { IfOk result (λ subscription. subscription.rest ≡ []) }
+        ensures begins { IfOk result (λ subscription. WasLetInto self.old.party.flow subscription.number subscription.reader) }
+        ensures refused { IfErr result (λ refusal. (refusal ≡ NoMemory) ⊎ IsAtLimit refusal) }
+        ensures kept { IfErr result (λ refusal. IsLeftOut self.old refusal self.new) }
+    {
+        self.subscribe_with(rt, Prelude::empty())
+    }
+
+    /// A new subscription, which receives the values of its prelude first, and then starts at the oldest value of the replay cache:
+    /// Kotlin's `onSubscription`, with values that are known when it subscribes. Refused as `subscribe`.
+    pub fn subscribe_with(
+        &mut self,
+        rt: &impl Wait,
+        prelude: Prelude<T>,
+    ) -> Result<Subscription<T>, Refusal>
+        ensures prelude { IfOk result (λ subscription. subscription.rest ≡ prelude_values prelude) }
+        ensures flow { IfOk result (λ subscription. subscription.party ≡ newcomer_of self.old.party) }
+        ensures round { IfOk result (λ subscription. self.new ≡ at_rest (with_round (round.Subscribe (Ok subscription.number)) self.old.party)) }
         ensures begins { IfOk result (λ subscription. WasLetInto self.old.party.flow subscription.number subscription.reader) }
         ensures refused { IfErr result (λ refusal. (refusal ≡ NoMemory) ⊎ IsAtLimit refusal) }
         ensures kept { IfErr result (λ refusal. IsLeftOut self.old refusal self.new) }
@@ -109,7 +128,7 @@ impl<T: Word> SharedFlow<T> {
         match reader {
             Ok(reader) => {
                 self.access.put(rt, guarded, Round::Subscribe(Ok(number)));
-                Ok(Subscription::new(access, number, reader))
+                Ok(Subscription::new(access, number, prelude, reader))
             }
             Err(refusal) => {
                 self.access.put(rt, guarded, Round::Subscribe(Err(refusal)));

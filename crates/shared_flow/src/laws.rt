@@ -1,6 +1,8 @@
 //! What holds of a shared flow for every order of calls by any of its owners, emitters and subscriptions on threads.
 ghost use Rattle.shared_flow.specs.Laws.{OneListLaw, OneFlowLaw, EachSubscriptionLaw};
 
+use flow_terms::Word;
+
 /// A law, with nothing to run. Between any two calls there is one list of rounds. Each owner's rounds are its part of that list,
 /// in its own order, and the flow is what exactly that list left of a new one.
 pub fn one_list_of_rounds()
@@ -13,8 +15,8 @@ pub fn each_emitter_in_its_own_order()
     ensures { OneFlowLaw }
 {}
 
-/// A law, with nothing to run. What a subscription received, then what is pending for it, is the replay cache at its start followed
-/// by the emissions accepted later in that one list of rounds, in order and once, less just those that its policy dropped.
-pub fn each_subscription_receives_cache_then_later()
-    ensures { EachSubscriptionLaw }
+/// A law, with nothing to run. What a subscription received, then what is pending for it, is its prelude, the replay cache at its
+/// start and the emissions accepted later in that one list of rounds, in order and once, less just those that its policy dropped.
+pub fn each_subscription_receives_prelude_cache_then_later<T: Word>()
+    ensures { EachSubscriptionLaw T.read_as }
 {}

@@ -9,8 +9,8 @@
 //! call's clause says that they grew by exactly this call with this answer. The rule of the lock says that between any two
 //! calls there is one list of rounds of which each party's are its part, in its order, and that the flow is what exactly that list
 //! left of a new one (`one_list_of_rounds`). So the emissions that were accepted are those of that list, each emitter's in its
-//! own order, and what a subscription received, then what is pending for it, is the replay cache at its start followed by them, less
-//! what its policy dropped (`each_subscription_receives_cache_then_later`).
+//! own order, and what a subscription received, then what is pending for it, is its prelude, the replay cache at its start and they,
+//! less what its policy dropped (`each_subscription_receives_prelude_cache_then_later`).
 //!
 //! # Emitters and subscriptions must be spent
 //! `Emitter` and `Subscription` have no `Drop`. An emitter ends by `close` and a subscription by `cancel`, and code that
@@ -51,6 +51,7 @@ mod emitter;
 mod flow;
 mod laws;
 mod parker;
+mod rest;
 mod round;
 mod shared;
 mod sleepers;
@@ -62,9 +63,11 @@ pub use emitter::Emitter;
 pub use flow::{Held, Kept, SharedFlow};
 pub use flow_terms::{Refusal, Word};
 pub use laws::{
-    each_emitter_in_its_own_order, each_subscription_receives_cache_then_later, one_list_of_rounds,
+    each_emitter_in_its_own_order, each_subscription_receives_prelude_cache_then_later,
+    one_list_of_rounds,
 };
 pub use parker::Parker;
 pub use round::{Emission, Round};
+pub use shared_core::Prelude;
 pub use shared_lane::{Met, Receipt, Taken};
 pub use subscription::Subscription;

@@ -8,17 +8,21 @@ ghost use Rattle.shared_flow.specs.declared.round.Round.TheVariants as round;
 ghost use Rattle.shared_flow.specs.Reach.{party_of};
 ghost use Rattle.shared_flow.specs.Parties.{Subscribed, OfFlow, with_round};
 ghost use Rattle.shared_flow.specs.Looks.{Took, Gave, GaveIn, Missed, MissedTwice, OnlyNext, Waited};
+ghost use Rattle.shared_core.specs.Preludes.{prelude_values};
+ghost use Rattle.shared_flow.specs.Preludes.{IsGreeted, IsPast, GreetedOr, TookFirst};
 ghost use Rattle.flow_terms.specs.declared.refusal.Refusal.TheVariants.{NoMemory};
 ghost use Rattle.shared_flow.specs.Meeting.{HasMet};
 ghost use Rattle.shared_flow.specs.Owners.{OnlyMet};
 
 use crate::access::Access;
 use crate::parker::Parker;
+use crate::rest::Rest;
 use crate::round::Round;
 use crate::shared::Shared;
 use crate::sleepers::Bed;
 use flow_terms::{Refusal, Word};
 use futures::task::{Context, Poll};
+use shared_core::Prelude;
 use shared_lane::{Met, Reader, Receipt, Taken};
 use std::marker::{Model, PhantomData};
 use std::sync::Wait;
@@ -27,9 +31,11 @@ use std::sync::Wait;
 ///
 /// It has no `Drop` and must be spent, by `cancel`: until then it takes a place, and under `Suspend` it holds up emitters. Lend it
 /// to a thread by `&mut`, and spend it after the join. Contracts see its flow, the rounds that it made under the lock, its number,
-/// and its reader.
+/// what is left of its prelude, and its reader.
 pub struct Subscription<T: Word> {
     access: Access,
+    // Given first, and by nobody but this subscription: no lock, and no word of the lane.
+    rest: Rest<T>,
     reader: Reader,
     // Under which it sleeps.
     number: u64,
@@ -44,20 +50,26 @@ impl<T: Word> Model for Subscription<T> {
     ghost use Rattle.shared_flow.specs.Reach.{party_of};
     ghost use Rattle.shared_flow.specs.Parties.{Subscribed, OfFlow};
 
-    ghost Value = { Subscribed };
+    ghost Value = { Subscribed T };
 
-    ghost view = { λ s. record { party = party_of s.access; number = s.number; reader = s.reader } };
+    ghost view = { λ s. record { party = party_of s.access; number = s.number; rest = s.rest; reader = s.reader } };
 
     ghost invariant = { λ s. (s.access.held ≡ None) × OfFlow (party_of s.access) (λ name. IsReaderOf name.lane s.reader) };
 }
 
 impl<T: Word> Subscription<T> {
-    pub(crate) fn new(access: Access, number: u64, reader: Reader) -> Subscription<T>
+    pub(crate) fn new(
+        access: Access,
+        number: u64,
+        prelude: Prelude<T>,
+        reader: Reader,
+    ) -> Subscription<T>
         requires { (access.held ≡ None) × OfFlow (party_of access) (λ name. IsReaderOf name.lane reader) }
-        ensures { result ≡ record { party = party_of access; number = number; reader = reader } }
+        ensures { result ≡ record { party = party_of access; number = number; rest = prelude_values prelude; reader = reader } }
     {
         Subscription {
             access,
+            rest: Rest::of(prelude),
             reader,
             number,
             bed: Bed::new(),
@@ -65,7 +77,8 @@ impl<T: Word> Subscription<T> {
         }
     }
 
-    /// Takes the next value, without a lock. Kotlin has no such call: there `collect` suspends where this answers `Nothing`.
+    /// Takes the next value, without a lock: that of its prelude, while one is left. Kotlin has no such call: there `collect`
+    /// suspends where this answers `Nothing`.
     ///
     /// `Nothing` where no accepted emission that it has seen, or was [told](Subscription::told), lies at or past its position;
     /// `Overtaken` where the value was dropped just then, so that its position rose, on a flow that drops the oldest values alone.
@@ -74,6 +87,26 @@ impl<T: Word> Subscription<T> {
     /// subscriptions take their values by this call alone, who emits has to poll its emitter again by itself.
     pub fn try_next(&mut self) -> Taken<T>
         ensures same { (self.new.party ≡ self.old.party) × (self.new.number ≡ self.old.number) }
+        ensures taken { TookFirst T.read_as self.old result self.new }
+    {
+        match self.greet() {
+            Some(value) => Taken::Value(value),
+            None => self.try_accepted(),
+        }
+    }
+
+    // The next value of the prelude, if one is left. It makes no step on the lane, and takes no lock.
+    fn greet(&mut self) -> Option<T>
+        ensures same { (self.new.party ≡ self.old.party) × (self.new.number ≡ self.old.number) × (self.new.reader ≡ self.old.reader) }
+        ensures greeted { IfSome result (λ v. IsGreeted self.old v self.new) }
+        ensures past { IfNone result (IsPast self.old self.new) }
+    {
+        self.rest.give()
+    }
+
+    // The next value that was accepted, without a lock.
+    fn try_accepted(&mut self) -> Taken<T>
+        ensures same { (self.new.party ≡ self.old.party) × (self.new.number ≡ self.old.number) × (self.new.rest ≡ self.old.rest) }
         ensures taken { Took T.read_as self.old.reader result self.new.reader }
     {
         match self.reader.try_next(self.access.lane()) {
@@ -83,8 +116,8 @@ impl<T: Word> Subscription<T> {
         }
     }
 
-    /// Receives the oldest value that is pending: one turn of Kotlin's `collect`. Pending where there is none, and then the task
-    /// sleeps until a value is accepted. That the wake arrives isn't claimed.
+    /// Receives the oldest value that is pending: one turn of Kotlin's `collect`. Those of the prelude come first. Pending where
+    /// there is none, and then the task sleeps until a value is accepted. That the wake arrives isn't claimed.
     ///
     /// It looks twice: first without the lock, and where that gives no value once more with it. A value that is there costs no lock,
     /// unless an emission waits that the receipt may help.
@@ -92,6 +125,22 @@ impl<T: Word> Subscription<T> {
         ensures round { OnPending result (self.new.party ≡ with_round round.Next self.old.party) }
         ensures rounds { (self.new.party ≡ self.old.party) ⊎ (self.new.party ≡ with_round round.Next self.old.party) }
         ensures same { self.new.number ≡ self.old.number }
+        ensures ready { IfReady result (λ v. GreetedOr self.old v self.new (GaveIn T.read_as self.old.reader v self.new.reader)) }
+        ensures pending { OnPending result (IsPast self.old self.new × MissedTwice self.old.reader self.new.reader) }
+        ensures armed { OnPending result (IsArmed cx.new) }
+        ensures kept { Keeps cx.old cx.new }
+    {
+        match self.greet() {
+            Some(value) => Poll::Ready(value),
+            None => self.poll_accepted(rt, cx),
+        }
+    }
+
+    // A poll for the next value that was accepted.
+    fn poll_accepted(&mut self, rt: &impl Wait, cx: &mut Context<'_>) -> Poll<T>
+        ensures round { OnPending result (self.new.party ≡ with_round round.Next self.old.party) }
+        ensures rounds { (self.new.party ≡ self.old.party) ⊎ (self.new.party ≡ with_round round.Next self.old.party) }
+        ensures same { (self.new.number ≡ self.old.number) × (self.new.rest ≡ self.old.rest) }
         ensures ready { IfReady result (λ v. GaveIn T.read_as self.old.reader v self.new.reader) }
         ensures pending { OnPending result (MissedTwice self.old.reader self.new.reader) }
         ensures armed { OnPending result (IsArmed cx.new) }
@@ -103,12 +152,26 @@ impl<T: Word> Subscription<T> {
         }
     }
 
-    /// Receives the oldest value that is pending, and waits for one where there is none: one turn of Kotlin's `collect`.
+    /// Receives the oldest value that is pending, and waits for one where there is none: one turn of Kotlin's `collect`. Those of
+    /// the prelude come first.
     ///
     /// The thread sleeps while no value is there. That the wake arrives isn't claimed. Refused as `NoMemory` where no value is there
     /// and the parker finds no memory to wait by; nothing is received then.
     pub fn next(&mut self, rt: &impl Wait, parker: &mut Parker) -> Result<T, Refusal>
         ensures same { self.new.number ≡ self.old.number }
+        ensures rounds { OnlyNext self.old.party self.new.party }
+        ensures value { IfOk result (λ v. GreetedOr self.old v self.new (Waited T.read_as self.old.reader v self.new.reader)) }
+        ensures nothing { IfErr result (λ refusal. (refusal ≡ NoMemory) × IsPast self.old self.new × Missed self.old.reader self.new.reader) }
+    {
+        match self.greet() {
+            Some(value) => Ok(value),
+            None => self.next_accepted(rt, parker),
+        }
+    }
+
+    // Waits for the next value that is accepted.
+    fn next_accepted(&mut self, rt: &impl Wait, parker: &mut Parker) -> Result<T, Refusal>
+        ensures same { (self.new.number ≡ self.old.number) × (self.new.rest ≡ self.old.rest) }
         ensures rounds { OnlyNext self.old.party self.new.party }
         ensures value { IfOk result (λ v. Waited T.read_as self.old.reader v self.new.reader) }
         ensures nothing { IfErr result (λ refusal. (refusal ≡ NoMemory) × Missed self.old.reader self.new.reader) }
@@ -121,7 +184,7 @@ impl<T: Word> Subscription<T> {
             let Some(mut cx) = parker.turn(rt) else {
                 continue;
             };
-            let polled = self.poll_next(rt, &mut cx);
+            let polled = self.poll_accepted(rt, &mut cx);
             cx.end(&polled);
             if let Poll::Ready(value) = polled {
                 return Ok(value);
@@ -133,7 +196,7 @@ impl<T: Word> Subscription<T> {
     // Looks for a value without the lock. It takes the lock where an emission waits that the receipt may help.
     fn look(&mut self, rt: &impl Wait) -> Option<T>
         ensures rounds { (self.new.party ≡ self.old.party) ⊎ (self.new.party ≡ with_round round.Next self.old.party) }
-        ensures same { self.new.number ≡ self.old.number }
+        ensures same { (self.new.number ≡ self.old.number) × (self.new.rest ≡ self.old.rest) }
         ensures given { IfSome result (λ v. Gave T.read_as self.old.reader v self.new.reader) }
         ensures missed { IfNone result ((self.new.party ≡ self.old.party) × Missed self.old.reader self.new.reader) }
     {
@@ -158,7 +221,7 @@ impl<T: Word> Subscription<T> {
     // Looks for a value with the lock held. Without one the task sleeps.
     fn look_again(&mut self, rt: &impl Wait, cx: &mut Context<'_>) -> Poll<T>
         ensures round { self.new.party ≡ with_round round.Next self.old.party }
-        ensures same { self.new.number ≡ self.old.number }
+        ensures same { (self.new.number ≡ self.old.number) × (self.new.rest ≡ self.old.rest) }
         ensures ready { IfReady result (λ v. Gave T.read_as self.old.reader v self.new.reader) }
         ensures pending { OnPending result (Missed self.old.reader self.new.reader) }
         ensures armed { OnPending result (IsArmed cx.new) }
@@ -190,6 +253,7 @@ impl<T: Word> Subscription<T> {
     pub fn told(&mut self, receipt: &mut Receipt)
         requires { OfFlow self.old.party (λ name. IsReceiptOf name.lane receipt.old) }
         ensures same { (self.new.party ≡ self.old.party) × (self.new.number ≡ self.old.number) }
+        ensures rest { self.new.rest ≡ self.old.rest }
         ensures reader { IsSameReader self.old.reader self.new.reader × (self.new.reader.story ≡ self.old.reader.story) }
         ensures receipt { receipt.new ≡ receipt.old }
         ensures told { Begins self.new.reader.seen receipt.old.seen }
@@ -204,7 +268,7 @@ impl<T: Word> Subscription<T> {
         self.reader.start()
     }
 
-    /// How many values it received.
+    /// How many values of the flow it received. Those of its prelude aren't counted.
     pub fn received(&self) -> u64
         ensures { result ≡ received_count self.now.reader }
     {
@@ -223,17 +287,19 @@ impl<T: Word> Subscription<T> {
     pub(crate) fn meet(&mut self, shared: &mut Shared) -> Met
         requires { self.old.party.flow ≡ Some shared.old.name }
         ensures same { (self.new.party ≡ self.old.party) × (self.new.number ≡ self.old.number) }
+        ensures rest { self.new.rest ≡ self.old.rest }
         ensures shared { OnlyMet shared.old shared.new }
         ensures met { HasMet shared.new.sequencer self.old.reader self.new.reader result }
     {
         shared.meet(&mut self.reader)
     }
 
-    /// Ends the subscription, and gives up what it has pending: Kotlin's `collect`, cancelled. Emissions that wait are then accepted
-    /// while there is room.
+    /// Ends the subscription, and gives up what it has pending, of its prelude too: Kotlin's `collect`, cancelled. Emissions that
+    /// wait are then accepted while there is room.
     pub fn cancel(self, rt: &impl Wait) {
         let Subscription {
             mut access,
+            rest: _,
             reader,
             number,
             bed,

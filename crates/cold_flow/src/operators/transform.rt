@@ -4,16 +4,16 @@ ghost use Rattle.std.specs.Prelude.{◌⊎◌, ◌+◌, ◌*◌, IsTrue, ◌||�
 ghost use Rattle.std.specs.Iterator.{count_map};
 ghost use Rattle.futures.specs.Poll.{OnPending};
 ghost use Rattle.cold_flow.specs.Polled.{HasWaited, IsNearer};
-ghost use Rattle.cold_flow.specs.declared.operators.few.Few.TheVariants.{Zero};
+ghost use Rattle.flow_terms.specs.declared.few.Few.TheVariants.{Zero};
 ghost use Rattle.cold_flow.specs.Poll.{Through, Makes, MakesExactly, IsWithinPolls, is_going};
-ghost use Rattle.cold_flow.specs.Few.{few_len, is_zero, held_then, transform_trace};
+ghost use Rattle.flow_terms.specs.Few.{few_len, is_zero};
+ghost use Rattle.cold_flow.specs.Transform.{held_then, transform_trace};
 
 use crate::apply::Apply;
 use crate::event::Event;
 use crate::flow::Flow;
-use crate::operators::few::Few;
 use crate::run::{BUDGET, Finite, Run};
-use flow_terms::Refusal;
+use flow_terms::{Few, Refusal};
 use futures::task::{Context, Poll};
 
 /// The flow of `transform`.

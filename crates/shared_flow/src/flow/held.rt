@@ -82,7 +82,7 @@ impl<T: Word> Held<'_, T> {
     }
 
     /// Tells a subscription of this flow all that was accepted and all that was dropped for it, and counts it exactly:
-    /// `accepted - received - dropped` values are pending.
+    /// `accepted - received - dropped` values are pending. Those of its prelude aren't counted.
     pub fn meet(&mut self, subscription: &mut Subscription<T>) -> Met
         requires held { KeepsLock self.old.flow.now self.old.kept }
         requires flow { subscription.old.party.flow ≡ self.old.flow.now.party.flow }
@@ -91,6 +91,7 @@ impl<T: Word> Held<'_, T> {
         ensures held { KeepsLock self.new.flow.now self.new.kept }
         ensures kept { IsKept self.old.kept self.new.kept }
         ensures same { (subscription.new.party ≡ subscription.old.party) × (subscription.new.number ≡ subscription.old.number) }
+        ensures rest { subscription.new.rest ≡ subscription.old.rest }
         ensures met { HasMet self.new.kept.shared.sequencer subscription.old.reader subscription.new.reader result }
     {
         subscription.meet(&mut *self.kept.guarded.state)

@@ -4,7 +4,7 @@ use Rattle.flow_terms.specs.declared.refusal.Refusal.{Refusal}
 use Rattle.flow_terms.specs.declared.ids.SubId.{SubId}
 use Rattle.flow_terms.specs.declared.answers.Next.TheVariants as next
 use Rattle.shared_core.specs.Flow.{State, Parameters, suspend, empty, pending, has_room, live_count, waiting_count, out_count, settle}
-use Rattle.shared_core.specs.Calls.{subscribe, start_emit, next_value}
+use Rattle.shared_core.specs.Calls.{subscribe, subscribe_with, start_emit, next_value}
 use Rattle.flow_callers.proofs.core_calling.received_in_turn.Goals as goal
 
 one_place : Parameters
@@ -24,11 +24,11 @@ held_up v w = (start_emit 1 w (filled v)).1
 
 -- once the first value was received, the second is there
 second_value : (v w : ℕ) → (next_value 0 (next_value 0 (held_up v w)).1).0 ≡ next.Value w
-unfolding one_place made opened filled held_up pending has_room live_count waiting_count out_count settle subscribe start_emit next_value
+unfolding one_place made opened filled held_up pending has_room live_count waiting_count out_count settle subscribe_with start_emit next_value
 second_value v w = refl
 
 first_number : (id : SubId) → ◌≡◌ {A = Result SubId Refusal} (Ok id) (subscribe made).0 → id.0 ≡ 0
-unfolding one_place made live_count subscribe
+unfolding one_place made live_count subscribe_with
 first_number id is = let same : id ≡ record { 0 = 0 } = cc in ap (λ (i : SubId). i.0) same
 
 pub returns : goal.returns

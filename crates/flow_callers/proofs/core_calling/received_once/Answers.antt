@@ -4,7 +4,7 @@ use Rattle.flow_terms.specs.declared.refusal.Refusal.{Refusal}
 use Rattle.flow_terms.specs.declared.ids.SubId.{SubId}
 use Rattle.flow_terms.specs.declared.answers.Next.TheVariants as next
 use Rattle.shared_core.specs.Flow.{State, Parameters, suspend, empty, pending, has_room, live_count, waiting_count, settle}
-use Rattle.shared_core.specs.Calls.{subscribe, try_emit, next_value}
+use Rattle.shared_core.specs.Calls.{subscribe, subscribe_with, try_emit, next_value}
 use Rattle.flow_callers.proofs.core_calling.received_once.Goals as goal
 
 one_place : Parameters
@@ -15,11 +15,11 @@ made = empty one_place
 
 -- the first subscription gets the first value
 first_value : (v : ℕ) → (next_value 0 (try_emit 1 v (subscribe made).1).1).0 ≡ next.Value v
-unfolding one_place made pending has_room live_count waiting_count settle subscribe try_emit next_value
+unfolding one_place made pending has_room live_count waiting_count settle subscribe_with try_emit next_value
 first_value v = refl
 
 first_number : (id : SubId) → ◌≡◌ {A = Result SubId Refusal} (Ok id) (subscribe made).0 → id.0 ≡ 0
-unfolding one_place made live_count subscribe
+unfolding one_place made live_count subscribe_with
 first_number id is = let same : id ≡ record { 0 = 0 } = cc in ap (λ (i : SubId). i.0) same
 
 pub returns : goal.returns

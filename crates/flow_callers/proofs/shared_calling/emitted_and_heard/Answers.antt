@@ -5,7 +5,8 @@ use Rattle.shared_lane.specs.Readers.{IsReaderOf, IsSameReader, at}
 use Rattle.shared_lane.specs.Views.{LaneSeen, ReaderSeen, ReceiptSeen}
 use Rattle.shared_lane.specs.declared.reader.Taken.TheVariants.{Nothing}
 use Rattle.shared_flow.specs.declared.round.Emission.{Emission}
-use Rattle.shared_flow.specs.Looks.{Looked, Took}
+use Rattle.shared_flow.specs.Looks.{Looked}
+use Rattle.shared_flow.specs.Preludes.{TookFirst}
 use Rattle.shared_flow.specs.Rounds.{IsReceiptFor}
 use Rattle.flow_callers.proofs.shared_calling.emitted_and_heard.Goals as goal
 
@@ -31,8 +32,8 @@ returns-clause-past g c =
     let name = c.requires.one_flow.0 in
     let receipt = c.in-Ok-Accepted.receipt in
     let before = c.args.subscription.now.reader in
-    let after = c.told.new.self.reader in
-    let now = c.try_next.new.self.reader in
+    let after = c.told.new.self in
+    let now = c.try_next.new.self in
     let emitted = c.in-Ok-Accepted.ensures in
     let round = (rw c.in-Ok-Accepted.field-0-is at emitted.round) in
     let its = (rw c.in-Ok-Accepted.field-0-is at emitted.receipt) in
@@ -40,6 +41,6 @@ returns-clause-past g c =
     λ nothing. (
       receipt.number,
       ap (λ e. e.last) round,
-      is_past name.lane _ receipt before after now (its.1 name c.requires.one_flow.1) c.requires.one_flow.3 told.reader.0 told.told
-          (subst (λ taken. Took (λ word. word) after taken now) nothing c.try_next.ensures.taken),
+      is_past name.lane _ receipt before after.reader now.reader (its.1 name c.requires.one_flow.1) c.requires.one_flow.3 told.reader.0 told.told
+          (subst (λ taken. TookFirst (λ word. word) after taken now) nothing c.try_next.ensures.taken).1,
     )

@@ -1,5 +1,5 @@
-use Rattle.std.proofs.Common.{rules, arith, map, sym, subst}
-use Rattle.std.proofs.lemmas.Grind.{common_steps}
+use Rattle.std.proofs.Common.{rules, map, sym, subst}
+use Rattle.std.proofs.lemmas.Result.{err_from_is_err_and}
 use Rattle.shared_core.specs.Headline.{Headline}
 use Rattle.shared_core.specs.Kept.{making_refusal, parameters_of}
 use Rattle.shared_core.specs.Runs.{Runs, call_of}
@@ -8,7 +8,8 @@ use Rattle.list_callers.proofs.Refusals.{none_if_ok, whatever}
 use Rattle.list_callers.proofs.headline_caller.run_new_flow.Goals as goal
 
 pub returns-in_err-flow-clause-refused : goal.returns-in_err-flow-clause-refused
-returns-in_err-flow-clause-refused g c = grind (arith, common_steps)
+returns-in_err-flow-clause-refused g c =
+    let p = err_from_is_err_and c.from_residual.result c.from_residual.ensures.1 in rw (p.1, p.2) c.in_err-flow.ensures.refused
 
 pub returns-in_err-run-clause-refused : goal.returns-in_err-run-clause-refused
 returns-in_err-run-clause-refused g c = none_if_ok (making_refusal c.args.config) c.in_ok-flow.flow _ c.in_ok-flow.ensures.refused
@@ -30,10 +31,10 @@ returns-clause-headline g c =
     let p = parameters_of c.args.config in
     let calls = c.args.calls.now in
     let runs = subst (λ before. Runs calls c.in_ok-flow.flow before c.run.new.out.items c.run.new.self) c.requires c.in_ok-run.ensures.ok in
-    let law = c.each_subscription_receives_cache_then_later.ensures in
+    let law = c.each_subscription_receives_prelude_cache_then_later.ensures in
     subst Headline (sym (made_is p calls c.run.new.out.items c.in_ok-flow.flow c.run.new.self c.in_ok-flow.ensures.shows runs))
     record {
-      each_receives_cache_then_later = law.each_receives_cache_then_later p (map call_of calls);
+      each_receives_prelude_cache_then_later = law.each_receives_prelude_cache_then_later p (map call_of calls);
       each_emitter_in_its_own_order = law.each_emitter_in_its_own_order p (map call_of calls);
       numbers_count_what_was_accepted = law.numbers_count_what_was_accepted p (map call_of calls);
       each_live_was_opened = law.each_live_was_opened p (map call_of calls);

@@ -1,4 +1,4 @@
-use Rattle.cold_flow.specs.declared.operators.few.Few.TheVariants.{Zero}
+use Rattle.flow_terms.specs.declared.few.Few.TheVariants.{Zero}
 use Rattle.cold_flow.specs.Laws.{Through-fixed}
 use Rattle.cold_flow.specs.FewLaws.{held-monotone}
 use Rattle.cold_flow.proofs.operators.transform.transform.Goals as goal

@@ -5,8 +5,8 @@ use Rattle.shared_core.proofs.Standing.{length-pending_of}
 use Rattle.shared_core.proofs.Rings.{entry_there, within_there}
 use Rattle.shared_core.proofs.ring.Ring.pending_at.Goals as goal
 
-pub returns : goal.returns
-returns g c =
+pub returns-clause-count : goal.returns-clause-count
+returns-clause-count g c =
     let ring = c.self.inside in
     let place = c.index.result.now in
     let now = c.args.self.now.live in

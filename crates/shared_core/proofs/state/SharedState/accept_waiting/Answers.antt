@@ -62,6 +62,7 @@ invariant_of-self-2 g c =
             (All-push is_index c.self-2.inside.accepted.values (landed i c.in-Some.oldest) kept.indexes
             (omega (arith, c.accept.ensures.number, c.self.invariant.numbers.counted, ap (λ (s : Seen _). s.next_number) seen, ap (λ (s : Seen _). s.parameters.first) seen)));
       };
+      greetings = c.self-2.invariant.greetings;
     }
 
 pub returns : goal.returns

@@ -2,6 +2,7 @@ use Rattle.std.proofs.Common.{eqb, length, refl, ap, sym, subst, ◌∙◌, slic
 use Rattle.std.proofs.lemmas.Option.{slice_get_within}
 use Rattle.std.specs.List.{list_any, remove}
 use Rattle.shared_core.specs.Kept.{AreNumbered, IsRingOf, AreTickets}
+use Rattle.shared_core.specs.Preludes.{EndsGreeting}
 use Rattle.shared_core.specs.Ringed.{Ringed}
 use Rattle.shared_core.specs.Shown.{Seen}
 use Rattle.shared_core.proofs.Bodies.{cancel_follows-closed, cancel_follows}
@@ -25,6 +26,7 @@ invariant_of-self g c =
       numbers = subst (λ (r : Ringed _). AreNumbered here.config r.next_number here.subscribed here.given (length here.waiting.values)) closed kept.numbers;
       ring = subst (IsRingOf here.config) closed (record { capacity = kept.ring.capacity; replay = kept.ring.replay; limit = kept.ring.limit; subscribers = kept.ring.subscribers });
       tickets = subst (λ (r : Ringed _). AreTickets here.config r.next_number here.accepted here.waiting) closed kept.tickets;
+      greetings = c.end.ensures.limit ∙ kept.greetings;
     }
 
 pub returns : goal.returns
@@ -32,5 +34,6 @@ returns g c =
     let now = c.args.self.now in
     let at = c.in-Some.at in
     let found = c.in-Some.ensures.found in
-    cancel_follows now at c.args.id.0 found.0 _ c.settle.new.self (ap (λ (seen : Seen _). slice_get seen.live at) (sym c.self.view_is) ∙ found.1) found.2
-    (live_step _ now c.self.inside.ring c.close.new.self c.self.view_is refl (λ xs. remove xs at) c.close.ensures) c.settle.ensures
+    cancel_follows now at c.args.id.0 found.0 c.end.new.self.values _ c.settle.new.self (ap (λ (seen : Seen _). slice_get seen.live at) (sym c.self.view_is) ∙ found.1) found.2
+    (subst (λ (seen : Seen _). EndsGreeting c.args.id.0 seen.rests c.end.new.self.values) c.self.view_is c.end.ensures.ended)
+    (ap (λ (seen : Seen _). record seen { rests = c.end.new.self.values }) (live_step _ now c.self.inside.ring c.close.new.self c.self.view_is refl (λ xs. remove xs at) c.close.ensures)) c.settle.ensures

@@ -27,6 +27,7 @@ invariant_of-self g c =
         within = omega (arith, kept.within, ap length rest, shorter);
         indexes = still_indexes (λ (h : OutTicket Accepted). c.self.inside.config.first + h.emission.index < c.self.inside.ring.next_number) us c.remove-accepted.new.self.values c.in-Some.at rest kept.indexes;
       };
+      greetings = c.self.invariant.greetings;
     }
 
 pub returns-in-Some : goal.returns-in-Some

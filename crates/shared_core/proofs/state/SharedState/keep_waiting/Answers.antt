@@ -27,4 +27,5 @@ invariant_of-self g c =
         within = omega (arith, space, more, length-out us ws);
         indexes = kept.tickets.indexes;
       };
+      greetings = kept.greetings;
     }

@@ -38,6 +38,7 @@ invariant_of-self g c =
         within = kept.tickets.within;
         indexes = λ k d within. let this = kept.tickets.indexes k d within in omega (arith, this, next);
       };
+      greetings = kept.greetings;
     }
 
 pub returns-clause-number : goal.returns-clause-number

@@ -1,9 +1,9 @@
 use Rattle.std.proofs.Common.{◌≡◌, ◌+◌, ◌<◌, ◌≤◌, Some, None}
 use Rattle.std.specs.Iterator.{IsFinite, size}
 use Rattle.futures.specs.Task.{Keeps}
-use Rattle.cold_flow.specs.declared.operators.few.Few.TheVariants.{Zero}
+use Rattle.flow_terms.specs.declared.few.Few.TheVariants.{Zero}
 use Rattle.cold_flow.specs.Poll.{Through, Within}
-use Rattle.cold_flow.specs.Few.{held_then}
+use Rattle.cold_flow.specs.Transform.{held_then}
 use Rattle.cold_flow.proofs.operators.transform.TransformedRunRun.poll_next.Given as goal
 
 abbrev pub invariant-loop-asked : goal.invariant-loop-asked

@@ -1,6 +1,0 @@
-use Rattle.std.proofs.Common.{rules}
-use Rattle.cold_flow.proofs.operators.few.Few.split_first.Goals as goal
-
--- A wrong body makes this false: so answered, it is refused at once.
-pub returns-in-Two-clause-split : goal.returns-in-Two-clause-split
-returns-in-Two-clause-split g c = search rules

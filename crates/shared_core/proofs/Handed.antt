@@ -1,0 +1,139 @@
+-- The values of a prelude as it is kept, four by four, and the preludes that are still being given.
+use Rattle.std.proofs.Common.{◌≡◌, ℕ, zero, suc, ◌+◌, ◌<◌, ◌≤◌, inr, true, false, cond, ◌||◌, eqb, List, [], ◌∷◌, ◌++◌, length, take, drop, map, set, Some, slice_get, refl, sym, ap, ◌∙◌, arith, length-append, length-drop}
+use Rattle.std.proofs.Math.Seq.{take_all}
+use Rattle.std.proofs.lemmas.Bool.{eq-eqb}
+use Rattle.std.proofs.lemmas.List.{take-append-drop, drop-drop, map-set}
+use Rattle.std.proofs.lemmas.Option.{none-some, same_Some, slice_get-map}
+use Rattle.std.specs.Option.{option_map}
+use Rattle.std.specs.List.{list_any, remove}
+use Rattle.flow_terms.specs.Few.{values_of}
+use Rattle.flow_terms.specs.declared.few.Few.{Few}
+use Rattle.flow_terms.specs.declared.few.Few.TheVariants.{Zero, One, Two, Three, Four}
+use Rattle.shared_core.specs.declared.prelude.Prelude.{Prelude}
+use Rattle.shared_core.specs.declared.greetings.Greeting.{Greeting}
+use Rattle.shared_core.specs.Preludes.{prelude_values, shown_greeting, left_at, begun_with, IsWithout, Greets, EndsGreeting}
+use Rattle.shared_core.specs.Shown.{rest_of}
+use Rattle.shared_core.proofs.Entries.{list_any-map, map-remove}
+
+-- ---- a list from an index on
+
+pub dropped_some : {X : Type 0} (n m : ℕ) (xs : List X) (x : X) → slice_get xs n ≡ Some x → n + 1 ≡ m → drop n xs ≡ x ∷ drop m xs
+dropped_some n m [] x gets next = absurd (none-some _ gets)
+dropped_some zero m (y ∷ xs) x gets next = ap (λ z. z ∷ xs) (same_Some y x gets) ∙ ap (λ k. x ∷ drop k (y ∷ xs)) next
+dropped_some (suc n) m (y ∷ xs) x gets next =
+    let further : suc (n + 1) ≡ m = omega (arith, next) in
+    dropped_some n (n + 1) xs x gets refl ∙ ap (λ k. x ∷ drop k (y ∷ xs)) further
+
+-- 16 of them are four times four
+pub in_fours : {X : Type 0} (xs : List X) → length xs ≤ 16 → take 4 (drop 0 xs) ++ (take 4 (drop 4 xs) ++ (take 4 (drop 8 xs) ++ take 4 (drop 12 xs))) ≡ xs
+in_fours xs few =
+    let last : take 4 (drop 12 xs) ≡ drop 4 (drop 8 xs) = take_all 4 (drop 12 xs) (omega (arith, length-drop 12 xs, few)) ∙ sym (drop-drop 4 8 xs) in
+    let third = ap (λ ys. take 4 (drop 8 xs) ++ ys) last ∙ take-append-drop 4 (drop 8 xs) ∙ sym (drop-drop 4 4 xs) in
+    let second = ap (λ ys. take 4 (drop 4 xs) ++ ys) third ∙ take-append-drop 4 (drop 4 xs) in
+    ap (λ ys. take 4 (drop 0 xs) ++ ys) second ∙ take-append-drop 4 xs
+
+pub length-prelude : {T : Type 0} (prelude : Prelude T) → length (prelude_values prelude) ≡ length (values_of prelude.first) + (length (values_of prelude.second) + (length (values_of prelude.third) + length (values_of prelude.fourth)))
+length-prelude prelude =
+    length-append (values_of prelude.first) _ ∙ ap (λ n. length (values_of prelude.first) + n) (length-append (values_of prelude.second) _
+    ∙ ap (λ n. length (values_of prelude.second) + n) (length-append (values_of prelude.third) (values_of prelude.fourth)))
+
+few_values : {T : Type 0} (few : Few T) → length (values_of few) ≤ 4
+few_values Zero = omega arith
+few_values (One a) = omega arith
+few_values (Two a b) = omega arith
+few_values (Three a b c) = omega arith
+few_values (Four a b c d) = omega arith
+
+pub few_handed : {T : Type 0} (prelude : Prelude T) → length (prelude_values prelude) ≤ 16
+few_handed prelude =
+    omega (arith, length-prelude prelude, few_values prelude.first, few_values prelude.second, few_values prelude.third, few_values prelude.fourth)
+
+-- ---- entries
+
+none_of : {X : Type 0} (xs : List X) → length xs ≡ 0 → xs ≡ []
+none_of [] none = refl
+none_of (x ∷ xs) none = absurd (omega arith)
+
+module _ {T : Type 0} where
+  pub begun_none : (n : ℕ) (vs : List T) (entries : List (ℕ × List T)) → length vs ≡ 0 → entries ≡ begun_with n vs entries
+  begun_none n vs entries none = sym (ap (λ ws. begun_with n ws entries) (none_of vs none))
+
+  pub begun_some : (n : ℕ) (vs : List T) (entries : List (ℕ × List T)) → 0 < length vs → entries ++ (n, vs) ∷ [] ≡ begun_with n vs entries
+  begun_some n [] entries some = absurd (omega arith)
+  begun_some n (v ∷ vs) entries some = refl
+
+  left_none : (at n : ℕ) (vs : List T) (entries : List (ℕ × List T)) → length vs ≡ 0 → left_at at n vs entries ≡ remove entries at
+  left_none at n vs entries none = ap (λ ws. left_at at n ws entries) (none_of vs none)
+
+  left_some : (at n : ℕ) (vs : List T) (entries : List (ℕ × List T)) → 0 < length vs → left_at at n vs entries ≡ set entries at (n, vs)
+  left_some at n [] entries some = absurd (omega arith)
+  left_some at n (v ∷ vs) entries some = refl
+
+  abbrev pub shown : List (Greeting T) → List (ℕ × List T)
+  shown greetings = map shown_greeting greetings
+
+  pub without_shown : (n : ℕ) (greetings : List (Greeting T)) → list_any (λ g. eqb g.number n) greetings ≡ false → IsWithout n (shown greetings)
+  without_shown n greetings none = list_any-map (λ (e : ℕ × List T). eqb e.0 n) shown_greeting greetings ∙ none
+
+  shown_at : (greetings : List (Greeting T)) (at : ℕ) (g : Greeting T) → slice_get greetings at ≡ Some g → slice_get (shown greetings) at ≡ Some (shown_greeting g)
+  shown_at greetings at g gets = slice_get-map shown_greeting greetings at ∙ ap (option_map shown_greeting) gets
+
+  module _ (n at : ℕ) (greetings : List (Greeting T)) (g : Greeting T) (gets : slice_get greetings at ≡ Some g) (named : g.number ≡ n) where
+    -- the entry is given up
+    pub ends_at : EndsGreeting n (shown greetings) (shown (remove greetings at))
+    ends_at = inr (
+      at,
+      drop g.given (prelude_values g.prelude),
+      shown_at greetings at g gets ∙ ap (λ m. Some (m, drop g.given (prelude_values g.prelude))) named,
+      map-remove shown_greeting greetings at,
+    )
+
+    module _ (v : T) (value : slice_get (prelude_values g.prelude) g.given ≡ Some v) where
+      abbrev later : List T
+      later = drop (g.given + 1) (prelude_values g.prelude)
+
+      entry : slice_get (shown greetings) at ≡ Some (n, v ∷ later)
+      entry =
+          shown_at greetings at g gets ∙ ap (λ m. Some (m, drop g.given (prelude_values g.prelude))) named
+          ∙ ap (λ vs. Some (n, vs)) (dropped_some g.given (g.given + 1) (prelude_values g.prelude) v value refl)
+
+      -- the last value is given
+      pub greets_last : g.given + 1 ≡ length (prelude_values g.prelude) → Greets n (shown greetings) (Some v) (shown (remove greetings at))
+      greets_last last = (
+        at,
+        later,
+        entry,
+        map-remove shown_greeting greetings at ∙ sym (left_none at n later (shown greetings) (omega (arith, length-drop (g.given + 1) (prelude_values g.prelude), last))),
+      )
+
+      -- another is left after it
+      pub greets_one : g.given + 1 < length (prelude_values g.prelude) → Greets n (shown greetings) (Some v) (shown (set greetings at (record g { given = g.given + 1 })))
+      greets_one more = (
+        at,
+        later,
+        entry,
+        map-set shown_greeting greetings at (record g { given = g.given + 1 }) ∙ ap (λ m. set (shown greetings) at (m, later)) named
+            ∙ sym (left_some at n later (shown greetings) (omega (arith, length-drop (g.given + 1) (prelude_values g.prelude), more))),
+      )
+
+  -- what is left, by the first entry with the number
+  pub rest_none : (n : ℕ) (entries : List (ℕ × List T)) → IsWithout n entries → rest_of n entries ≡ []
+  rest_none n [] none = refl
+  rest_none n (e ∷ entries) none =
+      elim (eqb e.0 n) as (λ b. (b || list_any (λ x. eqb x.0 n) entries) ≡ false → cond b e.1 (rest_of n entries) ≡ []) [
+        | true ↦ λ no. absurd (cc)
+        | false ↦ λ later. rest_none n entries later
+      ] none
+
+  pub rest_found : (n at : ℕ) (greetings : List (Greeting T)) (g : Greeting T) → slice_get greetings at ≡ Some g → g.number ≡ n → list_any (λ g. eqb g.number n) (take at greetings) ≡ false
+      → rest_of n (shown greetings) ≡ drop g.given (prelude_values g.prelude)
+  rest_found n at [] g gets named before = absurd (none-some _ gets)
+  rest_found n zero (h ∷ greetings) g gets named before =
+      let this = same_Some h g gets in
+      ap (λ b. cond b (drop h.given (prelude_values h.prelude)) (rest_of n (shown greetings))) (eq-eqb h.number n (ap (λ (x : Greeting T). x.number) this ∙ named))
+      ∙ ap (λ (x : Greeting T). drop x.given (prelude_values x.prelude)) this
+  rest_found n (suc at) (h ∷ greetings) g gets named before =
+      elim (eqb h.number n) as (λ b. (b || list_any (λ g. eqb g.number n) (take at greetings)) ≡ false → cond b (drop h.given (prelude_values h.prelude)) (rest_of n (shown greetings)) ≡ drop g.given (prelude_values g.prelude)) [
+        | true ↦ λ no. absurd (cc)
+        | false ↦ λ later. rest_found n at greetings g gets named later
+      ] before

@@ -1,0 +1,42 @@
+-- The values of a prelude, and what contracts see of the preludes that are still being given.
+use Rattle.std.specs.Prelude.{◌≡◌, ℕ, ◌<◌, ◌⊎◌, ◌==◌, false, List, [], ◌∷◌, ◌++◌, length, drop, set, Option, Some, None, slice_get}
+use Rattle.std.specs.List.{list_any, remove}
+use Rattle.flow_terms.specs.Few.{values_of}
+use Rattle.shared_core.specs.declared.prelude.Prelude.{Prelude}
+use Rattle.shared_core.specs.declared.greetings.Greeting.{Greeting}
+
+-- the values in order
+abbrev pub prelude_values : {T : Type 0} → Prelude T → List T
+prelude_values prelude = values_of prelude.first ++ (values_of prelude.second ++ (values_of prelude.third ++ values_of prelude.fourth))
+
+-- a greeting as contracts see it: the number of its subscription, and the values left
+abbrev pub shown_greeting : {T : Type 0} → Greeting T → ℕ × List T
+shown_greeting greeting = (greeting.number, drop greeting.given (prelude_values greeting.prelude))
+
+-- some value is left
+abbrev pub IsLeft : {T : Type 0} → Greeting T → Type 0
+IsLeft greeting = greeting.given < length (prelude_values greeting.prelude)
+
+-- the entry at this index, of the subscription with this number, has these values left
+abbrev pub left_at : {T : Type 0} → ℕ → ℕ → List T → List (ℕ × List T) → List (ℕ × List T)
+left_at at n [] entries = remove entries at
+left_at at n (v ∷ rest) entries = set entries at (n, v ∷ rest)
+
+-- one more entry, where values are handed in
+abbrev pub begun_with : {T : Type 0} → ℕ → List T → List (ℕ × List T) → List (ℕ × List T)
+begun_with n [] entries = entries
+begun_with n (v ∷ rest) entries = entries ++ (n, v ∷ rest) ∷ []
+
+-- no entry has this number
+abbrev pub IsWithout : {T : Type 0} → ℕ → List (ℕ × List T) → Type 0
+IsWithout n entries = list_any (λ entry. entry.0 == n) entries ≡ false
+
+-- the subscription with this number is given the first value that is left, where it has an entry
+abbrev pub Greets : {T : Type 0} → ℕ → List (ℕ × List T) → Option T → List (ℕ × List T) → Type 0
+Greets n old None new = IsWithout n old × (new ≡ old)
+Greets {T} n old (Some v) new = (at : ℕ) × (rest : List T) × (slice_get old at ≡ Some (n, v ∷ rest)) × (new ≡ left_at at n rest old)
+
+-- the entry of the subscription with this number is given up, where it has one
+abbrev pub EndsGreeting : {T : Type 0} → ℕ → List (ℕ × List T) → List (ℕ × List T) → Type 0
+EndsGreeting {T} n old new =
+    (IsWithout n old × (new ≡ old)) ⊎ ((at : ℕ) × (rest : List T) × (slice_get old at ≡ Some (n, rest)) × (new ≡ remove old at))

@@ -1,0 +1,19 @@
+use Rattle.std.proofs.Common.{Ok, IfOk, sym, ap, subst, ◌∙◌}
+use Rattle.shared_flow.specs.declared.round.Round.TheVariants as round
+use Rattle.shared_flow.specs.Names.{SharedSeen}
+use Rattle.shared_flow.specs.Reach.{Reach}
+use Rattle.shared_flow.specs.Rounds.{Does, WasAdmitted}
+use Rattle.shared_flow.specs.Parties.{Subscribed}
+use Rattle.shared_flow.specs.Owners.{Owning}
+use Rattle.shared_flow.specs.Looks.{WasLetInto}
+use Rattle.shared_flow.proofs.flow.SharedFlow.subscribe_with.Goals as goal
+
+pub returns-in-Ok-clause-begins : goal.returns-in-Ok-clause-begins
+returns-in-Ok-clause-begins g c =
+    let found : SharedSeen = c.take-guarded.result.state.value in
+    let after : SharedSeen = c.subscribe-number.new.self in
+    let number = c.subscribe-number.result.number in
+    let did = subst (λ (s : SharedSeen). IfOk c.subscribe-number.result.reader (λ reader. Does s (round.Subscribe (Ok number)) after × WasAdmitted s reader after)) c.deref_mut.ensures.value c.subscribe-number.ensures.ok in
+    let let_in = subst (λ r. IfOk r (λ reader. Does found (round.Subscribe (Ok number)) after × WasAdmitted found reader after)) c.in-Ok.is did in
+    let known = sym (ap (λ (o : Owning). o.party.flow) c.self.view_is) ∙ ap (λ (r : Reach). r.flow) (sym c.in_ok-access.ensures.same) ∙ c.take-guarded.ensures.named in
+    subst (λ (s : Subscribed _). WasLetInto c.args.self.now.party.flow s.number s.reader) (sym c.new.ensures) (found, after, known, let_in.0, let_in.1)

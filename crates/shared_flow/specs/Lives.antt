@@ -1,0 +1,50 @@
+-- What a subscription receives over its life: its prelude, and then what its reader takes.
+use Rattle.std.specs.Prelude.{◌≡◌, ◌⊎◌, ⊤, ℕ, ◌+◌, false, List, [], ◌∷◌, ◌++◌, length, map, Option, None, Some}
+use Rattle.std.specs.List.{range_with_len}
+use Rattle.lane_steps.specs.Law.{lost}
+use Rattle.shared_core.specs.Flow.{values_at}
+use Rattle.shared_core.specs.Story.{Interleaves}
+use Rattle.shared_core.specs.Headline.{EndsWith}
+use Rattle.shared_lane.specs.Headline.{Went, words_seen, cache_then_later, pending}
+use Rattle.shared_lane.specs.Readers.{IsSameReader}
+use Rattle.shared_lane.specs.Views.{ReaderSeen}
+
+-- A call of the subscription, or one of its looks: it was given the next value of its prelude, or its reader gave a word or none.
+pub data Turn (T : Type 0) : Type 0 where
+  greeted : T → Turn T
+  looked : Option ℕ → Turn T
+
+-- the reader gives a word only where nothing is left of the prelude
+abbrev pub IsInTurn : {T : Type 0} → List T → Option ℕ → Type 0
+IsInTurn rest None = ⊤
+IsInTurn rest (Some w) = rest ≡ []
+
+-- One turn after another, from what was left of the prelude and a reader on.
+abbrev pub LivesOn : {T : Type 0} → List T → ReaderSeen → List (Turn T) → List T → ReaderSeen → Type 0
+LivesOn rest r [] left t = (left ≡ rest) × (t ≡ r)
+LivesOn {T} rest r (greeted v ∷ turns) left t = (more : List T) × (rest ≡ v ∷ more) × LivesOn more r turns left t
+LivesOn rest r (looked x ∷ turns) left t = (m : ReaderSeen) × IsInTurn rest x × Went r x m × IsSameReader r m × LivesOn rest m turns left t
+
+-- The values that they gave.
+abbrev pub received_in : {T : Type 0} → (ℕ → T) → List (Turn T) → List T
+received_in read_as [] = []
+received_in read_as (greeted v ∷ turns) = v ∷ received_in read_as turns
+received_in read_as (looked (Some w) ∷ turns) = read_as w ∷ received_in read_as turns
+received_in read_as (looked None ∷ turns) = received_in read_as turns
+
+-- What a subscription received, then what is left of its prelude and what is pending for it, is its prelude, the replay cache at its
+-- start and all later accepted words, less those that it lost. `kept` and `dropped` are indexes of the list of the latter two; of the
+-- prelude none is lost.
+pub record ReceivesPreludeCacheThenLater {T : Type 0} (read_as : ℕ → T) (prelude left : List T) (cache : List ℕ) (start now : ReaderSeen) (received : List T) : Type 0 where
+  pub kept : List ℕ
+  pub dropped : List ℕ
+  pub received_then_pending_is_prelude_cache_then_later : received ++ (left ++ map read_as (pending now))
+      ≡ prelude ++ map read_as (values_at (cache_then_later cache start now) kept)
+  -- while some of the prelude is left, nothing else was received
+  pub prelude_comes_first : (left ≡ []) ⊎ (received ++ left ≡ prelude)
+  -- both rise, and together they are all indexes, each once
+  pub in_order_and_once : Interleaves kept dropped (range_with_len 0 (length (cache_then_later cache start now)))
+  pub in_order_of_acceptance : EndsWith (cache_then_later cache start now) (words_seen now)
+  -- those dropped are those that the sequencer moved its cursor past
+  pub dropped_are_lost : map (λ index. now.start + index) dropped ≡ lost now.start now.story
+  pub only_drop_oldest_drops : start.shape.drops ≡ false → dropped ≡ []

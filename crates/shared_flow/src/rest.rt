@@ -1,0 +1,54 @@
+//! What is left of a prelude.
+ghost use Rattle.std.specs.Prelude.{◌≡◌};
+ghost use Rattle.shared_core.specs.Preludes.{prelude_values};
+ghost use Rattle.shared_flow.specs.Preludes.{GivesFirst};
+
+use shared_core::Prelude;
+use std::marker::Model;
+
+/// The values of a prelude that its subscription wasn't given yet. Contracts see these values, in order.
+#[derive(Drop)]
+pub(crate) struct Rest<T: Copy> {
+    prelude: Prelude<T>,
+    // How many of its values were given.
+    given: u32,
+    // How many it has. Where there are none, a receipt compares two zeros and goes on.
+    count: u32,
+}
+
+impl<T: Copy> Model for Rest<T> {
+    ghost use Rattle.std.specs.Prelude.{◌≡◌, ◌≤◌, List, drop, length};
+    ghost use Rattle.shared_core.specs.Preludes.{prelude_values};
+
+    ghost Value = { List T };
+
+    ghost view = { λ r. drop r.given (prelude_values r.prelude) };
+
+    ghost invariant = { λ r. (r.count ≡ length (prelude_values r.prelude)) × (r.given ≤ r.count) };
+}
+
+impl<T: Copy> Rest<T> {
+    /// All of it.
+    pub(crate) fn of(prelude: Prelude<T>) -> Rest<T>
+        ensures { result ≡ prelude_values prelude }
+    {
+        let count = prelude.len();
+        Rest {
+            prelude,
+            given: 0,
+            count,
+        }
+    }
+
+    /// Gives the first value that is left, if one is.
+    pub(crate) fn give(&mut self) -> Option<T>
+        ensures { GivesFirst self.old result self.new }
+    {
+        if self.given == self.count {
+            return None;
+        }
+        let value = self.prelude.at(self.given);
+        self.given += 1;
+        Some(value)
+    }
+}
