@@ -2,7 +2,7 @@
 
 use crate::list_body::ListBody;
 use cold_flow::Policy;
-use shared_core::{Call, Config, SharedState, SubId, Ticket};
+use shared_core::{Call, Config, Prelude, SharedState, SubId, Ticket};
 use std::alloc::Global;
 use std::test::Fail;
 
@@ -59,6 +59,16 @@ impl Random {
         first.saturating_add(given.saturating_sub(self.below(6)))
     }
 
+    /// A subscription with a prelude of at most three values.
+    fn subscribing(&mut self) -> Call<u64> {
+        let values = [self.below(1000), self.below(1000), self.below(1000)];
+        let count = self.below(4).min(3) as usize;
+        match Prelude::of(&values[..count]) {
+            Ok(prelude) => Call::SubscribeWith(prelude),
+            Err(_) => Call::Subscribe,
+        }
+    }
+
     fn call(&mut self, body: &ListBody) -> Call<u64> {
         let first = body.config.first;
         match self.below(20) {
@@ -66,7 +76,8 @@ impl Random {
             3..=6 => Call::Start(self.below(3).min(2) as u32, self.below(1000)),
             7..=8 => Call::Poll(Ticket(self.number(first, body.given))),
             9 => Call::Withdraw(Ticket(self.number(first, body.given))),
-            10..=11 => Call::Subscribe,
+            10 => Call::Subscribe,
+            11 => self.subscribing(),
             12..=17 => Call::Next(SubId(self.number(first, body.subscribed))),
             18 => Call::Cancel(SubId(self.number(first, body.subscribed))),
             _ => match self.below(2) {

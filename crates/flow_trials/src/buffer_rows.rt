@@ -1,5 +1,6 @@
 //! Buffers, in one task and between two threads.
 
+use crate::meeting::Meeting;
 use crate::tools::{Differences, broken, listed};
 use cold_flow::{Cause, Event, Flow, Policy, Refusal, Run, Step, range, scripted};
 use flow_buffer::{Buffer, Buffered, Drain, Feed, Fill, agree, buffer, conflate, split};
@@ -188,13 +189,26 @@ fn pump<U: Run<Item = u64, Fault = u64>>(
     task.enter(|cx| feed.pump(rt, cx))
 }
 
+/// Pumps once without waiting.
+fn try_pump<U: Run<Item = u64, Fault = u64>>(
+    rt: &impl Wait,
+    task: &MockTask,
+    feed: &mut Feed<U>,
+) -> Option<Fill> {
+    task.enter(|cx| feed.try_pump(rt, cx))
+}
+
 /// Pumps until the end, and says how many values were dropped. Its thread takes no memory: a feed that gave up would
 /// leave the drain waiting.
 fn feed_all<R: Wait, U: Run<Item = u64, Fault = u64>>(
     rt: &R,
     task: &MockTask,
     feed: &mut Feed<U>,
+    meeting: &Meeting,
 ) -> u64 {
+    if !meeting.come() {
+        return 0;
+    }
     for _ in rt.forever() {
         if pump(rt, task, feed) == Fill::Ended {
             break;
@@ -213,7 +227,8 @@ struct Drained {
     end: Option<Cause<u64>>,
 }
 
-fn drain_all(rt: &impl Wait, mut drain: Drain<u64, u64>) -> Drained {
+/// Takes until the end, where the feed came.
+fn drain_all(rt: &impl Wait, mut drain: Drain<u64, u64>, meeting: &Meeting) -> Drained {
     let mut all = Drained {
         count: 0,
         rising: true,
@@ -221,6 +236,9 @@ fn drain_all(rt: &impl Wait, mut drain: Drain<u64, u64>) -> Drained {
         last: 0,
         end: None,
     };
+    if !meeting.wait() {
+        return all;
+    }
     for _ in rt.forever() {
         match drain.next(rt) {
             Event::Value(value) => {
@@ -252,7 +270,12 @@ fn split_numbers<R: Threads + Wait + RandomSource + AllocGlobal + Sync>(
     let task = MockTask::new(rt)?;
     let (mut feed, drain) = split(rt.alloc(), range::<u64>(0, bound), 4, policy)?;
     let lent = &mut feed;
-    let (dropped, all) = thread::join(rt, || feed_all(rt, &task, lent), || drain_all(rt, drain));
+    let meeting = Meeting::new();
+    let (dropped, all) = thread::join(
+        rt,
+        || feed_all(rt, &task, lent, &meeting),
+        || drain_all(rt, drain, &meeting),
+    );
     feed.cancel(rt);
     Ok((dropped, all))
 }
@@ -328,7 +351,9 @@ fn splits_between_two_threads(rt: HostRuntime) -> Result<(), Fail> {
 /// A call of a feed or of a drain, and what it has to answer.
 enum Turn {
     Pump(Fill),
+    TryPump(Option<Fill>),
     Next(Event<u64, u64>),
+    TryNext(Option<Event<u64, u64>>),
 }
 
 /// The calls of both sides in turn, then those of the drain once the feed is cancelled, and how many values were dropped and
@@ -440,6 +465,64 @@ const REFILLED_AFTER_THE_LATEST: &Turns<'_> = &Turns {
     taken: 4,
 };
 
+/// A value and an end that find no place wait in the feed. A source that was asked over one that waits would lose it.
+const NEITHER_WAITS: &Turns<'_> = &Turns {
+    name: "neither side of a split waits",
+    turns: &[
+        Turn::TryNext(None),
+        Turn::TryPump(Some(Fill::Pending)),
+        Turn::TryPump(Some(Fill::Took)),
+        Turn::TryPump(None),
+        Turn::TryPump(None),
+        Turn::TryNext(Some(Event::Value(1))),
+        Turn::TryNext(None),
+        Turn::TryPump(Some(Fill::Took)),
+        Turn::TryPump(None),
+        Turn::TryNext(Some(Event::Value(2))),
+        Turn::TryNext(None),
+        Turn::TryPump(Some(Fill::Ended)),
+        Turn::TryPump(Some(Fill::Ended)),
+        Turn::TryNext(Some(FAILURE)),
+        Turn::TryNext(Some(FAILURE)),
+    ],
+    rest: &[FAILURE],
+    dropped: 0,
+    taken: 2,
+};
+
+/// The next pump puts what waits, and so does a cancel.
+const WAITED_IS_PUT: &Turns<'_> = &Turns {
+    name: "what waited is put",
+    turns: &[
+        Turn::TryPump(Some(Fill::Took)),
+        Turn::TryPump(Some(Fill::Took)),
+        Turn::TryPump(None),
+        Turn::Next(Event::Value(1)),
+        Turn::Pump(Fill::Took),
+        Turn::TryPump(None),
+        Turn::Next(Event::Value(2)),
+        Turn::Next(Event::Value(3)),
+    ],
+    rest: &[Event::Value(4), CANCEL],
+    dropped: 0,
+    taken: 4,
+};
+
+/// Only the end waits where the policy drops, and a cancel sends it.
+const ONLY_THE_END_WAITS: &Turns<'_> = &Turns {
+    name: "only the end waits",
+    turns: &[
+        Turn::TryPump(Some(Fill::Took)),
+        Turn::TryPump(Some(Fill::Overwrote)),
+        Turn::TryPump(None),
+        Turn::TryNext(Some(Event::Value(2))),
+        Turn::TryNext(None),
+    ],
+    rest: &[FAILURE, FAILURE],
+    dropped: 1,
+    taken: 1,
+};
+
 /// How many turns, from the first on, were answered as they say.
 fn taken_turns<U: Run<Item = u64, Fault = u64>>(
     rt: &impl Wait,
@@ -451,7 +534,9 @@ fn taken_turns<U: Run<Item = u64, Fault = u64>>(
     for (number, turn) in turns.iter().enumerate() {
         let same = match turn {
             Turn::Pump(wanted) => pump(rt, task, feed) == *wanted,
+            Turn::TryPump(wanted) => try_pump(rt, task, feed) == *wanted,
             Turn::Next(wanted) => drain.next(rt) == *wanted,
+            Turn::TryNext(wanted) => drain.try_next(rt) == *wanted,
         };
         if !same {
             return number;
@@ -491,6 +576,80 @@ fn turns_of_a_split(rt: HostRuntime) -> Result<(), Fail> {
     let sides = split(alloc, steps, 1, Policy::Suspend)?;
     compare_turns(&rt, &mut all, &task, sides, ONE_END)?;
     all.assert_none(&rt);
+    Ok(())
+}
+
+#[test]
+fn turns_that_do_not_wait(rt: HostRuntime) -> Result<(), Fail> {
+    const STEPS: &[Step<u64, u64>] = &[
+        Step::Pending,
+        Step::Value(1),
+        Step::Value(2),
+        Step::Fail(6),
+    ];
+    let alloc = rt.alloc();
+    let task = MockTask::new(&rt)?;
+    let mut all = Differences::none(alloc);
+    let steps = scripted(STEPS.to_vec(alloc)?);
+    let sides = split(alloc, steps, 1, Policy::Suspend)?;
+    compare_turns(&rt, &mut all, &task, sides, NEITHER_WAITS)?;
+    let sides = split(alloc, range::<u64>(1, 9), 2, Policy::Suspend)?;
+    compare_turns(&rt, &mut all, &task, sides, WAITED_IS_PUT)?;
+    let sides = split(alloc, broken(alloc, &[1, 2], 6)?, 1, Policy::DropOldest)?;
+    compare_turns(&rt, &mut all, &task, sides, ONLY_THE_END_WAITS)?;
+    all.assert_none(&rt);
+    Ok(())
+}
+
+/// How many turns a side takes at most that doesn't wait.
+const TURNS: u64 = 5_000_000;
+
+/// Pumps without waiting, and says whether the end came within the turns.
+fn feed_by_turns<R: Wait, U: Run<Item = u64, Fault = u64>>(
+    rt: &R,
+    task: &MockTask,
+    feed: &mut Feed<U>,
+) -> bool {
+    for _ in 0..TURNS {
+        match try_pump(rt, task, feed) {
+            Some(Fill::Ended) => return true,
+            Some(_) => {}
+            None => thread::yield_now(),
+        }
+    }
+    false
+}
+
+/// Takes without waiting, and says how many of the numbers from 0 up came in order, where the end came within the turns.
+fn drain_by_turns(rt: &impl Wait, drain: &mut Drain<u64, u64>) -> Option<u64> {
+    let mut count: u64 = 0;
+    for _ in 0..TURNS {
+        match drain.try_next(rt) {
+            Some(Event::Value(value)) if value == count => count = count.saturating_add(1),
+            Some(Event::Value(_)) => {}
+            Some(Event::End(_)) => return Some(count),
+            None => thread::yield_now(),
+        }
+    }
+    None
+}
+
+#[test]
+fn neither_side_waits_for_the_other(rt: HostRuntime) -> Result<(), Fail> {
+    let task = MockTask::new(&rt)?;
+    let (mut feed, mut drain) = split(rt.alloc(), range::<u64>(0, 1000), 4, Policy::Suspend)?;
+    let (lent, other) = (&mut feed, &mut drain);
+    let ends = thread::join(
+        &rt,
+        || feed_by_turns(&rt, &task, lent),
+        || drain_by_turns(&rt, other),
+    );
+    // Where a side gave up, the feed's last messages find room by this.
+    for _ in 0..4 {
+        let _ = drain.try_next(&rt);
+    }
+    feed.cancel(&rt);
+    assert_eq!(rt; ends, (true, Some(1000)));
     Ok(())
 }
 

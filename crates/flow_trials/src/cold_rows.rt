@@ -1,6 +1,6 @@
 //! Cold flows poll by poll: the worked examples, each operator and end once with ample memory, and cancelled runs.
 ghost use Rattle.std.specs.Prelude.{◌≡◌, ◌%◌, nat_lt, Some};
-ghost use Rattle.cold_flow.specs.declared.operators.few.Few.TheVariants.{Two};
+ghost use Rattle.flow_terms.specs.declared.few.Few.TheVariants.{Two};
 
 use crate::tools::{
     Add, Answer, Polling, Sum, assert_list, assert_polls, assert_same, broken, listed, next,

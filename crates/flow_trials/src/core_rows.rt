@@ -4,7 +4,7 @@ use crate::tools::{Differences, assert_same};
 use cold_flow::{Policy, Refusal};
 use flow_callers::{received_in_turn, received_once};
 use shared_core::{
-    Begun, Call, Config, Emit, Next, Reply, SharedState, SubId, Ticket, Tried, Withdrawn,
+    Begun, Call, Config, Emit, Next, Prelude, Reply, SharedState, SubId, Ticket, Tried, Withdrawn,
 };
 use std::alloc::{AllocError, Global};
 use std::process::Abort;
@@ -37,6 +37,7 @@ const HANDING_OVER: Config = Config {
 type Exchange = (Call<u64>, Reply<u64>);
 
 /// The calls of a new flow with their replies, and its replay cache after them.
+#[derive(Clone, Copy)]
 struct Row<'a> {
     name: &'a str,
     config: Config,
@@ -277,6 +278,7 @@ fn reply_to(flow: &mut SharedState<u64>, call: Call<u64>) -> Reply<u64> {
         Call::Poll(ticket) => Reply::Emit(flow.poll_emit(ticket)),
         Call::Withdraw(ticket) => Reply::Withdrawn(flow.cancel_emit(ticket)),
         Call::Subscribe => Reply::Sub(flow.subscribe()),
+        Call::SubscribeWith(prelude) => Reply::Sub(flow.subscribe_with(prelude)),
         Call::Next(id) => Reply::Next(flow.next(id)),
         Call::Cancel(id) => Reply::Cancelled(flow.cancel(id)),
         Call::Reset => {
@@ -372,6 +374,100 @@ fn calls_are_replied_to(rt: HostRuntime) -> Result<(), Fail> {
     differences.assert_none(&rt);
     let refused = SharedState::<u64>::new(rt.alloc(), OVER);
     assert!(rt; matches!(refused, Err(Refusal::BadLimit)));
+    Ok(())
+}
+
+#[test]
+fn preludes_are_received_first(rt: HostRuntime) -> Result<(), Fail> {
+    let first = [
+        (Call::Try(0, 1), Reply::Tried(Ok(Tried::Accepted(0)))),
+        (
+            Call::SubscribeWith(Prelude::of(&[8, 9])?),
+            Reply::Sub(Ok(SubId(0))),
+        ),
+        (Call::Try(0, 2), Reply::Tried(Ok(Tried::Accepted(1)))),
+        (Call::Try(0, 3), Reply::Tried(Ok(Tried::Full))),
+        (Call::Next(SubId(0)), Reply::Next(Next::Value(8))),
+        (Call::Try(0, 3), Reply::Tried(Ok(Tried::Full))),
+        (Call::Next(SubId(0)), Reply::Next(Next::Value(9))),
+        (Call::Next(SubId(0)), Reply::Next(Next::Value(1))),
+        (Call::Next(SubId(0)), Reply::Next(Next::Value(2))),
+        (Call::Next(SubId(0)), Reply::Next(Next::Nothing)),
+    ];
+    let handed_over = [
+        (
+            Call::SubscribeWith(Prelude::of(&[5])?),
+            Reply::Sub(Ok(SubId(0))),
+        ),
+        EMISSION_WAITS,
+        (Call::Poll(Ticket(0)), Reply::Emit(Emit::Waiting)),
+        (Call::Next(SubId(0)), Reply::Next(Next::Value(5))),
+        (Call::Poll(Ticket(0)), Reply::Emit(Emit::Waiting)),
+        FIRST_RECEIVES,
+        (Call::Poll(Ticket(0)), Reply::Emit(Emit::Done(0))),
+    ];
+    let survives = [
+        (
+            Call::SubscribeWith(Prelude::of(&[5])?),
+            Reply::Sub(Ok(SubId(0))),
+        ),
+        (Call::Try(0, 1), Reply::Tried(Ok(Tried::Accepted(0)))),
+        (Call::Try(0, 2), Reply::Tried(Ok(Tried::Accepted(1)))),
+        (Call::Next(SubId(0)), Reply::Next(Next::Value(5))),
+        (Call::Next(SubId(0)), Reply::Next(Next::Value(2))),
+        (Call::Next(SubId(0)), Reply::Next(Next::Nothing)),
+    ];
+    let given_up = [
+        (
+            Call::SubscribeWith(Prelude::of(&[1, 2])?),
+            Reply::Sub(Ok(SubId(0))),
+        ),
+        (Call::Next(SubId(0)), Reply::Next(Next::Value(1))),
+        (Call::Cancel(SubId(0)), Reply::Cancelled(true)),
+        (Call::Next(SubId(0)), Reply::Next(Next::Closed)),
+    ];
+    let dropping = Config {
+        policy: Policy::DropOldest,
+        ..PLAIN
+    };
+    let replaying = Config { replay: 1, ..PLAIN };
+    let rows = [
+        ("prelude_first", replaying, &first[..], &[2][..]),
+        ("prelude_at_hand_over", HANDING_OVER, &handed_over[..], &[]),
+        ("prelude_survives_drop", dropping, &survives[..], &[]),
+        ("prelude_given_up", HANDING_OVER, &given_up[..], &[]),
+    ];
+    let mut differences = Differences::none(rt.alloc());
+    for (name, config, exchanges, cache) in rows {
+        compare_row(
+            &mut differences,
+            rt.alloc(),
+            &Row {
+                name,
+                config,
+                exchanges,
+                cache,
+            },
+        )?;
+    }
+    differences.assert_none(&rt);
+    Ok(())
+}
+
+#[test]
+fn preludes_have_16_values_at_most(rt: HostRuntime) -> Result<(), Fail> {
+    let values: [u64; 17] = [1, 2, 3, 4, 5, 6, 7, 8, 9, 10, 11, 12, 13, 14, 15, 16, 17];
+    assert!(rt; matches!(Prelude::of(&values), Err(Refusal::PreludeTooLong)));
+    let prelude = Prelude::of(&values[..16])?;
+    assert_same(&rt, "length of a prelude", prelude.len(), 16);
+    for index in 0..prelude.len() {
+        assert_same(
+            &rt,
+            "value of a prelude",
+            prelude.at(index),
+            values[index as usize],
+        );
+    }
     Ok(())
 }
 

@@ -247,7 +247,8 @@ impl Reading<'_> {
     }
 }
 
-// One thread emits, and each of two others takes what it can. Whether all was emitted.
+// One thread emits, and each of two others takes what it can. Whether all was emitted. Where no thread can be had, the last is
+// called first, so it is the one that waits for nobody.
 fn run_all<R: Threads + Sync>(
     rt: &R,
     stage: &mut Sending<'_>,
@@ -257,10 +258,10 @@ fn run_all<R: Threads + Sync>(
     ensures { (stage.new.lane ≡ stage.old.lane) × (first.new.lane ≡ first.old.lane) × (second.new.lane ≡ second.old.lane) }
 {
     let over = AtomicBool::new(false);
-    let (are_accepted, ()) = join_mut(
+    let ((), are_accepted) = join_mut(
         rt,
-        &mut || stage.emit_all(&over),
         &mut || take_both(rt, first, second, &over),
+        &mut || stage.emit_all(&over),
     );
     are_accepted
 }

@@ -21,7 +21,7 @@ const READERS: usize = 4;
 const WORDS: u64 = 1000;
 
 /// How often a thread asks at most. It yields where it gets nothing.
-const TURNS: u32 = 20_000_000;
+const TURNS: u32 = 5_000_000;
 
 /// A sequencer with its lane.
 #[derive(Drop)]
@@ -210,17 +210,18 @@ fn admit_all<'a, R: Abort>(
     readers
 }
 
-// The sequencer and the readers run, each in a thread of its own. Whether all was emitted.
+// The sequencer and the readers run, each in a thread of its own. Whether all was emitted. Where no thread can be had, the last is
+// called first, and under the dropping policies it waits for nobody.
 fn run_all<R: Threads + Sync>(
     rt: &R,
     stage: &mut Stage<'_>,
     readers: &mut Vec<Listening<'_>>,
 ) -> bool {
     let over = AtomicBool::new(false);
-    let (emitted, ()) = join_mut(
+    let ((), emitted) = join_mut(
         rt,
-        &mut || emit_all(stage, &over),
         &mut || listen_all(rt, readers, &over),
+        &mut || emit_all(stage, &over),
     );
     emitted
 }

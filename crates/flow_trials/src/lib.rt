@@ -24,6 +24,8 @@ mod lane_threads;
 #[cfg(test)]
 mod list_body;
 #[cfg(test)]
+mod meeting;
+#[cfg(test)]
 mod memory_rows;
 #[cfg(test)]
 mod merge_rows;

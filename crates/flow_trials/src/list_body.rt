@@ -7,17 +7,18 @@ mod emissions;
 mod subscriptions;
 
 use cold_flow::{Policy, Refusal};
-use shared_core::{Call, Config, Reply};
+use shared_core::{Call, Config, Prelude, Reply};
 use std::alloc::{AllocError, Global};
 use std::collections::VecDeque;
 
 /// Numbers stay below this.
 const NUMBER_LIMIT: u64 = 1 << 62;
 
-/// A live subscription: its number, and its pending values.
+/// A live subscription: its number, what is left of its prelude, and its pending values.
 #[derive(Drop)]
 pub struct Place {
     pub number: u64,
+    pub prelude: VecDeque<u64>,
     pub pending: VecDeque<u64>,
 }
 
@@ -51,6 +52,15 @@ pub struct ListBody {
     /// The accepted emissions whose ticket is out, and those that wait for room, the oldest first.
     pub accepted: VecDeque<Accepted>,
     pub waiting: VecDeque<Waiting>,
+}
+
+/// The values of a prelude.
+fn values_of(alloc: Global, prelude: &Prelude<u64>) -> Result<VecDeque<u64>, AllocError> {
+    let mut values = VecDeque::new(alloc);
+    for index in 0..prelude.len() {
+        values.push_back(prelude.at(index))?;
+    }
+    Ok(values)
 }
 
 impl ListBody {
@@ -88,7 +98,11 @@ impl ListBody {
             Call::Start(_, value) => Reply::Begun(self.start_emit(value)?),
             Call::Poll(ticket) => Reply::Emit(self.poll_emit(ticket.0)),
             Call::Withdraw(ticket) => Reply::Withdrawn(self.cancel_emit(ticket.0)),
-            Call::Subscribe => Reply::Sub(self.subscribe(alloc)?),
+            Call::Subscribe => Reply::Sub(self.subscribe(alloc, VecDeque::new(alloc))?),
+            Call::SubscribeWith(prelude) => {
+                let values = values_of(alloc, &prelude)?;
+                Reply::Sub(self.subscribe(alloc, values)?)
+            }
             Call::Next(id) => Reply::Next(self.next(id.0)?),
             Call::Cancel(id) => Reply::Cancelled(self.cancel(id.0)?),
             Call::Reset => {

@@ -161,6 +161,10 @@ const LINES: &[(&[u8], &[u8])] = &[
         b"ok\nok\nline 3: bad command\nline 4: bad command\nline 5: bad command\nline 6: bad command\nline 7: bad command\nline 8: bad command\n",
     ),
     (
+        b"shared f 0 1 suspend\nsub f a with\nsub f a with 1,p\nsub f a with 1, 2\nsub f a 1\nsub f a with 1,2 3\nsub f a with 1,\nstate s 1\nsub s b with 1\nsub f a with 007\nnext a\n",
+        b"ok\nline 2: bad command\nline 3: bad command\nline 4: bad command\nline 5: bad command\nline 6: bad command\nline 7: bad command\nok\nline 9: bad command\nok\nvalue 7\n",
+    ),
+    (
         b"state s 18446744073709551615\nvalue s\nstate t 18446744073709551616\nset s 0\nvalue s\ncount s\n",
         b"ok\nvalue 18446744073709551615\nline 3: bad command\nok\nvalue 0\n0\n",
     ),

@@ -13,7 +13,7 @@ use crate::shared_stage::{Answer, Emitting, Listening};
 use crate::tools::assert_same;
 use cold_flow::Policy;
 use shared_core::{Config, Tried};
-use shared_flow::{Emitter, Held, Met, Receipt, SharedFlow, Subscription, Taken};
+use shared_flow::{Emitter, Held, Met, Parker, Prelude, Receipt, SharedFlow, Subscription, Taken};
 use state_flow::{StateFlow, StateSeat};
 use std::alloc::AllocGlobal;
 use std::process::Abort;
@@ -266,6 +266,62 @@ fn a_subscription_is_counted(rt: HostRuntime) -> Result<(), Fail> {
         last,
         (Taken::Value(5), Taken::Nothing),
     );
+    assert!(rt; idle);
+    Ok(())
+}
+
+// The values of a prelude come first, and no count counts them. With the lock `next` would wait for good.
+#[test]
+fn a_prelude_passes_a_held_lock(rt: HostRuntime) -> Result<(), Fail> {
+    let config = Config {
+        replay: 1,
+        first: 10,
+        ..PLAIN
+    };
+    let mut parker = Parker::new(&rt)?;
+    let prelude = Prelude::of(&[7, 8, 9])?;
+    let mut flow = SharedFlow::new(rt.alloc(), config)?;
+    let mut emitting = Emitting::new(&rt, &mut flow, 1);
+    let accepted = emitting.perform(&rt, Try(1));
+    let mut subscription = flow
+        .subscribe_with(&rt, prelude)
+        .expect(&rt, "a subscription");
+    let mut held = flow.hold(&rt);
+    let first = subscription.try_next();
+    let second = subscription.next(&rt, &mut parker);
+    let met = held.meet(&mut subscription);
+    held.release(&rt);
+    let third = subscription.try_next();
+    let counts = (
+        subscription.start(),
+        subscription.received(),
+        subscription.dropped(),
+    );
+    let last = (subscription.try_next(), subscription.try_next());
+    let received = subscription.received();
+    subscription.cancel(&rt);
+    let idle = emitting.close(&rt);
+    assert_same(&rt, "the cache", accepted, Accepted(10));
+    assert_same(
+        &rt,
+        "the prelude",
+        (first, second, third),
+        (Taken::Value(7), Ok(8), Taken::Value(9)),
+    );
+    let wanted = Met {
+        accepted: 1,
+        received: 0,
+        dropped: 0,
+    };
+    assert_same(&rt, "met", met, wanted);
+    assert_same(&rt, "start, received, dropped", counts, (10, 0, 0));
+    assert_same(
+        &rt,
+        "the flow's value",
+        last,
+        (Taken::Value(1), Taken::Nothing),
+    );
+    assert_same(&rt, "received at last", received, 1);
     assert!(rt; idle);
     Ok(())
 }

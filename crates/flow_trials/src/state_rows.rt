@@ -296,10 +296,11 @@ fn collect_to_last(seat: StateSeat<u64>) -> (bool, u64) {
 fn three_threads_collect_what_one_sets(rt: HostRuntime) -> Result<(), Fail> {
     let mut setter = StateFlow::new(rt.alloc(), 0u64, 4)?;
     let seats = take_seats(&mut setter, Vec::new(rt.alloc()), 3)?;
-    let ((), collected) = thread::join(
+    // Where no thread can be had, the last is called first.
+    let (collected, ()) = thread::join(
         &rt,
-        || set_up_to_last(&mut setter),
         || thread::map_vec(&rt, seats, &collect_to_last),
+        || set_up_to_last(&mut setter),
     );
     let collected = collected?;
     assert_eq!(rt; collected.as_slice(), [(true, LAST + 1); 3].as_slice());

@@ -2,6 +2,7 @@
 
 ghost use Rattle.std.specs.Prelude.{◌≡◌, None};
 
+use crate::meeting::Meeting;
 use crate::shared_stage::config;
 use crate::tools::assert_same;
 use cold_flow::{Policy, Refusal};
@@ -36,7 +37,15 @@ fn emitted<R: Wait>(
 }
 
 // Emits the values, and says how many were accepted under their own numbers.
-fn emit_all<R: Wait>(rt: &R, emitter: &mut Emitter<u64>, parker: &mut Parker) -> u64 {
+fn emit_all<R: Wait>(
+    rt: &R,
+    emitter: &mut Emitter<u64>,
+    parker: &mut Parker,
+    meeting: &Meeting,
+) -> u64 {
+    if !meeting.come() {
+        return 0;
+    }
     for value in 0..VALUES {
         if emitter.in_flight() {
             return value;
@@ -50,7 +59,15 @@ fn emit_all<R: Wait>(rt: &R, emitter: &mut Emitter<u64>, parker: &mut Parker) ->
 }
 
 // Receives the values, and says how many came in order. It asks once more where there was no memory to wait by.
-fn receive_all<R: Wait>(rt: &R, subscription: &mut Subscription<u64>, parker: &mut Parker) -> u64 {
+fn receive_all<R: Wait>(
+    rt: &R,
+    subscription: &mut Subscription<u64>,
+    parker: &mut Parker,
+    meeting: &Meeting,
+) -> u64 {
+    if !meeting.wait() {
+        return 0;
+    }
     for wanted in 0..VALUES {
         let found = match subscription.next(rt, parker) {
             Ok(value) => Ok(value),
@@ -79,10 +96,11 @@ where
             return Err(refusal);
         }
     };
+    let meeting = Meeting::new();
     let passed = thread::join(
         rt,
-        || emit_all(rt, &mut emitter, &mut first),
-        || receive_all(rt, &mut subscription, &mut second),
+        || emit_all(rt, &mut emitter, &mut first, &meeting),
+        || receive_all(rt, &mut subscription, &mut second, &meeting),
     );
     subscription.cancel(rt);
     emitter.close(rt);

@@ -7,10 +7,11 @@ use std::alloc::{AllocError, Global};
 use std::collections::VecDeque;
 
 impl ListBody {
-    /// A new subscription gets a copy of the replay cache.
+    /// A new subscription gets its prelude and a copy of the replay cache.
     pub(crate) fn subscribe(
         &mut self,
         alloc: Global,
+        prelude: VecDeque<u64>,
     ) -> Result<Result<SubId, Refusal>, AllocError> {
         let number = self.config.first.saturating_add(self.subscribed);
         if number == NUMBER_LIMIT {
@@ -23,7 +24,11 @@ impl ListBody {
         for value in &self.cache {
             pending.push_back(*value)?;
         }
-        self.live.push_back(Place { number, pending })?;
+        self.live.push_back(Place {
+            number,
+            prelude,
+            pending,
+        })?;
         self.subscribed = self.subscribed.saturating_add(1);
         Ok(Ok(SubId(number)))
     }
@@ -45,6 +50,9 @@ impl ListBody {
         let Some(place) = self.live.get_mut(at) else {
             return Ok(Next::Closed);
         };
+        if let Some(value) = place.prelude.pop_front() {
+            return Ok(Next::Value(value));
+        }
         let Some(value) = place.pending.pop_front() else {
             return Ok(Next::Nothing);
         };
@@ -61,11 +69,11 @@ impl ListBody {
         Ok(true)
     }
 
-    /// How many values the subscription has pending, and 0 where it isn't live.
+    /// How many values the subscription has pending, what is left of its prelude counted in, and 0 where it isn't live.
     pub(crate) fn pending(&self, number: u64) -> u64 {
         for place in &self.live {
             if place.number == number {
-                return place.pending.len() as u64;
+                return (place.prelude.len() as u64).saturating_add(place.pending.len() as u64);
             }
         }
         0

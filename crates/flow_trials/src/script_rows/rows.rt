@@ -112,6 +112,31 @@ pub const ROWS: &[Row] = &[
         script: "shared f 0 1 suspend ; try f 18446744073709551616 ; try f 000000000000000000001 ; try f 00000000000000000001 ; sub f A ; next f",
         answers: "ok ; line 2: bad command ; line 3: bad command ; accepted ; line 5: bad command ; line 6: bad command",
     },
+    Row {
+        name: "prelude_first",
+        script: "shared f 1 1 suspend ; try f 1 ; sub f a with 8,9 ; try f 2 ; try f 3 ; next a ; try f 3 ; next a ; next a ; next a ; next a",
+        answers: "ok ; accepted ; ok ; accepted ; full ; value 8 ; full ; value 9 ; value 1 ; value 2 ; pending",
+    },
+    Row {
+        name: "prelude_at_hand_over",
+        script: "shared f 0 0 suspend ; sub f a with 5 ; emit f e 1 ; poll e ; next a ; poll e ; next a ; poll e",
+        answers: "ok ; ok ; waiting ; waiting ; value 5 ; waiting ; value 1 ; done",
+    },
+    Row {
+        name: "prelude_survives_drop",
+        script: "shared f 0 1 oldest ; sub f a with 5 ; try f 1 ; try f 2 ; next a ; next a ; next a",
+        answers: "ok ; ok ; accepted ; accepted ; value 5 ; value 2 ; pending",
+    },
+    Row {
+        name: "prelude_limit",
+        script: "shared f 0 0 suspend ; sub f a with 1,2,3,4,5,6,7,8,9,10,11,12,13,14,15,16,17 ; sub f a with 1,2,3,4,5,6,7,8,9,10,11,12,13,14,15,16 ; next a ; cancel a ; next a",
+        answers: "ok ; refused 10 ; ok ; value 1 ; ok ; closed",
+    },
+    Row {
+        name: "prelude_of_a_sharing",
+        script: "share f 0 1 suspend eager of 1 ; sub f a with 9 ; tick f 0 ; next a ; next a ; sub f b with 1,2,3,4,5,6,7,8,9,10,11,12,13,14,15,16,17",
+        answers: "ok ; ok ; on ; value 9 ; value 1 ; refused 10",
+    },
     STATE_CONFLATES,
     Row {
         name: "seats_full",
