@@ -1,0 +1,2 @@
+pub mod Wishes
+pub mod Statuses

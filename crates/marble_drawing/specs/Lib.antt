@@ -1,0 +1,4 @@
+pub mod Inputs
+pub mod Ends
+pub mod Replied
+pub mod Pictures

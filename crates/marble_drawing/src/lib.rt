@@ -1,0 +1,8 @@
+//! Draws a script: it is run as `flow_runner` runs it, and the marks of its lines and answers are written as a picture.
+#![tactic(auto)]
+
+mod drawing;
+mod input;
+
+pub use drawing::{Form, answers_of, draw_script};
+pub use input::read_script;

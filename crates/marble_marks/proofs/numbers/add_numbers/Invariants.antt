@@ -1,0 +1,11 @@
+use Rattle.std.proofs.Common.{◌≡◌, ◌++◌, map, drop}
+use Rattle.std.specs.List.{flat_map}
+use Rattle.marble_marks.specs.Deeds.{done_in}
+use Rattle.marble_marks.specs.Marks.{mark_in}
+use Rattle.marble_marks.specs.Numbers.{numbered_on}
+use Rattle.marble_marks.proofs.numbers.add_numbers.Given as goal
+
+abbrev pub invariant-loop-name : goal.invariant-loop-name
+invariant-loop-name l =
+    let names = map (λ known. known.now) l.names in
+    map mark_in l.marks.items ++ flat_map (numbered_on names (map done_in l.all)) (map (λ known. known.now) (drop l.name-index l.names)) ≡ map mark_in l.fn.marks.items ++ flat_map (numbered_on names (map done_in l.all)) names

@@ -1,0 +1,13 @@
+use Rattle.std.proofs.Common.{◌≡◌, ◌≤◌, ◌+◌, ◌++◌, length, map}
+use Rattle.script_words.specs.Lines.{lines_of}
+use Rattle.marble_marks.specs.Turns.{asked_in, asked_from, asked_of}
+use Rattle.marble_marks.proofs.turn.turns.Given as goal
+
+abbrev pub invariant-loop-line : goal.invariant-loop-line
+invariant-loop-line l = record {
+  read : map asked_in l.turns.items ++ asked_from (length l.turns.items) l.number (lines_of l.lines.rest.now) (lines_of l.said.rest.now) ≡ asked_of l.script l.answers;
+  room : l.number + length l.lines.rest.now ≤ 1048576;
+}
+
+abbrev pub decreases-loop-line : goal.decreases-loop-line
+decreases-loop-line l = length l.lines.rest.now

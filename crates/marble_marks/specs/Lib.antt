@@ -1,0 +1,9 @@
+pub mod Replies
+pub mod Turns
+pub mod Happenings
+pub mod Marks
+pub mod Deeds
+pub mod Numbers
+pub mod Losses
+pub mod Showing
+pub mod Receipts

@@ -1,0 +1,15 @@
+//! The marks of a picture of a script: which there are, and where they stand, by the script's lines and their answers.
+#![tactic(auto)]
+
+mod deed;
+mod happening;
+mod ledger;
+mod loss;
+mod mark;
+mod marking;
+mod numbers;
+mod reply;
+mod turn;
+
+pub use mark::{Kind, Mark, Row};
+pub use marking::marks;

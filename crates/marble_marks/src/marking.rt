@@ -1,0 +1,150 @@
+//! Makes the marks of a picture.
+
+ghost use Rattle.std.specs.Prelude.{◌≡◌, ◌≤◌, ◌++◌, Option, length, map, IfOk, OnOk};
+ghost use Rattle.std.specs.Option.{option_map};
+ghost use Rattle.std.specs.List.{flat_map};
+ghost use Rattle.marble_marks.specs.Turns.{asked_in, asked_of};
+ghost use Rattle.marble_marks.specs.Happenings.{happening_in};
+ghost use Rattle.marble_marks.specs.Marks.{shown, name_of, names_in, row_of, mark_in, line_mark, marks_at, marks_of};
+ghost use Rattle.marble_marks.specs.Receipts.{receipts_in, receipts_of};
+ghost use Rattle.marble_marks.specs.Showing.{Shows};
+
+use crate::deed::acts;
+use crate::happening::{Happening, happening_of};
+use crate::ledger::losses_in;
+use crate::loss::add_losses;
+use crate::mark::{Kind, Mark};
+use crate::numbers::add_numbers;
+use crate::reply::Reply;
+use crate::turn::{Turn, turns};
+use std::alloc::{AllocError, Global};
+
+/// What a line shows on a row.
+fn shown<'a>(turn: &Turn<'a>) -> Option<Happening<'a>>
+    ensures { option_map happening_in result ≡ shown (asked_in turn.now) }
+{
+    let command = turn.command?;
+    happening_of(command, Reply::of(turn.answer))
+}
+
+/// The name that a line binds to a row of its own.
+fn name_of<'a>(turn: &Turn<'a>) -> Option<&'a [u8]>
+    ensures { option_map (λ name. name.now) result ≡ name_of (asked_in turn.now) }
+{
+    let Happening { name, kind } = shown(turn)?;
+    match kind {
+        Kind::Begun(_) => Some(name),
+        _ => None,
+    }
+}
+
+/// The names that have rows, in the order of these.
+fn names_in<'a>(alloc: Global, turns: &[Turn<'a>]) -> Result<Vec<&'a [u8]>, AllocError>
+    ensures { IfOk result (λ names. map (λ name. name.now) names.items ≡ names_in (map asked_in turns.now)) }
+{
+    let mut names = Vec::new(alloc);
+    for turn in turns {
+        if let Some(name) = name_of(turn) {
+            names.push(name)?;
+        }
+    }
+    Ok(names)
+}
+
+/// The row of a name.
+pub(crate) fn row_of(names: &[&[u8]], name: &[u8]) -> usize
+    ensures { result ≡ row_of (map (λ known. known.now) names.now) name.now }
+{
+    let mut row = 1;
+    for known in names {
+        if *known == name {
+            return row;
+        }
+        row += 1;
+    }
+    row
+}
+
+/// The mark at the head of a line's column.
+fn line_mark<'a>(turn: &Turn<'a>) -> Mark<'a>
+    ensures { mark_in result ≡ line_mark (asked_in turn.now) }
+{
+    let kind = match Reply::of(turn.answer) {
+        Reply::Bad => Kind::Bad(turn.number),
+        _ => Kind::Line(turn.number),
+    };
+    Mark {
+        column: turn.column,
+        row: 0,
+        kind,
+        text: turn.line,
+    }
+}
+
+/// Adds the marks of a line.
+fn add_marks<'a>(
+    marks: &mut Vec<Mark<'a>>,
+    names: &[&'a [u8]],
+    turn: &Turn<'a>,
+) -> Result<(), AllocError>
+    ensures { OnOk result (map mark_in marks.new.items ≡ map mark_in marks.old.items ++ marks_at (map (λ known. known.now) names.now) (asked_in turn.now)) }
+{
+    marks.push(line_mark(turn))?;
+    let Some(Happening { name, kind }) = shown(turn) else {
+        return Ok(());
+    };
+    let row = row_of(names, name);
+    marks.push(Mark {
+        column: turn.column,
+        row,
+        kind,
+        text: turn.answer,
+    })?;
+    if let Kind::Begun(begun) = kind {
+        marks.push(Mark {
+            column: 0,
+            row,
+            kind: Kind::Named(begun),
+            text: name,
+        })?;
+    }
+    Ok(())
+}
+
+/// The marks of these lines, where these names have rows.
+fn marks_in<'a>(
+    alloc: Global,
+    names: &[&'a [u8]],
+    turns: &[Turn<'a>],
+) -> Result<Vec<Mark<'a>>, AllocError>
+    ensures { IfOk result (λ marks. map mark_in marks.items ≡ flat_map (marks_at (map (λ known. known.now) names.now)) (map asked_in turns.now)) }
+{
+    let mut marks = Vec::new(alloc);
+    for turn in turns {
+        add_marks(&mut marks, names, turn)?;
+    }
+    Ok(marks)
+}
+
+/// The marks of a script with these answers, which are lines, one for each line of the script that has one. First come the
+/// marks of what each answer shows by itself, in the order of the lines; then those of the emissions' numbers, and of the
+/// values that made way.
+#[tactic(auto, using(crate::proofs::Receiving::all_counted))]
+pub fn marks<'a>(
+    alloc: Global,
+    script: &'a [u8],
+    answers: &'a [u8],
+) -> Result<Vec<Mark<'a>>, AllocError>
+    requires { length script.now ≤ 1048576 }
+    ensures marks { IfOk result (λ marks. Shows (asked_of script.now answers.now) (map mark_in marks.items)) }
+    ensures received { IfOk result (λ marks. receipts_in (map mark_in marks.items) ≡ receipts_of (asked_of script.now answers.now)) }
+{
+    let turns = turns(alloc, script, answers)?;
+    let names = names_in(alloc, &turns)?;
+    let acts = acts(alloc, &turns)?;
+    let losses = losses_in(alloc, &turns)?;
+    let mut marks = marks_in(alloc, &names, &turns)?;
+    add_numbers(&mut marks, &names, &acts)?;
+    add_losses(&mut marks, &names, &acts, &losses)?;
+    Ok(marks)
+}

@@ -1,0 +1,195 @@
+-- What marks look like in SVG.
+use Rattle.std.specs.Prelude.{ℕ, ◌+◌, ◌-◌, ◌*◌, ◌/◌, Bool, true, false, List, [], ◌∷◌, ◌++◌, length, min, Option, Some, None, codes, decimal, ◌==◌, if◌then◌else◌}
+use Rattle.std.specs.List.{flat_map}
+use Rattle.marble_marks.specs.declared.mark.Kind.{Kind}
+use Rattle.marble_marks.specs.declared.mark.Kind.TheVariants as kinds
+use Rattle.marble_marks.specs.declared.mark.Mark.{Mark}
+use Rattle.marble_marks.specs.declared.mark.Row.{Row}
+use Rattle.marble_marks.specs.declared.mark.Row.TheVariants as rows
+use Rattle.marble_pictures.specs.declared.sheet.Sheet.{Sheet}
+use Rattle.marble_pictures.specs.declared.steps.Place.{Place}
+use Rattle.marble_pictures.specs.declared.symbol.Frame.{Frame}
+use Rattle.marble_pictures.specs.declared.symbol.Placed.{Placed}
+use Rattle.marble_pictures.specs.declared.symbol.Segment.{Segment}
+use Rattle.marble_pictures.specs.Captions.{plain_byte, words_of}
+
+-- ---- places
+
+-- a sum or a product that is at most the largest number
+abbrev pub bounded : ℕ → ℕ
+bounded number = min number 18446744073709551615
+
+abbrev pub place : ℕ → ℕ → Place
+place x y = record { x = x; y = y }
+
+abbrev pub left : ℕ → Place → Place
+left by at = place (at.x - by) at.y
+
+abbrev pub right : ℕ → Place → Place
+right by at = place (bounded (at.x + by)) at.y
+
+abbrev pub up : ℕ → Place → Place
+up by at = place at.x (at.y - by)
+
+abbrev pub down : ℕ → Place → Place
+down by at = place at.x (bounded (at.y + by))
+
+-- the middle of a column, and of a row
+abbrev pub x_of : Sheet → ℕ → ℕ
+x_of sheet column = bounded (bounded (bounded ((column - 1) * sheet.column) + sheet.names) + sheet.column / 2)
+
+abbrev pub y_of : ℕ → ℕ
+y_of row = bounded (bounded (row * 44) + 22)
+
+abbrev pub place_of : Sheet → Mark → Place
+place_of sheet mark = place (x_of sheet mark.column) (y_of mark.row)
+
+-- ---- texts and lines
+
+-- what has a meaning in SVG by its name
+abbrev pub escaped_byte : ℕ → List ℕ
+escaped_byte byte =
+    if byte == 60 then codes "&lt;"
+    else (if byte == 62 then codes "&gt;"
+    else (if byte == 38 then codes "&amp;"
+    else (if byte == 34 then codes "&quot;"
+    else plain_byte byte ∷ [])))
+
+abbrev pub escaped : List ℕ → List ℕ
+escaped bytes = flat_map escaped_byte bytes
+
+unfoldable pub line_text : List ℕ → Place → Place → List ℕ
+line_text class from to =
+    codes "<line class=\"" ++ (class ++ (codes "\" x1=\"" ++ (decimal from.x ++ (codes "\" y1=\"" ++ (decimal from.y
+    ++ (codes "\" x2=\"" ++ (decimal to.x ++ (codes "\" y2=\"" ++ (decimal to.y ++ codes "\"/>\n")))))))))
+
+abbrev pub segment_text : Segment → List ℕ
+segment_text segment = line_text segment.class.now segment.from segment.to
+
+-- the begin of a text at this place
+unfoldable pub opening_text : List ℕ → Place → List ℕ
+opening_text class at =
+    codes "<text class=\"" ++ (class ++ (codes "\" x=\"" ++ (decimal at.x ++ (codes "\" y=\"" ++ (decimal at.y ++ codes "\">")))))
+
+abbrev pub said_text : List ℕ → List ℕ → Place → List ℕ
+said_text class said at = (opening_text class at ++ escaped said) ++ codes "</text>\n"
+
+-- half the width of a frame round a text
+abbrev pub half_width : List ℕ → ℕ
+half_width said = bounded (bounded (length said * 4) + 7)
+
+-- the two lines of a cross, which reaches a little less to both sides than a frame
+abbrev pub falling_text : Place → ℕ → List ℕ
+falling_text at half = line_text (codes "cross") (left (half - 2) (up 9 at)) (right (half - 2) (down 9 at))
+
+abbrev pub rising_text : Place → ℕ → List ℕ
+rising_text at half = line_text (codes "cross") (left (half - 2) (down 9 at)) (right (half - 2) (up 9 at))
+
+abbrev pub cross_text : Place → ℕ → List ℕ
+cross_text at half = falling_text at half ++ rising_text at half
+
+unfoldable pub rect_text : List ℕ → Place → ℕ → ℕ → List ℕ
+rect_text class corner width round =
+    codes "<rect class=\"" ++ (class ++ (codes "\" x=\"" ++ (decimal corner.x ++ (codes "\" y=\"" ++ (decimal corner.y
+    ++ (codes "\" width=\"" ++ (decimal width ++ (codes "\" height=\"22\" rx=\"" ++ (decimal round ++ codes "\"/>\n")))))))))
+
+-- ---- frames
+
+pub record Look : Type 0 where
+  pub class : List ℕ
+  pub round : ℕ
+  pub is_crossed : Bool
+
+abbrev pub look : List ℕ → ℕ → Bool → Look
+look class round is_crossed = record { class = class; round = round; is_crossed = is_crossed }
+
+abbrev pub look_in : Frame → Look
+look_in frame = look frame.class.now frame.round frame.is_crossed
+
+abbrev pub begun_look : Row → Option Look
+begun_look (rows.Ticket value) = Some (look (codes "before") 11 false)
+begun_look _ = None
+
+-- the frame of a mark that has one
+abbrev pub look_of : Kind → Option Look
+look_of (kinds.Accepted value) = Some (look (codes "accepted") 11 false)
+look_of (kinds.AcceptedBefore value) = Some (look (codes "accepted before") 11 false)
+look_of (kinds.Received value) = Some (look (codes "received") 11 false)
+look_of (kinds.Dropped value) = Some (look (codes "lost") 11 true)
+look_of (kinds.Full value) = Some (look (codes "lost") 11 true)
+look_of (kinds.Lost value) = Some (look (codes "lost") 11 true)
+look_of (kinds.Begun row) = begun_look row
+look_of kinds.Done = Some (look (codes "said") 2 false)
+look_of kinds.Removed = Some (look (codes "said") 2 false)
+look_of kinds.Left = Some (look (codes "said") 2 false)
+look_of kinds.Said = Some (look (codes "said") 2 false)
+look_of _ = None
+
+abbrev pub crossing : Bool → Place → ℕ → List ℕ
+crossing true at half = cross_text at half
+crossing false at half = []
+
+-- the edge of a frame that reaches so far to both sides
+abbrev pub edge_text : Look → ℕ → Place → List ℕ
+edge_text frame half at = rect_text frame.class (left half (up 11 at)) (bounded (half * 2)) frame.round
+
+abbrev pub framed_text : List ℕ → Place → List ℕ
+framed_text said at = said_text (codes "framed") said (down 4 at)
+
+abbrev pub frame_around : Look → ℕ → List ℕ → Place → List ℕ
+frame_around frame half said at = (edge_text frame half at ++ crossing frame.is_crossed at half) ++ framed_text said at
+
+abbrev pub frame_text : Look → List ℕ → Place → List ℕ
+frame_text frame said at = frame_around frame (half_width said) said at
+
+-- ---- marks without a frame
+
+-- the begin of the head of a line's column
+unfoldable pub heading_text : List ℕ → Place → List ℕ
+heading_text said at =
+    codes "<text class=\"head\" x=\"" ++ (decimal at.x ++ (codes "\" y=\"" ++ (decimal at.y ++ (codes "\">" ++ (said ++ codes "<title>")))))
+
+-- the head of a line's column, with the line to it
+abbrev pub head_at : List ℕ → List ℕ → Place → List ℕ
+head_at line said at = (heading_text said at ++ escaped line) ++ codes "</title></text>\n"
+
+abbrev pub head_text : List ℕ → List ℕ → Place → List ℕ
+head_text line said at = head_at line said (down 4 at)
+
+abbrev pub crossed_head : List ℕ → ℕ → List ℕ → Place → List ℕ
+crossed_head line half said at = cross_text at half ++ head_text line said at
+
+abbrev pub bar_text : Place → List ℕ
+bar_text at = line_text (codes "bar") (up 10 at) (down 10 at)
+
+unfoldable pub ring_text : Place → List ℕ
+ring_text at = codes "<circle cx=\"" ++ (decimal at.x ++ (codes "\" cy=\"" ++ (decimal at.y ++ codes "\" r=\"4\"/>\n")))
+
+-- a value of a state, so many steps above its lowest
+abbrev pub value_text : ℕ → List ℕ → Place → List ℕ
+value_text step said at = said_text (codes "value") said (up 5 (right 4 (up step (down 13 at))))
+
+abbrev pub begun_text : Row → ℕ → List ℕ → Place → List ℕ
+begun_text (rows.State value) step said at = value_text step said at
+begun_text _ step said at = bar_text at
+
+abbrev pub bare_text : Kind → List ℕ → ℕ → List ℕ → Place → List ℕ
+bare_text (kinds.Line number) line step said at = head_text line said at
+bare_text (kinds.Bad number) line step said at = crossed_head line (half_width said) said at
+bare_text (kinds.Named row) line step said at = said_text (codes "name") said (place 8 (bounded (at.y + 4)))
+bare_text (kinds.Number number) line step said at = said_text (codes "number") said (up 14 at)
+bare_text (kinds.Set value) line step said at = value_text step said at
+bare_text (kinds.Holds value) line step said at = value_text step said at
+bare_text (kinds.Begun row) line step said at = begun_text row step said at
+bare_text kinds.Cancelled line step said at = bar_text at
+bare_text _ line step said at = ring_text at
+
+abbrev pub symbol_by : Option Look → Kind → List ℕ → ℕ → List ℕ → Place → List ℕ
+symbol_by (Some frame) kind line step said at = frame_text frame said at
+symbol_by None kind line step said at = bare_text kind line step said at
+
+-- WHAT A MARK LOOKS LIKE on a sheet
+abbrev pub symbol_text : Sheet → Placed → List ℕ
+symbol_text sheet placed =
+    symbol_by (look_of placed.mark.kind) placed.mark.kind placed.mark.text.now placed.step
+        (words_of placed.mark.kind placed.mark.text.now) (place_of sheet placed.mark)
