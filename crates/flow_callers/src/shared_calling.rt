@@ -20,8 +20,12 @@ use shared_flow::{Emitter, Held, Parker, Receipt, SharedFlow, Subscription, Take
 use std::alloc::{AllocError, AllocGlobal};
 use std::random::RandomSource;
 use std::sync::Wait;
+use std::sync::atomic::{AtomicBool, Ordering};
 use std::thread;
-use std::thread::Threads;
+use std::thread::{Threads, yield_now};
+
+/// How often the receiving thread looks at most whether the emitting one has begun.
+const TURNS: u32 = 5_000_000;
 
 /// The receipt of the emission in flight. The thread sleeps until the emission is finished. `None` without memory for a task.
 pub fn finished<R>(rt: &R, emitter: &mut Emitter<u64>) -> Option<Receipt>
@@ -86,15 +90,49 @@ where
     unreachable!()
 }
 
+/// Whether the emitting thread begins in time. It doesn't begin later.
+fn begins(is_decided: &AtomicBool) -> bool {
+    for _ in 0..TURNS {
+        if is_decided.load(Ordering::SeqCst) {
+            return true;
+        }
+        yield_now();
+    }
+    is_decided.swap(true, Ordering::SeqCst)
+}
+
+/// Emits a value, unless the receiving thread has given up.
+fn emitted_in_time<R>(
+    rt: &R,
+    emitter: &mut Emitter<u64>,
+    value: u64,
+    is_decided: &AtomicBool,
+) -> Option<Receipt>
+where
+    R: Wait + RandomSource + AllocGlobal,
+    requires idle { emitter.old.ticket ≡ None }
+    ensures receipt { IfSome result (IsOwnReceipt emitter.old.party emitter.old.id) }
+    ensures same { IsSameEmitter emitter.old emitter.new }
+{
+    if is_decided.swap(true, Ordering::SeqCst) {
+        return None;
+    }
+    emitted(rt, emitter, value)
+}
+
 /// The next value of a subscription, which ends where none comes: nobody waits for it then.
-fn received_or_ended<R>(rt: &R, listening: &mut Option<Subscription<u64>>) -> Option<u64>
+fn received_or_ended<R>(
+    rt: &R,
+    listening: &mut Option<Subscription<u64>>,
+    is_decided: &AtomicBool,
+) -> Option<u64>
 where
     R: Wait + RandomSource + AllocGlobal,
     ensures ended { IfNone result (listening.new ≡ None) }
 {
     let value = match listening {
-        Some(subscription) => received(rt, subscription),
-        None => None,
+        Some(subscription) if begins(is_decided) => received(rt, subscription),
+        _ => None,
     };
     if value.is_none() {
         if let Some(subscription) = listening.take() {
@@ -106,7 +144,8 @@ where
 
 /// One thread emits a value that another receives. The emitter and the subscription are lent to the threads, since no closure may
 /// own them, and are spent after the join. Without memory for its task the receiving thread ends the subscription at once, so
-/// that the emission doesn't wait for it. Where the emission is refused, the receiving thread sleeps until another emitter emits.
+/// that the emission doesn't wait for it. Where no thread can be had, `join` calls the receiving closure before the emitting one:
+/// it gives up then, and nothing is emitted. Where the emission is refused, the receiving thread sleeps until another emitter emits.
 pub fn passed_on<R>(
     rt: &R,
     flow: &mut SharedFlow<u64>,
@@ -127,10 +166,11 @@ where
         }
     };
     let mut listening = Some(subscription);
+    let is_decided = AtomicBool::new(false);
     let passed = thread::join(
         rt,
-        || emitted(rt, &mut emitter, value),
-        || received_or_ended(rt, &mut listening),
+        || emitted_in_time(rt, &mut emitter, value, &is_decided),
+        || received_or_ended(rt, &mut listening, &is_decided),
     );
     if let Some(subscription) = listening {
         subscription.cancel(rt);
