@@ -1,5 +1,5 @@
 -- Command lines, and what they ask for.
-use Rattle.std.proofs.Common.{refl, codes, ℕ, ◌≡◌, List, [], ◌∷◌, Some, None}
+use Rattle.std.proofs.Common.{refl, codes, ◌≡◌, [], ◌∷◌, Some, None}
 use Rattle.script_flows.specs.declared.engine.Engine.TheVariants.{Core, Lane}
 use Rattle.marble_drawing.specs.declared.drawing.Form.TheVariants.{Svg, Text}
 use Rattle.flow_marbles.specs.Wishes.{wish, wish_by}

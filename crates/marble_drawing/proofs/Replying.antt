@@ -8,7 +8,7 @@ use Rattle.script_pipes.specs.declared.answer.Answer.{Answer}
 use Rattle.script_pipes.specs.declared.answer.Answer.TheVariants.{BadCommand}
 use Rattle.script_pipes.specs.Answers.{line_of, text_of}
 use Rattle.script_pipes.specs.Commands.{command_of}
-use Rattle.flow_script.specs.Scripts.{Findings, found_at, Reply, silent, answered, reply_to, reply_of, replies_to, text_of_script}
+use Rattle.flow_script.specs.Scripts.{Findings, found_at, silent, answered, reply_to, reply_of, replies_to, text_of_script}
 use Rattle.flow_script.specs.Worlds.{World, Outcome, empty_world, step}
 use Rattle.marble_marks.specs.Turns.{Asked, asked_at, asked_from, asked_of, is_answered, begins_answered, first_of, rest_of}
 use Rattle.marble_marks.proofs.Answered.{one_line}
@@ -42,7 +42,7 @@ said finding number world line = said_to finding number world (length line) (wor
 joined : (is : Bool) (text more line : List ℕ) (column number : ℕ) (lines : List (List ℕ)) (with_it without_it : List Asked) → Said is text →
     asked_from (column + 1) (number + 1) lines (lines_of more) ≡ with_it → asked_from column (number + 1) lines (lines_of more) ≡ without_it →
     (if is then asked_at column number line (first_of (lines_of (text ++ more))) ∷ asked_from (column + 1) (number + 1) lines (rest_of (lines_of (text ++ more)))
-        else asked_from column (number + 1) lines (lines_of (text ++ more)))
+    else asked_from column (number + 1) lines (lines_of (text ++ more)))
     ≡ (if is then asked_at column number line (first_of (lines_of text)) ∷ with_it else without_it)
 joined true text more line column number lines with_it without_it (answer, is) after other =
     let whole : lines_of (text ++ more) ≡ text_of answer ∷ lines_of more = ap (λ t. lines_of (t ++ more)) is ∙ one_line answer more in
@@ -59,9 +59,9 @@ aligned findings column number world [] = refl
 aligned findings column number world (line ∷ lines) =
     let reply = reply_of (found_at (number + 1) findings) (number + 1) world line in
     joined (is_answered line) reply.text (replies_to findings (number + 1 + 1) reply.after lines).text line column number lines
-        (replied_from findings (column + 1) (number + 1) reply.after lines) (replied_from findings column (number + 1) reply.after lines)
-        (said (found_at (number + 1) findings) (number + 1) world line)
-        (aligned findings (column + 1) (number + 1) reply.after lines) (aligned findings column (number + 1) reply.after lines)
+    (replied_from findings (column + 1) (number + 1) reply.after lines) (replied_from findings column (number + 1) reply.after lines)
+    (said (found_at (number + 1) findings) (number + 1) world line)
+    (aligned findings (column + 1) (number + 1) reply.after lines) (aligned findings column (number + 1) reply.after lines)
 
 -- EACH LINE HAS ITS OWN REPLY
 pub each_reply : (engine : Engine) (findings : Findings) (script : List ℕ) → asked_of script (text_of_script engine findings script) ≡ replied engine findings script

@@ -1,5 +1,5 @@
 -- What a run of a script in memory says of the script's length.
-use Rattle.std.proofs.Common.{◌≡◌, ℕ, ◌<◌, ◌≤◌, List, ◌++◌, length, length-append, Some, Ok, Err, sym, ap, subst, append-nil, arith, ◌∙◌}
+use Rattle.std.proofs.Common.{◌≡◌, ℕ, ◌≤◌, List, ◌++◌, length, length-append, Some, Ok, Err, sym, ap, subst, append-nil, arith, ◌∙◌}
 use Rattle.script_flows.specs.declared.engine.Engine.{Engine}
 use Rattle.flow_script.specs.declared.fault.ScriptFault.{ScriptFault}
 use Rattle.flow_script.specs.declared.fault.ScriptFault.TheVariants.{Read, TooLong, Write, NoMemory}

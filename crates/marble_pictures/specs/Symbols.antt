@@ -192,4 +192,4 @@ symbol_by None kind line step said at = bare_text kind line step said at
 abbrev pub symbol_text : Sheet → Placed → List ℕ
 symbol_text sheet placed =
     symbol_by (look_of placed.mark.kind) placed.mark.kind placed.mark.text.now placed.step
-        (words_of placed.mark.kind placed.mark.text.now) (place_of sheet placed.mark)
+    (words_of placed.mark.kind placed.mark.text.now) (place_of sheet placed.mark)

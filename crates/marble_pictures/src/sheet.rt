@@ -50,10 +50,7 @@ impl Sheet {
         let value_and_frame = values.saturating_add(places / 2);
         Ok(Sheet {
             names: names.saturating_mul(CHARACTER).saturating_add(16),
-            column: places
-                .max(numbers)
-                .max(value_and_frame)
-                .saturating_add(20),
+            column: places.max(numbers).max(value_and_frame).saturating_add(20),
             last_column: last_column(marks),
             last_row: marks.last().map_or(0, |mark| mark.row),
         })

@@ -66,12 +66,7 @@ pub(crate) fn push_escaped(picture: &mut String, bytes: &[u8]) -> Result<(), All
 
 /// Adds a line.
 #[tactic(auto, unfolding(crate::specs::Symbols::line_text))]
-fn push_line(
-    picture: &mut String,
-    class: &str,
-    from: Place,
-    to: Place,
-) -> Result<(), AllocError>
+fn push_line(picture: &mut String, class: &str, from: Place, to: Place) -> Result<(), AllocError>
     ensures { OnOk result (string_bytes picture.new ≡ string_bytes picture.old ++ line_text class.now from to) }
 {
     let Place { x: x1, y: y1 } = from;
@@ -240,12 +235,7 @@ fn push_heading(picture: &mut String, said: &str, at: Place) -> Result<(), Alloc
 }
 
 /// Adds the head of a line's column, with the line's text to it, at this place.
-fn push_head_at(
-    picture: &mut String,
-    line: &[u8],
-    said: &str,
-    at: Place,
-) -> Result<(), AllocError>
+fn push_head_at(picture: &mut String, line: &[u8], said: &str, at: Place) -> Result<(), AllocError>
     ensures { OnOk result (string_bytes picture.new ≡ string_bytes picture.old ++ head_at line.now said.now at) }
 {
     push_heading(picture, said, at)?;
@@ -374,9 +364,7 @@ fn push_bare(
 {
     match placed.mark.kind {
         Kind::Line(_) => push_head(picture, placed.mark.text, said, at),
-        Kind::Bad(_) => {
-            push_crossed_head(picture, placed.mark.text, half_width(said), said, at)
-        }
+        Kind::Bad(_) => { push_crossed_head(picture, placed.mark.text, half_width(said), said, at) }
         Kind::Named(_) => {
             let Place { y, .. } = at.down(4);
             push_text(picture, "name", said, Place { x: 8, y })

@@ -9,4 +9,4 @@ pub returns : goal.returns
 returns c =
     let names = flat_map name_text c.args.marks.now in
     after_text c.push_str-2.result (string_bytes c.args.picture.now) (string_bytes c.push_names.new.picture) (string_bytes c.push_str-2.new.self) (ABOUT.now ++ names) (codes "</desc>\n")
-        (both (string_bytes c.args.picture.now) (string_bytes c.push_str.new.self) (string_bytes c.push_names.new.picture) ABOUT.now names c.in_ok-push_str.ensures.bytes c.in_ok-push_names.ensures) c.push_str-2.ensures.bytes
+    (both (string_bytes c.args.picture.now) (string_bytes c.push_str.new.self) (string_bytes c.push_names.new.picture) ABOUT.now names c.in_ok-push_str.ensures.bytes c.in_ok-push_names.ensures) c.push_str-2.ensures.bytes

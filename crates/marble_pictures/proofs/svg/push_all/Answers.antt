@@ -12,4 +12,4 @@ returns c =
     let symbols = flat_map (symbol_text c.args.sheet) c.args.placed.now in
     let begun = both (string_bytes c.args.picture.now) (string_bytes c.push_front.new.picture) (string_bytes c.push_segments.new.picture) front lines c.in_ok-push_front.ensures c.in_ok-push_segments.ensures in
     after_text c.push_str.result (string_bytes c.args.picture.now) (string_bytes c.push_symbols.new.picture) (string_bytes c.push_str.new.self) ((front ++ lines) ++ symbols) (codes "</svg>\n")
-        (both (string_bytes c.args.picture.now) (string_bytes c.push_segments.new.picture) (string_bytes c.push_symbols.new.picture) (front ++ lines) symbols begun c.in_ok-push_symbols.ensures) c.push_str.ensures.bytes
+    (both (string_bytes c.args.picture.now) (string_bytes c.push_segments.new.picture) (string_bytes c.push_symbols.new.picture) (front ++ lines) symbols begun c.in_ok-push_symbols.ensures) c.push_str.ensures.bytes

@@ -6,4 +6,4 @@ use Rattle.marble_pictures.proofs.symbol.push_cross.Goals as goal
 pub returns : goal.returns
 returns c =
     after c.push_rising.result (string_bytes c.args.picture.now) (string_bytes c.push_falling.new.picture) (string_bytes c.push_rising.new.picture) (falling_text c.args.at c.args.half) (rising_text c.args.at c.args.half)
-        c.in_ok-push_falling.ensures c.push_rising.ensures
+    c.in_ok-push_falling.ensures c.push_rising.ensures

@@ -6,4 +6,4 @@ use Rattle.marble_pictures.proofs.symbol.push_crossed_head.Goals as goal
 pub returns : goal.returns
 returns c =
     after c.push_head.result (string_bytes c.args.picture.now) (string_bytes c.push_cross.new.picture) (string_bytes c.push_head.new.picture) (cross_text c.args.at c.args.half) (head_text c.args.line.now c.args.said.now c.args.at)
-        c.in_ok-push_cross.ensures c.push_head.ensures
+    c.in_ok-push_cross.ensures c.push_head.ensures
