@@ -88,6 +88,17 @@ impl<T: Copy> Greetings<T> {
         ensures greeted { Greets number self.old.values result self.new.values }
         ensures limit { self.new.limit ≡ self.old.limit }
     {
+        // So that a receipt where no prelude was handed in costs no call.
+        if self.items.len() == 0 {
+            return None;
+        }
+        self.greet_listed(number)
+    }
+
+    fn greet_listed(&mut self, number: u64) -> Option<T>
+        ensures greeted { Greets number self.old.values result self.new.values }
+        ensures limit { self.new.limit ≡ self.old.limit }
+    {
         let at = greeting_of(&self.items, number)?;
         let greeting = self.items[at];
         let value = greeting.prelude.at(greeting.given);

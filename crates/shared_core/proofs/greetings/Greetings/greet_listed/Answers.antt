@@ -7,7 +7,7 @@ use Rattle.shared_core.specs.Preludes.{IsLeft, Greets}
 use Rattle.shared_core.specs.Queues.{Queued}
 use Rattle.shared_core.proofs.Handed.{shown, few_handed, without_shown, greets_last, greets_one}
 use Rattle.shared_core.proofs.Ticketing.{still_indexes, holds_there}
-use Rattle.shared_core.proofs.greetings.Greetings.greet.Goals as goal
+use Rattle.shared_core.proofs.greetings.Greetings.greet_listed.Goals as goal
 
 pub returns-in_err-at-clause-greeted : goal.returns-in_err-at-clause-greeted
 returns-in_err-at-clause-greeted g c =
