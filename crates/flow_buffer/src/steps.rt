@@ -1,6 +1,6 @@
 //! The steps of both sides on the channel, one function for each kind.
 
-ghost use Rattle.std.specs.Prelude.{◌≡◌, ◌++◌, [], ◌∷◌, ◌<◌, true, length, Option, Some, None, IfOk};
+ghost use Rattle.std.specs.Prelude.{◌≡◌, ◌++◌, [], ◌∷◌, ◌<◌, true, false, length, Option, Some, None, IfOk};
 ghost use Rattle.crossbeam_channel.specs.Claims.{view as knows, IsSeatAt};
 ghost use Rattle.crossbeam_channel.specs.Ends.{sends_on, receives_on, ruled_capacity};
 ghost use Rattle.crossbeam_channel.specs.Fifo.{Held};
@@ -118,13 +118,30 @@ pub(crate) fn put<T: Copy, E: Copy, R: Wait>(
     ensures fill { Filled (ruled_capacity (sends_on sender.now)) policy (knows pass.old).produced value result (knows pass.new).produced }
 {
     match policy {
-        Policy::Suspend => {
-            send(rt, sender, pass, Event::Value(value));
-            Fill::Took
-        }
+        Policy::Suspend => put_or_wait(rt, sender, pass, value),
         Policy::DropOldest => put_over_oldest(rt, sender, receiver, pass, value),
         Policy::DropLatest => put_or_drop(rt, sender, pass, value),
     }
+}
+
+// Puts a value in, and waits for a place where the channel is full. Only then is the send made that may sleep.
+fn put_or_wait<T: Copy, E: Copy, R: Wait>(
+    rt: &R,
+    sender: &Sender<T, E>,
+    pass: &mut Knowledge<T, E>,
+    value: T,
+) -> Fill
+    requires channel { IsSeatAt (sends_on sender.now) pass.old }
+    requires unended { knows pass.old ≡ feed_side false None (knows pass.old).produced }
+    ensures channel { IsSeatAt (sends_on sender.now) pass.new }
+    ensures unended { knows pass.new ≡ feed_side false None (knows pass.new).produced }
+    ensures fill { Filled (ruled_capacity (sends_on sender.now)) Policy.Suspend (knows pass.old).produced value result (knows pass.new).produced }
+{
+    if offer(rt, sender, pass, Event::Value(value)) {
+        return Fill::Took;
+    }
+    send(rt, sender, pass, Event::Value(value));
+    Fill::Took
 }
 
 // Puts a value in, over the oldest one where the channel is full.
