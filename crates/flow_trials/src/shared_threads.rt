@@ -15,9 +15,12 @@ use std::alloc::AllocGlobal;
 use std::process::Abort;
 use std::random::RandomSource;
 use std::sync::Wait;
-use std::sync::atomic::{AtomicBool, AtomicU64, Ordering};
+use std::sync::atomic::{AtomicBool, AtomicU64, AtomicUsize, Ordering};
 use std::test::Fail;
 use std::thread::{Threads, for_each_mut, yield_now};
+
+/// How often a thread looks at most whether all others have come.
+const LOOKS: u32 = 5_000_000;
 
 /// How often each thread polls at most. It sleeps in between, so two polls for each value are enough.
 const TURNS: u32 = 100_000;
@@ -33,6 +36,8 @@ const APART: u64 = 1_000_000;
 struct Stage {
     /// A task for each thread.
     tasks: Vec<Queue>,
+    /// How many threads have come.
+    come: AtomicUsize,
     /// How many emitters still emit. After the last one no thread sleeps any more.
     emitting: AtomicU64,
     /// Whether the threads may begin.
@@ -56,6 +61,7 @@ impl Stage {
         }
         Ok(Stage {
             tasks,
+            come: AtomicUsize::new(0),
             emitting: AtomicU64::new(emitting),
             is_open: AtomicBool::new(is_open),
             has_left: AtomicBool::new(false),
@@ -67,6 +73,20 @@ impl Stage {
         for task in &self.tasks {
             task.shut_down();
         }
+    }
+
+    // Waits until all threads have come. Where one can't be had, a party is called after another, which would sleep for
+    // good: no thread sleeps then.
+    fn meet(&self) {
+        self.come.fetch_add(1, Ordering::SeqCst);
+        for _ in 0..LOOKS {
+            if self.come.load(Ordering::SeqCst) >= self.tasks.len() {
+                return;
+            }
+            yield_now();
+        }
+        self.come.store(self.tasks.len(), Ordering::SeqCst);
+        self.shut_down();
     }
 
     // Waits until the threads may begin.
@@ -118,6 +138,7 @@ impl Stage {
 
     // What one thread does.
     fn enter<R: Wait>(&self, rt: &R, index: usize, party: &mut Party) {
+        self.meet();
         match party {
             Party::Keeping(flow) => self.keep_lock(rt, flow),
             Party::Emitting(_) => {
