@@ -95,6 +95,8 @@ impl<T: Copy> Greetings<T> {
         self.greet_listed(number)
     }
 
+    // Not inlined, so that a receipt without a prelude keeps its registers.
+    #[inline(never)]
     fn greet_listed(&mut self, number: u64) -> Option<T>
         ensures greeted { Greets number self.old.values result self.new.values }
         ensures limit { self.new.limit ≡ self.old.limit }

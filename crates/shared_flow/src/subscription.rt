@@ -209,7 +209,9 @@ impl<T: Word> Subscription<T> {
         Some(T::from_word(word))
     }
 
-    // Lets in what waits, after a value was received without the lock.
+    // Lets in what waits, after a value was received without the lock. Not inlined, nor is the second look: a
+    // receipt that takes no lock then saves no registers for them.
+    #[inline(never)]
     fn make_room(&mut self, rt: &impl Wait)
         ensures { self.new ≡ record self.old { party = with_round round.Next self.old.party } }
     {
@@ -219,6 +221,7 @@ impl<T: Word> Subscription<T> {
     }
 
     // Looks for a value with the lock held. Without one the task sleeps.
+    #[inline(never)]
     fn look_again(&mut self, rt: &impl Wait, cx: &mut Context<'_>) -> Poll<T>
         ensures round { self.new.party ≡ with_round round.Next self.old.party }
         ensures same { (self.new.number ≡ self.old.number) × (self.new.rest ≡ self.old.rest) }
