@@ -1,10 +1,8 @@
-//! Tests that cross crates, with answers known from outside: mostly a table, and one function for all its rows.
+//! Tests of cold flows that cross crates, with answers known from outside: mostly a table, and one function for all its rows.
 #![tactic(auto)]
 
 #[cfg(test)]
 mod asking_rows;
-#[cfg(test)]
-mod body_rows;
 #[cfg(test)]
 mod buffer_rows;
 #[cfg(test)]
@@ -12,52 +10,12 @@ mod cancel_rows;
 #[cfg(test)]
 mod cold_rows;
 #[cfg(test)]
-mod core_limits;
-#[cfg(test)]
-mod core_rows;
-#[cfg(test)]
-mod hostile;
-#[cfg(test)]
-mod lane_rows;
-#[cfg(test)]
-mod lane_threads;
-#[cfg(test)]
-mod list_body;
-#[cfg(test)]
 mod meeting;
 #[cfg(test)]
 mod memory_rows;
 #[cfg(test)]
 mod merge_rows;
 #[cfg(test)]
-mod script_rows;
-#[cfg(test)]
-mod shared_memory;
-#[cfg(test)]
-mod shared_reads;
-#[cfg(test)]
-mod shared_rows;
-#[cfg(test)]
-mod shared_stage;
-#[cfg(test)]
-mod shared_threads;
-#[cfg(test)]
-mod shared_wakes;
-#[cfg(test)]
-mod sharing_rows;
-#[cfg(test)]
-mod state_rows;
-#[cfg(test)]
-mod state_sharing_rows;
-#[cfg(test)]
-mod strategy_rows;
-#[cfg(test)]
-mod ticks;
-#[cfg(test)]
 mod tools;
 #[cfg(test)]
 mod unfold_rows;
-#[cfg(test)]
-mod waiting_rows;
-#[cfg(test)]
-mod when;

@@ -1,23 +1,17 @@
 //! Calls that take memory, each with its answer. Where an allocation is refused, as under
 //! `rt try --test --fail-alloc N`, the call that wanted it is refused with 4 and leaves all as it was: made once more,
-//! it gives the same answer. So each test passes with ample memory, and whichever allocation is refused. The calls of a
-//! shared flow stand in `shared_memory.rt`, a lane's in `lane_rows.rt`, scripts in `script_rows/memory.rt`.
+//! it gives the same answer. So each test passes with ample memory, and whichever allocation is refused.
 
-use crate::tools::{Differences, Polling, Same, Sum, broken, listed, made_again, next, task_made};
+use crate::tools::{Differences, Polling, Same, Sum, broken, listed, next, task_made};
 use cold_flow::{
     Cause, Collected, Collecting, Event, Finite, Flow, Listed, Policy, Refusal, Run, Step, Stepped,
     collect, distinct, range, scripted, take, to_list,
 };
 use flow_buffer::{Drain, Feed, Fill, buffer, conflate, split};
 use flow_merge::{combine, flat_map_concat, flat_map_merge, zip};
-use flow_sharing::{Polled, Sharing, Started, StateSharing, share_in, state_in};
 use futures::task::Poll;
 use futures::test::MockTask;
-use shared_core::{Call, Config, Next, Reply, SharedState, SubId, Tried};
-use shared_flow::SharedFlow;
-use state_flow::{StateFlow, StateSeat};
 use std::alloc::{AllocError, Global};
-use std::sync::Wait;
 use std::test::Fail;
 
 const END: Polling = Poll::Ready(Event::End(Cause::Finished));
@@ -335,194 +329,6 @@ fn buffers_take_memory(rt: HostRuntime) -> Result<(), Fail> {
     let wanted = (Event::Value(5), Event::End(Cause::Cancelled));
     all.compare("split, pumped", took, Fill::Took)?;
     all.compare("split, drained", gave, wanted)?;
-    all.assert_none(&rt);
-    Ok(())
-}
-
-/// A flow that keeps two values for newcomers.
-const KEEPS_TWO: Config = Config {
-    replay: 2,
-    extra: 0,
-    policy: Policy::Suspend,
-    subscribers: 8,
-    emits: 8,
-    first: 0,
-};
-
-fn made(alloc: Global) -> Result<SharedState<u64>, Refusal> {
-    match SharedState::new(alloc, KEEPS_TWO) {
-        Err(Refusal::NoMemory) => SharedState::new(alloc, KEEPS_TWO),
-        flow => flow,
-    }
-}
-
-/// Runs the calls, once more where that was refused. None where the refused run changed anything.
-fn run_again(
-    flow: &mut SharedState<u64>,
-    calls: &[Call<u64>],
-    replies: &mut Vec<Reply<u64>>,
-) -> Option<Result<(), Refusal>> {
-    let count = replies.len();
-    if flow.run(calls, replies).is_ok() {
-        return Some(Ok(()));
-    }
-    if replies.len() != count || flow.subscription_count() != 0 || flow.replay_len() != 0 {
-        return None;
-    }
-    Some(flow.run(calls, replies))
-}
-
-#[test]
-fn new_flows_and_runs_of_calls_take_memory(rt: HostRuntime) -> Result<(), Fail> {
-    const CALLS: &[Call<u64>] = &[Call::Subscribe, Call::Try(1, 7), Call::Next(SubId(0))];
-    const REPLIES: &[Reply<u64>] = &[
-        Reply::Reset,
-        Reply::Sub(Ok(SubId(0))),
-        Reply::Tried(Ok(Tried::Accepted(0))),
-        Reply::Next(Next::Value(7)),
-    ];
-    let alloc = rt.alloc();
-    let mut all = Differences::none(alloc);
-    let mut replies = made_again(&|| Vec::with_capacity(alloc, 1))?;
-    replies.push(Reply::Reset)?;
-    let mut flow = made(alloc)?;
-    let ran = run_again(&mut flow, CALLS, &mut replies);
-    all.compare("run", ran, Some(Ok(())))?;
-    all.compare("replies", replies.as_slice(), REPLIES)?;
-    all.assert_none(&rt);
-    Ok(())
-}
-
-/// The answer to a poll at this moment that turns sharing on, where nobody subscribes.
-fn on_at(now: u64) -> Result<Polled, Refusal> {
-    Ok(Polled {
-        now,
-        count: 0,
-        on: true,
-        reset: false,
-    })
-}
-
-/// Whether the first poll turns sharing on. Where the start of its run is refused, the sharing is as before, its latest
-/// moment too.
-fn turns_on<F: Flow<Item = u64, Fault = u64>>(
-    rt: &impl Wait,
-    task: &MockTask,
-    sharing: &mut Sharing<u64, F>,
-) -> bool {
-    let polled = task.enter(|cx| sharing.poll(rt, 9, cx));
-    if polled != Err(Refusal::NoMemory) {
-        return polled == on_at(9);
-    }
-    sharing.fault().is_none() && task.enter(|cx| sharing.poll(rt, 4, cx)) == on_at(4)
-}
-
-/// The same of a state.
-fn state_turns_on<F: Flow<Item = u64, Fault = u64>>(
-    task: &MockTask,
-    sharing: &mut StateSharing<u64, F>,
-) -> bool {
-    let polled = task.enter(|cx| sharing.poll(9, cx));
-    if polled != Err(Refusal::NoMemory) {
-        return polled == on_at(9);
-    }
-    sharing.fault().is_none() && task.enter(|cx| sharing.poll(4, cx)) == on_at(4)
-}
-
-/// Shares a list, once more where that was refused.
-fn share_again(
-    rt: &impl Wait,
-    alloc: Global,
-    flow: &mut SharedFlow<u64>,
-) -> Result<Sharing<u64, Listed<u64, u64>>, Refusal> {
-    match share_in(rt, flow, list_of(alloc, &[1, 2])?, Started::Eagerly) {
-        Err(Refusal::NoMemory) => share_in(rt, flow, list_of(alloc, &[1, 2])?, Started::Eagerly),
-        sharing => sharing,
-    }
-}
-
-/// Makes a flow, once more where that was refused.
-fn flow_made(alloc: Global) -> Result<SharedFlow<u64>, Refusal> {
-    match SharedFlow::new(alloc, KEEPS_TWO) {
-        Err(Refusal::NoMemory) => SharedFlow::new(alloc, KEEPS_TWO),
-        flow => flow,
-    }
-}
-
-/// The seat of a new state with the value 3, which is made once more where that was refused.
-fn seat_made(alloc: Global, seats: u32) -> Result<StateSeat<u64>, Refusal> {
-    match StateFlow::new(alloc, 3u64, seats) {
-        Err(Refusal::NoMemory) => StateFlow::new(alloc, 3u64, seats),
-        seat => seat,
-    }
-}
-
-/// What a state's first seat says of itself.
-fn shown(seat: &mut StateSeat<u64>) -> (u32, u32, u64) {
-    (seat.spare(), seat.collectors(), seat.value())
-}
-
-/// Takes a seat of a state that shows this, once more where that was refused. None where a refusal changed anything.
-fn taken_again(
-    seat: &mut StateSeat<u64>,
-    before: (u32, u32, u64),
-) -> Option<Result<StateSeat<u64>, Refusal>> {
-    match seat.take_seat(1) {
-        Err(Refusal::NoMemory) => {
-            if shown(seat) != before {
-                return None;
-            }
-            Some(seat.take_seat(1))
-        }
-        other => Some(other),
-    }
-}
-
-#[test]
-fn states_take_memory(rt: HostRuntime) -> Result<(), Fail> {
-    const BEFORE: (u32, u32, u64) = (3, 0, 3);
-    let mut all = Differences::none(rt.alloc());
-    let mut seat = seat_made(rt.alloc(), 4)?;
-    all.compare("StateFlow::new", shown(&mut seat), BEFORE)?;
-    let spare = match taken_again(&mut seat, BEFORE) {
-        Some(Ok(other)) => Some((other.spare(), seat.spare())),
-        _ => None,
-    };
-    all.compare("take_seat", spare, Some((1, 1)))?;
-    all.assert_none(&rt);
-    Ok(())
-}
-
-/// Whether a list that is shared is turned on by its first poll.
-fn shared(
-    rt: &impl Wait,
-    alloc: Global,
-    task: &MockTask,
-    flow: &mut SharedFlow<u64>,
-) -> Result<bool, Refusal> {
-    let mut sharing = share_again(rt, alloc, flow)?;
-    let turned = turns_on(rt, task, &mut sharing);
-    sharing.close(rt);
-    Ok(turned)
-}
-
-#[test]
-fn sharings_take_memory(rt: HostRuntime) -> Result<(), Fail> {
-    let alloc = rt.alloc();
-    let task = task_made(&rt)?;
-    let mut all = Differences::none(alloc);
-    let mut cache = made_again(&|| Vec::with_capacity(alloc, 2))?;
-    let mut flow = flow_made(alloc)?;
-    let turned = shared(&rt, alloc, &task, &mut flow)?;
-    flow.replay_cache_into(&rt, &mut cache)?;
-    all.compare("share_in and its first poll", turned, true)?;
-    all.compare("the cache", cache.as_slice(), [1, 2].as_slice())?;
-    let list = list_of(alloc, &[1, 2])?;
-    let mut sharing = state_in(seat_made(alloc, 1)?, 7, list, Started::Eagerly);
-    let turned = state_turns_on(&task, &mut sharing);
-    let mut seat = sharing.close();
-    all.compare("state_in and its first poll", turned, true)?;
-    all.compare("the state", seat.value(), 2)?;
     all.assert_none(&rt);
     Ok(())
 }

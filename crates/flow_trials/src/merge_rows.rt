@@ -30,7 +30,7 @@ struct Brief {
 }
 
 #[derive(Drop)]
-pub(crate) struct BriefRun {
+struct BriefRun {
     left: Brief,
     ended: Option<Cause<u64>>,
 }
@@ -553,47 +553,6 @@ impl Flow for Refused {
 
     fn start(&self) -> Result<BriefRun, Refusal> {
         Err(Refusal::NoMemory)
-    }
-
-    ghost uncancelled = { λ _ _ h. h };
-}
-
-// A flow whose start finds no memory so many times.
-#[derive(Clone, Copy)]
-pub(crate) struct Scarce<'a> {
-    refusals: &'a Cell<u32>,
-    flow: Brief,
-}
-
-/// The values 1 and 2, after so many refused starts.
-pub(crate) fn one_and_two(refusals: &Cell<u32>) -> Scarce<'_> {
-    Scarce {
-        refusals,
-        flow: Brief {
-            waits: 0,
-            next: 1,
-            to: 3,
-            fault: None,
-        },
-    }
-}
-
-impl Flow for Scarce<'_> {
-    type Item = u64;
-
-    type Fault = u64;
-
-    type Running = BriefRun;
-
-    ghost may = { λ _. AnyTrace };
-
-    fn start(&self) -> Result<BriefRun, Refusal> {
-        let left = self.refusals.get();
-        if left > 0 {
-            self.refusals.set(left - 1);
-            return Err(Refusal::NoMemory);
-        }
-        self.flow.start()
     }
 
     ghost uncancelled = { λ _ _ h. h };

@@ -134,16 +134,6 @@ impl Differences {
         Ok(())
     }
 
-    /// The same of texts.
-    pub(crate) fn compare_text(
-        &mut self,
-        name: &str,
-        found: &[u8],
-        wanted: &[u8],
-    ) -> Result<(), Fail> {
-        self.compare(name, str::from_utf8(found)?, str::from_utf8(wanted)?)
-    }
-
     /// Fails with all that was noted, where something was.
     pub(crate) fn assert_none(&self, rt: &impl Abort) {
         assert!(rt; self.lines.is_empty(), "{}", self.lines);

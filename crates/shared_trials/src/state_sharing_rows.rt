@@ -1,6 +1,6 @@
 //! Worked examples of a state that is set from a cold flow.
 
-use crate::merge_rows::one_and_two;
+use crate::scarce::one_and_two;
 use crate::ticks::Tick;
 use crate::tools::{Differences, broken, listed};
 use crate::when::When;

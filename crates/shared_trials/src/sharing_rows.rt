@@ -1,6 +1,6 @@
 //! Sharings, by calls: worked examples, and what no clause says of the flow that they emit into.
 
-use crate::merge_rows::one_and_two;
+use crate::scarce::one_and_two;
 use crate::shared_rows::PLAIN;
 use crate::shared_stage::Answer::{Cancelled, Gone, Left, Pending, Removed, Subscribed, Value};
 use crate::shared_stage::Call::{Cancel, Next, Subscribe};

@@ -1,5 +1,5 @@
 use Rattle.std.proofs.Common.{◌≡◌}
-use Rattle.flow_trials.proofs.hostile.Sending.emit_all.Given as goal
+use Rattle.shared_trials.proofs.hostile.Sending.emit_all.Given as goal
 
 abbrev pub invariant-loop-word : goal.invariant-loop-word
 invariant-loop-word l = l.self.lane ≡ l.fn.self.lane
