@@ -1,21 +1,9 @@
-//! Tests of shared flows, states, lanes and sharing that cross crates, with answers known from outside: mostly a table, and one
+//! Tests of shared flows between threads and of sharing that cross crates, with answers known from outside: mostly a table, and one
 //! function for all its rows.
 #![tactic(auto)]
 
 #[cfg(test)]
-mod body_rows;
-#[cfg(test)]
-mod core_limits;
-#[cfg(test)]
-mod core_rows;
-#[cfg(test)]
 mod hostile;
-#[cfg(test)]
-mod lane_rows;
-#[cfg(test)]
-mod lane_threads;
-#[cfg(test)]
-mod list_body;
 #[cfg(test)]
 mod meeting;
 #[cfg(test)]
@@ -36,8 +24,6 @@ mod shared_threads;
 mod shared_wakes;
 #[cfg(test)]
 mod sharing_rows;
-#[cfg(test)]
-mod state_rows;
 #[cfg(test)]
 mod state_sharing_rows;
 #[cfg(test)]

@@ -1,7 +1,7 @@
 //! Calls of shared flows, states and sharings that take memory, each with its answer. Where an allocation is refused, as under
 //! `rt try --test --fail-alloc N`, the call that wanted it is refused with 4 and leaves all as it was: made once more,
 //! it gives the same answer. So each test passes with ample memory, and whichever allocation is refused. The calls of a
-//! shared flow between threads stand in `shared_memory.rt`, a lane's in `lane_rows.rt`.
+//! shared flow between threads stand in `shared_memory.rt`.
 
 use crate::tools::{Differences, listed, made_again, task_made};
 use cold_flow::{Flow, Listed, Policy, Refusal};

@@ -1,5 +1,5 @@
 use Rattle.std.proofs.Common.{vec_len}
-use Rattle.shared_trials.proofs.lane_threads.assert_each.Given as goal
+use Rattle.core_trials.proofs.lane_threads.assert_each.Given as goal
 
 abbrev pub decreases-loop-listening : goal.decreases-loop-listening
 decreases-loop-listening g l = vec_len l.readers

@@ -1,5 +1,5 @@
 use Rattle.std.proofs.Common.{vec_len}
-use Rattle.shared_trials.proofs.state_rows.cancel_all.Given as goal
+use Rattle.core_trials.proofs.state_rows.cancel_all.Given as goal
 
 abbrev pub decreases-loop-collector : goal.decreases-loop-collector
 decreases-loop-collector l = vec_len l.collectors
