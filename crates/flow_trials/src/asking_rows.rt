@@ -5,7 +5,8 @@ ghost use Rattle.std.specs.Prelude.{◌==◌, if◌then◌else◌};
 use crate::merge_rows::Watched;
 use crate::tools::{Polling, Sum, assert_same, broken, listed, next};
 use cold_flow::{
-    Apply, Cause, Event, Flow, Policy, Refusal, Run, Step, Stepped, on_completion, range, scripted,
+    Apply, Cause, Event, Flow, Numbers, Policy, Refusal, Run, Step, Stepped, on_completion, range,
+    scripted,
 };
 use flow_buffer::buffer;
 use flow_merge::{combine, flat_map_concat, flat_map_merge, zip};
@@ -142,20 +143,38 @@ fn assert_poll<R: Run<Item = u64, Fault = u64>>(
     assert!(rt; answer.is_ready() || task.is_woken());
 }
 
-// Polls a run, and compares each answer and the counts after it.
-fn assert_asks<R: Run<Item = u64, Fault = u64>>(
+// Polls a run of the flow, and compares each answer and the counts after it.
+fn assert_asks<F: Flow<Item = u64, Fault = u64>>(
     rt: &impl Abort,
     task: &MockTask,
-    run: &mut R,
+    flow: F,
     row: &Asking<'_>,
     left: &Cell<u32>,
     right: &Cell<u32>,
-) {
+) -> Result<(), Refusal> {
+    let mut run = flow.start()?;
     for (answer, left_asked, right_asked) in row.polls {
-        assert_poll(rt, task, run, answer);
+        assert_poll(rt, task, &mut run, answer);
         assert_same(rt, row.name, left.get(), *left_asked);
         assert_same(rt, row.name, right.get(), *right_asked);
     }
+    Ok(())
+}
+
+// Steps whose polls are counted.
+type Counting<'a> = Counted<'a, Stepped<u64, u64>>;
+
+// Both sources of a row.
+fn sides<'a>(
+    alloc: Global,
+    row: &Asking<'_>,
+    left: &'a Cell<u32>,
+    right: &'a Cell<u32>,
+) -> Result<(Counting<'a>, Counting<'a>), AllocError> {
+    Ok((
+        counting(alloc, row.left, left)?,
+        counting(alloc, row.right, right)?,
+    ))
 }
 
 #[test]
@@ -165,12 +184,8 @@ fn pairs_ask_one_side_at_a_time(rt: HostRuntime) -> Result<(), Fail> {
     for row in PAIRS {
         let left = Cell::new(0);
         let right = Cell::new(0);
-        let flow = zip(
-            counting(alloc, row.left, &left)?,
-            counting(alloc, row.right, &right)?,
-            Sum,
-        );
-        assert_asks(&rt, &task, &mut flow.start()?, row, &left, &right);
+        let (one, other) = sides(alloc, row, &left, &right)?;
+        assert_asks(&rt, &task, zip(one, other, Sum), row, &left, &right)?;
     }
     Ok(())
 }
@@ -182,12 +197,8 @@ fn combinations_wait_for_both_sides(rt: HostRuntime) -> Result<(), Fail> {
     for row in LATEST {
         let left = Cell::new(0);
         let right = Cell::new(0);
-        let flow = combine(
-            counting(alloc, row.left, &left)?,
-            counting(alloc, row.right, &right)?,
-            Sum,
-        );
-        assert_asks(&rt, &task, &mut flow.start()?, row, &left, &right);
+        let (one, other) = sides(alloc, row, &left, &right)?;
+        assert_asks(&rt, &task, combine(one, other, Sum), row, &left, &right)?;
     }
     Ok(())
 }
@@ -211,40 +222,50 @@ impl<F: Copy> Apply<u64> for Either<F> {
 
 const SEVEN: Polling = Poll::Ready(Event::Value(7));
 
-// Of each poll its answer, and how often the outer was asked until then.
+// Of each poll of a run its answer, and how often the outer was asked until then.
 fn assert_asks_outer<R: Run<Item = u64, Fault = u64>>(
     rt: &impl Abort,
-    name: &str,
     task: &MockTask,
-    run: &mut R,
+    mut run: R,
     outer: &Cell<u32>,
     polls: &[(Polling, u32)],
 ) {
     for (answer, asked) in polls {
-        assert_poll(rt, task, run, answer);
-        assert_same(rt, name, outer.get(), *asked);
+        assert_poll(rt, task, &mut run, answer);
+        assert_same(rt, "how often the outer was asked", outer.get(), *asked);
     }
 }
 
-// The outer is asked in the poll in which an inner flow finishes; a merge asks its inner runs though the outer waits.
+// No value for an outer 0, and 7 for any other.
+fn empty_or_seven() -> Either<Numbers<u64>> {
+    Either {
+        zero: range(0, 0),
+        other: range(7, 8),
+    }
+}
+
+// The outer is asked in the poll in which an inner flow finishes.
 #[test]
-fn flat_maps_ask_on(rt: HostRuntime) -> Result<(), Fail> {
+fn concatenations_ask_on(rt: HostRuntime) -> Result<(), Fail> {
     const OUTER: &[Step<u64, u64>] = &[Step::Value(0), Step::Value(1), WAIT];
     const JOINED: &[(Polling, u32)] = &[(SEVEN, 2), (Poll::Pending, 3), (ENDED, 4)];
+    let task = MockTask::new(&rt)?;
+    let outer = Cell::new(0);
+    let joined = flat_map_concat(counting(rt.alloc(), OUTER, &outer)?, empty_or_seven());
+    assert_asks_outer(&rt, &task, joined.start()?, &outer, JOINED);
+    Ok(())
+}
+
+// A merge asks its inner runs though the outer waits.
+#[test]
+fn merges_ask_on(rt: HostRuntime) -> Result<(), Fail> {
     const SLOW: &[Step<u64, u64>] = &[Step::Value(1), WAIT, WAIT];
     const MERGED: &[(Polling, u32)] = &[(SEVEN, 2), (Poll::Pending, 3), (ENDED, 4)];
     let alloc = rt.alloc();
     let task = MockTask::new(&rt)?;
-    let inner = Either {
-        zero: range::<u64>(0, 0),
-        other: range::<u64>(7, 8),
-    };
     let outer = Cell::new(0);
-    let mut run = flat_map_concat(counting(alloc, OUTER, &outer)?, inner).start()?;
-    assert_asks_outer(&rt, "concat", &task, &mut run, &outer, JOINED);
-    let outer = Cell::new(0);
-    let mut run = flat_map_merge(alloc, counting(alloc, SLOW, &outer)?, inner, 2)?.start()?;
-    assert_asks_outer(&rt, "merge", &task, &mut run, &outer, MERGED);
+    let merged = flat_map_merge(alloc, counting(alloc, SLOW, &outer)?, empty_or_seven(), 2)?;
+    assert_asks_outer(&rt, &task, merged.start()?, &outer, MERGED);
     Ok(())
 }
 

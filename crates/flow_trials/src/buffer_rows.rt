@@ -170,8 +170,25 @@ fn buffers_in_one_task(rt: HostRuntime) -> Result<(), Fail> {
     compare_row(&mut all, &task, oldest, DROPS_THE_OLDEST)?;
     let waiting = buffer(alloc, broken(alloc, &[1, 2], 6)?, 1, Policy::Suspend)?;
     compare_row(&mut all, &task, waiting, WAITS)?;
-    let numbers = buffer(alloc, range::<u64>(0, 9), 2, Policy::DropOldest)?;
+    all.assert_none(&rt);
+    Ok(())
+}
+
+#[test]
+fn a_cancelled_buffer_gives_no_more(rt: HostRuntime) -> Result<(), Fail> {
+    let task = MockTask::new(&rt)?;
+    let mut all = Differences::none(rt.alloc());
+    let numbers = buffer(rt.alloc(), range::<u64>(0, 9), 2, Policy::DropOldest)?;
     compare_row(&mut all, &task, numbers, CANCELLED)?;
+    all.assert_none(&rt);
+    Ok(())
+}
+
+#[test]
+fn buffers_that_drop_the_latest_or_keep_it_alone(rt: HostRuntime) -> Result<(), Fail> {
+    let alloc = rt.alloc();
+    let task = MockTask::new(&rt)?;
+    let mut all = Differences::none(alloc);
     let latest = buffer(alloc, listed(alloc, &[1, 2, 3])?, 1, Policy::DropLatest)?;
     compare_row(&mut all, &task, latest, DROPS_THE_LATEST)?;
     let newest = conflate(alloc, listed(alloc, &[1, 2, 3])?);

@@ -79,15 +79,31 @@ fn assert_cancelled_at_any_time<F: Flow<Item = u64, Fault = u64>>(
 }
 
 #[test]
-fn operators_poll_no_source_after_the_cancel(rt: HostRuntime) -> Result<(), Fail> {
-    let alloc = rt.alloc();
+fn completion_polls_no_source_after_the_cancel(rt: HostRuntime) -> Result<(), Fail> {
     let task = MockTask::new(&rt)?;
     let polls = Cell::new(0);
-    let completed = on_completion(counting(alloc, STEPS, &polls)?, LastValue(9));
+    let completed = on_completion(counting(rt.alloc(), STEPS, &polls)?, LastValue(9));
     assert_cancelled_at_any_time(&rt, &task, &polls, completed)?;
-    let taken = take(counting(alloc, STEPS, &polls)?, 2)?;
+    Ok(())
+}
+
+#[test]
+fn take_polls_no_source_after_the_cancel(rt: HostRuntime) -> Result<(), Fail> {
+    let task = MockTask::new(&rt)?;
+    let polls = Cell::new(0);
+    let taken = take(counting(rt.alloc(), STEPS, &polls)?, 2)?;
     assert_cancelled_at_any_time(&rt, &task, &polls, taken)?;
-    let caught = catch_with(counting(alloc, STEPS, &polls)?, Answer(Caught::Last(9)));
+    Ok(())
+}
+
+#[test]
+fn catch_polls_no_source_after_the_cancel(rt: HostRuntime) -> Result<(), Fail> {
+    let task = MockTask::new(&rt)?;
+    let polls = Cell::new(0);
+    let caught = catch_with(
+        counting(rt.alloc(), STEPS, &polls)?,
+        Answer(Caught::Last(9)),
+    );
     assert_cancelled_at_any_time(&rt, &task, &polls, caught)?;
     Ok(())
 }

@@ -246,13 +246,18 @@ fn completion_actions(rt: HostRuntime) -> Result<(), Fail> {
     Ok(())
 }
 
-// Pipes of flows that fail, and what a handler makes of a failure.
+// Pipes of flows that fail.
 fn assert_failures(rt: &impl Abort, alloc: Global, task: &MockTask) -> Result<(), Fail> {
-    const CAUGHT: &[u64] = &[1, 2, 9];
     let taken = take(broken(alloc, TWO, 7)?, 2)?;
     assert_gives(rt, alloc, task, taken, TWO, Cause::Finished)?;
     let failed = broken(alloc, TWO, 7)?;
     assert_gives(rt, alloc, task, failed, TWO, Cause::Failed(7))?;
+    Ok(())
+}
+
+// A handler gives a last value; an action at the end hides no failure.
+fn assert_last_values(rt: &impl Abort, alloc: Global, task: &MockTask) -> Result<(), Fail> {
+    const CAUGHT: &[u64] = &[1, 2, 9];
     let caught = catch_with(broken(alloc, TWO, 7)?, Answer(Caught::Last(9)));
     assert_gives(rt, alloc, task, caught, CAUGHT, Cause::Finished)?;
     let completed = on_completion(broken(alloc, TWO, 7)?, LastValue(Some(9)));
@@ -305,6 +310,7 @@ fn cold_pipes(rt: HostRuntime) -> Result<(), Fail> {
     let refused = take(range::<u64>(1, 4), 0).is_err_and(|refusal| refusal.number() == 8);
     assert!(rt; refused);
     assert_failures(&rt, rt.alloc(), &task)?;
+    assert_last_values(&rt, rt.alloc(), &task)?;
     assert_other_ends(&rt, rt.alloc(), &task)?;
     assert_lists(&rt, rt.alloc(), &task)?;
     assert_ranges(&rt, rt.alloc(), &task)

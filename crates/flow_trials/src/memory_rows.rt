@@ -98,15 +98,15 @@ struct Row<'a> {
 fn compare_polls<F: Flow<Item = u64, Fault = u64>>(
     differences: &mut Differences,
     task: &MockTask,
-    flow: &F,
+    flow: F,
     row: &Row<'_>,
 ) -> Result<(), Fail> {
-    let count = answered(task, flow, row.answers)?;
+    let count = answered(task, &flow, row.answers)?;
     differences.compare(row.name, count, Some(row.answers.len()))
 }
 
 #[test]
-fn starts_take_memory(rt: HostRuntime) -> Result<(), Fail> {
+fn starts_of_lists_take_memory(rt: HostRuntime) -> Result<(), Fail> {
     const LIST: &Row<'_> = &Row {
         name: "of",
         answers: &[
@@ -122,10 +122,32 @@ fn starts_take_memory(rt: HostRuntime) -> Result<(), Fail> {
             Poll::Ready(Event::End(Cause::Failed(7))),
         ],
     };
+    let alloc = rt.alloc();
+    let task = task_made(&rt)?;
+    let mut all = Differences::none(alloc);
+    compare_polls(&mut all, &task, list_of(alloc, &[1, 2])?, LIST)?;
+    compare_polls(&mut all, &task, broken_list_of(alloc, &[1])?, FAILING)?;
+    all.assert_none(&rt);
+    Ok(())
+}
+
+#[test]
+fn starts_of_steps_take_memory(rt: HostRuntime) -> Result<(), Fail> {
     const STEPS: &Row<'_> = &Row {
         name: "scripted",
         answers: &[Poll::Ready(Event::Value(1)), Poll::Pending, END],
     };
+    let alloc = rt.alloc();
+    let task = task_made(&rt)?;
+    let mut all = Differences::none(alloc);
+    let steps: [Step<u64, u64>; 2] = [Step::Value(1), Step::Pending];
+    compare_polls(&mut all, &task, steps_of(alloc, &steps)?, STEPS)?;
+    all.assert_none(&rt);
+    Ok(())
+}
+
+#[test]
+fn starts_of_operators_take_memory(rt: HostRuntime) -> Result<(), Fail> {
     const OPERATORS: &Row<'_> = &Row {
         name: "take and distinct",
         answers: &[
@@ -137,19 +159,15 @@ fn starts_take_memory(rt: HostRuntime) -> Result<(), Fail> {
     let alloc = rt.alloc();
     let task = task_made(&rt)?;
     let mut all = Differences::none(alloc);
-    compare_polls(&mut all, &task, &list_of(alloc, &[1, 2])?, LIST)?;
-    compare_polls(&mut all, &task, &broken_list_of(alloc, &[1])?, FAILING)?;
-    let steps: [Step<u64, u64>; 2] = [Step::Value(1), Step::Pending];
-    compare_polls(&mut all, &task, &steps_of(alloc, &steps)?, STEPS)?;
     let operators = take(distinct(list_of(alloc, &[1, 1, 2, 3])?), 2)?;
-    compare_polls(&mut all, &task, &operators, OPERATORS)?;
+    compare_polls(&mut all, &task, operators, OPERATORS)?;
     all.assert_none(&rt);
     Ok(())
 }
 
-/// In each, two lists are started one after the other.
+/// Two lists are started one after the other.
 #[test]
-fn starts_of_several_sources_take_memory(rt: HostRuntime) -> Result<(), Fail> {
+fn starts_of_pairs_take_memory(rt: HostRuntime) -> Result<(), Fail> {
     const ZIP: &Row<'_> = &Row {
         name: "zip",
         answers: &[
@@ -158,6 +176,23 @@ fn starts_of_several_sources_take_memory(rt: HostRuntime) -> Result<(), Fail> {
             END,
         ],
     };
+    let alloc = rt.alloc();
+    let task = task_made(&rt)?;
+    let mut all = Differences::none(alloc);
+    let tens = list_of(alloc, &[10, 20])?;
+    compare_polls(
+        &mut all,
+        &task,
+        zip(list_of(alloc, &[1, 2])?, tens, Sum),
+        ZIP,
+    )?;
+    all.assert_none(&rt);
+    Ok(())
+}
+
+/// The same of `combine`.
+#[test]
+fn starts_of_combinations_take_memory(rt: HostRuntime) -> Result<(), Fail> {
     const COMBINE: &Row<'_> = &Row {
         name: "combine",
         answers: &[
@@ -170,10 +205,13 @@ fn starts_of_several_sources_take_memory(rt: HostRuntime) -> Result<(), Fail> {
     let alloc = rt.alloc();
     let task = task_made(&rt)?;
     let mut all = Differences::none(alloc);
-    let sums = zip(list_of(alloc, &[1, 2])?, list_of(alloc, &[10, 20])?, Sum);
-    compare_polls(&mut all, &task, &sums, ZIP)?;
-    let sums = combine(list_of(alloc, &[1, 2])?, list_of(alloc, &[10, 20])?, Sum);
-    compare_polls(&mut all, &task, &sums, COMBINE)?;
+    let tens = list_of(alloc, &[10, 20])?;
+    compare_polls(
+        &mut all,
+        &task,
+        combine(list_of(alloc, &[1, 2])?, tens, Sum),
+        COMBINE,
+    )?;
     all.assert_none(&rt);
     Ok(())
 }
@@ -194,9 +232,9 @@ fn compare_flat_maps<F: Flow<Item = u64, Fault = u64> + Copy>(
         answers: TENS,
     };
     let concat = flat_map_concat(list_of(alloc, &[1, 2])?, Same(inner));
-    compare_polls(differences, task, &concat, CONCAT)?;
+    compare_polls(differences, task, concat, CONCAT)?;
     let merge = flat_map_merge(alloc, list_of(alloc, &[1, 2])?, Same(inner), 2)?;
-    compare_polls(differences, task, &merge, MERGE)
+    compare_polls(differences, task, merge, MERGE)
 }
 
 /// An inner start that is refused ends the run.
@@ -318,10 +356,24 @@ fn buffers_take_memory(rt: HostRuntime) -> Result<(), Fail> {
     let alloc = rt.alloc();
     let task = task_made(&rt)?;
     let mut all = Differences::none(alloc);
+    let held = buffer(alloc, list_of(alloc, &[5])?, 2, Policy::Suspend)?;
+    compare_polls(&mut all, &task, held, HELD)?;
+    compare_polls(
+        &mut all,
+        &task,
+        conflate(alloc, list_of(alloc, &[5])?),
+        LATEST,
+    )?;
+    all.assert_none(&rt);
+    Ok(())
+}
+
+#[test]
+fn a_split_takes_memory(rt: HostRuntime) -> Result<(), Fail> {
+    let alloc = rt.alloc();
+    let task = task_made(&rt)?;
+    let mut all = Differences::none(alloc);
     let list = list_of(alloc, &[5])?;
-    let held = buffer(alloc, &list, 2, Policy::Suspend)?;
-    compare_polls(&mut all, &task, &held, HELD)?;
-    compare_polls(&mut all, &task, &conflate(alloc, &list), LATEST)?;
     let (mut feed, mut drain) = split_again(alloc, &list)?;
     let took = task.enter(|cx| feed.pump(&rt, cx));
     feed.cancel(&rt);

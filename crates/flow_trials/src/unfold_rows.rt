@@ -368,7 +368,7 @@ fn runs_of_an_unfold_stand_side_by_side(rt: HostRuntime) -> Result<(), Fail> {
     Ok(())
 }
 
-// Doubling without an end: the powers of two that fit, and then 0 for good. A collection takes 64 values a poll; `take` ends it.
+// Doubling without an end: the powers of two that fit, and then 0 for good. A collection takes 64 values a poll.
 #[test]
 fn unfolds_without_an_end(rt: HostRuntime) -> Result<(), Fail> {
     const GREATEST_POWER: u64 = 0x8000_0000_0000_0000;
@@ -379,16 +379,26 @@ fn unfolds_without_an_end(rt: HostRuntime) -> Result<(), Fail> {
         end: FINISH,
         asked: &asked,
     };
-    let flow = unfold(1u64, step);
-    let mut gathering = collect(rt.alloc(), flow.start()?);
+    let mut gathering = collect(rt.alloc(), unfold(1u64, step).start()?);
     assert!(rt; task.enter(|cx| gathering.poll(cx)).is_pending());
     assert!(rt; task.is_woken());
     assert_same(&rt, "values", gathering.so_far().len(), 64);
     let last = gathering.so_far().last().copied();
     assert_same(&rt, "last value", last, Some(GREATEST_POWER));
     assert_same(&rt, "steps", asked.get(), 64);
-    asked.set(0);
-    let mut gathering = collect(rt.alloc(), take(flow, 3)?.start()?);
+    Ok(())
+}
+
+#[test]
+fn a_take_ends_an_endless_unfold(rt: HostRuntime) -> Result<(), Fail> {
+    let task = MockTask::new(&rt)?;
+    let asked = Cell::new(0);
+    let step = Doubling {
+        limit: u64::MAX,
+        end: FINISH,
+        asked: &asked,
+    };
+    let mut gathering = collect(rt.alloc(), take(unfold(1u64, step), 3)?.start()?);
     let mut differences = Differences::none(rt.alloc());
     let gathered = task.enter(|cx| gathering.poll(cx));
     compare_gathered(

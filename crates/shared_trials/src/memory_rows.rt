@@ -55,8 +55,12 @@ fn run_again(
     Some(flow.run(calls, replies))
 }
 
-#[test]
-fn new_flows_and_runs_of_calls_take_memory(rt: HostRuntime) -> Result<(), Fail> {
+/// Compares the replies to the calls, which are run once more where that was refused.
+fn compare_replies(
+    differences: &mut Differences,
+    flow: &mut SharedState<u64>,
+    replies: &mut Vec<Reply<u64>>,
+) -> Result<(), Fail> {
     const CALLS: &[Call<u64>] = &[Call::Subscribe, Call::Try(1, 7), Call::Next(SubId(0))];
     const REPLIES: &[Reply<u64>] = &[
         Reply::Reset,
@@ -64,14 +68,18 @@ fn new_flows_and_runs_of_calls_take_memory(rt: HostRuntime) -> Result<(), Fail> 
         Reply::Tried(Ok(Tried::Accepted(0))),
         Reply::Next(Next::Value(7)),
     ];
-    let alloc = rt.alloc();
-    let mut all = Differences::none(alloc);
-    let mut replies = made_again(&|| Vec::with_capacity(alloc, 1))?;
+    let ran = run_again(flow, CALLS, replies);
+    differences.compare("run", ran, Some(Ok(())))?;
+    differences.compare("replies", replies.as_slice(), REPLIES)
+}
+
+/// What stood in the list of replies before stays.
+#[test]
+fn new_flows_and_runs_of_calls_take_memory(rt: HostRuntime) -> Result<(), Fail> {
+    let mut all = Differences::none(rt.alloc());
+    let mut replies = made_again(&|| Vec::with_capacity(rt.alloc(), 1))?;
     replies.push(Reply::Reset)?;
-    let mut flow = made(alloc)?;
-    let ran = run_again(&mut flow, CALLS, &mut replies);
-    all.compare("run", ran, Some(Ok(())))?;
-    all.compare("replies", replies.as_slice(), REPLIES)?;
+    compare_replies(&mut all, &mut made(rt.alloc())?, &mut replies)?;
     all.assert_none(&rt);
     Ok(())
 }
@@ -189,19 +197,36 @@ fn shared(
     Ok(turned)
 }
 
+/// Compares the replay cache, for which there is room.
+fn compare_cache(
+    rt: &impl Wait,
+    differences: &mut Differences,
+    flow: &mut SharedFlow<u64>,
+    cache: &mut Vec<u64>,
+) -> Result<(), Fail> {
+    flow.replay_cache_into(rt, cache)?;
+    differences.compare("the cache", cache.as_slice(), [1, 2].as_slice())
+}
+
 #[test]
 fn sharings_take_memory(rt: HostRuntime) -> Result<(), Fail> {
-    let alloc = rt.alloc();
     let task = task_made(&rt)?;
-    let mut all = Differences::none(alloc);
-    let mut cache = made_again(&|| Vec::with_capacity(alloc, 2))?;
-    let mut flow = flow_made(alloc)?;
-    let turned = shared(&rt, alloc, &task, &mut flow)?;
-    flow.replay_cache_into(&rt, &mut cache)?;
+    let mut all = Differences::none(rt.alloc());
+    let mut cache = made_again(&|| Vec::with_capacity(rt.alloc(), 2))?;
+    let mut flow = flow_made(rt.alloc())?;
+    let turned = shared(&rt, rt.alloc(), &task, &mut flow)?;
     all.compare("share_in and its first poll", turned, true)?;
-    all.compare("the cache", cache.as_slice(), [1, 2].as_slice())?;
-    let list = list_of(alloc, &[1, 2])?;
-    let mut sharing = state_in(seat_made(alloc, 1)?, 7, list, Started::Eagerly);
+    compare_cache(&rt, &mut all, &mut flow, &mut cache)?;
+    all.assert_none(&rt);
+    Ok(())
+}
+
+#[test]
+fn sharings_of_states_take_memory(rt: HostRuntime) -> Result<(), Fail> {
+    let task = task_made(&rt)?;
+    let mut all = Differences::none(rt.alloc());
+    let list = list_of(rt.alloc(), &[1, 2])?;
+    let mut sharing = state_in(seat_made(rt.alloc(), 1)?, 7, list, Started::Eagerly);
     let turned = state_turns_on(&task, &mut sharing);
     let mut seat = sharing.close();
     all.compare("state_in and its first poll", turned, true)?;
