@@ -15,8 +15,8 @@ ghost use Rattle.flow_marbles.specs.Statuses.{status_by};
 mod wish;
 
 use crate::wish::{Wish, wish_of};
-use flow_script::ScriptFault;
-use marble_drawing::{draw_script, read_script};
+use flow_script::{ScriptFault, read_script};
+use marble_drawing::draw_script;
 use std::alloc::{AllocError, AllocGlobal};
 use std::process::ExitCode;
 use std::random::RandomSource;

@@ -1,5 +1,5 @@
 -- What a command that binds a name makes of the worlds that a runner pictures.
-use Rattle.std.proofs.Common.{◌≡◌, ◌⊎◌, inl, inr, ℕ, ◌<◌, Bool, true, false, List, [], ◌∷◌, ◌++◌, length, set, get_or, Option, Some, None, is_some, slice_get, bytes_eq, if◌then◌else◌, vec_len, refl, sym, ap, subst, ◌∙◌}
+use Rattle.std.proofs.Common.{◌≡◌, inl, inr, ℕ, ◌<◌, Bool, true, false, List, [], ◌∷◌, ◌++◌, length, set, get_or, Option, Some, None, is_some, slice_get, bytes_eq, if◌then◌else◌, vec_len, refl, sym, ap, subst, ◌∙◌}
 use Rattle.std.specs.Option.{option_map}
 use Rattle.flow_terms.specs.declared.refusal.Refusal.{Refusal}
 use Rattle.script_pipes.specs.declared.answer.Answer.{Answer}

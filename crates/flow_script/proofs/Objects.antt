@@ -11,7 +11,7 @@ use Rattle.script_words.specs.Words.{◌>>=◌}
 use Rattle.flow_script.specs.declared.binding.Binding.{Binding}
 use Rattle.flow_script.specs.declared.runner.Runner.{Runner}
 use Rattle.flow_script.specs.Names.{bound_to}
-use Rattle.flow_script.specs.Worlds.{World, Outcome, binding_of, ask_at, ask_step, with_thing}
+use Rattle.flow_script.specs.Worlds.{World, ask_step, with_thing}
 use Rattle.flow_script.specs.Pictures.{StandEach, Pictures, Meets}
 
 -- an index that nothing is found at

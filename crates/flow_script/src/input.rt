@@ -34,7 +34,11 @@ fn read_once<R: Read>(reader: &mut R, script: &mut Vec<u8>) -> Result<usize, Scr
     Ok(count)
 }
 
-/// Reads a script whole, and never more than one byte past the limit. Any failing read is `Read`, `Interrupted` too.
+/// Reads a script whole, and never more than one byte past the limit of 1,048,576 bytes.
+///
+/// A longer script is `TooLong`, any failing read `Read`, `Interrupted` too. Then nothing of what was read is kept, and
+/// the reader is where it came to. That the number of reads is bounded isn't claimed, since a reader may give nothing
+/// new for ever.
 pub fn read_script<R: Read>(alloc: Global, reader: &mut R) -> Result<Vec<u8>, ScriptFault>
     ensures whole { ReadWhole (R.remaining reader.old) (R.remaining reader.new) result }
     ensures within { TakesAtMost (R.remaining reader.old) (R.remaining reader.new) 1048577 }

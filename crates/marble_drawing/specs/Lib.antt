@@ -1,4 +1,3 @@
-pub mod Inputs
 pub mod Ends
 pub mod Replied
 pub mod Pictures

@@ -2,7 +2,5 @@
 #![tactic(auto)]
 
 mod drawing;
-mod input;
 
 pub use drawing::{Form, answers_of, draw_script};
-pub use input::read_script;

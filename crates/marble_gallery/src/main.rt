@@ -3,8 +3,8 @@
 //! The status is 0 where each picture is the kept one.
 #![tactic(auto)]
 
-use flow_script::{Engine, ScriptFault};
-use marble_drawing::{Form, draw_script, read_script};
+use flow_script::{Engine, ScriptFault, read_script};
+use marble_drawing::{Form, draw_script};
 use std::alloc::AllocGlobal;
 use std::process::ExitCode;
 use std::random::RandomSource;

@@ -1,5 +1,4 @@
 use Rattle.std.proofs.Common.{refl, sym, ap, ◌∙◌, is_some}
-use Rattle.std.proofs.lemmas.Result.{IfOk-weaker}
 use Rattle.script_pipes.specs.Commands.{made_in}
 use Rattle.script_flows.specs.Findings.{plain}
 use Rattle.flow_script.proofs.Making.{name_taken, made_one, refused_one}
