@@ -13,9 +13,6 @@ pub enum Fault {
     /// What arrived isn't what was sent.
     #[error("wrong total at {0}")]
     WrongTotal(&'static str),
-    /// In a long run a value was otherwise than it has to be.
-    #[error("a value was {0}")]
-    Soak(&'static str),
     /// A call was refused.
     #[error("refused {0}")]
     Refused(u8),

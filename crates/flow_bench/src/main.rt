@@ -1,9 +1,7 @@
-//! Measures what the flows cost: `flow_bench [SCENARIO..]`. Or lets four threads work at random: `flow_bench soak MINUTES`.
+//! Measures what the flows cost: `flow_bench [SCENARIO..]`.
 //!
 //! With scenarios it makes each of their measurements five times, and writes a line for each figure. Without one it makes
 //! every measurement a thousandth of its size, once, and writes only what never varies: that is what the gate asks for.
-//! `soak` checks the place of every value for so many minutes, and writes how many there were.
-//!
 //! The status is 0 where every check held, 1 for a fault, which is named on standard error, and 2, with nothing written,
 //! where the command line names no scenario.
 #![tactic(auto)]
@@ -17,15 +15,11 @@ mod lane_fan_out;
 mod lane_lossy;
 mod lane_receipts;
 mod pause;
-mod random;
 mod report;
 mod scenario;
 mod script_lines;
 mod shared_fan_out;
 mod shared_receipts;
-mod soak;
-mod soak_state;
-mod soak_worker;
 mod split_values;
 mod state_alone;
 mod state_threads;
@@ -55,29 +49,17 @@ enum Stop {
     Fault(Fault),
 }
 
-/// What the command line asks for.
-#[derive(Drop)]
-enum Asked {
-    /// These scenarios, in this order.
-    Measure(Vec<Scenario>),
-    /// So many minutes.
-    Soak(u64),
-}
-
 /// The command lines that there are.
 fn command_of<'a>(alloc: Global) -> Result<Command<'a>, AllocError> {
     let names = Arg::new(alloc, "scenario")
         .num_args(0..)
         .action(ArgAction::Append)
         .value_parser(Scenario::NAMES.as_slice());
-    let minutes = Arg::new(alloc, "minutes").required(true);
-    let soak = Command::new(alloc, "soak").arg(minutes)?;
-    let command = Command::new(alloc, "flow_bench").arg(names)?;
-    command.subcommand(soak)
+    Command::new(alloc, "flow_bench").arg(names)
 }
 
-/// What the command line asks for.
-fn asked_for(alloc: Global, words: &[String]) -> Result<Asked, Stop> {
+/// The scenarios that the command line asks for, in its order.
+fn asked_for(alloc: Global, words: &[String]) -> Result<Vec<Scenario>, Stop> {
     let Ok(command) = command_of(alloc) else {
         return Err(Stop::Fault(Fault::NoMemory));
     };
@@ -90,19 +72,8 @@ fn asked_for(alloc: Global, words: &[String]) -> Result<Asked, Stop> {
             });
         }
     };
-    if let Some(soak) = matches.subcommand_matches("soak") {
-        return minutes_of(soak.get_str("minutes"));
-    }
     let names = matches.get_strs("scenario").unwrap_or(&[]);
-    Ok(Asked::Measure(named(alloc, names)?))
-}
-
-/// So many minutes, where the word is a number.
-fn minutes_of(word: Option<&str>) -> Result<Asked, Stop> {
-    match word.unwrap_or("").parse::<u64>() {
-        Ok(minutes) => Ok(Asked::Soak(minutes)),
-        Err(_) => Err(Stop::Usage),
-    }
+    named(alloc, names)
 }
 
 /// The scenarios of these names.
@@ -152,10 +123,7 @@ where
     R: Env + Clock + Print + AllocGlobal + RandomSource + Threads + Wait + Sync,
 {
     let words = words_of(rt)?;
-    let scenarios = match asked_for(rt.alloc(), words.as_slice())? {
-        Asked::Measure(scenarios) => scenarios,
-        Asked::Soak(minutes) => return soak::soak(rt, minutes).map_err(Stop::Fault),
-    };
+    let scenarios = asked_for(rt.alloc(), words.as_slice())?;
     if scenarios.is_empty() {
         return measure_all(rt, Scenario::ALL.as_slice(), Size::Small).map_err(Stop::Fault);
     }

@@ -2,7 +2,7 @@
 
 use crate::fault::Fault;
 use crate::random::Random;
-use crate::soak_state::StateSide;
+use crate::state_side::StateSide;
 use futures::task::Poll;
 use futures::test::MockTask;
 use shared_core::{Begun, Tried, Withdrawn};

@@ -1,6 +1,6 @@
 //! A thread's side of a state in a soak: a seat by which it sets, and a collector that comes and leaves.
 
-use crate::soak_worker::Record;
+use crate::worker::Record;
 use state_flow::{Collector, StateSeat};
 
 /// Where the values of the next thread begin, as a shift.

@@ -1,5 +1,5 @@
 use Rattle.std.proofs.Common.{vec_len}
-use Rattle.flow_bench.proofs.soak.dismiss.Given as goal
+use Rattle.flow_soak.proofs.rounds.dismiss.Given as goal
 
 abbrev pub decreases-loop-worker : goal.decreases-loop-worker
 decreases-loop-worker g l = vec_len l.workers
