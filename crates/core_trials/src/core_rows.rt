@@ -2,7 +2,7 @@
 
 use crate::tools::{Differences, assert_same};
 use cold_flow::{Policy, Refusal};
-use flow_callers::{received_in_turn, received_once};
+use hot_callers::{received_in_turn, received_once};
 use shared_core::{
     Begun, Call, Config, Emit, Next, Prelude, Reply, SharedState, SubId, Ticket, Tried, Withdrawn,
 };

@@ -3,9 +3,9 @@ ghost use Rattle.std.specs.Prelude.{◌≡◌};
 
 use crate::tools::assert_same;
 use cold_flow::Refusal;
-use flow_callers::{Dimmer, Light, asked_twice};
 use futures::task::Poll;
 use futures::test::MockTask;
+use hot_callers::{Dimmer, Light, asked_twice};
 use linked_list_allocator::LocalHeap;
 use state_flow::{Collector, StateFlow, StateSeat};
 use std::test::Fail;

@@ -5,12 +5,12 @@ ghost use Rattle.flow_terms.specs.declared.few.Few.TheVariants.{Two};
 use crate::tools::{
     Add, Answer, Polling, Sum, assert_list, assert_polls, assert_same, broken, listed, next,
 };
+use cold_callers::{Countdown, chain, mapped_list, taken_down};
 use cold_flow::{
     Apply, Caught, Cause, Collected, Collecting, Event, Few, Finite, First, Flow, Folding, Refusal,
     Run, Step, catch_with, collect, distinct, drop_first, filter, first, fold, map, on_completion,
     range, scripted, take, to_list, transform,
 };
-use flow_callers::{Countdown, chain, mapped_list, taken_down};
 use futures::task::Poll;
 use futures::test::MockTask;
 use std::alloc::Global;

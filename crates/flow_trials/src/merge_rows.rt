@@ -7,11 +7,11 @@ ghost use Rattle.std.specs.Iterator.{at_most};
 use crate::tools::{
     Answer, Polling, Same, Sum, assert_list, assert_polls, assert_same, broken, listed, next,
 };
+use cold_callers::{joined_list, zipped_lists};
 use cold_flow::{
     Apply, Caught, Cause, Event, Flow, Numbers, Refusal, Run, Step, catch_with, collect, range,
     scripted, to_list,
 };
-use flow_callers::{joined_list, zipped_lists};
 use flow_merge::{Bound, KnownBound, MAX_WORKERS, combine, flat_map_concat, flat_map_merge, zip};
 use futures::task::{Context, Poll};
 use futures::test::MockTask;

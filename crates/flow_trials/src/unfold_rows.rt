@@ -6,11 +6,11 @@ ghost use Rattle.cold_flow.specs.declared.builders.unfold.Unfolded.TheVariants.{
 ghost use Rattle.flow_trials.specs.Uncancelled.{AnyTrace};
 
 use crate::tools::{Add, Differences, Polling, assert_list, assert_same, next};
+use cold_callers::{Repeated, gathered_halves, mapped_halves, repeated_list};
 use cold_flow::{
     Apply, Cause, Collected, EndingRun, Event, FiniteSteps, Flow, Refusal, Run, Step, Steps,
     Unfolded, collect, map, take, to_list, unfold,
 };
-use flow_callers::{Repeated, gathered_halves, mapped_halves, repeated_list};
 use futures::task::Poll;
 use futures::test::MockTask;
 use std::alloc::Global;

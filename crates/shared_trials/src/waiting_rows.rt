@@ -6,7 +6,7 @@ use crate::meeting::Meeting;
 use crate::shared_stage::config;
 use crate::tools::assert_same;
 use cold_flow::{Policy, Refusal};
-use flow_callers::asked;
+use hot_callers::asked;
 use shared_core::Tried;
 use shared_flow::{Emitter, Parker, Receipt, SharedFlow, Subscription};
 use std::alloc::AllocGlobal;

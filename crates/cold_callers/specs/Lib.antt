@@ -1,0 +1,3 @@
+pub mod Countdown
+pub mod Halves
+pub mod Lists

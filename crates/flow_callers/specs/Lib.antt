@@ -1,6 +1,0 @@
-pub mod Countdown
-pub mod Halves
-pub mod Lists
-pub mod Lights
-pub mod LightLaws
-pub mod SharedCalls

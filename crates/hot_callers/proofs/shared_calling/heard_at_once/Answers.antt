@@ -1,0 +1,13 @@
+use Rattle.std.proofs.Common.{ap, ◌∙◌}
+use Rattle.shared_flow.specs.Owners.{Owning}
+use Rattle.shared_flow.specs.Reach.{Party}
+use Rattle.hot_callers.proofs.shared_calling.heard_at_once.Goals as goal
+
+pub emitted_and_heard-heard-requires-clause-one_flow : goal.emitted_and_heard-heard-requires-clause-one_flow
+emitted_and_heard-heard-requires-clause-one_flow g c =
+    let let_in = c.in_ok-subscription.ensures.begins in (
+      let_in.0.name,
+      ap (λ (p : Party). p.flow) c.in-Ok.ensures.flow ∙ ap (λ (o : Owning). o.party.flow) c.in_ok-subscription.ensures.round ∙ let_in.2,
+      ap (λ (p : Party). p.flow) c.in_ok-subscription.ensures.flow ∙ let_in.2,
+      let_in.4.5.1.of_lane,
+    )

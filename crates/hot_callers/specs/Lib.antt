@@ -1,0 +1,3 @@
+pub mod Lights
+pub mod LightLaws
+pub mod SharedCalls

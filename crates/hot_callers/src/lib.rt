@@ -1,0 +1,20 @@
+//! Callers of hot flows, as the crates' documents show them. Each is proved from the contracts of the crates below
+//! alone.
+#![tactic(auto)]
+
+mod core_calling;
+mod lane_calling;
+mod shared_calling;
+mod sharing_calling;
+mod state_calling;
+mod strategy_calling;
+
+pub use core_calling::{received_in_turn, received_once};
+pub use lane_calling::{drained, emitted_and_taken, taken_from_the_cache};
+pub use shared_calling::{
+    asked, awaited, counted_with_cache, emitted, emitted_and_heard, finished, heard_at_once,
+    passed_on, received,
+};
+pub use sharing_calling::first_poll;
+pub use state_calling::{Dimmer, Light, asked_twice};
+pub use strategy_calling::comes_and_goes;
