@@ -1,14 +1,14 @@
 -- Laws of operators that may end before their source, or after it.
-use Rattle.std.specs.Prelude.{◌≡◌, [], Some}
-use Rattle.std.proofs.Common.{subst}
-use Rattle.std.specs.Iterator.{Count, IsFinite}
+use Rattle.std.specs.Prelude.{◌≡◌, ◌<◌, Bool, IsTrue, [], Some}
+use Rattle.std.proofs.Common.{subst, arith}
+use Rattle.std.specs.Iterator.{Count, IsFinite, size, at_most}
 use Rattle.cold_flow.specs.declared.cause.Cause.{Cause}
 use Rattle.cold_flow.specs.declared.cause.Cause.TheVariants.{Finished}
 use Rattle.cold_flow.specs.declared.operators.closing.Closing.{Closing}
 use Rattle.cold_flow.specs.declared.operators.closing.Closing.TheVariants.{Open, Last, Over}
 use Rattle.cold_flow.specs.Trace.{Trace, ◌⊑◌, so_far, ended_by}
 use Rattle.cold_flow.specs.Poll.{Traces}
-use Rattle.cold_flow.specs.Closing.{Following, given_cause, polls_left}
+use Rattle.cold_flow.specs.Closing.{Following, given_cause, polls_left, is_prompt}
 use Rattle.cold_flow.specs.Laws.{begins-any}
 
 module _ {A E : Type 0} where
@@ -28,3 +28,24 @@ pub finite-following : {E : Type 0} (c : Closing E) (source : Count) → IsFinit
 finite-following Open source h = h
 finite-following Last source h = tt
 finite-following (Over k) source h = tt
+
+-- what a poll leaves of an operator that followed its source before
+module _ {E : Type 0} where
+  pub open_gave : (c : Closing E) (k : Cause E) → c ≡ Open → given_cause c ≡ Some k → ⊥
+  open_gave Open k is e = cc
+  open_gave Last k is e = cc
+  open_gave (Over j) k is e = cc
+
+  pub open_approaches : (before after : Closing E) (old new : Count) → before ≡ Open → after ≡ Open
+      → (IsFinite old → IsFinite new × (size new < size old))
+      → IsFinite (polls_left before old) → IsFinite (polls_left after new) × (size (polls_left after new) < size (polls_left before old))
+  open_approaches before after old new was is fewer = rw (was, is) (λ h. let now = fewer h in (now.0, omega arith))
+
+  -- after a last value
+  pub open_closes : (before : Closing E) (old : Count) → before ≡ Open
+      → IsFinite (polls_left before old) → IsFinite (at_most 0) × (size (at_most 0) < size (polls_left before old))
+  open_closes before old was = rw was (λ h. (tt, omega arith))
+
+  pub open_prompt : {Ready : Type 0} (before after : Closing E) (old new : Bool) → before ≡ Open → after ≡ Open
+      → (IsTrue old → Ready × IsTrue new) → IsTrue (is_prompt before old) → Ready × IsTrue (is_prompt after new)
+  open_prompt before after old new was is prompt = rw (was, is) prompt

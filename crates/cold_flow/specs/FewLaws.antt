@@ -75,6 +75,13 @@ module _ {A B E : Type 0} (g : A → Few B) where
   held-zero (Three a b c) s k h e = let never : false ≡ true = subst (λ (o : Option (Cause E)). IsTrue (is_going o)) e h in cc
   held-zero (Four a b c d) s k h e = let never : false ≡ true = subst (λ (o : Option (Cause E)). IsTrue (is_going o)) e h in cc
 
+  -- while a value is held, the source has not ended
+  pub held-open : (held : Few B) (s : Option (Cause E)) (v : B) (rest : Few B) → IsTrue (is_zero held || is_going s)
+      → split held ≡ Some (v, rest) → s ≡ None
+  held-open held None v rest h is = refl
+  held-open held (Some k) v rest h is =
+      let never : split Zero ≡ Some (v, rest) = subst (λ (f : Few B). split f ≡ Some (v, rest)) (held-zero held (Some k) k h refl) is in cc
+
   pub held-over : (held : Few B) (s : Option (Cause E)) (source : Traces A E) (k : Cause E) → IsTrue (is_zero held || is_going s) → s ≡ Some k
       → ((t : Trace A E) → source t → t ⊑ ended_by [] k) → (t : Trace B E) → Through (held_then g held) source t → t ⊑ ended_by [] k
   held-over held s source k going e over t h =

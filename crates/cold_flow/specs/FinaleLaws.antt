@@ -32,18 +32,37 @@ module _ {A E : Type 0} (finale : Cause E → Finale A E) where
       Through-after (with_finale finale) (with_finale finale) old new v v (λ u. refl) after
 
   -- the end of the source becomes a last value and an end
-  pub finale_last : (source : Traces A E) (k : Cause E) (v : A) → finale k ≡ (Some v, Finished) → source (ended_by [] k)
+  pub finale_last : (source : Traces A E) (k : Cause E) (v : A) (j : Cause E) → finale k ≡ (Some v, j) → j ≡ Finished → source (ended_by [] k)
       → After (Through (with_finale finale) source) v (Beginnings (ended_by [] Finished))
-  finale_last source k v is came t h = record {
+  finale_last source k v j is finished came t h = record {
     given = ended_by [] k;
     came = came;
-    begins = rw is (led-begins v t (ended_by [] Finished) h);
+    begins = rw (is, finished) (led-begins v t (ended_by [] Finished) h);
   }
 
   -- the end of the source becomes an end
   pub finale_ends : (source : Traces A E) (k j : Cause E) → finale k ≡ (None, j) → source (ended_by [] k)
       → Through (with_finale finale) source (ended_by [] j)
   finale_ends source k j is came = record { given = ended_by [] k; came = came; begins = rw is (inl refl) }
+
+module _ {A E : Type 0} where
+  caught-last : (c : Caught A E) (v : A) (j : Cause E) → caught_by c ≡ (Some v, j) → j ≡ Finished
+  caught-last End v j e = sym (ap (λ (f : Finale A E). f.1) e)
+  caught-last (Last w) v j e = sym (ap (λ (f : Finale A E). f.1) e)
+  caught-last (Fault f) v j e = let never : None ≡ Some v = ap (λ (f : Finale A E). f.0) e in absurd (cc)
+
+  -- `Finished` comes after a last value
+  pub catching_last : (g : E → Caught A E) (k : Cause E) (v : A) (j : Cause E) → catching g k ≡ (Some v, j) → j ≡ Finished
+  catching_last g Finished v j e = sym (ap (λ (f : Finale A E). f.1) e)
+  catching_last g (Failed f) v j e = caught-last (g f) v j e
+  catching_last g Cancelled v j e = let never : None ≡ Some v = ap (λ (f : Finale A E). f.0) e in absurd (cc)
+  catching_last g (Refused r) v j e = let never : None ≡ Some v = ap (λ (f : Finale A E). f.0) e in absurd (cc)
+
+  pub completing_last : (g : Cause E → Option A) (k : Cause E) (v : A) → completing g k ≡ (Some v, k) → k ≡ Finished
+  completing_last g Finished v e = refl
+  completing_last g (Failed f) v e = let never : None ≡ Some v = ap (λ (f : Finale A E). f.0) e in absurd (cc)
+  completing_last g Cancelled v e = let never : None ≡ Some v = ap (λ (f : Finale A E). f.0) e in absurd (cc)
+  completing_last g (Refused r) v e = let never : None ≡ Some v = ap (λ (f : Finale A E). f.0) e in absurd (cc)
 
 caught-cause : {A E : Type 0} (c : Caught A E) → (caught_by c).1 ≡ Cancelled → ⊥
 caught-cause End e = cc

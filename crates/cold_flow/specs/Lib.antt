@@ -22,3 +22,4 @@ pub mod Fold
 pub mod FoldLaws
 pub mod Polled
 pub mod PolledLaws
+pub mod LoopLaws

@@ -4,9 +4,10 @@ use Rattle.std.specs.Prelude.{drop, filter, if◌then◌else◌}
 use Rattle.std.proofs.Common.{zero, suc, ap, sym, ◌∙◌, inl, inr}
 use Rattle.std.proofs.Math.Numerals.{sub-one}
 use Rattle.std.specs.List.{cons_option}
-use Rattle.cold_flow.specs.Trace.{on_values}
+use Rattle.cold_flow.specs.declared.cause.Cause.{Cause}
+use Rattle.cold_flow.specs.Trace.{on_values, ended_by}
 use Rattle.cold_flow.specs.Poll.{Traces, Within, After, Through}
-use Rattle.cold_flow.specs.Laws.{Monotone, Through-skip}
+use Rattle.cold_flow.specs.Laws.{Monotone, Through-after, Through-skip, Through-end}
 
 cons_option-append : {A : Type 0} (o : Option A) (ys zs : List A) → cons_option o ys ++ zs ≡ cons_option o (ys ++ zs)
 cons_option-append None ys zs = refl
@@ -60,3 +61,16 @@ module _ {S A B E : Type 0} (passes : S → List A → List B) (keeps : S → A 
   sift_skips step s next x o old new kept none is came =
       Through-skip (on_values (passes s)) (on_values (passes next)) old new x
       (λ u. ap (λ (ys : List B). (ys, u.1)) (step s x u.0 ∙ rw (sym kept ∙ none, is) refl)) came
+
+  -- the source ends
+  pub sift_ends : ((s : S) → passes s [] ≡ []) → (s : S) (source : Traces A E) (k : Cause E) → source (ended_by [] k)
+      → Through (on_values (passes s)) source (ended_by [] k)
+  sift_ends none s source k came = Through-end (on_values (passes s)) source k k (ap (λ (ys : List B). ended_by ys k) (none s)) came
+
+  -- the next value passes
+  pub sift_gives : ((s : S) (x : A) (xs : List A) → passes s (x ∷ xs) ≡ cons_option (keeps s x) (passes (after s x) xs))
+      → (s next : S) (x : A) (o : Option B) (y : B) (old new : Traces A E) → o ≡ keeps s x → o ≡ Some y → next ≡ after s x → After old x new
+      → After (Through (on_values (passes s)) old) y (Through (on_values (passes next)) new)
+  sift_gives step s next x o y old new kept some is came =
+      Through-after (on_values (passes s)) (on_values (passes next)) old new x y
+      (λ u. ap (λ (ys : List B). (ys, u.1)) (step s x u.0 ∙ rw (sym kept ∙ some, is) refl)) came

@@ -1,6 +1,6 @@
 //! `range`: consecutive numbers.
 
-ghost use Rattle.std.specs.Prelude.{◌-◌, ◌+◌, None, true, IsTrue};
+ghost use Rattle.std.specs.Prelude.{◌≡◌, ◌-◌, ◌+◌, None, true, IsTrue, ⊤};
 ghost use Rattle.std.specs.List.{range_with_len};
 ghost use Rattle.std.specs.Iterator.{at_most};
 ghost use Rattle.cold_flow.specs.declared.cause.Cause.TheVariants.{Finished};
@@ -12,14 +12,25 @@ use crate::builders::scripted::Step;
 use crate::builders::steps::{EndingRun, FiniteSteps, Steps};
 use crate::flow::Flow;
 use flow_terms::Refusal;
+use std::alloc::AllocError;
 use std::marker::PhantomData;
 
 /// The flow of `range`, and its steps: each takes the number `from`, and leaves the numbers after it.
-#[derive(Clone, Copy)]
+#[derive(Copy)]
 pub struct Numbers<E> {
     from: u64,
     to: u64,
     fault: PhantomData<E>,
+}
+
+impl<E: Copy> Clone for Numbers<E> {
+    ghost is_clone = { λ value copy. copy ≡ value };
+
+    ghost is_infallible = { λ _. ⊤ };
+
+    fn clone(&self) -> Result<Self, AllocError> {
+        Ok(*self)
+    }
 }
 
 /// The numbers from `from` up to below `to`, and then `Cause::Finished`: Kotlin's `(from until to).asFlow()`.

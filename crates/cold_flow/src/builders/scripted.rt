@@ -1,6 +1,6 @@
 //! `scripted`: a flow of given steps.
 
-ghost use Rattle.std.specs.Prelude.{◌-◌, IsTrue, length, drop};
+ghost use Rattle.std.specs.Prelude.{◌≡◌, ◌-◌, IsTrue, length, drop, ⊤};
 ghost use Rattle.std.specs.Iterator.{at_most};
 ghost use Rattle.cold_flow.specs.Poll.{Beginnings, Fixes, IsWithinPolls};
 ghost use Rattle.cold_flow.specs.Scripted.{played, never_pends};
@@ -8,9 +8,10 @@ ghost use Rattle.cold_flow.specs.Scripted.{played, never_pends};
 use crate::builders::steps::{EndingRun, FiniteSteps, Steps};
 use crate::flow::Flow;
 use flow_terms::Refusal;
+use std::alloc::AllocError;
 
 /// One step of a flow that is given step by step.
-#[derive(Clone, Copy, Debug, PartialEq, Eq)]
+#[derive(Copy)]
 pub enum Step<T, E> {
     /// A poll gives this value.
     Value(T),
@@ -18,6 +19,16 @@ pub enum Step<T, E> {
     Pending,
     /// The run fails with this fault; the steps after it are not reached.
     Fail(E),
+}
+
+impl<T: Copy, E: Copy> Clone for Step<T, E> {
+    ghost is_clone = { λ value copy. copy ≡ value };
+
+    ghost is_infallible = { λ _. ⊤ };
+
+    fn clone(&self) -> Result<Self, AllocError> {
+        Ok(*self)
+    }
 }
 
 /// The flow of `scripted`, and its steps.
@@ -80,9 +91,13 @@ impl<T: Copy, E: Copy> Steps for Stepped<T, E> {
     ghost prompt = { λ s. never_pends (drop s.next s.steps.items) };
 
     fn step(&mut self) -> Option<Step<T, E>> {
-        let step = *self.steps.get(self.next)?;
-        self.next += 1;
-        Some(step)
+        match self.steps.get(self.next) {
+            Some(step) => {
+                self.next += 1;
+                Some(*step)
+            }
+            None => None,
+        }
     }
 
     ghost begins = { λ _. begins-any _ };

@@ -1,6 +1,6 @@
 //! `unfold`: a flow by a state and a step.
 
-ghost use Rattle.std.specs.Prelude.{true, IsTrue};
+ghost use Rattle.std.specs.Prelude.{◌≡◌, true, IsTrue, ⊤};
 ghost use Rattle.cold_flow.specs.Poll.{Within};
 ghost use Rattle.cold_flow.specs.Unfolds.{Unfolds};
 ghost use Rattle.cold_flow.specs.UnfoldsLaws.{unfolds-nothing, unfolds-uncancelled};
@@ -10,9 +10,10 @@ use crate::builders::scripted::Step;
 use crate::builders::steps::{EndingRun, Steps};
 use crate::flow::Flow;
 use flow_terms::Refusal;
+use std::alloc::AllocError;
 
 /// What the step of [`unfold`] answers.
-#[derive(Clone, Copy, Debug, PartialEq, Eq)]
+#[derive(Copy)]
 pub enum Unfolded<T, S, E> {
     /// This value is given, and the next step is asked with this state.
     Next(T, S),
@@ -22,11 +23,31 @@ pub enum Unfolded<T, S, E> {
     Fail(E),
 }
 
+impl<T: Copy, S: Copy, E: Copy> Clone for Unfolded<T, S, E> {
+    ghost is_clone = { λ value copy. copy ≡ value };
+
+    ghost is_infallible = { λ _. ⊤ };
+
+    fn clone(&self) -> Result<Self, AllocError> {
+        Ok(*self)
+    }
+}
+
 /// The flow of `unfold`, and its steps: each goes on from the state that the one before it gave.
-#[derive(Clone, Copy)]
+#[derive(Copy)]
 pub struct Unfolding<S, G> {
     state: S,
     step: G,
+}
+
+impl<S: Copy, G: Copy> Clone for Unfolding<S, G> {
+    ghost is_clone = { λ value copy. copy ≡ value };
+
+    ghost is_infallible = { λ _. ⊤ };
+
+    fn clone(&self) -> Result<Self, AllocError> {
+        Ok(*self)
+    }
 }
 
 /// A source of one's own: the values that `step` answers from `state` on, each with the state of the next step, until it

@@ -1,6 +1,6 @@
 //! `collect`: the values of a run, and how it ended.
 
-ghost use Rattle.std.specs.Prelude.{◌≡◌, [], IsSome};
+ghost use Rattle.std.specs.Prelude.{◌≡◌, [], IsSome, ⊤};
 ghost use Rattle.futures.specs.Poll.{OnPending};
 ghost use Rattle.futures.specs.Task.{IsArmed, Keeps};
 ghost use Rattle.cold_flow.specs.declared.ends.collect.Gathering.TheVariants.{Going, Lacking};
@@ -10,7 +10,7 @@ use crate::event::Event;
 use crate::run::{BUDGET, Run};
 use flow_terms::Refusal;
 use futures::task::{Context, Poll};
-use std::alloc::Global;
+use std::alloc::{AllocError, Global};
 use std::mem;
 
 /// What a run gave.
@@ -23,7 +23,7 @@ pub struct Collected<T, E> {
 }
 
 /// How far a run was gathered.
-#[derive(Clone, Copy)]
+#[derive(Copy)]
 pub enum Gathering<E> {
     /// It goes on.
     Going,
@@ -31,6 +31,16 @@ pub enum Gathering<E> {
     Done(Cause<E>),
     /// Memory lacked for a value, and the run was cancelled.
     Lacking,
+}
+
+impl<E: Copy> Clone for Gathering<E> {
+    ghost is_clone = { λ value copy. copy ≡ value };
+
+    ghost is_infallible = { λ _. ⊤ };
+
+    fn clone(&self) -> Result<Self, AllocError> {
+        Ok(*self)
+    }
 }
 
 /// A run whose values are being gathered.

@@ -42,7 +42,6 @@ pub fn fold<R: Run, S: Copy, G: Apply<(S, R::Item), Out = S>>(
 impl<R: Run, S: Copy, G: Apply<(S, R::Item), Out = S>> Folding<R, S, G> {
     /// Takes at most 64 values of the run, and then yields. It is ready with the last state and the cause once the run has ended, and
     /// every later poll answers the same.
-    #[tactic(auto, using(crate::specs::FoldLaws::folds_waits, crate::specs::FoldLaws::folds_end))]
     pub fn poll(&mut self, cx: &mut Context<'_>) -> Poll<(S, Cause<R::Fault>)>
         ensures folds { FoldsTo (G.gives self.old.function) self.old.cause self.old.state (R.may self.old.run) result
             self.new.cause self.new.state (R.may self.new.run) }

@@ -1,6 +1,6 @@
 //! `catch_with`: another end in place of a failure.
 
-ghost use Rattle.std.specs.Prelude.{IsTrue, ◌||◌};
+ghost use Rattle.std.specs.Prelude.{◌≡◌, IsTrue, ◌||◌, ⊤};
 ghost use Rattle.futures.specs.Poll.{OnPending};
 ghost use Rattle.futures.specs.declared.task.Poll.TheVariants.{Pending};
 ghost use Rattle.cold_flow.specs.Poll.{Through, Makes, MakesExactly, IsWithinPolls};
@@ -17,9 +17,10 @@ use crate::operators::closing::Closing;
 use crate::run::{Finite, Run};
 use flow_terms::Refusal;
 use futures::task::{Context, Poll};
+use std::alloc::AllocError;
 
 /// What `catch_with` makes of a failure.
-#[derive(Clone, Copy, Debug, PartialEq, Eq)]
+#[derive(Copy)]
 pub enum Caught<T, E> {
     /// It ends by `Cause::Finished`.
     End,
@@ -27,6 +28,16 @@ pub enum Caught<T, E> {
     Last(T),
     /// It fails with this fault instead.
     Fault(E),
+}
+
+impl<T: Copy, E: Copy> Clone for Caught<T, E> {
+    ghost is_clone = { λ value copy. copy ≡ value };
+
+    ghost is_infallible = { λ _. ⊤ };
+
+    fn clone(&self) -> Result<Self, AllocError> {
+        Ok(*self)
+    }
 }
 
 /// The flow of `catch_with`.
@@ -92,6 +103,28 @@ pub struct CatchingRun<S: Run, G, E> {
     ghost stopped: { IsTrue (is_open closing || S.stopped source) },
 }
 
+impl<T: Copy, E: Copy, S: Run<Item = T, Fault = E>, G: Apply<E, Out = Caught<T, E>>> CatchingRun<
+    S,
+    G,
+    E,
+> {
+    // A last value, if any, and the end that comes in place of the source's.
+    fn finale(&self, cause: Cause<E>) -> (Option<T>, Cause<E>)
+        ensures { result ≡ catching (G.gives self.now.handler) cause }
+    {
+        match cause {
+            Cause::Finished => (None, Cause::Finished),
+            Cause::Failed(fault) => match self.handler.apply(fault) {
+                Caught::End => (None, Cause::Finished),
+                Caught::Last(value) => (Some(value), Cause::Finished),
+                Caught::Fault(other) => (None, Cause::Failed(other)),
+            },
+            Cause::Cancelled => (None, Cause::Cancelled),
+            Cause::Refused(refusal) => (None, Cause::Refused(refusal)),
+        }
+    }
+}
+
 impl<T: Copy, E: Copy, S: Run<Item = T, Fault = E>, G: Apply<E, Out = Caught<T, E>>> Run
     for CatchingRun<S, G, E> {
     ghost use Rattle.cold_flow.specs.Laws.{Through-begins};
@@ -117,21 +150,19 @@ impl<T: Copy, E: Copy, S: Run<Item = T, Fault = E>, G: Apply<E, Out = Caught<T, 
         if let Some(cause) = self.closing.answer() {
             return Poll::Ready(Event::End(cause));
         }
-        let cause = match self.source.poll_next(cx) {
-            Poll::Ready(Event::Value(value)) => return Poll::Ready(Event::Value(value)),
-            Poll::Ready(Event::End(Cause::Failed(fault))) => match self.handler.apply(fault) {
-                Caught::End => Cause::Finished,
-                Caught::Fault(other) => Cause::Failed(other),
-                Caught::Last(value) => {
+        match self.source.poll_next(cx) {
+            Poll::Ready(Event::Value(value)) => Poll::Ready(Event::Value(value)),
+            Poll::Ready(Event::End(cause)) => {
+                let (last, end) = self.finale(cause);
+                if let Some(value) = last {
                     self.closing = Closing::Last;
                     return Poll::Ready(Event::Value(value));
                 }
-            },
-            Poll::Ready(Event::End(cause)) => cause,
-            Poll::Pending => return Poll::Pending,
-        };
-        self.closing = Closing::Over(cause);
-        Poll::Ready(Event::End(cause))
+                self.closing = Closing::Over(end);
+                Poll::Ready(Event::End(end))
+            }
+            Poll::Pending => Poll::Pending,
+        }
     }
 
     fn cancel(&mut self) {

@@ -1,13 +1,14 @@
 //! How an operator stands to its source.
 
-ghost use Rattle.std.specs.Prelude.{◌≡◌, Some, IfNone};
+ghost use Rattle.std.specs.Prelude.{◌≡◌, Some, IfNone, ⊤};
 ghost use Rattle.cold_flow.specs.declared.operators.closing.Closing.TheVariants.{Open, Over};
 ghost use Rattle.cold_flow.specs.Closing.{answer, answered, cancelled};
 
 use crate::cause::Cause;
+use std::alloc::AllocError;
 
 /// Whether an operator still follows its source, or ends by a cause of its own.
-#[derive(Clone, Copy)]
+#[derive(Copy)]
 pub enum Closing<E> {
     /// It follows its source.
     Open,
@@ -15,6 +16,16 @@ pub enum Closing<E> {
     Last,
     /// It has ended.
     Over(Cause<E>),
+}
+
+impl<E: Copy> Clone for Closing<E> {
+    ghost is_clone = { λ value copy. copy ≡ value };
+
+    ghost is_infallible = { λ _. ⊤ };
+
+    fn clone(&self) -> Result<Self, AllocError> {
+        Ok(*self)
+    }
 }
 
 impl<E: Copy> Closing<E> {

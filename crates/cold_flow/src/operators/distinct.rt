@@ -1,18 +1,29 @@
 //! `distinct`: the values that differ from the one directly before them.
 
-ghost use Rattle.std.specs.Prelude.{Some, None, refl, IsTrue};
+ghost use Rattle.std.specs.Prelude.{◌≡◌, Some, None, refl, IsTrue, ⊤};
 ghost use Rattle.cold_flow.specs.Distinct.{distinct_after, differing};
 ghost use Rattle.cold_flow.specs.Trace.{on_values};
 ghost use Rattle.cold_flow.specs.Poll.{Makes, MakesExactly, IsWithinPolls};
 
 use crate::flow::Flow;
 use crate::operators::sift::{Sift, Sifted};
+use std::alloc::AllocError;
 
 /// Leaves out a value that equals the one before it.
-#[derive(Clone, Copy)]
+#[derive(Copy)]
 pub struct Differing<T> {
     // The last value that the source gave.
     last: Option<T>,
+}
+
+impl<T: Copy> Clone for Differing<T> {
+    ghost is_clone = { λ value copy. copy ≡ value };
+
+    ghost is_infallible = { λ _. ⊤ };
+
+    fn clone(&self) -> Result<Self, AllocError> {
+        Ok(*self)
+    }
 }
 
 /// The values of `source` that differ from the one directly before them in it: Kotlin's

@@ -1,17 +1,28 @@
 //! `filter`: the values that a test answers true.
 
-ghost use Rattle.std.specs.Prelude.{Some, None, filter as kept_values, if◌then◌else◌, refl, IsTrue};
+ghost use Rattle.std.specs.Prelude.{◌≡◌, Some, None, filter as kept_values, if◌then◌else◌, refl, IsTrue, ⊤};
 ghost use Rattle.cold_flow.specs.Trace.{on_values};
 ghost use Rattle.cold_flow.specs.Poll.{Makes, MakesExactly, IsWithinPolls};
 
 use crate::apply::Apply;
 use crate::flow::Flow;
 use crate::operators::sift::{Sift, Sifted};
+use std::alloc::AllocError;
 
 /// Passes on the values that the test answers true.
-#[derive(Clone, Copy)]
+#[derive(Copy)]
 pub struct Testing<G> {
     test: G,
+}
+
+impl<G: Copy> Clone for Testing<G> {
+    ghost is_clone = { λ value copy. copy ≡ value };
+
+    ghost is_infallible = { λ _. ⊤ };
+
+    fn clone(&self) -> Result<Self, AllocError> {
+        Ok(*self)
+    }
 }
 
 /// The values of `source` that `test` answers true: Kotlin's `filter`.

@@ -112,6 +112,17 @@ impl<
             _ => None,
         }
     }
+
+    // Tells the action of the source's end. What it answers is a last value where the source has finished.
+    fn last_value(&self, cause: Cause<E>) -> Option<T>
+        ensures { (result, cause) ≡ completing (G.gives self.now.action) cause }
+    {
+        let last = self.action.apply(cause);
+        if let Cause::Finished = cause {
+            return last;
+        }
+        None
+    }
 }
 
 impl<T: Copy, E: Copy, S: Run<Item = T, Fault = E>, G: Apply<Cause<E>, Out = Option<T>>> Run
@@ -142,13 +153,10 @@ impl<T: Copy, E: Copy, S: Run<Item = T, Fault = E>, G: Apply<Cause<E>, Out = Opt
         match self.source.poll_next(cx) {
             Poll::Ready(Event::Value(value)) => Poll::Ready(Event::Value(value)),
             Poll::Ready(Event::End(cause)) => {
-                let last = self.action.apply(cause);
-                if let Cause::Finished = cause {
-                    if let Some(value) = last {
-                        self.last_given = true;
-                        self.closing = Closing::Last;
-                        return Poll::Ready(Event::Value(value));
-                    }
+                if let Some(value) = self.last_value(cause) {
+                    self.last_given = true;
+                    self.closing = Closing::Last;
+                    return Poll::Ready(Event::Value(value));
                 }
                 self.closing = Closing::Over(cause);
                 Poll::Ready(Event::End(cause))

@@ -1,6 +1,6 @@
-use Rattle.std.proofs.Common.{rules, ◌≡◌, ◌++◌, ◌∷◌, [], refl}
-use Rattle.cold_flow.specs.GatherLaws.{gathers_value, gathers_end, gathers_so_far}
-use Rattle.cold_flow.specs.PolledLaws.{took_none, took_one, took_all, took_broken}
+use Rattle.std.proofs.Common.{rules, arith, ◌≡◌, ◌++◌, ◌∷◌, [], refl}
+use Rattle.cold_flow.specs.GatherLaws.{gathers_value, gathers_end, gathers_so_far, gathers_within}
+use Rattle.cold_flow.specs.PolledLaws.{took_none, took_one, took_all, took_broken, took_pauses, took_many}
 use Rattle.cold_flow.proofs.ends.collect.Collecting.poll.Goals as goal
 
 pub returns-then-is_err-clause-gathers : goal.returns-then-is_err-clause-gathers
@@ -34,6 +34,25 @@ pub returns-in-Ready-End-clause-takes : goal.returns-in-Ready-End-clause-takes
 returns-in-Ready-End-clause-takes g c =
     rw (c.loop-taken.invariant.before, c.replace-values.ensures.value)
     (took_all _ _ _ _ _ _ _ _ c.loop-taken.invariant.took (rw c.in-Ready-End.field-0-is at c.in-Ready-End.ensures.polled))
+
+pub returns-in-Pending-clause-gathers : goal.returns-in-Pending-clause-gathers
+returns-in-Pending-clause-gathers g c =
+    rw c.loop-taken.invariant.before
+    (c.loop-taken.invariant.going, λ t h. c.loop-taken.invariant.within t (gathers_within _ _ _ c.in-Pending.ensures.narrows t h))
+
+pub returns-in-Pending-clause-takes : goal.returns-in-Pending-clause-takes
+returns-in-Pending-clause-takes g c =
+    rw c.loop-taken.invariant.before
+    (took_pauses g.R.Run.polled _ _ _ _ _ _ c.loop-taken.invariant.took c.in-Pending.ensures.polled)
+
+pub returns-clause-gathers : goal.returns-clause-gathers
+returns-clause-gathers g c =
+    rw (c.yield_now.ensures.pending, c.loop-taken.invariant.before) (c.loop-taken.invariant.going, c.loop-taken.invariant.within)
+
+pub returns-clause-takes : goal.returns-clause-takes
+returns-clause-takes g c =
+    rw (c.yield_now.ensures.pending, c.loop-taken.invariant.before)
+    (took_many g.R.Run.polled _ _ _ _ _ c.loop-taken.invariant.took (omega arith))
 
 pub loop-taken-preserved : goal.loop-taken-preserved
 loop-taken-preserved g c =
