@@ -13,6 +13,10 @@ with_end c = count_map (λ n. n + 1) c
 abbrev pub IsFewer : Count → Count → Type 0
 IsFewer old new = IsFinite old → IsFinite new × (size new < size old)
 
+-- a run that goes on has given no cause
+pub unended : {A : Type 0} (o : Option A) (k : A) → o ≡ None → o ≡ Some k → ⊥
+unended o k going gave = cc
+
 both-true : (a b : Bool) → T a → T b → T (cond a b false)
 both-true true b h g = g
 both-true false b h g = h
@@ -37,9 +41,17 @@ pub after_wait : (old new : Count) (n most : ℕ) → IsFinite old × (size old 
     → IsFinite new × (size new + n ≤ most)
 after_wait old new n most was now = let h = now was.0 in (h.0, omega arith)
 
+-- one that a poll answers
+pub last_question : (old new : Count) (n most : ℕ) → IsFinite old × (size old + n ≤ most) → IsFewer old new
+    → IsFinite new × (size new < most)
+last_question old new n most was now = let h = now was.0 in (h.0, omega arith)
+
 -- as many questions as a poll asks
 pub no_more_questions : (now : Count) (n most : ℕ) → IsFinite now × (size now + n ≤ most) → 64 ≤ n → IsFinite now × (size now < most)
 no_more_questions now n most was asked = (was.0, omega arith)
+
+pub enough_questions : (now : Count) (n most : ℕ) → IsFinite now × (size now + n ≤ most) → 64 ≤ n → IsFinite now × (size now + 64 ≤ most)
+enough_questions now n most was asked = (was.0, omega arith)
 
 -- ---- runs that start inner runs
 
@@ -109,6 +121,12 @@ wait_approaches outer left most fewer h =
       both-true (cond left.bounded most.bounded false) true (both-true left.bounded most.bounded now.0 known) tt,
       more-rounds (size left) (size outer) (size most) 0 now.1 (omega arith),
     )
+
+-- an answer of the inner run that stands
+pub inner_approaches : (rest old new : Count) → IsFewer old new → IsFewer (count_add rest (with_end old)) (count_add rest (with_end new))
+inner_approaches rest old new fewer h =
+    let now = fewer (both-second rest.bounded old.bounded h) in
+    (both-true rest.bounded new.bounded (both-first rest.bounded old.bounded h) now.0, omega arith)
 
 pub rounds_within : (outer left most : Count) → IsWithinPolls outer left
     → IsWithinPolls (count_add (rounds outer most) (at_most 0)) (count_add (rounds left most) (at_most 0))

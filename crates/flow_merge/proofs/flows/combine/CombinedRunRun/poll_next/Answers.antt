@@ -1,5 +1,5 @@
-use Rattle.std.proofs.Common.{rules}
-use Rattle.flow_merge.specs.Counting.{after_question, after_wait}
+use Rattle.std.proofs.Common.{rules, inr}
+use Rattle.flow_merge.specs.Counting.{unended, after_question, after_wait, last_question, no_more_questions, enough_questions}
 use Rattle.flow_merge.specs.CombineLaws.{other_waited}
 use Rattle.flow_merge.proofs.flows.combine.CombinedRunRun.poll_next.Goals as goal
 
@@ -7,6 +7,23 @@ pub returns-in-Ready-Some-Value-clause-narrows : goal.returns-in-Ready-Some-Valu
 returns-in-Ready-Some-Value-clause-narrows g c =
     let asked = rw (c.in-Ready-Some-Value.field-0-is, c.in-Ready-Some-Value.field-0-0-is) at c.in-Ready-Some-Value.ensures.asked in
     λ t h. c.turns.invariant.within _ (asked t h)
+
+pub returns-in-Ready-Some-Value-clause-approaches : goal.returns-in-Ready-Some-Value-clause-approaches
+returns-in-Ready-Some-Value-clause-approaches g c =
+    let fewer = rw (c.in-Ready-Some-Value.field-0-is, c.in-Ready-Some-Value.field-0-0-is) at c.in-Ready-Some-Value.ensures.approaches in
+    λ h. last_question _ _ _ _ (c.turns.invariant.approaches h) fewer
+
+pub returns-in-Ready-Some-Value-clause-stays : goal.returns-in-Ready-Some-Value-clause-stays
+returns-in-Ready-Some-Value-clause-stays g c k e = absurd (unended _ k c.turns.invariant.begun e)
+
+pub returns-in-Ready-Some-End-clause-stays : goal.returns-in-Ready-Some-End-clause-stays
+returns-in-Ready-Some-End-clause-stays g c k e = absurd (unended _ k c.turns.invariant.begun e)
+
+pub returns-then-waited-clause-stays : goal.returns-then-waited-clause-stays
+returns-then-waited-clause-stays g c k e = absurd (unended _ k c.turns.invariant.begun e)
+
+pub returns-clause-stays : goal.returns-clause-stays
+returns-clause-stays g c k e = absurd (unended _ k c.turns.invariant.begun e)
 
 pub returns-in-Ready-Some-End-clause-narrows : goal.returns-in-Ready-Some-End-clause-narrows
 returns-in-Ready-Some-End-clause-narrows g c =
@@ -30,6 +47,10 @@ pub returns-then-waited-clause-narrows : goal.returns-then-waited-clause-narrows
 returns-then-waited-clause-narrows g c =
     λ t h. c.turns.invariant.within _ (c.in-Pending.ensures.asked t h)
 
+pub returns-then-waited-clause-approaches : goal.returns-then-waited-clause-approaches
+returns-then-waited-clause-approaches g c =
+    λ h. last_question _ _ _ _ (c.turns.invariant.approaches h) c.in-Pending.ensures.approaches
+
 pub turns-preserved : goal.turns-preserved
 turns-preserved g c =
     let was = c.turns.self in
@@ -47,6 +68,14 @@ turns-preserved g c =
 pub returns-clause-narrows : goal.returns-clause-narrows
 returns-clause-narrows g c =
     rw c.yield_now.ensures.pending c.turns.invariant.within
+
+pub returns-clause-approaches : goal.returns-clause-approaches
+returns-clause-approaches g c =
+    rw c.yield_now.ensures.pending (λ h. no_more_questions _ _ _ (c.turns.invariant.approaches h) c.turns-test.false)
+
+pub returns-clause-polled : goal.returns-clause-polled
+returns-clause-polled g c =
+    rw c.yield_now.ensures.pending (inr (λ h. enough_questions _ _ _ (c.turns.invariant.approaches h) c.turns-test.false))
 
 -- A wrong body makes this false: so answered, it is refused at once.
 pub turns-smaller : goal.turns-smaller

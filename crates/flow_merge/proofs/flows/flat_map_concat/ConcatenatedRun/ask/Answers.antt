@@ -1,12 +1,17 @@
 use Rattle.std.proofs.Common.{rules, refl}
 use Rattle.flow_merge.specs.ConcatLaws.{concat_gives, concat_fails, concat_starts, concat_refused, concat_outer_ends}
-use Rattle.flow_merge.specs.Counting.{start_approaches, wait_approaches}
+use Rattle.flow_merge.specs.Counting.{start_approaches, wait_approaches, inner_approaches}
 use Rattle.flow_merge.proofs.flows.flat_map_concat.ConcatenatedRun.ask.Goals as goal
 
 pub returns-in-Ready-Value-clause-asked : goal.returns-in-Ready-Value-clause-asked
 returns-in-Ready-Value-clause-asked g c =
     let after = rw c.in-Ready-Value.field-0-is at c.in-Ready-Value.ensures.narrows in
     rw (c.requires, c.in-Some.is) (concat_gives _ _ _ _ _ _ _ after)
+
+pub returns-in-Ready-Value-clause-approaches : goal.returns-in-Ready-Value-clause-approaches
+returns-in-Ready-Value-clause-approaches g c =
+    let fewer = rw c.in-Ready-Value.field-0-is at c.in-Ready-Value.ensures.approaches in
+    rw c.in-Some.is (λ h. inner_approaches _ _ _ fewer h)
 
 pub returns-in-Ready-End : goal.returns-in-Ready-End
 returns-in-Ready-End g c =
