@@ -1,5 +1,9 @@
 //! The answers of the calls of a shared flow.
 
+ghost use Rattle.std.specs.Prelude.{◌≡◌, ⊤};
+
+use std::alloc::AllocError;
+
 /// The answer of a try. `N` is how an accepted emission is named: its number, counted up from `first`.
 #[derive(Clone, Copy, Debug, PartialEq, Eq)]
 pub enum Tried<N> {
@@ -12,7 +16,7 @@ pub enum Tried<N> {
 }
 
 /// The answer at the start of an emission. `K` is the ticket of one that isn't finished.
-#[derive(Clone, Copy, Debug, PartialEq, Eq)]
+#[derive(Copy, Debug, PartialEq, Eq)]
 pub enum Begun<N, K> {
     /// It was accepted and is finished.
     Accepted(N),
@@ -20,6 +24,16 @@ pub enum Begun<N, K> {
     Dropped,
     /// It isn't finished: it waits for room, or was accepted and is on its way to the subscriptions.
     Waiting(K),
+}
+
+impl<N: Copy, K: Copy> Clone for Begun<N, K> {
+    ghost is_clone = { λ it copy. copy ≡ it };
+
+    ghost is_infallible = { λ _. ⊤ };
+
+    fn clone(&self) -> Result<Begun<N, K>, AllocError> {
+        Ok(*self)
+    }
 }
 
 /// Where an emission stands.

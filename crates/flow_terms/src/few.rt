@@ -1,11 +1,13 @@
 //! Up to four values.
 
-ghost use Rattle.std.specs.Prelude.{◌≡◌, ◌+◌, ◌≤◌, IfNone, IfSome};
+ghost use Rattle.std.specs.Prelude.{◌≡◌, ◌+◌, ◌≤◌, ⊤, IfNone, IfSome};
 ghost use Rattle.flow_terms.specs.declared.few.Few.TheVariants.{Zero};
 ghost use Rattle.flow_terms.specs.Few.{few_len, split};
 
+use std::alloc::AllocError;
+
 /// Up to four values, in order: what a `transform` makes of one.
-#[derive(Clone, Copy, Debug, PartialEq, Eq)]
+#[derive(Copy)]
 pub enum Few<U> {
     /// None.
     Zero,
@@ -17,6 +19,16 @@ pub enum Few<U> {
     Three(U, U, U),
     /// Four.
     Four(U, U, U, U),
+}
+
+impl<U: Copy> Clone for Few<U> {
+    ghost is_clone = { λ it copy. copy ≡ it };
+
+    ghost is_infallible = { λ _. ⊤ };
+
+    fn clone(&self) -> Result<Few<U>, AllocError> {
+        Ok(*self)
+    }
 }
 
 impl<U: Copy> Few<U> {
