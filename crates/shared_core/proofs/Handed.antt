@@ -1,9 +1,10 @@
 -- The values of a prelude as it is kept, four by four, and the preludes that are still being given.
-use Rattle.std.proofs.Common.{◌≡◌, ℕ, zero, suc, ◌+◌, ◌<◌, ◌≤◌, inr, true, false, cond, ◌||◌, eqb, List, [], ◌∷◌, ◌++◌, length, take, drop, map, set, Some, slice_get, refl, sym, ap, ◌∙◌, arith, length-append, length-drop}
+use Rattle.std.proofs.Common.{◌≡◌, ℕ, zero, suc, ◌+◌, ◌-◌, ◌<◌, ◌≤◌, inr, true, false, cond, ◌||◌, eqb, List, [], ◌∷◌, ◌++◌, length, take, drop, map, set, get_or, Option, Some, None, IsSome, slice_get, refl, sym, ap, ◌∙◌, arith, length-append, length-drop}
 use Rattle.std.proofs.Math.Seq.{take_all}
 use Rattle.std.proofs.lemmas.Bool.{eq-eqb}
 use Rattle.std.proofs.lemmas.List.{take-append-drop, drop-drop, map-set}
-use Rattle.std.proofs.lemmas.Option.{none-some, same_Some, slice_get-map}
+use Rattle.std.proofs.lemmas.Option.{none-some, same_Some, slice_get-map, get_or_from_slice_get}
+use Rattle.std.proofs.Math.ListN.{drop_of_length-le}
 use Rattle.std.specs.Option.{option_map}
 use Rattle.std.specs.List.{list_any, remove}
 use Rattle.flow_terms.specs.Few.{values_of}
@@ -11,9 +12,10 @@ use Rattle.flow_terms.specs.declared.few.Few.{Few}
 use Rattle.flow_terms.specs.declared.few.Few.TheVariants.{Zero, One, Two, Three, Four}
 use Rattle.shared_core.specs.declared.prelude.Prelude.{Prelude}
 use Rattle.shared_core.specs.declared.greetings.Greeting.{Greeting}
-use Rattle.shared_core.specs.Preludes.{prelude_values, shown_greeting, left_at, begun_with, IsWithout, Greets, EndsGreeting}
+use Rattle.shared_core.specs.Preludes.{prelude_values, shown_greeting, IsLeft, left_at, begun_with, IsWithout, Greets, EndsGreeting}
 use Rattle.shared_core.specs.Shown.{rest_of}
 use Rattle.shared_core.proofs.Entries.{list_any-map, map-remove}
+use Rattle.shared_core.proofs.Ticketing.{holds_there}
 
 -- ---- a list from an index on
 
@@ -23,6 +25,14 @@ dropped_some zero m (y ∷ xs) x gets next = ap (λ z. z ∷ xs) (same_Some y x 
 dropped_some (suc n) m (y ∷ xs) x gets next =
     let further : suc (n + 1) ≡ m = omega (arith, next) in
     dropped_some n (n + 1) xs x gets refl ∙ ap (λ k. x ∷ drop k (y ∷ xs)) further
+
+-- the first values from an index on
+pub taken_none : {X : Type 0} (k n : ℕ) (xs : List X) → length xs ≤ n → take k (drop n xs) ≡ []
+taken_none zero n xs past = refl
+taken_none (suc k) n xs past = ap (take (suc k)) (drop_of_length-le xs past)
+
+pub taken_some : {X : Type 0} (k n m : ℕ) (xs rest : List X) (x : X) → slice_get xs n ≡ Some x → n + 1 ≡ m → take k (drop m xs) ≡ rest → take (suc k) (drop n xs) ≡ x ∷ rest
+taken_some k n m xs rest x gets next is = ap (take (suc k)) (dropped_some n m xs x gets next) ∙ ap (λ ys. x ∷ ys) is
 
 -- 16 of them are four times four
 pub in_fours : {X : Type 0} (xs : List X) → length xs ≤ 16 → take 4 (drop 0 xs) ++ (take 4 (drop 4 xs) ++ (take 4 (drop 8 xs) ++ take 4 (drop 12 xs))) ≡ xs
@@ -48,6 +58,30 @@ pub few_handed : {T : Type 0} (prelude : Prelude T) → length (prelude_values p
 few_handed prelude =
     omega (arith, length-prelude prelude, few_values prelude.first, few_values prelude.second, few_values prelude.third, few_values prelude.fourth)
 
+-- ---- a value of one list or of another after it
+
+pub past_left : {X : Type 0} (xs : List X) (i : ℕ) → slice_get xs i ≡ None → length xs ≤ i
+past_left [] i past = omega arith
+past_left (x ∷ xs) zero past = absurd (cc)
+past_left (x ∷ xs) (suc i) past = omega (arith, past_left xs i past)
+
+pub in_left : {X : Type 0} (xs ys : List X) (i : ℕ) (x : X) → slice_get xs i ≡ Some x → slice_get (xs ++ ys) i ≡ Some x
+in_left [] ys i x gets = absurd (none-some _ gets)
+in_left (y ∷ xs) ys zero x gets = gets
+in_left (y ∷ xs) ys (suc i) x gets = in_left xs ys i x gets
+
+pub in_right : {X : Type 0} (xs ys : List X) (n i : ℕ) → n ≡ length xs → n ≤ i → slice_get (xs ++ ys) i ≡ slice_get ys (i - n)
+in_right [] ys n i is past = let same : i ≡ i - n = omega (arith, is) in ap (slice_get ys) same
+in_right (x ∷ xs) ys zero i is past = absurd (omega (arith, is))
+in_right (x ∷ xs) ys (suc n) zero is past = absurd (omega (arith, past))
+in_right (x ∷ xs) ys (suc n) (suc i) is past =
+    let less : i - n ≡ suc i - suc n = omega arith in
+    in_right xs ys n i (omega (arith, is)) (omega (arith, past)) ∙ ap (slice_get ys) less
+
+pub some_within : {X : Type 0} (xs : List X) (i : ℕ) (r : Option X) → r ≡ slice_get xs i → i < length xs → IsSome r
+some_within xs i None is within = absurd (omega (arith, past_left xs i (sym is), within))
+some_within xs i (Some x) is within = refl
+
 -- ---- entries
 
 none_of : {X : Type 0} (xs : List X) → length xs ≡ 0 → xs ≡ []
@@ -68,6 +102,14 @@ module _ {T : Type 0} where
   left_some : (at n : ℕ) (vs : List T) (entries : List (ℕ × List T)) → 0 < length vs → left_at at n vs entries ≡ set entries at (n, vs)
   left_some at n [] entries some = absurd (omega arith)
   left_some at n (v ∷ vs) entries some = refl
+
+  -- the greeting that was read at an index
+  module _ (greetings : List (Greeting T)) (at : ℕ) (read found : Greeting T) (is : read ≡ get_or greetings at read) (gets : slice_get greetings at ≡ Some found) where
+    pub read_there : read ≡ found
+    read_there = is ∙ get_or_from_slice_get greetings at found read gets
+
+    pub left_there : ((k : ℕ) (d : Greeting T) → k < length greetings → IsLeft (get_or greetings k d)) → IsLeft read
+    left_there all = holds_there IsLeft greetings at read all (gets ∙ ap Some (sym read_there))
 
   abbrev pub shown : List (Greeting T) → List (ℕ × List T)
   shown greetings = map shown_greeting greetings

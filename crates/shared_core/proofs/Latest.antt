@@ -3,6 +3,14 @@ use Rattle.std.proofs.Common.{◌≡◌, ℕ, zero, suc, ◌+◌, ◌-◌, ◌<�
 use Rattle.std.proofs.lemmas.List.{drop-append-le, drop-drop}
 use Rattle.circular_buffer.specs.Buffer.{keep_last}
 
+-- a value of what is left of a list
+pub got_dropped : {X : Type 0} (n i : ℕ) (xs : List X) → slice_get (drop n xs) i ≡ slice_get xs (n + i)
+got_dropped zero i xs = ap (slice_get xs) (omega arith)
+got_dropped (suc n) i [] = refl
+got_dropped (suc n) i (x ∷ xs) =
+    let next : suc (n + i) ≡ suc n + i = omega arith in
+    got_dropped n i xs ∙ ap (slice_get (x ∷ xs)) next
+
 module _ {X : Type 0} where
   pub length-kept : (n : ℕ) (xs : List X) → n ≤ length xs → length (keep_last n xs) ≡ n
   length-kept n xs within = omega (arith, length-drop (length xs - n) xs, within)

@@ -53,6 +53,10 @@ module _ {T : Type 0} (next : ℕ) (values : List T) (places : List Place) (live
   none_shown None n none = ap (list_any (λ e. eqb e.0 n)) is ∙ list_any-map (λ e. eqb e.0 n) (shown_place next values) places ∙ none
   none_shown (Some i) n none = none
 
+  -- as many places as entries
+  pub inside_places : (at n : ℕ) → at < length live → n ≡ length places → at < n
+  inside_places at n inside long = omega (arith, inside, long, ap length is, length-map places (shown_place next values))
+
   module _ (at : ℕ) (p : Place) (inside : at < length live) (read : p ≡ get_or places at p) where
     at_place : at < length places
     at_place = omega (arith, inside, ap length is, length-map places (shown_place next values))

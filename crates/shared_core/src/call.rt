@@ -1,10 +1,13 @@
 //! A call of a shared flow as a value, and its reply.
 
+ghost use Rattle.std.specs.Prelude.{◌≡◌, ⊤};
+
 use crate::prelude::Prelude;
 use flow_terms::{Begun, Emit, Next, Refusal, SubId, Ticket, Tried, Withdrawn};
+use std::alloc::AllocError;
 
 /// A call of a shared flow.
-#[derive(Clone, Copy, Debug, PartialEq, Eq)]
+#[derive(Copy)]
 pub enum Call<T> {
     /// `try_emit`, by this emitter.
     Try(u32, T),
@@ -28,8 +31,18 @@ pub enum Call<T> {
     Count,
 }
 
+impl<T: Copy> Clone for Call<T> {
+    ghost is_clone = { λ it copy. copy ≡ it };
+
+    ghost is_infallible = { λ _. ⊤ };
+
+    fn clone(&self) -> Result<Call<T>, AllocError> {
+        Ok(*self)
+    }
+}
+
 /// The whole answer of a call.
-#[derive(Clone, Copy, Debug, PartialEq, Eq)]
+#[derive(Copy, Debug, PartialEq, Eq)]
 pub enum Reply<T> {
     /// To `try_emit`.
     Tried(Result<Tried<u64>, Refusal>),
@@ -49,4 +62,14 @@ pub enum Reply<T> {
     Reset,
     /// To `subscription_count`.
     Count(u32),
+}
+
+impl<T: Copy> Clone for Reply<T> {
+    ghost is_clone = { λ it copy. copy ≡ it };
+
+    ghost is_infallible = { λ _. ⊤ };
+
+    fn clone(&self) -> Result<Reply<T>, AllocError> {
+        Ok(*self)
+    }
 }

@@ -1,6 +1,6 @@
 //! The preludes that live subscriptions are still being given.
 
-ghost use Rattle.std.specs.Prelude.{◌≡◌, ◌==◌, ◌<◌, ◌≤◌, [], false, length, take, IfOk, IfSome, IfNone, slice_get};
+ghost use Rattle.std.specs.Prelude.{◌≡◌, ◌==◌, ◌<◌, ◌≤◌, ⊤, [], false, length, take, IfOk, IfSome, IfNone, slice_get};
 ghost use Rattle.std.specs.List.{list_any};
 ghost use Rattle.shared_core.specs.Preludes.{prelude_values, begun_with, Greets, EndsGreeting};
 ghost use Rattle.shared_core.specs.Shown.{rest_of};
@@ -10,7 +10,7 @@ use std::alloc::{AllocError, Global};
 use std::marker::Model;
 
 /// A live subscription that wasn't given all of its prelude.
-#[derive(Clone, Copy)]
+#[derive(Copy)]
 pub struct Greeting<T> {
     /// The number of the subscription.
     pub number: u64,
@@ -18,6 +18,16 @@ pub struct Greeting<T> {
     pub prelude: Prelude<T>,
     /// How many of these values it was given.
     pub given: u32,
+}
+
+impl<T: Copy> Clone for Greeting<T> {
+    ghost is_clone = { λ it copy. copy ≡ it };
+
+    ghost is_infallible = { λ _. ⊤ };
+
+    fn clone(&self) -> Result<Greeting<T>, AllocError> {
+        Ok(*self)
+    }
 }
 
 /// The greetings, in memory that was reserved at making. Where no prelude was handed in, there is none, and to look for one
@@ -73,7 +83,10 @@ impl<T: Copy> Greetings<T> {
         ensures begun { length self.old.values < self.old.limit → self.new.values ≡ begun_with number (prelude_values prelude) self.old.values }
         ensures limit { self.new.limit ≡ self.old.limit }
     {
-        if prelude.len() == 0 || self.items.len() >= self.limit {
+        if prelude.len() == 0 {
+            return;
+        }
+        if self.items.len() >= self.limit {
             return;
         }
         self.items.push_reserved(Greeting {

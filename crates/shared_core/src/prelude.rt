@@ -1,18 +1,19 @@
 //! What a subscription is handed for itself alone.
 
-ghost use Rattle.std.specs.Prelude.{◌≡◌, ◌↔◌, ◌<◌, ◌≤◌, [], length, take, drop, slice_get, IsOk, IfOk, IfErr};
+ghost use Rattle.std.specs.Prelude.{◌≡◌, ◌↔◌, ◌<◌, ◌≤◌, ⊤, [], length, take, drop, slice_get, IsOk, IfOk, IfErr};
 ghost use Rattle.flow_terms.specs.Few.{values_of};
 ghost use Rattle.flow_terms.specs.declared.refusal.Refusal.TheVariants.{PreludeTooLong};
 ghost use Rattle.shared_core.specs.Preludes.{prelude_values};
 
 use flow_terms::{Few, Refusal};
+use std::alloc::AllocError;
 
 /// The most values of a prelude.
 const LONGEST: usize = 16;
 
 /// Up to 16 values that a subscription receives before any value of the flow: what the action of Kotlin's `onSubscription`
 /// emits. It takes no memory.
-#[derive(Clone, Copy, Debug, PartialEq, Eq)]
+#[derive(Copy)]
 pub struct Prelude<T> {
     /// Its first values.
     first: Few<T>,
@@ -20,6 +21,16 @@ pub struct Prelude<T> {
     second: Few<T>,
     third: Few<T>,
     fourth: Few<T>,
+}
+
+impl<T: Copy> Clone for Prelude<T> {
+    ghost is_clone = { λ it copy. copy ≡ it };
+
+    ghost is_infallible = { λ _. ⊤ };
+
+    fn clone(&self) -> Result<Prelude<T>, AllocError> {
+        Ok(*self)
+    }
 }
 
 /// The values from this index on, four at most.

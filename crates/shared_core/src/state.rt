@@ -41,7 +41,7 @@
 //!
 //! `new` reserves all memory. Of the calls only `run` takes more, for the replies.
 
-ghost use Rattle.std.specs.Prelude.{◌≡◌, IfOk, IfSome, IfNone, IsOkUnless, OnOk, OnErr};
+ghost use Rattle.std.specs.Prelude.{◌≡◌, None, IfOk, IfSome, IfNone, IsOkUnless, OnOk, OnErr};
 ghost use Rattle.shared_core.specs.Flow.{empty};
 ghost use Rattle.shared_core.specs.Kept.{parameters_of, making_refusal};
 ghost use Rattle.shared_core.specs.Runs.{Runs, call_of, reply_of};
@@ -59,7 +59,7 @@ use crate::queue::Queue;
 use crate::ring::Ring;
 use crate::tickets::{Accepted, OutTicket, Waiting};
 use flow_terms::Refusal;
-use std::alloc::Global;
+use std::alloc::{AllocError, Global};
 use std::marker::Model;
 
 /// A shared flow on one thread: Kotlin's `MutableSharedFlow`. It never completes.
@@ -125,6 +125,14 @@ impl<T: Copy> SharedState<T> {
         if let Some(refusal) = config.refusal() {
             return Err(refusal);
         }
+        Ok(SharedState::reserved(alloc, config)?)
+    }
+
+    // All memory that the flow will use, and nothing in it.
+    fn reserved(alloc: Global, config: Config) -> Result<SharedState<T>, AllocError>
+        requires { making_refusal config ≡ None }
+        ensures { IfOk result (λ made. Shows made (empty (parameters_of config))) }
+    {
         let ring = Ring::new(alloc, &config)?;
         let greetings = Greetings::new(alloc, config.subscribers as usize)?;
         let accepted = Queue::new(alloc, config.emits as usize)?;

@@ -34,3 +34,9 @@ returns-clause-ended g c =
     let found = rw c.deref.ensures.value at c.in-Some.ensures.found in
     subst (λ (q : Queued _). EndsGreeting n q.values (shown c.remove-greeting.new.self.items)) c.self.view_is
     (subst (λ xs. EndsGreeting n (shown items) (shown xs)) (sym c.remove-greeting.ensures.items) (ends_at n c.in-Some.at items found.0 found.1 found.2))
+
+pub returns-in_default-clause-limit : goal.returns-in_default-clause-limit
+returns-in_default-clause-limit g c = refl
+
+pub returns-clause-limit : goal.returns-clause-limit
+returns-clause-limit g c = ap (λ (q : Queued _). q.limit) c.self.view_is

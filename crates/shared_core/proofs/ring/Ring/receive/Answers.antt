@@ -5,7 +5,7 @@ use Rattle.std.specs.Option.{option_copied}
 use Rattle.shared_core.specs.declared.place.Place.{Place}
 use Rattle.shared_core.specs.Places.{IsWithin, shown_place}
 use Rattle.shared_core.specs.Ringed.{Ringed, Receives}
-use Rattle.shared_core.proofs.Rings.{received_within, receives_some, receives_none}
+use Rattle.shared_core.proofs.Rings.{inside_places, within_there, received_within, receives_some, receives_none}
 use Rattle.shared_core.proofs.ring.Ring.receive.Goals as goal
 
 pub returns-in_err-value : goal.returns-in_err-value
@@ -46,3 +46,35 @@ returns g c =
     (ap (λ (r : Ringed _). record r { live = map (shown_place ring.next_number ring.values.items) (set ring.places.items c.args.at next) }) (sym c.self.view_is))
     (receives_some ring.next_number ring.values.items ring.places.items old.live live c.args.at place c.requires c.index-place.ensures c.len.result c.len.ensures.len c.self.invariant.within
     old c.in_ok-value.field-0.now refl (sym c.get.ensures ∙ ap option_copied c.in_ok-value.was))
+
+pub index-place-requires : goal.index-place-requires
+index-place-requires g c =
+    let ring = c.self.inside in
+    inside_places ring.next_number ring.values.items ring.places.items c.args.self.now.live (ap (λ (r : Ringed _). r.live) (sym c.self.view_is)) c.args.at ring.places.len c.requires ring.places.ok.0
+
+pub index_mut-requires : goal.index_mut-requires
+index_mut-requires g c =
+    let ring = c.self.inside in
+    inside_places ring.next_number ring.values.items ring.places.items c.args.self.now.live (ap (λ (r : Ringed _). r.live) (sym c.self.view_is)) c.args.at ring.places.len c.requires ring.places.ok.0
+
+pub overflow_sub-pending : goal.overflow_sub-pending
+overflow_sub-pending g c =
+    let ring = c.self.inside in
+    let live = ap (λ (r : Ringed _). r.live) (sym c.self.view_is) in
+    (within_there ring.next_number ring.values.items ring.places.items c.args.self.now.live live c.args.at c.index-place.result.now c.requires c.index-place.ensures c.self.invariant.within).0
+
+pub overflow_sub-len : goal.overflow_sub-len
+overflow_sub-len g c =
+    let ring = c.self.inside in
+    let live = ap (λ (r : Ringed _). r.live) (sym c.self.view_is) in
+    let within = within_there ring.next_number ring.values.items ring.places.items c.args.self.now.live live c.args.at c.index-place.result.now c.requires c.index-place.ensures c.self.invariant.within in
+    omega (arith, within.1, c.len.ensures.len)
+
+pub overflow_add-place : goal.overflow_add-place
+overflow_add-place g c =
+    let ring = c.self.inside in
+    let live = ap (λ (r : Ringed _). r.live) (sym c.self.view_is) in
+    let moved =
+    received_within ring.next_number ring.values.items ring.places.items c.args.self.now.live live c.args.at c.index-place.result.now c.requires c.index-place.ensures c.len.result c.len.ensures.len c.self.invariant.within
+    c.in_ok-value.field-0.now (sym c.get.ensures ∙ ap option_copied c.in_ok-value.was) in
+    omega (arith, moved.0, c.self.invariant.numbers)

@@ -28,6 +28,30 @@ accept-requires-clause-numbers g c =
     let before = taken_first c.self.inside.waiting c.pop-oldest.new.self c.in-Some.oldest (sym (some_first ws c.in-Some.oldest (sym c.in-Some.ensures))) c.pop-oldest.ensures.rest in
     omega (arith, c.self.invariant.numbers.emissions, ap length before, count_waiting c.self.inside.accepted.values c.pop-oldest.new.self.values)
 
+pub invariant_of-self : goal.invariant_of-self
+invariant_of-self g c =
+    let numbers = c.self.invariant.numbers in
+    let kept = c.self.invariant.tickets in
+    let ws = c.self.inside.waiting.values in
+    let before = taken_first c.self.inside.waiting c.pop-oldest.new.self c.in-Some.oldest (sym (some_first ws c.in-Some.oldest (sym c.in-Some.ensures))) c.pop-oldest.ensures.rest in
+    record {
+      numbers = record {
+        counted = numbers.counted;
+        emissions = omega (arith, numbers.emissions, ap length before);
+        subscriptions = numbers.subscriptions;
+        tickets = numbers.tickets;
+      };
+      ring = c.self.invariant.ring;
+      tickets = record {
+        emits = kept.emits;
+        accepted_limit = kept.accepted_limit;
+        waiting_limit = ap (λ (q : Queued _). q.limit) c.pop-oldest.ensures.rest ∙ kept.waiting_limit;
+        within = omega (arith, kept.within, ap length before);
+        indexes = kept.indexes;
+      };
+      greetings = c.self.invariant.greetings;
+    }
+
 pub invariant_of-self-2 : goal.invariant_of-self-2
 invariant_of-self-2 g c =
     let us = c.self.inside.accepted.values in

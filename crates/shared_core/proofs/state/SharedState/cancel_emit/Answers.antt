@@ -8,7 +8,7 @@ use Rattle.flow_terms.specs.declared.answers.Withdrawn.TheVariants as withdrawn
 use Rattle.shared_core.specs.Calls.{cancel_emit}
 use Rattle.shared_core.specs.Queues.{Queued}
 use Rattle.shared_core.specs.Shown.{Seen, Follows}
-use Rattle.shared_core.proofs.Ticketing.{shown_out, still_indexes, held_nowhere, held_accepted, held_waiting, without_accepted, without_waiting, withdraw_missing, withdraw_stands, withdraw_waiting}
+use Rattle.shared_core.proofs.Ticketing.{shown_out, still_indexes, holds_there, held_nowhere, held_accepted, held_waiting, without_accepted, without_waiting, withdraw_missing, withdraw_stands, withdraw_waiting}
 use Rattle.shared_core.proofs.state.SharedState.cancel_emit.Goals as goal
 
 pub invariant_of-self : goal.invariant_of-self
@@ -64,3 +64,38 @@ returns-in-Some-out_at g c =
     (sym (ap (λ (seen : Seen _). record seen { out = shown_out us c.remove-waiting.new.self.values }) c.self.view_is
     ∙ without_waiting now us ws out at c.remove-waiting.new.self.values (ap (λ (q : Queued _). q.values) c.remove-waiting.ensures.rest)))
     (withdraw_waiting now (length us + at) c.args.ticket.0 found.0.emission.emitter found.0.emission.value (held_waiting now us ws out at c.args.ticket.0 found))
+
+pub remove-accepted-requires : goal.remove-accepted-requires
+remove-accepted-requires g c = let found = c.in-Some.ensures.found in slice_get_within c.self.inside.accepted.values c.in-Some.at found.0 found.1
+
+pub overflow_add-result : goal.overflow_add-result
+overflow_add-result g c =
+    let flow = c.self.inside in
+    let accepted = holds_there (λ (h : OutTicket Accepted). flow.config.first + h.emission.index < flow.ring.next_number) flow.accepted.values c.in-Some.at c.remove-accepted.result c.self.invariant.tickets.indexes c.remove-accepted.ensures.value in
+    omega (arith, accepted, c.self.invariant.numbers.emissions)
+
+pub invariant_of-self-in-Some-out_at : goal.invariant_of-self-in-Some-out_at
+invariant_of-self-in-Some-out_at g c =
+    let numbers = c.self.invariant.numbers in
+    let kept = c.self.invariant.tickets in
+    let ws = c.self.inside.waiting.values in
+    let at = c.in-Some-out_at.at in
+    let rest = ap (λ (q : Queued _). q.values) c.remove-waiting.ensures.rest in
+    let shorter = length-remove ws at (slice_get_within ws at c.remove-waiting.result c.remove-waiting.ensures.value) in
+    record {
+      numbers = record {
+        counted = numbers.counted;
+        emissions = omega (arith, numbers.emissions, ap length rest, shorter);
+        subscriptions = numbers.subscriptions;
+        tickets = numbers.tickets;
+      };
+      ring = c.self.invariant.ring;
+      tickets = record {
+        emits = kept.emits;
+        accepted_limit = kept.accepted_limit;
+        waiting_limit = ap (λ (q : Queued _). q.limit) c.remove-waiting.ensures.rest ∙ kept.waiting_limit;
+        within = omega (arith, kept.within, ap length rest, shorter);
+        indexes = kept.indexes;
+      };
+      greetings = c.self.invariant.greetings;
+    }

@@ -1,4 +1,4 @@
-use Rattle.std.proofs.Common.{◌≡◌, ◌≢◌, ◌∙◌, ◌+◌, ◌-◌, ℕ, Bool, true, false, not, eqb, Ok, inl, inr, ap, sym, refl, subst}
+use Rattle.std.proofs.Common.{◌≡◌, ◌≢◌, ◌∙◌, ◌+◌, ◌-◌, ◌<◌, ◌≤◌, ℕ, Bool, true, false, not, eqb, Ok, inl, inr, length, ap, sym, refl, subst, arith, ltb-true}
 use Rattle.flow_terms.specs.declared.answers.Begun.TheVariants as begun
 use Rattle.shared_core.specs.Flow.{number_limit, stands}
 use Rattle.shared_core.specs.Calls.{start_emit, handed_over, held_up}
@@ -31,6 +31,53 @@ accept-requires-clause-numbers g c = within_limit _ (sym c.is_spent.ensures.spen
 
 pub push_in-requires : goal.push_in-requires
 push_in-requires g c = within_limit _ (sym c.is_spent.ensures.spent ∙ c.if-is_spent.false) c.is_spent.ensures.bound
+
+pub accept-requires-in-HandedOver-clause-numbers : goal.accept-requires-in-HandedOver-clause-numbers
+accept-requires-in-HandedOver-clause-numbers g c = within_limit _ (sym c.is_spent.ensures.spent ∙ c.if-is_spent.false) c.is_spent.ensures.bound
+
+pub overflow_add-self-inside : goal.overflow_add-self-inside
+overflow_add-self-inside g c = omega (arith, c.self.invariant.numbers.tickets)
+
+-- a ticket is left
+ticket_left : {T : Type 0} (view now : Seen T) → view ≡ now → view.parameters.first + view.tickets ≤ number_limit → view.parameters.first + view.tickets ≢ number_limit → now.parameters.first + now.tickets < number_limit
+ticket_left view now is within unspent = omega (arith, within, unspent, ap (λ (seen : Seen _). seen.parameters.first + seen.tickets) is)
+
+pub keep_waiting-requires-clause-numbers : goal.keep_waiting-requires-clause-numbers
+keep_waiting-requires-clause-numbers g c = ticket_left _ c.args.self.now c.self.view_is c.self.invariant.numbers.tickets c.if-self-eq-NUMBER_LIMIT.false
+
+pub keep_waiting-requires-clause-space : goal.keep_waiting-requires-clause-space
+keep_waiting-requires-clause-space g c = ltb-true (length c.args.self.now.out) c.args.self.now.parameters.emits (not_false _ (sym c.if-is_full-2.false ∙ c.is_full-in-HeldUp.ensures))
+
+pub keep_accepted-requires-clause-numbers : goal.keep_accepted-requires-clause-numbers
+keep_accepted-requires-clause-numbers g c =
+    subst (λ (seen : Seen _). seen.parameters.first + seen.tickets < number_limit) (sym c.accept-in-HandedOver.ensures.accepted)
+    (ticket_left _ c.args.self.now c.self.view_is c.self.invariant.numbers.tickets c.if-self-eq-NUMBER_LIMIT.false)
+
+pub keep_accepted-requires-clause-space : goal.keep_accepted-requires-clause-space
+keep_accepted-requires-clause-space g c =
+    subst (λ (seen : Seen _). length seen.out < seen.parameters.emits) (sym c.accept-in-HandedOver.ensures.accepted)
+    (ltb-true (length c.args.self.now.out) c.args.self.now.parameters.emits (not_false _ (sym c.if-is_full.false ∙ c.is_full.ensures)))
+
+-- where the first emission's number is
+first_there : {T : Type 0} (before now after view : Seen T) (v : T) → before ≡ now → after ≡ with_accepted v now → view ≡ after → before.parameters.first ≤ before.next_number
+    → (view.parameters.first ≡ after.parameters.first) × (view.parameters.first ≤ now.next_number) × (after.next_number ≡ now.next_number + 1)
+first_there before now after view v is accepted seen counted =
+    let numbers = ap (λ (s : Seen _). s.next_number) is in
+    let first = ap (λ (s : Seen _). s.parameters.first) is in
+    let next = ap (λ (s : Seen _). s.next_number) accepted in
+    let same = ap (λ (s : Seen _). s.parameters.first) accepted in
+    let shown = ap (λ (s : Seen _). s.parameters.first) seen in
+    (shown, omega (arith, numbers, first, same, shown, counted), next)
+
+pub overflow_sub-index : goal.overflow_sub-index
+overflow_sub-index g c =
+    let there = first_there _ c.args.self.now c.accept-in-HandedOver.new.self _ c.args.value c.self.view_is c.accept-in-HandedOver.ensures.accepted c.self-in-HandedOver.view_is c.self.invariant.numbers.counted in
+    omega (arith, there.1, c.accept-in-HandedOver.ensures.number)
+
+pub keep_accepted-requires-clause-accepted : goal.keep_accepted-requires-clause-accepted
+keep_accepted-requires-clause-accepted g c =
+    let there = first_there _ c.args.self.now c.accept-in-HandedOver.new.self _ c.args.value c.self.view_is c.accept-in-HandedOver.ensures.accepted c.self-in-HandedOver.view_is c.self.invariant.numbers.counted in
+    omega (arith, there.0, there.1, there.2, c.accept-in-HandedOver.ensures.number)
 
 pub keep_waiting-requires-clause-room : goal.keep_waiting-requires-clause-room
 keep_waiting-requires-clause-room g c = within_limit _ (sym c.is_spent.ensures.spent ∙ c.if-is_spent.false) c.is_spent.ensures.bound

@@ -1,4 +1,4 @@
-use Rattle.std.proofs.Common.{◌≡◌, ◌+◌, ◌≤◌, Bool, true, false, not, ◌||◌, cond, eqb, leb, Option, Some, None, length, refl, sym, ap, ◌∙◌, arith}
+use Rattle.std.proofs.Common.{◌≡◌, ◌+◌, ◌≤◌, Bool, true, false, not, ◌||◌, cond, eqb, leb, Option, Some, None, length, refl, ap, arith}
 use Rattle.std.proofs.lemmas.Bool.{leb-true}
 use Rattle.flow_terms.specs.declared.refusal.Refusal.{Refusal}
 use Rattle.flow_terms.specs.declared.refusal.Refusal.TheVariants.{TooLarge, PolicyNeedsBuffer, BadLimit}
@@ -9,10 +9,10 @@ use Rattle.shared_core.specs.Queues.{Queued}
 use Rattle.shared_core.specs.Ringed.{Ringed}
 use Rattle.shared_core.proofs.Bodies.{shows_empty}
 use Rattle.shared_core.proofs.Numbered.{or_false_right}
-use Rattle.shared_core.proofs.state.SharedState.new.Goals as goal
+use Rattle.shared_core.proofs.state.SharedState.reserved.Goals as goal
 
-pub returns-clause-shows : goal.returns-clause-shows
-returns-clause-shows g c =
+pub returns : goal.returns
+returns g c =
     shows_empty (parameters_of c.args.config) c.in_ok-ring.ring c.in_ok-accepted.accepted.values c.in_ok-waiting.waiting.values c.in_ok-greetings.greetings.values
     c.in_ok-ring.ensures (ap (λ (q : Queued _). q.values) c.in_ok-accepted.ensures) (ap (λ (q : Queued _). q.values) c.in_ok-waiting.ensures) (ap (λ (q : Queued _). q.values) c.in_ok-greetings.ensures)
 
@@ -28,6 +28,7 @@ turned false is = absurd (cc)
 -- the bounds of what a flow is made with
 record IsBounded (c : Config) : Type 0 where
   capacity : c.replay + c.extra ≤ 65536
+  subscribers : c.subscribers ≤ 1024
   emits : c.emits ≤ 1024
   first : c.first ≤ number_limit
 
@@ -35,19 +36,29 @@ bounded : (c : Config) → making_refusal c ≡ None → IsBounded c
 bounded c made =
     let large = unrefused _ TooLarge _ made in
     let buffer = unrefused _ PolicyNeedsBuffer _ large.1 in
-    let subscribers = unrefused _ BadLimit _ buffer.1 in
+    let subscribers = unrefused (eqb c.subscribers 0 || not (leb c.subscribers 1024)) BadLimit _ buffer.1 in
     let emits = unrefused (eqb c.emits 0 || not (leb c.emits 1024)) BadLimit _ subscribers.1 in
     let first = unrefused (not (leb c.first number_limit)) BadLimit _ emits.1 in
     record {
       capacity = leb-true (c.replay + c.extra) 65536 (turned (leb (c.replay + c.extra) 65536) large.0);
+      subscribers = leb-true c.subscribers 1024 (turned (leb c.subscribers 1024) (or_false_right (eqb c.subscribers 0) (not (leb c.subscribers 1024)) subscribers.0));
       emits = leb-true c.emits 1024 (turned (leb c.emits 1024) (or_false_right (eqb c.emits 0) (not (leb c.emits 1024)) emits.0));
       first = leb-true c.first number_limit (turned (leb c.first number_limit) first.0);
     }
 
+pub new-requires-clause-capacity : goal.new-requires-clause-capacity
+new-requires-clause-capacity g c = (bounded c.args.config c.requires).capacity
+
+pub new-requires-clause-subscribers : goal.new-requires-clause-subscribers
+new-requires-clause-subscribers g c = (bounded c.args.config c.requires).subscribers
+
+pub new-requires-clause-first : goal.new-requires-clause-first
+new-requires-clause-first g c = (bounded c.args.config c.requires).first
+
 pub invariant_of-result : goal.invariant_of-result
 invariant_of-result g c =
     let config = c.args.config in
-    let bounds = bounded config (sym c.refusal.ensures ∙ c.in_default.is) in
+    let bounds = bounded config c.requires in
     let ring = c.in_ok-ring.ensures in
     let next = ap (λ (r : Ringed _). r.next_number) ring in
     let no_accepted = ap (λ (q : Queued _). length q.values) c.in_ok-accepted.ensures in
