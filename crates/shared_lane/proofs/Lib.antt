@@ -1,5 +1,6 @@
 pub mod Accepting
 pub mod Lives
+pub mod Makes
 pub mod Outstanding
 pub mod Policies
 pub mod Rounds

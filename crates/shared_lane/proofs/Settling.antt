@@ -25,6 +25,20 @@ rounded_later Suspend lag q room v r = (cursor_loads 0 r.0, r.2.loads)
 rounded_later DropOldest lag q room v r = let x = r.1 in (cursor_loads 0 x.0, x.2.loads)
 rounded_later DropLatest lag q room v r = (cursor_loads 0 r.0, r.2.loads)
 
+-- before any was accepted
+pub settled_none : (q : SequencerSeen) → Settled 0 q q
+settled_none q = record {
+  few = omega arith;
+  accepted = sym (append-nil (seen q));
+  waiting_is = refl;
+  standing_is = sym (append-nil q.standing);
+  ticket = refl;
+  subscription = refl;
+  cache_is = refl;
+  later = ([], sym (append-nil q.view.loads));
+  quiet = λ none. refl;
+}
+
 take_more : {A : Type 0} (k : ℕ) (xs : List A) → take (suc k) xs ≡ take k xs ++ take 1 (drop k xs)
 take_more zero xs = refl
 take_more (suc k) [] = refl

@@ -1,5 +1,6 @@
 pub mod Caches
 pub mod Kept
+pub mod Makes
 pub mod Places
 pub mod Polls
 pub mod Readers

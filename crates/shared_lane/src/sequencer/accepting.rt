@@ -1,6 +1,6 @@
 //! How an emission is accepted: a round over the cursors that finds room, a store of the cell, a store of the tail.
-ghost use Rattle.std.specs.Prelude.{◌≡◌, ◌≢◌, ◌+◌, ◌<◌, ◌≤◌, [], length, drop, slice_get, Some, true};
-ghost use Rattle.flow_terms.specs.declared.policy.Policy.TheVariants.{Suspend};
+ghost use Rattle.std.specs.Prelude.{◌≡◌, ◌≢◌, ◌+◌, ◌<◌, ◌≤◌, [], length, drop, slice_get, Some, true, false};
+ghost use Rattle.flow_terms.specs.declared.policy.Policy.TheVariants.{Suspend, DropOldest};
 ghost use Rattle.lane_steps.specs.Steps.{IsRoomy};
 ghost use Rattle.shared_lane.specs.Caches.{emitter_at};
 ghost use Rattle.shared_lane.specs.Sequencers.{IsSequencerOf, IsSameSequencer, OnlyLoaded, Rounded, HasNumber};
@@ -23,6 +23,7 @@ impl<A: Allocator> Sequencer<A> {
         ensures only { OnlyLoaded self.old self.new }
         ensures round { Rounded lag self.old result self.new }
         ensures room { result ≡ true → IsRoomy self.new.view.shape.cells self.new.view }
+        ensures calm { result ≡ false → self.new.policy ≢ DropOldest }
     {
         let words = lane.words();
         if let Policy::DropOldest = self.policy {

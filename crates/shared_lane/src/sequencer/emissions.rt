@@ -6,7 +6,7 @@ ghost use Rattle.shared_lane.specs.Sequencers.{RefusedTry, BegunOn, RefusedStart
 
 use super::Sequencer;
 use crate::lane::Lane;
-use flow_terms::{Policy, Refusal};
+use flow_terms::Refusal;
 use shared_core::{Begun, Ticket, Tried};
 use std::alloc::Allocator;
 
@@ -28,6 +28,21 @@ impl<A: Allocator> Sequencer<A> {
         ensures tried { IfOk result (λ t. AfterScan self.old (λ m. HasNumber m × TriedOn m (emitter, word) t self.new)) }
     {
         self.scan(lane);
+        self.try_after_scan(lane, emitter, word)
+    }
+
+    // The same, after waiting emissions were let in.
+    fn try_after_scan<B: Allocator>(
+        &mut self,
+        lane: &Lane<B>,
+        emitter: u32,
+        word: u64,
+    ) -> Result<Tried<u64>, Refusal>
+        requires { IsSequencerOf lane.now self.old }
+        ensures same { IsSequencerOf lane.now self.new × IsSameSequencer self.old self.new }
+        ensures refused { IfErr result (λ e. RefusedTry self.old e self.new) }
+        ensures tried { IfOk result (λ t. HasNumber self.old × TriedOn self.old (emitter, word) t self.new) }
+    {
         if self.is_spent() {
             return Err(Refusal::Spent);
         }
@@ -37,7 +52,7 @@ impl<A: Allocator> Sequencer<A> {
         if self.find_room(lane, self.capacity()) {
             return Ok(Tried::Accepted(self.accept(lane, emitter, word)));
         }
-        if let Policy::DropLatest = self.policy() {
+        if !self.suspends() {
             return Ok(Tried::Dropped);
         }
         Ok(Tried::Full)
@@ -60,6 +75,21 @@ impl<A: Allocator> Sequencer<A> {
         ensures begun { IfOk result (λ b. AfterScan self.old (λ m. HasNumber m × HasTicketNumber m × BegunOn m (emitter, word) b self.new)) }
     {
         self.scan(lane);
+        self.start_after_scan(lane, emitter, word)
+    }
+
+    // The same, after waiting emissions were let in.
+    fn start_after_scan<B: Allocator>(
+        &mut self,
+        lane: &Lane<B>,
+        emitter: u32,
+        word: u64,
+    ) -> Result<Begun<u64, Ticket>, Refusal>
+        requires { IsSequencerOf lane.now self.old }
+        ensures same { IsSequencerOf lane.now self.new × IsSameSequencer self.old self.new }
+        ensures refused { IfErr result (λ e. RefusedStart self.old e self.new) }
+        ensures begun { IfOk result (λ b. HasNumber self.old × HasTicketNumber self.old × BegunOn self.old (emitter, word) b self.new) }
+    {
         if self.is_spent() {
             return Err(Refusal::Spent);
         }
@@ -89,7 +119,7 @@ impl<A: Allocator> Sequencer<A> {
         if self.find_room(lane, self.capacity()) {
             return Ok(Begun::Accepted(self.accept(lane, emitter, word)));
         }
-        if let Policy::DropLatest = self.policy() {
+        if !self.suspends() {
             return Ok(Begun::Dropped);
         }
         if self.is_crowded() {

@@ -1,6 +1,6 @@
 //! What the sequencer knows without a step on the words.
 ghost use Rattle.std.specs.Prelude.{◌≡◌, ◌≢◌, ◌+◌, ◌<◌, ◌≤◌, [], length, max, true, false};
-ghost use Rattle.flow_terms.specs.declared.policy.Policy.TheVariants.{Suspend};
+ghost use Rattle.flow_terms.specs.declared.policy.Policy.TheVariants.{Suspend, DropOldest, DropLatest};
 ghost use Rattle.shared_lane.specs.Sequencers.{next, HasNumber, HasTicketNumber, HasFreeTicket};
 
 use super::Sequencer;
@@ -25,10 +25,17 @@ impl<A: Allocator> Sequencer<A> {
         self.subscription
     }
 
-    pub(super) fn policy(&self) -> Policy
-        ensures { result ≡ self.now.policy }
+    // Whether an emission without room waits, or is dropped, where the oldest values aren't.
+    pub(super) fn suspends(&self) -> bool
+        requires { self.now.policy ≢ DropOldest }
+        ensures waits { result ≡ true → self.now.policy ≡ Suspend }
+        ensures drops { result ≡ false → self.now.policy ≡ DropLatest }
     {
-        self.policy
+        match self.policy {
+            Policy::Suspend => true,
+            Policy::DropLatest => false,
+            Policy::DropOldest => unreachable!(),
+        }
     }
 
     // How many values a reader may have pending.

@@ -51,6 +51,7 @@ returns g c = rw (← c.self.view_is) (let s = c.self.inside in let inv = c.self
         f.2.only.seen,
       );
       round = calm s.policy c.args.lag q (not b) w c.in_default.not-DropOldest (ns, long, f.2, subst (λ (z : ℕ × Bool). Behind z.0 c.args.lag ns z.1) (λ i. (inv.tail_is i, sym (not_not b) i)) f.3);
+      calm = λ _. c.in_default.not-DropOldest;
       room = λ e. subst (λ (z : ℕ). IsRoomy z w) (sym (ap (λ (z : Shape). z.cells) f.2.only.shape))
           (roomy_found s.tail c.args.lag s.seat.me.0.shape.cells s.seat.me.0 w ns lag inv.tail_is (long ∙ sym inv.sound.each_place_known) f.2 (subst (Behind s.tail c.args.lag ns) (was_false b e) f.3));
     })

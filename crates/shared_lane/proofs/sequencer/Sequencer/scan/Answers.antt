@@ -1,7 +1,7 @@
-use Rattle.std.proofs.Common.{ℕ, ap, ◌∙◌, ◌<◌, subst}
+use Rattle.std.proofs.Common.{ℕ, refl, ap, ◌∙◌, ◌<◌, subst}
 use Rattle.shared_lane.specs.Views.{SequencerSeen}
 use Rattle.shared_lane.proofs.Sameness.{same_loaded, same_twice}
-use Rattle.shared_lane.proofs.Settling.{settled_more, rounded_later, still_waits}
+use Rattle.shared_lane.proofs.Settling.{settled_none, settled_more, rounded_later, still_waits}
 use Rattle.shared_lane.proofs.sequencer.Sequencer.scan.Goals as goal
 
 pub settle_one-requires-clause-waits : goal.settle_one-requires-clause-waits
@@ -16,3 +16,6 @@ loop-settled-preserved g c = let before = c.loop-settled.invariant in let found 
       (ap (λ (z : SequencerSeen). z.waiting) found.0, ap (λ (z : SequencerSeen). z.standing) found.0, ap (λ (z : SequencerSeen). z.ticket) found.0) (ap (λ (z : SequencerSeen). z.subscription) found.0) (found.1 ∙ before.1.1)
       (ap (λ (z : SequencerSeen). z.replay) found.0 ∙ before.1.4) (rounded_later t.policy _ t _ t'.view c.find_room.ensures.round) one.settled,
 )
+
+pub loop-settled-init : goal.loop-settled-init
+loop-settled-init g c = (c.requires, (refl, refl, refl, refl, refl, refl), settled_none c.args.self.now)
