@@ -1,5 +1,7 @@
 pub mod Rises
 pub mod Receipts
+pub mod Refusals
+pub mod Starting
 pub mod Doing
 pub mod Numbers
 pub mod Reaching

@@ -1,16 +1,17 @@
 -- What a receipt holds, by what the sequencer answered.
-use Rattle.std.proofs.Common.{◌≡◌, ℕ, zero, suc, ◌+◌, ◌-◌, List, [], ◌∷◌, ◌++◌, length, take, refl, sym, ap, ◌∙◌, arith, length-append, ⊎_elim}
+use Rattle.std.proofs.Common.{◌≡◌, ℕ, zero, suc, ◌+◌, ◌-◌, ◌≤◌, map, List, [], ◌∷◌, ◌++◌, length, take, refl, sym, ap, ◌∙◌, arith, length-append, ⊎_elim}
 use mathlib.Core.Option.{some, some-injective}
 use lib.ListN.{get_elem?}
 use Rattle.std.proofs.lemmas.List.{take_all}
 use Rattle.lane_steps.specs.Law.{Entry}
 use Rattle.shared_lane.specs.Views.{LaneSeen, ReceiptSeen, SequencerSeen}
-use Rattle.shared_lane.specs.Sequencers.{IsSequencerOf, AcceptedOn, seen}
+use Rattle.shared_lane.specs.Sequencers.{IsSequencerOf, AcceptedOn, AfterScan, entry_of, next, seen}
 use Rattle.shared_lane.specs.Places.{IsAccepted}
 use Rattle.shared_lane.specs.Polls.{HasTicket, IsOutFor}
 use Rattle.shared_lane.specs.declared.tickets.Standing.{Standing}
 use Rattle.shared_lane.proofs.Outstanding.{one_with}
-use Rattle.shared_flow.specs.Rounds.{IsReceiptOfOne}
+use Rattle.shared_flow.specs.declared.round.Emission.{Emission}
+use Rattle.shared_flow.specs.Rounds.{IsReceiptOfOne, IsReceiptFor, entry}
 
 at_last : {X : Type 0} (xs : List X) (x : X) → get_elem? (xs ++ x ∷ []) (length xs) ≡ some x
 at_last [] x = refl
@@ -55,3 +56,24 @@ of_one lane q r e n of accepted table emitter number seen_is =
     let count : n + 1 - q.view.shape.first ≡ suc i = omega (arith, at) in
     let before : length (take i (seen q)) ≡ i = length_before (seen q) i (e, w) accepted.3 in
     (table, emitter, (take i (seen q), w, seen_is ∙ ap (λ k. take k (seen q)) count ∙ ends_at (seen q) i (e, w) accepted.3, omega (arith, number, at, first, before)))
+
+-- a receipt for an emission that was accepted just now ends in it
+pub for_one : (lane : LaneSeen) (m t : SequencerSeen) (r : ReceiptSeen) (e : Emission) (n : ℕ) → IsSequencerOf lane t → t.view.shape ≡ m.view.shape → AcceptedOn m (entry e) n t
+    → r.table ≡ lane.table → r.emitter ≡ e.emitter → r.number ≡ n → r.seen ≡ take (n + 1 - t.view.shape.first) (seen t) → IsReceiptFor lane e r
+for_one lane m t r e n of same on table emitter number seen_is = (
+  table,
+  emitter,
+  (
+    seen m,
+    seen_is ∙ ends_in m t (entry e) n same on,
+    number ∙ on.1 ∙ ap (λ z. z.first + length (seen m)) (sym same ∙ of.1),
+  ),
+)
+
+-- its number is none of those that were accepted before the call
+pub is_later : (q t : SequencerSeen) (e : Entry) (n : ℕ) → AfterScan q (λ m. AcceptedOn m e n t) → next q ≤ n
+is_later q t e n after =
+    let m : SequencerSeen = after.0 in
+    let first : m.view.shape.first ≡ q.view.shape.first = ap (λ z. z.first) after.2.1 in
+    let longer : length (seen m) ≡ length (seen q) + length (map entry_of (take after.1 q.waiting)) = ap length after.3.accepted ∙ length-append (seen q) _ in
+    omega (arith, after.5.1, first, longer)

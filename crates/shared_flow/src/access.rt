@@ -3,6 +3,7 @@ ghost use Rattle.std.specs.Prelude.{◌≡◌, ◌++◌, [], ◌∷◌, Ok, Some
 ghost use Rattle.shared_lane.specs.Sequencers.{next};
 ghost use Rattle.shared_flow.specs.declared.round.Round.TheVariants as round;
 ghost use Rattle.shared_flow.specs.Names.{IsNew, SharedSeen, KnowsLane};
+ghost use Rattle.shared_flow.specs.Reach.{reach_of};
 ghost use Rattle.shared_flow.specs.Rounds.{Does, Below};
 
 use crate::round::Round;
@@ -13,7 +14,7 @@ use flow_terms::Refusal;
 use round_lock::{Guarded, Lock};
 use shared_core::Config;
 use shared_lane::Lane;
-use std::alloc::Global;
+use std::alloc::{AllocError, Global};
 use std::marker::{Brand, Model};
 use std::sync::{Arc, Wait};
 
@@ -48,10 +49,11 @@ impl Access {
         ensures made { IfOk result (λ made. (made.flow ≡ Some shared.name) × (made.held ≡ None) × (made.rounds ≡ [])) }
         ensures memory { IsOkUnless result Refusal.NoMemory }
     {
+        let state = Box::new(alloc, shared)?;
+        let track = state.track()?;
         let wakes_count = wakes_of(&config);
         let wakes = Wakes::new(alloc, wakes_count)?;
-        let track = shared.track()?;
-        let lock = Lock::new(alloc, Box::new(alloc, shared)?)?;
+        let lock = locked(alloc, state)?;
         Ok(Access {
             lock,
             track,
@@ -121,4 +123,12 @@ impl Access {
         self.lock.put_as::<Brand>(rt, guarded);
         self.wakes.fire();
     }
+}
+
+// Puts it under a lock, whose first owner has made no call.
+fn locked(alloc: Global, state: Box<Shared>) -> Result<Lock<Box<Shared>, Round>, AllocError>
+    requires { IsNew state.value }
+    ensures { IfOk result (λ lock. reach_of (λ s. s.value) lock ≡ record { lock = lock.place; flow = Some state.value.name; held = None; rounds = [] }) }
+{
+    Lock::new(alloc, state)
 }

@@ -275,13 +275,14 @@ impl<T: Word> Emitter<T> {
         let mut emitter = self;
         let withdrawn = emitter.cancel_emit(rt);
         let Emitter {
-            access: _,
+            access,
             id: _,
             ticket: _,
             last: _,
             bed: _,
             marker: _,
         } = emitter;
+        drop(access);
         withdrawn
     }
 }

@@ -132,6 +132,7 @@ impl<T: Word> SharedFlow<T> {
             }
             Err(refusal) => {
                 self.access.put(rt, guarded, Round::Subscribe(Err(refusal)));
+                drop(access);
                 Err(refusal)
             }
         }

@@ -1,8 +1,8 @@
 //! What lies under the lock.
-ghost use Rattle.std.specs.Prelude.{◌≡◌, ◌+◌, IfOk, IfSome, IfNone, IsOkUnless};
+ghost use Rattle.std.specs.Prelude.{◌≡◌, ◌+◌, ◌≤◌, IfOk, IfSome, IfNone, IsOkUnless};
 ghost use Rattle.futures.specs.Task.{IsArmed, Keeps};
 ghost use Rattle.shared_core.specs.Kept.{making_refusal};
-ghost use Rattle.shared_lane.specs.Sequencers.{IsSameSequencer, OnlyLoaded};
+ghost use Rattle.shared_lane.specs.Sequencers.{IsFresh, IsSameSequencer, IsSequencerOf, OnlyLoaded};
 ghost use Rattle.shared_flow.specs.Names.{IsNew};
 ghost use Rattle.shared_flow.specs.Rounds.{Does};
 
@@ -15,7 +15,7 @@ use futures::task::Context;
 use round_lock::Called;
 use shared_core::Config;
 use shared_lane::{Lane, Sequencer};
-use std::alloc::Global;
+use std::alloc::{AllocError, Global};
 use std::marker::Model;
 use std::mem;
 use std::sync::Arc;
@@ -67,11 +67,26 @@ impl Shared {
         ensures fresh { IfOk result (λ made. (made.name.config ≡ config) × IsNew made) }
     {
         let (lane, sequencer) = Lane::new(alloc, config)?;
+        Ok(Shared::on_lane(alloc, config, lane, sequencer)?)
+    }
+
+    // With this lane and its sequencer.
+    fn on_lane(
+        alloc: Global,
+        config: Config,
+        lane: Lane<Global>,
+        sequencer: Sequencer<Global>,
+    ) -> Result<Shared, AllocError>
+        requires { IsSequencerOf lane sequencer × IsFresh config sequencer }
+        ensures { IfOk result (λ made. (made.name.config ≡ config) × IsNew made) }
+    {
         let may_wait = matches!(config.policy, Policy::Suspend);
         let track = Arc::new(alloc, Track::new(lane, may_wait))?;
-        let subscriptions = Sleepers::new(alloc, config.subscribers as usize)?;
-        let emissions = Sleepers::new(alloc, config.emits as usize)?;
-        let wakes = Wakes::new(alloc, wakes_of(&config))?;
+        let Rooms {
+            subscriptions,
+            emissions,
+            wakes,
+        } = Rooms::new(alloc, &config)?;
         Ok(Shared {
             config,
             track,
@@ -95,18 +110,64 @@ impl Shared {
         ensures same { (self.new.name ≡ self.old.name) × IsSameSequencer self.old.sequencer self.new.sequencer }
         ensures only { OnlyLoaded self.old.sequencer self.new.sequencer }
     {
-        if self.sequencer.next_number() > before {
-            self.subscriptions.wake_all(&mut self.wakes);
+        self.wake_subscriptions(before);
+        self.note_finished();
+        self.wake_emissions();
+    }
+
+    // Wakes the subscriptions that sleep, where something was accepted since the number `before` was the next one.
+    fn wake_subscriptions(&mut self, before: u64)
+        ensures { self.new ≡ self.old }
+    {
+        if self.sequencer.next_number() <= before {
+            return;
         }
+        self.subscriptions.wake_all(&mut self.wakes);
+    }
+
+    // Who receives has to take the lock no more, once no emission is unfinished.
+    fn note_finished(&self) {
         if self.track.has_unfinished() && !self.sequencer.has_unfinished() {
             self.track.set_unfinished(false);
         }
+    }
+
+    // Wakes the emissions that sleep and are finished by now.
+    fn wake_emissions(&mut self)
+        ensures same { (self.new.name ≡ self.old.name) × IsSameSequencer self.old.sequencer self.new.sequencer }
+        ensures only { OnlyLoaded self.old.sequencer self.new.sequencer }
+    {
         if self.emissions.is_empty() {
             return;
         }
         let below = self.sequencer.finished_below(self.track.lane());
         self.emissions
             .wake_done(&self.sequencer, below, &mut self.wakes);
+    }
+}
+
+// Where those sleep that wait, and where their wakers are kept.
+#[derive(Drop)]
+struct Rooms {
+    subscriptions: Sleepers,
+    emissions: Sleepers,
+    wakes: Wakes,
+}
+
+impl Rooms {
+    // Nobody sleeps, and as many may as wait at most.
+    fn new(alloc: Global, config: &Config) -> Result<Rooms, AllocError>
+        ensures subscriptions { IfOk result (λ rooms. config.now.subscribers ≤ rooms.subscriptions.sleeping.capacity) }
+        ensures emissions { IfOk result (λ rooms. config.now.emits ≤ rooms.emissions.sleeping.capacity) }
+    {
+        let subscriptions = Sleepers::new(alloc, config.subscribers as usize)?;
+        let emissions = Sleepers::new(alloc, config.emits as usize)?;
+        let wakes = Wakes::new(alloc, wakes_of(config))?;
+        Ok(Rooms {
+            subscriptions,
+            emissions,
+            wakes,
+        })
     }
 }
 

@@ -311,5 +311,6 @@ impl<T: Word> Subscription<T> {
         let mut guarded = access.take(rt);
         guarded.state.cancel(reader, number, &bed);
         access.put(rt, guarded, Round::Cancel(number));
+        drop(access);
     }
 }

@@ -5,12 +5,13 @@ ghost use Rattle.futures.specs.Task.{IsArmed, Keeps};
 ghost use Rattle.flow_terms.specs.declared.answers.Emit.TheVariants as emit;
 ghost use Rattle.flow_terms.specs.declared.answers.Withdrawn.TheVariants as withdrawn;
 ghost use Rattle.shared_lane.specs.Places.{IsAccepted};
-ghost use Rattle.shared_lane.specs.Polls.{IsOutFor, IsNotOut};
-ghost use Rattle.shared_lane.specs.Sequencers.{IsSameSequencer, next};
+ghost use Rattle.shared_lane.specs.Polls.{IsOutFor, IsNotOut, PolledOn, WithdrawnFrom};
+ghost use Rattle.shared_lane.specs.Sequencers.{AcceptedOn, IsSameSequencer, next};
+ghost use Rattle.shared_lane.specs.Views.{SequencerSeen};
 ghost use Rattle.shared_flow.specs.declared.round.Round.TheVariants as round;
 ghost use Rattle.shared_flow.specs.Parties.{IfTried, IfBegun, TriedUnder, BegunUnder};
 ghost use Rattle.shared_flow.specs.Rounds.{Does, Makes, MakesAfterScan, Scanned, IsAfter, IsReceiptAfter};
-ghost use Rattle.shared_flow.specs.Rounds.{IsReceiptFor, IsReceiptOfOne, numbers_tried, numbers_begun, poll_round, withdraw_round};
+ghost use Rattle.shared_flow.specs.Rounds.{entry, IsReceiptFor, IsReceiptOfOne, numbers_tried, numbers_begun, poll_round, withdraw_round};
 
 use super::Shared;
 use crate::round::Emission;
@@ -56,15 +57,22 @@ impl Shared {
         ensures refused { IfErr result (λ refusal. refusal ≡ Spent) }
         ensures policy { TriedUnder self.old.name.config.policy result }
     {
-        let Emission { emitter, word } = emission;
-        match self.sequencer.try_emit(self.track.lane(), emitter, word)? {
-            Tried::Accepted(number) => {
-                let receipt = self.sequencer.receipt(self.track.lane(), emitter, number);
-                Ok(Tried::Accepted(receipt))
-            }
+        match self.tried_number(emission)? {
+            Tried::Accepted(number) => Ok(Tried::Accepted(self.receipt_for(emission, number))),
             Tried::Dropped => Ok(Tried::Dropped),
             Tried::Full => Ok(Tried::Full),
         }
+    }
+
+    // The same, with the number of an accepted emission in the place of its receipt.
+    fn tried_number(&mut self, emission: Emission) -> Result<Tried<u64>, Refusal>
+        ensures same { (self.new.name ≡ self.old.name) × IsSameSequencer self.old.sequencer self.new.sequencer }
+        ensures made { MakesAfterScan self.old (round.Try emission result) self.new }
+        ensures refused { IfErr result (λ refusal. refusal ≡ Spent) }
+        ensures policy { TriedUnder self.old.name.config.policy result }
+    {
+        let Emission { emitter, word } = emission;
+        self.sequencer.try_emit(self.track.lane(), emitter, word)
     }
 
     /// Begins an emission.
@@ -106,15 +114,33 @@ impl Shared {
         ensures refused { IfErr result (λ refusal. (refusal ≡ Spent) ⊎ (refusal ≡ EmitsFull)) }
         ensures policy { BegunUnder self.old.name.config.policy result }
     {
-        let Emission { emitter, word } = emission;
-        match self.sequencer.start_emit(self.track.lane(), emitter, word)? {
-            Begun::Accepted(number) => {
-                let receipt = self.sequencer.receipt(self.track.lane(), emitter, number);
-                Ok(Begun::Accepted(receipt))
-            }
+        match self.begun_number(emission)? {
+            Begun::Accepted(number) => Ok(Begun::Accepted(self.receipt_for(emission, number))),
             Begun::Dropped => Ok(Begun::Dropped),
             Begun::Waiting(ticket) => Ok(Begun::Waiting(ticket)),
         }
+    }
+
+    // The same, with the number of an accepted emission in the place of its receipt.
+    fn begun_number(&mut self, emission: Emission) -> Result<Begun<u64, Ticket>, Refusal>
+        ensures same { (self.new.name ≡ self.old.name) × IsSameSequencer self.old.sequencer self.new.sequencer }
+        ensures made { MakesAfterScan self.old (round.Start emission result) self.new }
+        ensures refused { IfErr result (λ refusal. (refusal ≡ Spent) ⊎ (refusal ≡ EmitsFull)) }
+        ensures policy { BegunUnder self.old.name.config.policy result }
+    {
+        let Emission { emitter, word } = emission;
+        self.sequencer.start_emit(self.track.lane(), emitter, word)
+    }
+
+    // A receipt for an emission that was accepted just now.
+    fn receipt_for(&mut self, emission: Emission, number: u64) -> Receipt
+        requires { (m : SequencerSeen) × (self.old.sequencer.view.shape ≡ m.view.shape) × AcceptedOn m (entry emission) number self.old.sequencer }
+        ensures same { self.new ≡ self.old }
+        ensures receipt { IsReceiptFor self.old.name.lane emission result }
+        ensures number { result.number ≡ number }
+    {
+        self.sequencer
+            .receipt(self.track.lane(), emission.emitter, number)
     }
 
     // Whether a ticket is out for an emission of this emitter.
@@ -156,7 +182,7 @@ impl Shared {
         ensures receipt { IfSome result.receipt (λ r. (result.emit ≡ emit.Done r.number) × IsReceiptAfter self.old.name.lane emitter last r) }
     {
         let is_own = self.is_of(ticket, emitter);
-        let emit = self.sequencer.poll_emit(self.track.lane(), ticket);
+        let emit = self.poll_ticket(ticket);
         let receipt = None;
         let Emit::Done(number) = emit else {
             return Polled { emit, receipt };
@@ -169,6 +195,22 @@ impl Shared {
         }
         let receipt = Some(self.receipt_of(emitter, number));
         Polled { emit, receipt }
+    }
+
+    // Asks whether the emission with this ticket is finished.
+    fn poll_ticket(&mut self, ticket: Ticket) -> Emit
+        ensures same { (self.new.name ≡ self.old.name) × IsSameSequencer self.old.sequencer self.new.sequencer }
+        ensures polled { PolledOn self.old.sequencer ticket.0 result self.new.sequencer }
+    {
+        self.sequencer.poll_emit(self.track.lane(), ticket)
+    }
+
+    // Gives the emission with this ticket up.
+    fn give_ticket_up(&mut self, ticket: Ticket) -> Withdrawn<u64>
+        ensures same { (self.new.name ≡ self.old.name) × IsSameSequencer self.old.sequencer self.new.sequencer }
+        ensures withdrawn { WithdrawnFrom self.old.sequencer ticket.0 result self.new.sequencer }
+    {
+        self.sequencer.cancel_emit(self.track.lane(), ticket)
     }
 
     // A receipt for an emission that was accepted for this emitter.
@@ -216,7 +258,7 @@ impl Shared {
         ensures receipt { IfSome result.receipt (λ r. (result.withdrawn ≡ withdrawn.Left r.number) × IsReceiptAfter self.old.name.lane emitter last r) }
     {
         let is_own = self.is_of(ticket, emitter);
-        let withdrawn = self.sequencer.cancel_emit(self.track.lane(), ticket);
+        let withdrawn = self.give_ticket_up(ticket);
         let receipt = None;
         let Withdrawn::Left(number) = withdrawn else {
             return Released { withdrawn, receipt };

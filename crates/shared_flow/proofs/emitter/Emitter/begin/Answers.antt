@@ -4,7 +4,7 @@ use Rattle.shared_flow.specs.declared.round.Emission.{Emission}
 use Rattle.shared_flow.specs.declared.round.Round.TheVariants as round
 use Rattle.shared_flow.specs.Names.{SharedSeen}
 use Rattle.shared_flow.specs.Reach.{Reach}
-use Rattle.shared_flow.specs.Rounds.{IsAfter}
+use Rattle.shared_flow.specs.Rounds.{IsAfter, Does, numbers_begun}
 use Rattle.shared_flow.specs.Parties.{Emitting, IfBegun, WasAnswered}
 use Rattle.shared_flow.proofs.Rising.{after_start, start_rises}
 use Rattle.shared_flow.proofs.emitter.Emitter.begin.Goals as goal
@@ -24,3 +24,11 @@ invariant_of-self g c =
     let grew = ap (λ (r : Reach). r.rounds) c.put.ensures.given ∙ ap (λ (r : Reach). r.rounds ++ round.Start emission answer ∷ []) c.take-guarded.ensures.taken in
     let ends = after_start c.self.inside.last rounds emission answer c.self.invariant.1 in
     (ap (λ (r : Reach). r.held) c.put.ensures.given, subst (WasAnswered c.last_begun-self-inside.result) (sym grew) (subst (λ l. WasAnswered l (rounds ++ round.Start emission answer ∷ [])) (sym c.last_begun-self-inside.ensures) ends))
+
+pub put-requires : goal.put-requires
+put-requires g c =
+    let found : SharedSeen = c.take-guarded.result.state.value in
+    let new : SharedSeen = c.start_emit-begun.new.self in
+    let emission : Emission = record { emitter = c.self.inside.id; word = c.to_word.result } in
+    let did = subst (λ (s : SharedSeen). Does s (round.Start emission (numbers_begun c.start_emit-begun.result)) new) c.deref_mut.ensures.value c.start_emit-begun.ensures.does in
+    record { round = (found, ap (λ (r : Reach). r.held) c.take-guarded.ensures.taken, subst (λ a. Does found (round.Start emission a) new) (sym c.number_begun-answer.ensures) did) }

@@ -1,9 +1,10 @@
-use Rattle.std.proofs.Common.{◌≡◌, ◌+◌, ◌++◌, ◌∷◌, [], Some, IfSome, sym, ap, subst, ◌∙◌}
+use Rattle.shared_flow.specs.Names.{SharedSeen}
+use Rattle.std.proofs.Common.{◌≡◌, ◌+◌, ◌++◌, ◌∷◌, [], Some, IfSome, sym, ap, subst, ◌∙◌, None}
 use Rattle.flow_terms.specs.declared.answers.Withdrawn.TheVariants as withdrawn
 use Rattle.shared_flow.specs.declared.round.Round.{Round}
 use Rattle.shared_flow.specs.declared.round.Round.TheVariants as round
 use Rattle.shared_flow.specs.Reach.{Reach}
-use Rattle.shared_flow.specs.Rounds.{IsReceiptAfter, after_number}
+use Rattle.shared_flow.specs.Rounds.{IsReceiptAfter, after_number, Does, withdraw_round}
 use Rattle.shared_flow.specs.Parties.{WasAnswered}
 use Rattle.shared_flow.proofs.Rising.{answered_on, answered_last}
 use Rattle.shared_flow.proofs.emitter.Emitter.cancel_emit.Goals as goal
@@ -21,3 +22,21 @@ invariant_of-self-2 g c =
     let done = subst (λ receipt. IfSome receipt (λ r. (c.cancel_emit-withdrawn.result.withdrawn ≡ withdrawn.Left r.number) × IsReceiptAfter c.deref_mut.result.now.name.lane c.self.inside.id c.self.inside.last r)) c.in-Some-receipt.is c.cancel_emit-withdrawn.ensures.receipt in
     let answered = ap (λ e. after_number (round.Withdraw c.in-Some.ticket e)) done.0 ∙ ap (λ n. n + 1) (sym c.number.ensures) in
     (ap (λ (r : Reach). r.held) c.put-2.ensures.given, subst (WasAnswered (Some c.number.result)) (sym grew) (answered_last c.number.result c.self.inside.access.rounds made answered))
+
+pub put-requires : goal.put-requires
+put-requires g c =
+    let found : SharedSeen = c.take-guarded.result.state.value in
+    let new : SharedSeen = c.cancel_emit-withdrawn.new.self in
+    let did = subst (λ (s : SharedSeen). Does s (withdraw_round c.in-Some.ticket c.self.inside.id c.self.inside.last c.cancel_emit-withdrawn.result.withdrawn c.cancel_emit-withdrawn.result.receipt) new) c.deref_mut.ensures.value c.cancel_emit-withdrawn.ensures.does in
+    let given_none = subst (λ r. Does found (withdraw_round c.in-Some.ticket c.self.inside.id c.self.inside.last c.cancel_emit-withdrawn.result.withdrawn r) new) c.in_default-receipt.is did in
+    record { round = (found, ap (λ (r : Reach). r.held) c.take-guarded.ensures.taken, subst (λ r. Does found r new) (sym c.withdrawn_without_receipt-round.ensures) given_none) }
+
+pub put-requires-2 : goal.put-requires-2
+put-requires-2 g c =
+    let found : SharedSeen = c.take-guarded.result.state.value in
+    let new : SharedSeen = c.cancel_emit-withdrawn.new.self in
+    let did = subst (λ (s : SharedSeen). Does s (withdraw_round c.in-Some.ticket c.self.inside.id c.self.inside.last c.cancel_emit-withdrawn.result.withdrawn c.cancel_emit-withdrawn.result.receipt) new) c.deref_mut.ensures.value c.cancel_emit-withdrawn.ensures.does in
+    let given_some = subst (λ r. Does found (withdraw_round c.in-Some.ticket c.self.inside.id c.self.inside.last c.cancel_emit-withdrawn.result.withdrawn r) new) c.in-Some-receipt.is did in
+    let done = subst (λ receipt. IfSome receipt (λ r. (c.cancel_emit-withdrawn.result.withdrawn ≡ withdrawn.Left r.number) × IsReceiptAfter c.deref_mut.result.now.name.lane c.self.inside.id c.self.inside.last r)) c.in-Some-receipt.is c.cancel_emit-withdrawn.ensures.receipt in
+    let at = subst (λ x. Does found (withdraw_round c.in-Some.ticket c.self.inside.id c.self.inside.last x (Some c.in-Some-receipt.receipt)) new) done.0 given_some in
+    record { round = (found, ap (λ (r : Reach). r.held) c.take-guarded.ensures.taken, subst (λ x. Does found (round.Withdraw c.in-Some.ticket x) new) (sym done.0) at) }

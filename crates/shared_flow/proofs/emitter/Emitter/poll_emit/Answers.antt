@@ -1,9 +1,10 @@
-use Rattle.std.proofs.Common.{rules, ◌≡◌, ◌+◌, ◌++◌, ◌∷◌, [], Some, IfSome, sym, ap, subst, ◌∙◌}
+use Rattle.shared_flow.specs.Names.{SharedSeen}
+use Rattle.std.proofs.Common.{rules, ◌≡◌, ◌+◌, ◌++◌, ◌∷◌, [], Some, IfSome, sym, ap, subst, ◌∙◌, None}
 use Rattle.flow_terms.specs.declared.answers.Emit.TheVariants as emit
 use Rattle.shared_flow.specs.declared.round.Round.{Round}
 use Rattle.shared_flow.specs.declared.round.Round.TheVariants as round
 use Rattle.shared_flow.specs.Reach.{Reach}
-use Rattle.shared_flow.specs.Rounds.{IsReceiptAfter, after_number}
+use Rattle.shared_flow.specs.Rounds.{IsReceiptAfter, after_number, Does, poll_round}
 use Rattle.shared_flow.specs.Parties.{WasAnswered}
 use Rattle.shared_flow.proofs.Rising.{answered_on, answered_last}
 use Rattle.shared_flow.proofs.emitter.Emitter.poll_emit.Goals as goal
@@ -24,3 +25,23 @@ invariant_of-self-2 g c =
     let done = subst (λ receipt. IfSome receipt (λ r. (c.poll_emit-emit.result.emit ≡ emit.Done r.number) × IsReceiptAfter c.deref_mut.result.now.name.lane c.self.inside.id c.self.inside.last r)) c.in-Some-receipt.is c.poll_emit-emit.ensures.receipt in
     let answered = ap (λ e. after_number (round.Poll c.in-Some.ticket e)) done.0 ∙ ap (λ n. n + 1) (sym c.number.ensures) in
     (ap (λ (r : Reach). r.held) c.put-2.ensures.given, subst (WasAnswered (Some c.number.result)) (sym grew) (answered_last c.number.result c.self.inside.access.rounds made answered))
+
+pub put-requires : goal.put-requires
+put-requires g c =
+    let found : SharedSeen = c.take-guarded.result.state.value in
+    let new : SharedSeen = c.poll_emit-emit.new.self in
+    let did = subst (λ (s : SharedSeen). Does s (poll_round c.in-Some.ticket c.self.inside.id c.self.inside.last c.poll_emit-emit.result.emit c.poll_emit-emit.result.receipt) new) c.deref_mut.ensures.value c.poll_emit-emit.ensures.does in
+    let given_none = subst (λ r. Does found (poll_round c.in-Some.ticket c.self.inside.id c.self.inside.last c.poll_emit-emit.result.emit r) new) c.in_default-receipt.is did in
+    let kept = subst (Does found (poll_round c.in-Some.ticket c.self.inside.id c.self.inside.last c.poll_emit-emit.result.emit None)) (sym (c.sleep_emission.ensures.same ∙ c.deref_mut-in_default-receipt.ensures.value)) given_none in
+    let after : SharedSeen = c.sleep_emission.new.self in
+    record { round = (found, ap (λ (r : Reach). r.held) c.take-guarded.ensures.taken, subst (λ r. Does found r after) (sym c.polled_without_receipt-round.ensures) kept) }
+
+pub put-requires-2 : goal.put-requires-2
+put-requires-2 g c =
+    let found : SharedSeen = c.take-guarded.result.state.value in
+    let new : SharedSeen = c.poll_emit-emit.new.self in
+    let did = subst (λ (s : SharedSeen). Does s (poll_round c.in-Some.ticket c.self.inside.id c.self.inside.last c.poll_emit-emit.result.emit c.poll_emit-emit.result.receipt) new) c.deref_mut.ensures.value c.poll_emit-emit.ensures.does in
+    let given_some = subst (λ r. Does found (poll_round c.in-Some.ticket c.self.inside.id c.self.inside.last c.poll_emit-emit.result.emit r) new) c.in-Some-receipt.is did in
+    let done = subst (λ receipt. IfSome receipt (λ r. (c.poll_emit-emit.result.emit ≡ emit.Done r.number) × IsReceiptAfter c.deref_mut.result.now.name.lane c.self.inside.id c.self.inside.last r)) c.in-Some-receipt.is c.poll_emit-emit.ensures.receipt in
+    let at = subst (λ x. Does found (poll_round c.in-Some.ticket c.self.inside.id c.self.inside.last x (Some c.in-Some-receipt.receipt)) new) done.0 given_some in
+    record { round = (found, ap (λ (r : Reach). r.held) c.take-guarded.ensures.taken, subst (λ x. Does found (round.Poll c.in-Some.ticket x) new) (sym done.0) at) }

@@ -4,7 +4,7 @@ use Rattle.shared_flow.specs.declared.round.Emission.{Emission}
 use Rattle.shared_flow.specs.declared.round.Round.TheVariants as round
 use Rattle.shared_flow.specs.Names.{SharedSeen}
 use Rattle.shared_flow.specs.Reach.{Reach}
-use Rattle.shared_flow.specs.Rounds.{IsAfter}
+use Rattle.shared_flow.specs.Rounds.{IsAfter, Does, numbers_tried}
 use Rattle.shared_flow.specs.Parties.{Emitting, IfTried, WasAnswered}
 use Rattle.shared_flow.proofs.Rising.{after_try, try_rises}
 use Rattle.shared_flow.proofs.emitter.Emitter.try_emit.Goals as goal
@@ -24,3 +24,11 @@ invariant_of-self g c =
     let grew = ap (λ (r : Reach). r.rounds) c.put.ensures.given ∙ ap (λ (r : Reach). r.rounds ++ round.Try emission answer ∷ []) c.take-guarded.ensures.taken in
     let ends = after_try c.self.inside.last rounds emission answer c.self.invariant.1 in
     (ap (λ (r : Reach). r.held) c.put.ensures.given, subst (WasAnswered c.last_tried-self-inside.result) (sym grew) (subst (λ l. WasAnswered l (rounds ++ round.Try emission answer ∷ [])) (sym c.last_tried-self-inside.ensures) ends))
+
+pub put-requires : goal.put-requires
+put-requires g c =
+    let found : SharedSeen = c.take-guarded.result.state.value in
+    let new : SharedSeen = c.try_emit-tried.new.self in
+    let emission : Emission = record { emitter = c.self.inside.id; word = c.to_word.result } in
+    let did = subst (λ (s : SharedSeen). Does s (round.Try emission (numbers_tried c.try_emit-tried.result)) new) c.deref_mut.ensures.value c.try_emit-tried.ensures.does in
+    record { round = (found, ap (λ (r : Reach). r.held) c.take-guarded.ensures.taken, subst (λ a. Does found (round.Try emission a) new) (sym c.number_tried-answer.ensures) did) }

@@ -1,8 +1,8 @@
-use Rattle.std.proofs.Common.{Ok, IfOk, sym, ap, subst, ◌∙◌}
+use Rattle.std.proofs.Common.{Ok, IfOk, sym, ap, subst, ◌∙◌, Err, IfErr}
 use Rattle.shared_flow.specs.declared.round.Round.TheVariants as round
 use Rattle.shared_flow.specs.Names.{SharedSeen}
 use Rattle.shared_flow.specs.Reach.{Reach}
-use Rattle.shared_flow.specs.Rounds.{Does, WasAdmitted}
+use Rattle.shared_flow.specs.Rounds.{Does, WasAdmitted, IsAtLimit}
 use Rattle.shared_flow.specs.Parties.{Subscribed}
 use Rattle.shared_flow.specs.Owners.{Owning}
 use Rattle.shared_flow.specs.Looks.{WasLetInto}
@@ -17,3 +17,20 @@ returns-in-Ok-clause-begins g c =
     let let_in = subst (λ r. IfOk r (λ reader. Does found (round.Subscribe (Ok number)) after × WasAdmitted found reader after)) c.in-Ok.is did in
     let known = sym (ap (λ (o : Owning). o.party.flow) c.self.view_is) ∙ ap (λ (r : Reach). r.flow) (sym c.in_ok-access.ensures.same) ∙ c.take-guarded.ensures.named in
     subst (λ (s : Subscribed _). WasLetInto c.args.self.now.party.flow s.number s.reader) (sym c.new.ensures) (found, after, known, let_in.0, let_in.1)
+
+pub put-requires : goal.put-requires
+put-requires g c =
+    let found : SharedSeen = c.take-guarded.result.state.value in
+    let after : SharedSeen = c.subscribe-number.new.self in
+    let number = c.subscribe-number.result.number in
+    let did = subst (λ (s : SharedSeen). IfOk c.subscribe-number.result.reader (λ reader. Does s (round.Subscribe (Ok number)) after × WasAdmitted s reader after)) c.deref_mut.ensures.value c.subscribe-number.ensures.ok in
+    let let_in = subst (λ r. IfOk r (λ reader. Does found (round.Subscribe (Ok number)) after × WasAdmitted found reader after)) c.in-Ok.is did in
+    record { round = (found, ap (λ (r : Reach). r.held) c.take-guarded.ensures.taken, let_in.0) }
+
+pub put-requires-in-Err : goal.put-requires-in-Err
+put-requires-in-Err g c =
+    let found : SharedSeen = c.take-guarded.result.state.value in
+    let after : SharedSeen = c.subscribe-number.new.self in
+    let did = subst (λ (s : SharedSeen). IfErr c.subscribe-number.result.reader (λ refusal. Does s (round.Subscribe (Err refusal)) after × IsAtLimit refusal)) c.deref_mut.ensures.value c.subscribe-number.ensures.err in
+    let left_out = subst (λ r. IfErr r (λ refusal. Does found (round.Subscribe (Err refusal)) after × IsAtLimit refusal)) c.in-Err.is did in
+    record { round = (found, ap (λ (r : Reach). r.held) c.take-guarded.ensures.taken, left_out.0) }

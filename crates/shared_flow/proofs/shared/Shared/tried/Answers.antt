@@ -1,10 +1,35 @@
-use Rattle.std.proofs.Common.{rules, ◌∙◌, sym, subst}
-use Rattle.shared_lane.specs.Sequencers.{TriedOn}
-use Rattle.shared_flow.proofs.Receipts.{is_accepted}
+use Rattle.std.proofs.Common.{◌∙◌, ◌≤◌, sym, subst}
+use Rattle.shared_lane.specs.Sequencers.{AcceptedOn, AfterScan, TriedOn, next}
+use Rattle.shared_flow.specs.Names.{FlowName, SharedSeen}
+use Rattle.shared_flow.specs.Rounds.{entry, IsReceiptFor}
+use Rattle.shared_flow.proofs.Receipts.{is_later}
 use Rattle.shared_flow.proofs.shared.Shared.tried.Goals as goal
 
-pub receipt-receipt-requires : goal.receipt-receipt-requires
-receipt-receipt-requires c =
-    let after = c.in_ok-number.ensures.tried in
-    let done = subst (λ y. TriedOn after.0 (c.args.emission.emitter, c.args.emission.word) y c.try_emit.new.self) c.in-Accepted.is after.5.1 in
-    (search rules, is_accepted after.0 c.try_emit.new.self (c.args.emission.emitter, c.args.emission.word) c.in-Accepted.number (c.in_ok-number.ensures.same.1.1 ∙ sym after.2.1) done)
+pub receipt_for-requires : goal.receipt_for-requires
+receipt_for-requires c =
+    let after = subst (λ y. AfterScan c.args.self.now.sequencer (λ m. TriedOn m (entry c.args.emission) y c.tried_number.new.self.sequencer)) c.in-Accepted.is c.in_ok-number.ensures.made in
+    (after.0, c.in_ok-number.ensures.same.1.1 ∙ sym after.2.1, after.5)
+
+pub returns-in-Accepted-clause-made : goal.returns-in-Accepted-clause-made
+returns-in-Accepted-clause-made c =
+    let q = c.args.self.now.sequencer in
+    let e = entry c.args.emission in
+    let after = subst (λ y. AfterScan q (λ m. TriedOn m e y c.tried_number.new.self.sequencer)) c.in-Accepted.is c.in_ok-number.ensures.made in
+    let numbered = subst (λ n. AfterScan q (λ m. AcceptedOn m e n c.tried_number.new.self.sequencer)) (sym c.receipt_for.ensures.number) after in
+    subst (λ (s : SharedSeen). AfterScan q (λ m. AcceptedOn m e c.receipt_for.result.number s.sequencer)) (sym c.receipt_for.ensures.same) numbered
+
+pub returns-in-Accepted-clause-receipt : goal.returns-in-Accepted-clause-receipt
+returns-in-Accepted-clause-receipt c = subst (λ (name : FlowName). IsReceiptFor name.lane c.args.emission c.receipt_for.result) c.in_ok-number.ensures.same.0 c.receipt_for.ensures.receipt
+
+pub returns-in-Accepted-clause-later : goal.returns-in-Accepted-clause-later
+returns-in-Accepted-clause-later c =
+    let q = c.args.self.now.sequencer in
+    let e = entry c.args.emission in
+    let after = subst (λ y. AfterScan q (λ m. TriedOn m e y c.tried_number.new.self.sequencer)) c.in-Accepted.is c.in_ok-number.ensures.made in
+    subst (λ n. next q ≤ n) (sym c.receipt_for.ensures.number) (is_later q c.tried_number.new.self.sequencer e c.in-Accepted.number after)
+
+pub returns-in-Dropped-clause-made : goal.returns-in-Dropped-clause-made
+returns-in-Dropped-clause-made c = subst (λ y. AfterScan c.args.self.now.sequencer (λ m. TriedOn m (entry c.args.emission) y c.tried_number.new.self.sequencer)) c.in-Dropped.is c.in_ok-number.ensures.made
+
+pub returns-in-Full-clause-made : goal.returns-in-Full-clause-made
+returns-in-Full-clause-made c = subst (λ y. AfterScan c.args.self.now.sequencer (λ m. TriedOn m (entry c.args.emission) y c.tried_number.new.self.sequencer)) c.in-Full.is c.in_ok-number.ensures.made

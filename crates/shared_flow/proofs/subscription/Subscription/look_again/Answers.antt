@@ -5,6 +5,28 @@ use Rattle.shared_flow.specs.Reach.{Reach}
 use Rattle.shared_flow.specs.Rounds.{Does}
 use Rattle.shared_flow.proofs.subscription.Subscription.look_again.Goals as goal
 
+pub put-requires : goal.put-requires
+put-requires g c =
+    let found : SharedSeen = c.take-guarded.result.state.value in
+    record {
+      round = (
+        found,
+        ap (λ (r : Reach). r.held) c.take-guarded.ensures.taken,
+        subst (λ (s : SharedSeen). Does s round.Next c.look.new.self) c.deref_mut.ensures.value c.look.ensures.does,
+      );
+    }
+
+pub put-requires-in-Overtaken : goal.put-requires-in-Overtaken
+put-requires-in-Overtaken g c =
+    let found : SharedSeen = c.take-guarded.result.state.value in
+    record {
+      round = (
+        found,
+        ap (λ (r : Reach). r.held) c.take-guarded.ensures.taken,
+        subst (λ (s : SharedSeen). Does s round.Next c.look.new.self) c.deref_mut.ensures.value c.look.ensures.does,
+      );
+    }
+
 pub put-requires-in-Nothing : goal.put-requires-in-Nothing
 put-requires-in-Nothing g c =
     let found : SharedSeen = c.take-guarded.result.state.value in
