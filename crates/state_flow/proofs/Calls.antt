@@ -6,10 +6,12 @@ use mathlib.Core.Logic.{dite}
 use mathlib.Core.Option.{none}
 use native.Mathlib.Decide.{ℕ_discrete}
 use Rattle.atomic_table.specs.Table.{Me, step}
+use Rattle.atomic_table.specs.Seated.{TableId}
+use Rattle.atomic_table.specs.declared.shared.Seat.{Seat}
 use Rattle.state_flow.specs.declared.view.View.{View}
 use Rattle.state_flow.specs.History.{last_of, Writes, IsHistory, Picks}
 use Rattle.state_flow.proofs.Lists.{last_snoc}
-use Rattle.state_flow.specs.Views.{stepped_to}
+use Rattle.state_flow.specs.Views.{stepped_to, IsSeated}
 use Rattle.state_flow.specs.Calls.{Extends, StepsOnce, Compares, Collects}
 use Rattle.state_flow.specs.Steps.{Moment, gathered, compared}
 
@@ -113,8 +115,23 @@ module _ {T : Type 0} (word : T → ℕ) (fits : T → Type 0) (apart : (x y : T
     pub value_is : (read_as : ℕ → T) → ((x : T) → fits x → read_as (word x) ≡ x) → (x : T) → x ≡ read_as found → x ≡ now.value
     value_is read_as undoes x is = is ∙ (ap read_as now.found_is ∙ undoes now.value now.proper)
 
-    pub gathered_rest : (m'.0.share ≡ m.0.share) × (m'.0.collects ≡ m.0.collects) × (m'.0.told ≡ []) × (m'.0.told_turn ≡ 0) × (m'.1 ≡ m.1)
-    gathered_rest = (ap (λ (z : M). z.0.share) is_after, ap (λ (z : M). z.0.collects) is_after, ap (λ (z : M). z.0.told) is_after, ap (λ (z : M). z.0.told_turn) is_after, ap (λ (z : M). z.1) is_after)
+  -- the seat is still at its flow, with its share, and there is nothing left to be told
+  pub seated_after : (was is : Seat (Unit {0}) V) (flow : TableId) (share found : ℕ) → gathered word fits (step 0 0 0 0 none) was.me found is.me → is.table_id ≡ was.table_id
+      → IsSeated was flow share true → IsSeated is flow share true
+  seated_after was is flow share found told same seated =
+      let after : is.me ≡ (record (stepped_to told.0 told.1.0 was.me.0) { collected = is.me.0.collected }, was.me.1) = told.1.1.1.3 in record {
+        same_flow = same ∙ seated.same_flow;
+        share_is = ap (λ (z : M). z.0.share) after ∙ seated.share_is;
+        some_share = seated.some_share;
+        few = seated.few;
+        collects_is = ap (λ (z : M). z.0.collects) after ∙ seated.collects_is;
+        untold = ap (λ (z : M). z.0.told) after;
+        untold_turn = ap (λ (z : M). z.0.told_turn) after;
+        holds_no_slot = ap (λ (z : M). z.1) after ∙ seated.holds_no_slot;
+      }
+
+  pub last_same : (v w : V) (o : Option T) → Collects v None w → last_of v.collected ≡ o → last_of w.collected ≡ o
+  last_same v w o t is = ap last_of t.received ∙ is
 
   pub last_new : (v w : V) (x : T) → Collects v (Some x) w → last_of w.collected ≡ Some x
   last_new v w x t = ap last_of t.received ∙ last_snoc v.collected x

@@ -8,7 +8,7 @@ use crate::seat::StateSeat;
 use crate::view::View;
 use atomic_table::Table;
 use flow_terms::{Refusal, Word};
-use std::alloc::{Allocator, Global};
+use std::alloc::{AllocError, Allocator, Global};
 use std::sync::Arc;
 
 mod steps;
@@ -38,6 +38,16 @@ impl<T: Word, A: Allocator + Clone> StateFlow<T, A> {
         if seats == 0 || seats > MOST_SEATS {
             return Err(Refusal::BadLimit);
         }
+        let seat = StateFlow::made(alloc, value, seats)?;
+        Ok(seat)
+    }
+
+    // Makes it, and gives the first of so many seats.
+    fn made(alloc: A, value: T, seats: u32) -> Result<StateSeat<T, A>, AllocError>
+        requires some { 0 < seats }
+        requires few { seats ≤ 1024 }
+        ensures { IfOk result (λ seat. seat.view ≡ opening value seats) }
+    {
         let words = [value.to_word(), 0];
         let (table, seat) = Table::of_words(alloc.clone()?, &words, &(value, seats))?;
         let flow = Arc::new(alloc, StateFlow { table })?;

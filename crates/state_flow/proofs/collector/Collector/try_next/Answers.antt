@@ -1,22 +1,38 @@
 use Rattle.std.proofs.Common.{sym, ◌∙◌}
-use Rattle.state_flow.proofs.Calls.{gathered_some, gathered_rest, value_is, last_new}
+use Rattle.state_flow.proofs.Calls.{gathered_none, gathered_some, seated_after, value_is, last_same, last_new}
 use Rattle.state_flow.proofs.ValueSteps.{apart_by}
 use Rattle.state_flow.proofs.collector.Collector.try_next.Goals as goal
+
+pub invariant_of-self : goal.invariant_of-self
+invariant_of-self g c =
+    let was = c.self.invariant in
+    let apart = apart_by g.T.Word.word g.T.Word.read_as g.T.Word.fits g.met.T.Word.undoes in
+    let told = c.gather.ensures.value in
+    let x = value_is g.T.Word.word g.T.Word.fits apart g.T.PartialEq.eq g.met.T.Word.tells_apart _ _ _ told g.T.Word.read_as g.met.T.Word.undoes _ c.from_word-value.ensures in
+    let none = gathered_none g.T.Word.word g.T.Word.fits apart g.T.PartialEq.eq g.met.T.Word.tells_apart _ _ _ told _ _ x was.1 (sym c.eq.ensures ∙ c.if-eq.true) in
+    (seated_after g.T.Word.word g.T.Word.fits apart _ _ _ _ _ told c.gather.ensures.same_flow was.0, last_same g.T.Word.word g.T.Word.fits apart _ _ _ none was.1)
+
+pub returns-then-eq-clause-received : goal.returns-then-eq-clause-received
+returns-then-eq-clause-received g c =
+    let was = c.self.invariant in
+    let apart = apart_by g.T.Word.word g.T.Word.read_as g.T.Word.fits g.met.T.Word.undoes in
+    let told = c.gather.ensures.value in
+    let x = value_is g.T.Word.word g.T.Word.fits apart g.T.PartialEq.eq g.met.T.Word.tells_apart _ _ _ told g.T.Word.read_as g.met.T.Word.undoes _ c.from_word-value.ensures in
+    rw (← c.self.view_is) (gathered_none g.T.Word.word g.T.Word.fits apart g.T.PartialEq.eq g.met.T.Word.tells_apart _ _ _ told _ _ x was.1 (sym c.eq.ensures ∙ c.if-eq.true))
 
 pub invariant_of-self-2 : goal.invariant_of-self-2
 invariant_of-self-2 g c =
     let was = c.self.invariant in
-    let x = value_is g.T.Word.word g.T.Word.fits (apart_by g.T.Word.word g.T.Word.read_as g.T.Word.fits g.met.T.Word.undoes) g.T.PartialEq.eq g.met.T.Word.tells_apart _ _ _ c.gather.ensures.value g.T.Word.read_as g.met.T.Word.undoes _ c.from_word-value.ensures in
-    let rest = gathered_rest g.T.Word.word g.T.Word.fits (apart_by g.T.Word.word g.T.Word.read_as g.T.Word.fits g.met.T.Word.undoes) g.T.PartialEq.eq g.met.T.Word.tells_apart _ _ _ c.gather.ensures.value in (
-      record {
-        same_flow = c.gather.ensures.same_flow ∙ was.0.same_flow;
-        share_is = rest.0 ∙ was.0.share_is;
-        some_share = was.0.some_share;
-        few = was.0.few;
-        collects_is = rest.1 ∙ was.0.collects_is;
-        untold = rest.2;
-        untold_turn = rest.3;
-        holds_no_slot = rest.4 ∙ was.0.holds_no_slot;
-      },
-      last_new g.T.Word.word g.T.Word.fits (apart_by g.T.Word.word g.T.Word.read_as g.T.Word.fits g.met.T.Word.undoes) _ _ _ (gathered_some g.T.Word.word g.T.Word.fits (apart_by g.T.Word.word g.T.Word.read_as g.T.Word.fits g.met.T.Word.undoes) g.T.PartialEq.eq g.met.T.Word.tells_apart _ _ _ c.gather.ensures.value _ _ x was.1 (sym c.eq.ensures ∙ c.if-eq.false)),
-    )
+    let apart = apart_by g.T.Word.word g.T.Word.read_as g.T.Word.fits g.met.T.Word.undoes in
+    let told = c.gather.ensures.value in
+    let x = value_is g.T.Word.word g.T.Word.fits apart g.T.PartialEq.eq g.met.T.Word.tells_apart _ _ _ told g.T.Word.read_as g.met.T.Word.undoes _ c.from_word-value.ensures in
+    let some = gathered_some g.T.Word.word g.T.Word.fits apart g.T.PartialEq.eq g.met.T.Word.tells_apart _ _ _ told _ _ x was.1 (sym c.eq.ensures ∙ c.if-eq.false) in
+    (seated_after g.T.Word.word g.T.Word.fits apart _ _ _ _ _ told c.gather.ensures.same_flow was.0, last_new g.T.Word.word g.T.Word.fits apart _ _ _ some)
+
+pub returns-clause-received : goal.returns-clause-received
+returns-clause-received g c =
+    let was = c.self.invariant in
+    let apart = apart_by g.T.Word.word g.T.Word.read_as g.T.Word.fits g.met.T.Word.undoes in
+    let told = c.gather.ensures.value in
+    let x = value_is g.T.Word.word g.T.Word.fits apart g.T.PartialEq.eq g.met.T.Word.tells_apart _ _ _ told g.T.Word.read_as g.met.T.Word.undoes _ c.from_word-value.ensures in
+    rw (← c.self.view_is) (gathered_some g.T.Word.word g.T.Word.fits apart g.T.PartialEq.eq g.met.T.Word.tells_apart _ _ _ told _ _ x was.1 (sym c.eq.ensures ∙ c.if-eq.false))
