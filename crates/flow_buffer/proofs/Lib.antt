@@ -7,4 +7,9 @@ pub mod Narrowing
 pub mod Deliveries
 pub mod ChannelSteps
 pub mod Counts
+pub mod Feeds
+pub mod Fills
+pub mod Pumps
+pub mod Starts
+pub mod Drains
 pub mod Totals

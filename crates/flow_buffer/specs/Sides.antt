@@ -96,6 +96,15 @@ module _ {T E : Type 0} where
   IsEndKnown None lossy taken history = Unit {0}
   IsEndKnown (Some cause) lossy taken history = IsDecided lossy taken history
 
+  -- how many were taken once this message came, and the end, if it is that
+  abbrev pub taken_after : ℕ → Event T E → ℕ
+  taken_after taken (Value x) = min (taken + 1) (2 ^ 64 - 1)
+  taken_after taken (End cause) = taken
+
+  abbrev pub end_by : Event T E → Option (Cause E)
+  end_by (Value x) = None
+  end_by (End cause) = Some cause
+
   -- what a drain gave: a value at a later index, or the end, once all that was produced was taken or dropped
   abbrev pub Gave : Draining T E → Event T E → Draining T E → Type 0
   Gave old (Value x) new = (old.end ≡ None) × ((i : ℕ) × (new ≡ record old { taken = old.taken ++ (i, x) ∷ [] })) × Rises 0 new.taken

@@ -3,7 +3,7 @@
 ghost use Rattle.std.specs.Prelude.{◌≡◌, length, Option};
 ghost use Rattle.crossbeam_channel.specs.Ends.{receives_on};
 ghost use Rattle.flow_buffer.specs.Fitting.{drain_view, IsDrain};
-ghost use Rattle.flow_buffer.specs.Sides.{Draining, saturated, Gave, MayGive};
+ghost use Rattle.flow_buffer.specs.Sides.{Draining, saturated, taken_after, end_by, Gave, MayGive};
 
 use crate::steps::{Knowledge, Receiver, receive, try_receive};
 use cold_flow::{Cause, Event};
@@ -31,6 +31,26 @@ impl<T: Copy, E: Copy> Model for Drain<T, E> {
     ghost invariant = { λ d. IsDrain (receives_on d.receiver) d.pass d.taken d.end };
 }
 
+// How many values were taken once this message came.
+fn taken_after<T: Copy, E: Copy>(taken: u64, event: Event<T, E>) -> u64
+    ensures { result ≡ taken_after taken event }
+{
+    match event {
+        Event::Value(_) => taken.saturating_add(1),
+        Event::End(_) => taken,
+    }
+}
+
+// The end, if that is what came.
+fn end_by<T: Copy, E: Copy>(event: Event<T, E>) -> Option<Cause<E>>
+    ensures { result ≡ end_by event }
+{
+    match event {
+        Event::Value(_) => None,
+        Event::End(cause) => Some(cause),
+    }
+}
+
 impl<T: Copy, E: Copy> Drain<T, E> {
     /// The oldest value that was put in and neither taken nor dropped, or the end, which every later call gives again.
     ///
@@ -42,16 +62,10 @@ impl<T: Copy, E: Copy> Drain<T, E> {
         if let Some(cause) = self.end {
             return Event::End(cause);
         }
-        match receive(rt, &self.receiver, &mut self.pass) {
-            Event::Value(value) => {
-                self.taken = self.taken.saturating_add(1);
-                Event::Value(value)
-            }
-            Event::End(cause) => {
-                self.end = Some(cause);
-                Event::End(cause)
-            }
-        }
+        let event = receive(rt, &self.receiver, &mut self.pass);
+        self.taken = taken_after(self.taken, event);
+        self.end = end_by(event);
+        event
     }
 
     /// What [`Drain::next`] gives, without waiting for it: `None` where the buffer was empty and no end was received, and then
@@ -63,13 +77,10 @@ impl<T: Copy, E: Copy> Drain<T, E> {
             return Some(Event::End(cause));
         }
         match try_receive(rt, &self.receiver, &mut self.pass) {
-            Some(Event::Value(value)) => {
-                self.taken = self.taken.saturating_add(1);
-                Some(Event::Value(value))
-            }
-            Some(Event::End(cause)) => {
-                self.end = Some(cause);
-                Some(Event::End(cause))
+            Some(event) => {
+                self.taken = taken_after(self.taken, event);
+                self.end = end_by(event);
+                Some(event)
             }
             None => None,
         }

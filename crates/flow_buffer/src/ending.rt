@@ -1,12 +1,13 @@
 //! How far a buffer in one task is from its end.
 
-ghost use Rattle.std.specs.Prelude.{◌≡◌};
+ghost use Rattle.std.specs.Prelude.{◌≡◌, ⊤};
 ghost use Rattle.flow_buffer.specs.Endings.{is_going, seen, given_now};
 
 use cold_flow::Cause;
+use std::alloc::AllocError;
 
 /// How far a buffer is from its end.
-#[derive(Clone, Copy)]
+#[derive(Copy)]
 pub enum Ending<E> {
     /// Its source may give more.
     Going,
@@ -14,6 +15,16 @@ pub enum Ending<E> {
     Kept(Cause<E>),
     /// The end was given, or the buffer was cancelled. Every later poll gives it again.
     Given(Cause<E>),
+}
+
+impl<E: Copy> Clone for Ending<E> {
+    ghost is_clone = { λ ending copy. copy ≡ ending };
+
+    ghost is_infallible = { λ _. ⊤ };
+
+    fn clone(&self) -> Result<Self, AllocError> {
+        Ok(*self)
+    }
 }
 
 impl<E: Copy> Ending<E> {

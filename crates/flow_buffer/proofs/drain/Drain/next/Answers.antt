@@ -1,16 +1,18 @@
-use Rattle.std.proofs.Common.{arith, rules}
-use Rattle.std.proofs.lemmas.Grind.{common_steps}
+use Rattle.std.proofs.Common.{◌≡◌, None, rules}
+use Rattle.crossbeam_channel.specs.Ends.{receives_on}
+use Rattle.flow_buffer.proofs.Drains.{received, has_given}
 use Rattle.flow_buffer.proofs.drain.Drain.next.Goals as goal
 
--- A wrong body makes these false: so answered, it is refused at once.
 pub invariant_of-self : goal.invariant_of-self
-invariant_of-self g c = grind (arith, common_steps)
+invariant_of-self g c =
+    let none : c.self.inside.end ≡ None = search rules in
+    received (receives_on c.self.inside.receiver) c.self.inside.pass c.receive-event.new.pass _ _ _ _ (rw none at c.self.invariant) c.receive-event.ensures.channel c.receive-event.ensures.taken c.taken_after-self-inside.ensures c.end_by-self-inside.ensures
 
-pub invariant_of-self-in-End : goal.invariant_of-self-in-End
-invariant_of-self-in-End g c = search rules
+pub returns : goal.returns
+returns g c =
+    let none : c.self.inside.end ≡ None = search rules in
+    record { gave = rw (← c.self.view_is, none) (has_given (receives_on c.self.inside.receiver) c.self.inside.pass c.receive-event.new.pass _ _ c.receive-event.ensures.taken c.end_by-self-inside.ensures) }
 
-pub returns-in-End : goal.returns-in-End
-returns-in-End g c = search rules
-
+-- A wrong body makes this false: so answered, it is refused at once.
 pub returns-in-Some : goal.returns-in-Some
 returns-in-Some g c = search rules
