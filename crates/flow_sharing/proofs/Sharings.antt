@@ -21,6 +21,10 @@ ended_is_off U (Failed fault) = refl
 ended_is_off U Cancelled = refl
 ended_is_off U (Refused refusal) = refl
 
+pub not_some : {A : Type 0} (o : Option A) → is_some o ≡ false → o ≡ None
+not_some None off = refl
+not_some (Some x) off = cc
+
 pub one_more : {T : Type 0} (values : List T) (x : T) (n : ℕ) → length values ≤ n → length (values ++ x ∷ []) ≤ n + 1
 one_more values x n h = simp length-append (omega arith)
 

@@ -8,7 +8,7 @@ use crate::progress::Progress;
 use flow_terms::Started;
 
 /// What a strategy keeps of the counts that its polls found.
-#[derive(Clone, Copy, Debug, PartialEq, Eq)]
+#[derive(Clone, Copy, PartialEq, Eq)]
 pub(crate) enum Audience {
     // No poll has found a subscription yet.
     Awaited,

@@ -4,7 +4,7 @@ use crate::audience::Audience;
 use crate::progress::Progress;
 
 /// What a strategy keeps of its polls.
-#[derive(Clone, Copy, Debug, PartialEq, Eq)]
+#[derive(Clone, Copy)]
 pub(crate) struct Kept {
     // The moment of the latest poll: the greatest one so far.
     pub(crate) latest: u64,

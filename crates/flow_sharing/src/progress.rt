@@ -7,7 +7,7 @@ use crate::command::resets;
 use flow_terms::{Command, Entry, Started};
 
 /// How far a plan is done.
-#[derive(Clone, Copy, Debug, PartialEq, Eq)]
+#[derive(Clone, Copy)]
 pub(crate) struct Progress {
     // How many of its entries were taken.
     pub(crate) taken: usize,

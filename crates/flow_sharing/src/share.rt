@@ -5,10 +5,7 @@ ghost use Rattle.shared_flow.specs.Parties.{named};
 ghost use Rattle.flow_sharing.specs.declared.course.Course.TheVariants.{Idle};
 ghost use Rattle.flow_sharing.specs.Shown.{Shows};
 
-use crate::outlet::Outlet;
-use crate::sharing::Sharing;
-use crate::strategy::Strategy;
-use crate::upstream::Upstream;
+use crate::sharing::{Sharing, leave};
 use cold_flow::{Flow, Refusal, Word};
 use flow_terms::Started;
 use shared_flow::SharedFlow;
@@ -32,11 +29,12 @@ pub fn share_in<T: Word, F: Flow<Item = T>>(
     ensures same { flow.new ≡ flow.old }
 {
     let mut owner = flow.dup(rt)?;
-    let emitter = owner.emitter(rt, 0)?;
-    Ok(Sharing {
-        flow: owner,
-        outlet: Outlet::new(emitter),
-        upstream: Upstream::new(upstream),
-        strategy: Strategy::new(started),
-    })
+    let emitter = match owner.emitter(rt, 0) {
+        Ok(emitter) => emitter,
+        Err(refusal) => {
+            leave(owner);
+            return Err(refusal);
+        }
+    };
+    Ok(Sharing::over(owner, emitter, upstream, started))
 }

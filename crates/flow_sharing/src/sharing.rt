@@ -1,11 +1,13 @@
 //! A cold flow that is shared, poll by poll.
 
-ghost use Rattle.std.specs.Prelude.{◌≡◌, None, IsTrue, IfOk, IfErr, OnErr};
+ghost use Rattle.std.specs.Prelude.{◌≡◌, [], None, IsTrue, IfOk, IfErr, OnErr};
 ghost use Rattle.futures.specs.Task.{IsArmed, Keeps};
 ghost use Rattle.flow_terms.specs.declared.refusal.Refusal.TheVariants.{NoMemory};
 ghost use Rattle.flow_terms.specs.declared.answers.Withdrawn.TheVariants as withdrawn;
 ghost use Rattle.shared_flow.specs.Parties.{IfLeft, named};
+ghost use Rattle.flow_sharing.specs.declared.course.Course.TheVariants.{Idle};
 ghost use Rattle.flow_sharing.specs.Courses.{kept_cause, is_running};
+ghost use Rattle.flow_sharing.specs.Shown.{Shows};
 ghost use Rattle.flow_sharing.specs.Polls.{ShowsMore, Answers};
 ghost use Rattle.flow_sharing.specs.FlowDestinations.{emitting};
 ghost use Rattle.flow_sharing.specs.Sharings.{ActsAt, IsRefusedAt};
@@ -17,9 +19,10 @@ use crate::polling::poll_sharing;
 use crate::strategy::Strategy;
 use crate::upstream::Upstream;
 use cold_flow::{Cause, Flow, Refusal, Word};
+use flow_terms::Started;
 use futures::task::Context;
 use shared_core::Withdrawn;
-use shared_flow::{Receipt, SharedFlow};
+use shared_flow::{Emitter, Receipt, SharedFlow};
 use std::sync::Wait;
 
 /// A cold flow that is being shared. It must be spent, by [`Sharing::close`].
@@ -35,7 +38,34 @@ pub struct Sharing<T: Word, F: Flow<Item = T>> {
     ghost id: { outlet.emitter.id ≡ 0 },
 }
 
+// Lets an owner of the flow go. In one place, since the proof of all that goes with it is long.
+pub(crate) fn leave<T: Word>(_flow: SharedFlow<T>) {}
+
 impl<T: Word, F: Flow<Item = T>> Sharing<T, F> {
+    // The sharing of an upstream that wasn't started, into the flow of an owner and of an emitter without an emission in flight.
+    pub(crate) fn over(
+        flow: SharedFlow<T>,
+        emitter: Emitter<T>,
+        upstream: F,
+        started: Started,
+    ) -> Sharing<T, F>
+        requires one_flow { named emitter.party ≡ named flow.party }
+        requires id { emitter.id ≡ 0 }
+        requires idle { emitter.ticket ≡ None }
+        ensures flow { result.flow ≡ flow }
+        ensures upstream { result.upstream ≡ record { flow = upstream; course = Idle } }
+        ensures idle { result.outlet.waiting ≡ None }
+        ensures started { result.strategy.started ≡ started }
+        ensures shows { Shows result.strategy [] }
+    {
+        Sharing {
+            flow,
+            outlet: Outlet::new(emitter),
+            upstream: Upstream::new(upstream),
+            strategy: Strategy::new(started),
+        }
+    }
+
     /// One poll, at the moment `now`: counts the subscriptions, starts or stops the upstream as the strategy commands, and while
     /// sharing is on, emits what the upstream gives.
     ///
@@ -99,12 +129,14 @@ impl<T: Word, F: Flow<Item = T>> Sharing<T, F> {
         ensures receipt { IfLeft result (λ receipt. receipt.emitter ≡ 0) }
     {
         let Sharing {
-            flow: _,
+            flow,
             outlet,
             upstream,
             strategy: _,
         } = self;
         upstream.close();
-        outlet.close(rt)
+        let withdrawn = outlet.close(rt);
+        leave(flow);
+        withdrawn
     }
 }

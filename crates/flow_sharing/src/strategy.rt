@@ -11,7 +11,7 @@ use crate::progress::Progress;
 use flow_terms::{Command, Started};
 
 /// Says at each poll of a sharing what is to be done: Kotlin's flow of commands, `SharingStarted.command`.
-#[derive(Clone, Copy, Debug, PartialEq, Eq)]
+#[derive(Clone, Copy)]
 pub struct Strategy {
     // Stays as it was handed in. A plan is large, so no poll copies it.
     started: Started,

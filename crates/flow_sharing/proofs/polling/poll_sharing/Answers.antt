@@ -1,6 +1,6 @@
 use Rattle.std.proofs.Common.{rules, refl, sym, ap, ◌∙◌, ◌≡◌, is_some}
 use Rattle.flow_sharing.specs.Polls.{Commands}
-use Rattle.flow_sharing.proofs.Sharings.{acts_not, acts_so, shares_on, shares_off}
+use Rattle.flow_sharing.proofs.Sharings.{acts_not, acts_so, not_some, shares_on, shares_off}
 use Rattle.flow_sharing.proofs.polling.poll_sharing.Goals as goal
 use Rattle.flow_sharing.proofs.polling.poll_sharing.Goals.{then-turn, else-turn}
 
@@ -30,6 +30,14 @@ returns-clause-acts g c =
             | else-turn w ↦ rw (w.upstream-is, w.destination-is) (shares_off steps _ _ _ _ _ _ _ w.if-turn.false refl refl)
           ]),
     )
+
+pub returns-clause-shows : goal.returns-clause-shows
+returns-clause-shows g c history shows = rw c.of-turn.ensures.count (c.of-turn.ensures.shows history shows)
+
+pub returns-clause-answers : goal.returns-clause-answers
+returns-clause-answers g c history shows =
+    let none = not_some _ (ap is_some (sym c.fault.ensures) ∙ sym c.is_some.ensures ∙ c.if-is_some.false) in
+    rw none (rw (← c.of-turn.ensures.count) at (c.of-turn.ensures.polled history shows))
 
 -- A wrong body makes these false: so answered, it is refused at once.
 pub returns-then-is_some-clause-answers : goal.returns-then-is_some-clause-answers
