@@ -1,7 +1,7 @@
 //! What a picture of a script is made of.
 
 /// What a row of a picture is for.
-#[derive(Clone, Copy, Debug, PartialEq, Eq)]
+#[derive(Clone, Copy)]
 pub enum Row {
     /// A shared flow.
     Flow,
@@ -18,7 +18,7 @@ pub enum Row {
 }
 
 /// What a mark shows.
-#[derive(Clone, Copy, Debug, PartialEq, Eq)]
+#[derive(Clone, Copy)]
 pub enum Kind {
     /// The line with this number, at the head of its column.
     Line(u64),
@@ -63,7 +63,7 @@ pub enum Kind {
 }
 
 /// A mark in a picture: where it stands, what it shows, and a text to it.
-#[derive(Clone, Copy, Debug, PartialEq, Eq)]
+#[derive(Clone, Copy)]
 pub struct Mark<'a> {
     /// 0 for names, then one column for each line that has an answer.
     pub column: usize,

@@ -7,7 +7,7 @@ ghost use Rattle.marble_marks.specs.Replies.{reply_of, emission_word, plain_word
 use script_words::Words;
 
 /// What an answer says, as far as a picture shows it.
-#[derive(Clone, Copy, Debug, PartialEq, Eq)]
+#[derive(Clone, Copy)]
 pub(crate) enum Reply {
     /// `ok`.
     Ok,

@@ -11,7 +11,7 @@ use std::fmt::Write;
 const MOST_ANSWER_BYTES: usize = 14;
 
 /// What a mark's words are for.
-#[derive(Clone, Copy, Debug, PartialEq, Eq)]
+#[derive(Clone, Copy)]
 pub(crate) enum Part {
     /// The name of a row.
     Name,

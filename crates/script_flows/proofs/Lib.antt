@@ -5,3 +5,4 @@ pub mod InFlight
 pub mod Laning
 pub mod Buffering
 pub mod Caching
+pub mod Refusals

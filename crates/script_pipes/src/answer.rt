@@ -10,7 +10,7 @@ use cold_flow::Refusal;
 use std::fmt;
 
 /// What a command answers, and what a bad line is answered with.
-#[derive(Debug, Drop)]
+#[derive(Drop)]
 pub enum Answer {
     /// The call was made.
     Done,

@@ -16,7 +16,7 @@ use std::alloc::{AllocError, Global};
 const MOST_VALUES: u32 = 10_000;
 
 /// The values that a stage gave, and how they end.
-#[derive(Debug, Drop)]
+#[derive(Drop)]
 pub struct Gathered {
     pub values: Vec<u64>,
     /// The fault by which it failed, or nothing where it finished.
@@ -24,7 +24,7 @@ pub struct Gathered {
 }
 
 /// Why a pipe stops at a stage.
-#[derive(Clone, Copy, Debug, PartialEq, Eq)]
+#[derive(Clone, Copy)]
 pub enum Stop {
     /// The stage was refused.
     Refused(Refusal),

@@ -9,7 +9,7 @@ use script_words::number_of;
 use std::alloc::{AllocError, Global};
 
 /// An item of a list.
-#[derive(Clone, Copy, Debug, PartialEq, Eq)]
+#[derive(Clone, Copy)]
 pub enum Item {
     /// A value.
     Number(u64),

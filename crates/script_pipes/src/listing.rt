@@ -7,7 +7,7 @@ use std::fmt;
 use std::marker::Model;
 
 /// Shows values as a list, with commas between. Contracts see the values.
-#[derive(Debug, Drop)]
+#[derive(Drop)]
 pub struct Listing {
     values: Vec<u64>,
 }

@@ -3,7 +3,7 @@
 use script_words::Numbers;
 
 /// What a command asks of what a name stands for.
-#[derive(Clone, Copy, Debug, PartialEq, Eq)]
+#[derive(Clone, Copy)]
 pub enum Request {
     /// The next value: `next`.
     Next,
