@@ -66,17 +66,30 @@ where
     R: Clock + Print + AllocGlobal + RandomSource,
 {
     let elements = size.of(ELEMENTS);
-    let numbers = range::<u64>(0, elements);
+    report(rt, chain(rt, elements)?, size)?;
+    report(rt, pairs(rt, elements)?, size)
+}
+
+/// The sum of a range's numbers, each one more, that are even.
+fn chain<R>(rt: &R, elements: u64) -> Result<Figure, Fault>
+where
+    R: Clock + AllocGlobal + RandomSource,
+{
+    let flow = filter(map(range::<u64>(0, elements), OneMore), IsEven);
+    let figure = folded(rt, "cold-chain", flow, elements)?;
     // The even ones of 1 to `elements`: twice the numbers up to half of them.
-    let even = sum_to(elements / 2).wrapping_mul(2);
-    let chain = filter(map(numbers, OneMore), IsEven);
-    let chained = folded(rt, "cold-chain", chain, elements)?;
-    report(rt, chained.checked(even)?, size)?;
+    Ok(figure.checked(sum_to(elements / 2).wrapping_mul(2))?)
+}
+
+/// The sum of two ranges' pairs.
+fn pairs<R>(rt: &R, elements: u64) -> Result<Figure, Fault>
+where
+    R: Clock + AllocGlobal + RandomSource,
+{
+    let numbers = range::<u64>(0, elements);
+    let figure = folded(rt, "cold-zip", zip(numbers, numbers, Sum), elements)?;
     // Both sides have the numbers from 0 to below `elements`.
-    let pairs = sum_to(elements.saturating_sub(1)).wrapping_mul(2);
-    let zipped = zip(numbers, numbers, Sum);
-    let paired = folded(rt, "cold-zip", zipped, elements)?;
-    report(rt, paired.checked(pairs)?, size)
+    Ok(figure.checked(sum_to(elements.saturating_sub(1)).wrapping_mul(2))?)
 }
 
 /// Starts the flow and adds up all that it gives.

@@ -2,62 +2,20 @@
 
 use crate::elapsed::nanoseconds_since;
 use crate::fault::Fault;
-use crate::report::report;
-use crate::sums::sum_to;
-use bench_figures::{Figure, Part, Size, Unit};
-use cold_flow::Policy;
+use crate::receipts::{Received, SCENARIOS, VALUES, receipts_config, report_receipts};
+use bench_figures::{Part, Size};
 use shared_core::{Config, Next, SharedState, SubId, Tried};
 use std::alloc::{AllocGlobal, Global};
 use std::rt::Clock;
 use std::time::Instant;
 
-/// How many values are emitted.
-const VALUES: u64 = 2_000_000;
-
-/// What the subscriptions took so far.
-#[derive(Clone, Copy)]
-struct Taken {
-    /// The last value.
-    last: u64,
-    /// The sum of all of them, modulo 2^64.
-    total: u64,
-}
-
 /// Makes the measurement with 1, 4 and 8 subscriptions.
 pub(crate) fn measure<R: Clock + Print + AllocGlobal>(rt: &R, size: Size) -> Result<(), Fault> {
-    for (scenario, subscriptions) in [("receipts-n1", 1), ("receipts-n4", 4), ("receipts-n8", 8)] {
-        let figure = receipts(rt, scenario, subscriptions, size.of(VALUES))?;
-        report(rt, figure, size)?;
+    for scenario in SCENARIOS {
+        let taken = measured(rt, receipts_config(scenario.1), size.of(VALUES))?;
+        report_receipts(rt, Part::Core, scenario, size, taken)?;
     }
     Ok(())
-}
-
-/// Measures the receipts of so many values by so many subscriptions. The emissions are in it.
-fn receipts<R: Clock + AllocGlobal>(
-    rt: &R,
-    scenario: &'static str,
-    subscriptions: u32,
-    values: u64,
-) -> Result<Figure, Fault> {
-    let config = Config {
-        replay: 0,
-        extra: 64,
-        policy: Policy::Suspend,
-        subscribers: subscriptions,
-        emits: 1,
-        first: 0,
-    };
-    let (total, nanoseconds) = measured(rt, config, values)?;
-    let figure = Figure {
-        part: Part::Core,
-        scenario,
-        name: "receipt",
-        unit: Unit::Nanoseconds,
-        operations: values.wrapping_mul(u64::from(subscriptions)),
-        nanoseconds,
-        total,
-    };
-    Ok(figure.checked(sum_to(values).wrapping_mul(u64::from(subscriptions)))?)
 }
 
 /// The sum of what the subscriptions of a new flow took, and the nanoseconds of it.
@@ -98,7 +56,7 @@ fn subscribe(alloc: Global, flow: &mut SharedState<u64>, count: u32) -> Result<V
 /// above the last value that was taken.
 #[inline(never)]
 fn emit_and_take(flow: &mut SharedState<u64>, readers: &[SubId], values: u64) -> Option<u64> {
-    let mut taken = Taken { last: 0, total: 0 };
+    let mut taken = Received { last: 0, total: 0 };
     for _ in 0..values {
         match flow.try_emit(0, taken.last.wrapping_add(1)) {
             Ok(Tried::Accepted(_)) => taken = take_all(flow, readers, taken)?,
@@ -109,7 +67,11 @@ fn emit_and_take(flow: &mut SharedState<u64>, readers: &[SubId], values: u64) ->
 }
 
 /// Each subscription takes a value, if there is one for each.
-fn take_all(flow: &mut SharedState<u64>, readers: &[SubId], mut taken: Taken) -> Option<Taken> {
+fn take_all(
+    flow: &mut SharedState<u64>,
+    readers: &[SubId],
+    mut taken: Received,
+) -> Option<Received> {
     for reader in readers {
         match flow.next(*reader) {
             Next::Value(value) => {

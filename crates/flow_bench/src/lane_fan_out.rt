@@ -1,12 +1,11 @@
 //! A lane between threads, where no value is lost: one emits, and one, two or four others take every value.
 
 use crate::elapsed::nanoseconds_since;
+use crate::fan_out::{SCENARIOS, fan_out_config, report_fan_out};
 use crate::fault::Fault;
 use crate::lane_ends::{LaneReader, LaneSequencer, close_all};
 use crate::pause::Pause;
-use crate::report::report;
-use bench_figures::{Figure, Part, Size, Unit};
-use cold_flow::Policy;
+use bench_figures::{Part, Size};
 use shared_core::{Config, Tried};
 use shared_lane::{Lane, Taken};
 use std::alloc::AllocGlobal;
@@ -23,40 +22,15 @@ pub(crate) fn measure<R>(rt: &R, size: Size) -> Result<(), Fault>
 where
     R: Clock + Print + AllocGlobal + Threads + Wait + Sync,
 {
-    for (scenario, readers) in [("fan-out-n1", 1), ("fan-out-n2", 2), ("fan-out-n4", 4)] {
-        let figure = values_to(rt, scenario, readers, size.of(VALUES))?;
-        report(rt, figure, size)?;
+    let values = size.of(VALUES);
+    for scenario in SCENARIOS {
+        let taken = measured(rt, fan_out_config(scenario.1), values)?;
+        report_fan_out(rt, Part::Lane, scenario, size, values, taken)?;
     }
     Ok(())
 }
 
-/// Measures how long so many values take to all readers. The total is the number of those that came in order.
-fn values_to<R>(rt: &R, scenario: &'static str, readers: u32, values: u64) -> Result<Figure, Fault>
-where
-    R: Clock + AllocGlobal + Threads + Wait + Sync,
-{
-    let config = Config {
-        replay: 0,
-        extra: 1024,
-        policy: Policy::Suspend,
-        subscribers: readers,
-        emits: 1,
-        first: 0,
-    };
-    let (total, nanoseconds) = measured(rt, config, values)?;
-    let figure = Figure {
-        part: Part::Lane,
-        scenario,
-        name: "values",
-        unit: Unit::MillionsASecond,
-        operations: values,
-        nanoseconds,
-        total,
-    };
-    Ok(figure.checked(values.wrapping_mul(u64::from(readers)))?)
-}
-
-/// How many values came in order, and the nanoseconds of it.
+/// What the readers of a new lane took, and the nanoseconds of it.
 fn measured<R>(rt: &R, config: Config, values: u64) -> Result<(u64, u64), Fault>
 where
     R: Clock + AllocGlobal + Threads + Wait + Sync,
@@ -64,22 +38,34 @@ where
     let (lane, sequencer) = Lane::new(rt.alloc(), config)?;
     // Not beside the sequencer, which each emission changes.
     let lane = Box::new(rt.alloc(), lane)?;
-    let places = Vec::with_capacity(rt.alloc(), config.subscribers as usize)?;
     let mut sequencer = LaneSequencer::of(&lane, sequencer);
-    let mut readers = sequencer.admit_all(places, config.subscribers);
-    let nanoseconds = fan_out(rt, &mut sequencer, &mut readers, values);
-    let total = sum_in_order(&readers);
-    close_all(readers);
-    Ok((total, nanoseconds?))
+    taken_by(rt, &mut sequencer, config.subscribers, values)
 }
 
-/// The nanoseconds from the start of the first thread to the end of the last one.
+/// The same with so many readers of a lane that has none.
+fn taken_by<R>(
+    rt: &R,
+    sequencer: &mut LaneSequencer<'_>,
+    count: u32,
+    values: u64,
+) -> Result<(u64, u64), Fault>
+where
+    R: Clock + AllocGlobal + Threads + Wait + Sync,
+{
+    let places = Vec::with_capacity(rt.alloc(), count as usize)?;
+    let mut readers = sequencer.admit_all(places, count);
+    let taken = fan_out(rt, sequencer, &mut readers, values);
+    close_all(readers);
+    taken
+}
+
+/// How many values came in order, and the nanoseconds from the start of the first thread to the end of the last one.
 fn fan_out<R>(
     rt: &R,
     sequencer: &mut LaneSequencer<'_>,
     readers: &mut Vec<LaneReader<'_>>,
     values: u64,
-) -> Result<u64, Fault>
+) -> Result<(u64, u64), Fault>
 where
     R: Clock + Threads + Wait + Sync,
 {
@@ -89,7 +75,8 @@ where
         &mut || feed(rt, sequencer, values),
         &mut || drain_all(rt, readers, values),
     );
-    nanoseconds_since(rt, start)
+    let nanoseconds = nanoseconds_since(rt, start)?;
+    Ok((sum_in_order(readers.as_slice()), nanoseconds))
 }
 
 /// Emits the numbers from 0 to below `values`.

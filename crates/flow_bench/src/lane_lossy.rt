@@ -1,6 +1,7 @@
 //! A lane between threads, where the oldest values are dropped: one emits without pause, and one, two or four others
 //! take what is left.
 
+use crate::config::config_of;
 use crate::elapsed::nanoseconds_since;
 use crate::fault::Fault;
 use crate::lane_ends::{LaneReader, LaneSequencer, close_all};
@@ -51,7 +52,8 @@ where
 {
     let values = size.of(VALUES);
     let sent = values.wrapping_mul(u64::from(readers));
-    let counts = measured(rt, readers, values)?;
+    let config = config_of(readers, 1024, Policy::DropOldest);
+    let counts = measured(rt, config, values)?;
     report(rt, emissions(scenario, counts).checked(values)?, size)?;
     report(rt, receipts(scenario, counts).checked(sent)?, size)?;
     report_share(rt, kept(scenario, counts, sent).checked(sent)?, size)
@@ -93,26 +95,31 @@ fn kept(scenario: &'static str, counts: Counts, sent: u64) -> Share {
     }
 }
 
-/// Counts with a new lane and so many readers.
-fn measured<R>(rt: &R, count: u32, values: u64) -> Result<Counts, Fault>
+/// Counts with a new lane.
+fn measured<R>(rt: &R, config: Config, values: u64) -> Result<Counts, Fault>
 where
     R: Clock + AllocGlobal + Threads + Wait + Sync,
 {
-    let config = Config {
-        replay: 0,
-        extra: 1024,
-        policy: Policy::DropOldest,
-        subscribers: count,
-        emits: 1,
-        first: 0,
-    };
     let (lane, sequencer) = Lane::new(rt.alloc(), config)?;
     // Not beside the sequencer, which each emission changes.
     let lane = Box::new(rt.alloc(), lane)?;
-    let places = Vec::with_capacity(rt.alloc(), count as usize)?;
     let mut sequencer = LaneSequencer::of(&lane, sequencer);
+    counted_with(rt, &mut sequencer, config.subscribers, values)
+}
+
+/// The same with so many readers of a lane that has none.
+fn counted_with<R>(
+    rt: &R,
+    sequencer: &mut LaneSequencer<'_>,
+    count: u32,
+    values: u64,
+) -> Result<Counts, Fault>
+where
+    R: Clock + AllocGlobal + Threads + Wait + Sync,
+{
+    let places = Vec::with_capacity(rt.alloc(), count as usize)?;
     let mut readers = sequencer.admit_all(places, count);
-    let counts = run(rt, &mut sequencer, &mut readers, values);
+    let counts = run(rt, sequencer, &mut readers, values);
     close_all(readers);
     counts
 }
@@ -135,19 +142,29 @@ where
         &mut || drain_all(rt, readers, &over),
     );
     let nanoseconds = nanoseconds_since(rt, start)?;
+    Ok(counts_of(sequencer, readers, emission?, nanoseconds))
+}
+
+/// What was emitted and taken, with the nanoseconds of the emissions and of all.
+fn counts_of(
+    sequencer: &LaneSequencer<'_>,
+    readers: &[LaneReader<'_>],
+    emission: u64,
+    nanoseconds: u64,
+) -> Counts {
     let mut counts = Counts {
         emitted: sequencer.next_number(),
         received: 0,
         accounted: 0,
-        emission: emission?,
+        emission,
         nanoseconds,
     };
-    for reader in readers.iter() {
+    for reader in readers {
         counts.received = counts.received.wrapping_add(reader.received());
         let accounted = reader.in_order.wrapping_add(reader.dropped());
         counts.accounted = counts.accounted.wrapping_add(accounted);
     }
-    Ok(counts)
+    counts
 }
 
 /// Emits the numbers from 1 to `values`, and then says that it is over. Gives the nanoseconds of it.

@@ -7,14 +7,17 @@
 #![tactic(auto)]
 
 mod chains;
+mod config;
 mod core_receipts;
 mod elapsed;
+mod fan_out;
 mod fault;
 mod lane_ends;
 mod lane_fan_out;
 mod lane_lossy;
 mod lane_receipts;
 mod pause;
+mod receipts;
 mod report;
 mod scenario;
 mod script_lines;
@@ -26,7 +29,6 @@ mod state_threads;
 mod sums;
 
 use bench_figures::Size;
-use clap::error::ErrorKind;
 use clap::{Arg, ArgAction, Command};
 use fault::Fault;
 use scenario::Scenario;
@@ -41,14 +43,6 @@ use std::{env, io};
 /// How often each measurement is made.
 const REPEATS: u32 = 5;
 
-/// Why the program ends early.
-#[derive(Clone, Copy, Debug, PartialEq, Eq)]
-enum Stop {
-    /// The command line has another word, or asks for help.
-    Usage,
-    Fault(Fault),
-}
-
 /// The command lines that there are.
 fn command_of<'a>(alloc: Global) -> Result<Command<'a>, AllocError> {
     let names = Arg::new(alloc, "scenario")
@@ -59,51 +53,30 @@ fn command_of<'a>(alloc: Global) -> Result<Command<'a>, AllocError> {
 }
 
 /// The scenarios that the command line asks for, in its order.
-fn asked_for(alloc: Global, words: &[String]) -> Result<Vec<Scenario>, Stop> {
-    let Ok(command) = command_of(alloc) else {
-        return Err(Stop::Fault(Fault::NoMemory));
-    };
-    let matches = match command.try_get_matches_from(words) {
-        Ok(matches) => matches,
-        Err(error) => {
-            return Err(match error.kind() {
-                ErrorKind::OutOfMemory => Stop::Fault(Fault::NoMemory),
-                _ => Stop::Usage,
-            });
-        }
-    };
-    let names = matches.get_strs("scenario").unwrap_or(&[]);
-    named(alloc, names)
+fn asked_for(alloc: Global, words: &[String]) -> Result<Vec<Scenario>, Fault> {
+    let matches = command_of(alloc)?.try_get_matches_from(words)?;
+    named(alloc, matches.get_strs("scenario").unwrap_or(&[]))
 }
 
 /// The scenarios of these names.
-fn named(alloc: Global, names: &[&str]) -> Result<Vec<Scenario>, Stop> {
+fn named(alloc: Global, names: &[&str]) -> Result<Vec<Scenario>, Fault> {
     let mut scenarios = Vec::new(alloc);
     for name in names {
         let Some(scenario) = Scenario::of(name) else {
-            return Err(Stop::Usage);
+            return Err(Fault::Usage);
         };
-        if scenarios.push(scenario).is_err() {
-            return Err(Stop::Fault(Fault::NoMemory));
-        }
+        scenarios.push(scenario)?;
     }
     Ok(scenarios)
 }
 
 /// The words of the command line.
-fn words_of<R: Env + AllocGlobal>(rt: &R) -> Result<Vec<String>, Stop> {
-    let words = match env::args(rt) {
-        Ok(words) => words,
-        Err(error) => {
-            return Err(match error.kind() {
-                io::ErrorKind::OutOfMemory => Stop::Fault(Fault::NoMemory),
-                _ => Stop::Usage,
-            });
-        }
-    };
-    words
-        .collect::<Vec<String>>(rt.alloc())
-        .map_err(|_| Stop::Fault(Fault::NoMemory))
+fn words_of<R: Env + AllocGlobal>(rt: &R) -> Result<Vec<String>, Fault> {
+    match env::args(rt) {
+        Ok(words) => Ok(words.collect::<Vec<String>>(rt.alloc())?),
+        Err(error) if error.kind() == io::ErrorKind::OutOfMemory => Err(Fault::NoMemory),
+        Err(_) => Err(Fault::Usage),
+    }
 }
 
 /// Makes the measurements of each scenario.
@@ -118,17 +91,17 @@ where
 }
 
 /// Makes what the command line asks for.
-fn run<R>(rt: &R) -> Result<(), Stop>
+fn run<R>(rt: &R) -> Result<(), Fault>
 where
     R: Env + Clock + Print + AllocGlobal + RandomSource + Threads + Wait + Sync,
 {
     let words = words_of(rt)?;
     let scenarios = asked_for(rt.alloc(), words.as_slice())?;
     if scenarios.is_empty() {
-        return measure_all(rt, Scenario::ALL.as_slice(), Size::Small).map_err(Stop::Fault);
+        return measure_all(rt, Scenario::ALL.as_slice(), Size::Small);
     }
     for _repeat in 0..REPEATS {
-        measure_all(rt, scenarios.as_slice(), Size::Full).map_err(Stop::Fault)?;
+        measure_all(rt, scenarios.as_slice(), Size::Full)?;
     }
     Ok(())
 }
@@ -136,8 +109,8 @@ where
 fn main(rt: HostRuntime) -> ExitCode {
     match run(&rt) {
         Ok(()) => ExitCode::SUCCESS,
-        Err(Stop::Usage) => ExitCode::from(2),
-        Err(Stop::Fault(fault)) => {
+        Err(Fault::Usage) => ExitCode::from(2),
+        Err(fault) => {
             let _ = eprintln!(rt; "flow_bench: {fault}");
             ExitCode::from(1)
         }

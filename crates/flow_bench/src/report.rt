@@ -1,36 +1,38 @@
 //! What a measurement writes.
 
 use crate::fault::Fault;
-use bench_figures::{Figure, Share, Size};
+use bench_figures::{Figure, Part, Share, Size};
 
-/// Writes the line of a figure, or at the small size what never varies: the part, the names and the total.
+/// Writes the line of a figure, or at the small size what never varies.
 pub(crate) fn report(rt: &impl Print, figure: Figure, size: Size) -> Result<(), Fault> {
-    let Figure {
-        part,
-        scenario,
-        name,
-        total,
-        ..
-    } = figure;
     match size {
-        Size::Small => println!(rt; "hillgauze-{part}\t{scenario}\t{name}\ttotal {total}")?,
-        Size::Full => println!(rt; "{figure}")?,
+        Size::Small => report_total(rt, figure.part, figure.scenario, figure.name, figure.total),
+        Size::Full => {
+            println!(rt; "{figure}")?;
+            Ok(())
+        }
     }
-    Ok(())
 }
 
 /// Writes the line of a share, or at the small size what never varies.
 pub(crate) fn report_share(rt: &impl Print, share: Share, size: Size) -> Result<(), Fault> {
-    let Share {
-        part,
-        scenario,
-        name,
-        total,
-        ..
-    } = share;
     match size {
-        Size::Small => println!(rt; "hillgauze-{part}\t{scenario}\t{name}\ttotal {total}")?,
-        Size::Full => println!(rt; "{share}")?,
+        Size::Small => report_total(rt, share.part, share.scenario, share.name, share.total),
+        Size::Full => {
+            println!(rt; "{share}")?;
+            Ok(())
+        }
     }
+}
+
+/// Writes what never varies: the part, the names and the total.
+fn report_total(
+    rt: &impl Print,
+    part: Part,
+    scenario: &str,
+    name: &str,
+    total: u64,
+) -> Result<(), Fault> {
+    println!(rt; "hillgauze-{part}\t{scenario}\t{name}\ttotal {total}")?;
     Ok(())
 }

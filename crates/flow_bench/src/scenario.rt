@@ -13,7 +13,7 @@ use std::sync::Wait;
 use std::thread::Threads;
 
 /// A scenario: a name that the command line may have, for some measurements.
-#[derive(Clone, Copy, Debug, PartialEq, Eq)]
+#[derive(Clone, Copy)]
 pub enum Scenario {
     /// `receipts`: receipts of a shared flow on one thread, by the core, by the flow for threads and by a lane.
     Receipts,

@@ -6,11 +6,10 @@ ghost use Rattle.futures.specs.Poll.{OnPending};
 ghost use Rattle.futures.specs.Task.{IsArmed};
 
 use crate::elapsed::nanoseconds_since;
+use crate::fan_out::{SCENARIOS, fan_out_config, report_fan_out};
 use crate::fault::Fault;
 use crate::pause::Pause;
-use crate::report::report;
-use bench_figures::{Figure, Part, Size, Unit};
-use cold_flow::Policy;
+use bench_figures::{Part, Size};
 use futures::task::{Context, Doorbell, Poll, Queue};
 use shared_core::{Config, Tried};
 use shared_flow::{Emitter, SharedFlow, Subscription};
@@ -47,42 +46,12 @@ pub(crate) fn measure<R>(rt: &R, size: Size) -> Result<(), Fault>
 where
     R: Clock + Print + AllocGlobal + RandomSource + Threads + Wait + Sync,
 {
-    for (scenario, subscriptions) in [("fan-out-n1", 1), ("fan-out-n2", 2), ("fan-out-n4", 4)] {
-        let figure = values_to(rt, scenario, subscriptions, size.of(VALUES))?;
-        report(rt, figure, size)?;
+    let values = size.of(VALUES);
+    for scenario in SCENARIOS {
+        let taken = measured(rt, fan_out_config(scenario.1), values)?;
+        report_fan_out(rt, Part::Shared, scenario, size, values, taken)?;
     }
     Ok(())
-}
-
-/// Measures how long so many values take to all subscriptions. The total is the number of those that came in order.
-fn values_to<R>(
-    rt: &R,
-    scenario: &'static str,
-    subscriptions: u32,
-    values: u64,
-) -> Result<Figure, Fault>
-where
-    R: Clock + AllocGlobal + RandomSource + Threads + Wait + Sync,
-{
-    let config = Config {
-        replay: 0,
-        extra: 1024,
-        policy: Policy::Suspend,
-        subscribers: subscriptions,
-        emits: 1,
-        first: 0,
-    };
-    let (total, nanoseconds) = measured(rt, config, values)?;
-    let figure = Figure {
-        part: Part::Shared,
-        scenario,
-        name: "values",
-        unit: Unit::MillionsASecond,
-        operations: values,
-        nanoseconds,
-        total,
-    };
-    Ok(figure.checked(values.wrapping_mul(u64::from(subscriptions)))?)
 }
 
 /// How many values came in order, and the nanoseconds of it.
@@ -91,9 +60,22 @@ where
     R: Clock + AllocGlobal + RandomSource + Threads + Wait + Sync,
 {
     let mut flow = SharedFlow::<u64>::new(rt.alloc(), config)?;
-    let places = Vec::with_capacity(rt.alloc(), config.subscribers as usize)?;
-    let mut listeners = listen(rt, &mut flow, places, config.subscribers);
-    let nanoseconds = emit_to_all(rt, &mut flow, &mut listeners, values);
+    heard_by(rt, &mut flow, config.subscribers, values)
+}
+
+/// The same with so many listeners to a flow that has none.
+fn heard_by<R>(
+    rt: &R,
+    flow: &mut SharedFlow<u64>,
+    count: u32,
+    values: u64,
+) -> Result<(u64, u64), Fault>
+where
+    R: Clock + AllocGlobal + RandomSource + Threads + Wait + Sync,
+{
+    let places = Vec::with_capacity(rt.alloc(), count as usize)?;
+    let mut listeners = listen(rt, flow, places, count);
+    let nanoseconds = emit_to_all(rt, flow, &mut listeners, values);
     let total = sum_in_order(&listeners);
     cancel_all(rt, listeners);
     Ok((total, nanoseconds?))

@@ -4,10 +4,8 @@ ghost use Rattle.std.specs.Prelude.{◌≡◌, None};
 
 use crate::elapsed::nanoseconds_since;
 use crate::fault::Fault;
-use crate::report::report;
-use crate::sums::sum_to;
-use bench_figures::{Figure, Part, Size, Unit};
-use cold_flow::Policy;
+use crate::receipts::{Received, SCENARIOS, VALUES, receipts_config, report_receipts};
+use bench_figures::{Part, Size};
 use futures::task::{Context, Doorbell, Poll, Solo};
 use shared_core::{Config, Tried};
 use shared_flow::{Emitter, SharedFlow, Subscription};
@@ -17,59 +15,16 @@ use std::rt::Clock;
 use std::sync::Wait;
 use std::time::Instant;
 
-/// How many values are emitted.
-const VALUES: u64 = 2_000_000;
-
-/// What the subscriptions took so far.
-#[derive(Clone, Copy)]
-struct Taken {
-    /// The last value.
-    last: u64,
-    /// The sum of all of them, modulo 2^64.
-    total: u64,
-}
-
 /// Makes the measurement with 1, 4 and 8 subscriptions.
 pub(crate) fn measure<R>(rt: &R, size: Size) -> Result<(), Fault>
 where
     R: Clock + Print + AllocGlobal + RandomSource + Wait,
 {
-    for (scenario, subscriptions) in [("receipts-n1", 1), ("receipts-n4", 4), ("receipts-n8", 8)] {
-        let figure = receipts(rt, scenario, subscriptions, size.of(VALUES))?;
-        report(rt, figure, size)?;
+    for scenario in SCENARIOS {
+        let taken = measured(rt, receipts_config(scenario.1), size.of(VALUES))?;
+        report_receipts(rt, Part::Shared, scenario, size, taken)?;
     }
     Ok(())
-}
-
-/// Measures the receipts of so many values by so many subscriptions. The emissions are in it.
-fn receipts<R>(
-    rt: &R,
-    scenario: &'static str,
-    subscriptions: u32,
-    values: u64,
-) -> Result<Figure, Fault>
-where
-    R: Clock + AllocGlobal + RandomSource + Wait,
-{
-    let config = Config {
-        replay: 0,
-        extra: 64,
-        policy: Policy::Suspend,
-        subscribers: subscriptions,
-        emits: 1,
-        first: 0,
-    };
-    let (total, nanoseconds) = measured(rt, config, values)?;
-    let figure = Figure {
-        part: Part::Shared,
-        scenario,
-        name: "receipt",
-        unit: Unit::Nanoseconds,
-        operations: values.wrapping_mul(u64::from(subscriptions)),
-        nanoseconds,
-        total,
-    };
-    Ok(figure.checked(sum_to(values).wrapping_mul(u64::from(subscriptions)))?)
 }
 
 /// The sum of what the subscriptions of a new flow took, and the nanoseconds of it.
@@ -79,9 +34,23 @@ where
 {
     let task = Solo::new(rt, Doorbell::spinning())?;
     let mut flow = SharedFlow::<u64>::new(rt.alloc(), config)?;
-    let places = Vec::with_capacity(rt.alloc(), config.subscribers as usize)?;
-    let mut readers = subscribe(rt, &mut flow, places, config.subscribers);
-    let received = receive_all(rt, &task, &mut flow, &mut readers, values);
+    received_by(rt, &task, &mut flow, config.subscribers, values)
+}
+
+/// The same with so many subscriptions of a flow that has none.
+fn received_by<R>(
+    rt: &R,
+    task: &Solo,
+    flow: &mut SharedFlow<u64>,
+    count: u32,
+    values: u64,
+) -> Result<(u64, u64), Fault>
+where
+    R: Clock + AllocGlobal + Wait,
+{
+    let places = Vec::with_capacity(rt.alloc(), count as usize)?;
+    let mut readers = subscribe(rt, flow, places, count);
+    let received = receive_all(rt, task, flow, &mut readers, values);
     cancel_all(rt, readers);
     received
 }
@@ -141,7 +110,7 @@ fn emit_and_take(
 ) -> Option<u64>
     requires { emitter.old.ticket ≡ None }
 {
-    let mut taken = Taken { last: 0, total: 0 };
+    let mut taken = Received { last: 0, total: 0 };
     for _ in 0..values {
         match emitter.try_emit(rt, taken.last.wrapping_add(1)) {
             Ok(Tried::Accepted(_)) => taken = take_all(rt, readers, cx, taken)?,
@@ -156,8 +125,8 @@ fn take_all(
     rt: &impl Wait,
     readers: &mut Vec<Subscription<u64>>,
     cx: &mut Context<'_>,
-    mut taken: Taken,
-) -> Option<Taken> {
+    mut taken: Received,
+) -> Option<Received> {
     for reader in readers.iter_mut() {
         let Poll::Ready(value) = reader.poll_next(rt, cx) else {
             return None;

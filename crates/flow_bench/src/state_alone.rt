@@ -64,12 +64,22 @@ fn reads<R: Clock + AllocGlobal>(rt: &R, calls: u64) -> Result<Figure, Fault> {
 fn sets_and_asks<R: Clock + AllocGlobal>(rt: &R, calls: u64) -> Result<Figure, Fault> {
     let mut seat = state_of(rt.alloc(), 2)?;
     let other = seat.take_seat(0)?;
+    let (total, nanoseconds) = asked_after_each(rt, &mut seat, other, calls)?;
+    Ok(figure_of("set+ask", calls, nanoseconds, total).checked(sum_to(calls))?)
+}
+
+/// The sum of what a collector from the other seat gave, and the nanoseconds of it.
+fn asked_after_each<R: Clock>(
+    rt: &R,
+    seat: &mut StateSeat<u64>,
+    other: StateSeat<u64>,
+    calls: u64,
+) -> Result<(u64, u64), Fault> {
     let start = Instant::now(rt)?;
     let mut collector = other.collect();
-    let total = set_and_ask(&mut seat, &mut collector, calls);
+    let total = set_and_ask(seat, &mut collector, calls);
     drop(collector.cancel());
-    let nanoseconds = nanoseconds_since(rt, start)?;
-    Ok(figure_of("set+ask", calls, nanoseconds, total).checked(sum_to(calls))?)
+    Ok((total, nanoseconds_since(rt, start)?))
 }
 
 /// Sets the numbers from 1 to `last`.

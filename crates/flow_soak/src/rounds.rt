@@ -40,24 +40,49 @@ where
     let config = config_of(random);
     let mut flow = SharedFlow::<u64>::new(rt.alloc(), config)?;
     let mut state = StateFlow::new(rt.alloc(), 0u64, 9)?;
-    let mut records = Vec::with_capacity(rt.alloc(), THREADS)?;
+    round_over(rt, &mut flow, &mut state, random, config.policy)
+}
+
+/// The round over a flow and a state that nobody uses yet.
+fn round_over<R>(
+    rt: &R,
+    flow: &mut SharedFlow<u64>,
+    state: &mut StateSeat<u64>,
+    random: &mut Random,
+    policy: Policy,
+) -> Result<Vec<Record>, Fault>
+where
+    R: AllocGlobal + RandomSource + Threads + Wait + Sync,
+{
+    let records = Vec::with_capacity(rt.alloc(), THREADS)?;
     let places = Vec::with_capacity(rt.alloc(), THREADS)?;
-    let mut workers = hire(rt, &mut flow, &mut state, random, places);
+    let mut workers = hire(rt, flow, state, random, places);
+    work(rt, &mut workers);
+    take_rest(rt, &mut workers, state.value());
+    dismiss(rt, workers, records, policy)
+}
+
+/// Each worker takes its steps in a thread of its own.
+fn work<R>(rt: &R, workers: &mut Vec<Worker>)
+where
+    R: Threads + Wait + Sync,
+{
     for_each_mut(
         rt,
         workers.as_mut_slice(),
         THREADS,
         &|_, worker: &mut Worker| worker.run(rt),
     );
-    let value = state.value();
+}
+
+/// Each worker takes back what it has in flight, and then each takes what is left. The state holds this value.
+fn take_rest(rt: &impl Wait, workers: &mut Vec<Worker>, value: u64) {
     for worker in workers.iter_mut() {
         worker.take_back(rt);
     }
     for worker in workers.iter_mut() {
         worker.drain(value);
     }
-    dismiss(rt, workers, &mut records, config.policy)?;
-    Ok(records)
 }
 
 /// A worker for each thread, or fewer where one is refused.
@@ -86,9 +111,9 @@ where
 fn dismiss(
     rt: &impl Wait,
     mut workers: Vec<Worker>,
-    records: &mut Vec<Record>,
+    mut records: Vec<Record>,
     policy: Policy,
-) -> Result<(), Fault> {
+) -> Result<Vec<Record>, Fault> {
     let mut is_right = true;
     let mut has_room = true;
     while let Some(worker) = workers.pop() {
@@ -104,5 +129,5 @@ fn dismiss(
     if !has_room {
         return Err(Fault::NoMemory);
     }
-    Ok(())
+    Ok(records)
 }

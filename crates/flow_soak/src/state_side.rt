@@ -1,5 +1,6 @@
 //! A thread's side of a state in a soak: a seat by which it sets, and a collector that comes and leaves.
 
+use crate::fault::Fault;
 use crate::worker::Record;
 use state_flow::{Collector, StateSeat};
 
@@ -99,4 +100,13 @@ impl StateSide {
         record.given = given;
         record.is_right = record.is_right && is_right;
     }
+}
+
+/// Two more seats of a state: one to set it from, and one for a collector.
+pub(crate) fn two_seats(
+    other: &mut StateSeat<u64>,
+) -> Result<(StateSeat<u64>, StateSeat<u64>), Fault> {
+    let seat = other.take_seat(0)?;
+    let resting = other.take_seat(0)?;
+    Ok((seat, resting))
 }

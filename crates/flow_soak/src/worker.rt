@@ -2,13 +2,13 @@
 
 use crate::fault::Fault;
 use crate::random::Random;
-use crate::state_side::StateSide;
+use crate::state_side::{StateSide, two_seats};
 use futures::task::Poll;
 use futures::test::MockTask;
 use shared_core::{Begun, Tried, Withdrawn};
 use shared_flow::{Emitter, Receipt, SharedFlow, Subscription, Taken};
 use state_flow::StateSeat;
-use std::alloc::AllocGlobal;
+use std::alloc::{AllocGlobal, Global};
 use std::random::RandomSource;
 use std::sync::Wait;
 
@@ -47,6 +47,23 @@ pub(crate) struct Record {
     pub(crate) is_right: bool,
 }
 
+impl Record {
+    /// Of a thread that did nothing so far.
+    fn with_room(alloc: Global) -> Result<Record, Fault> {
+        let told = Vec::with_capacity(alloc, STEPS)?;
+        Ok(Record {
+            told,
+            received: Vec::with_capacity(alloc, STEPS)?,
+            dropped: 0,
+            subscriptions: 0,
+            ended_at: None,
+            sets: 0,
+            given: 0,
+            is_right: true,
+        })
+    }
+}
+
 /// A thread's parties. It must be ended.
 pub(crate) struct Worker {
     id: u32,
@@ -76,20 +93,10 @@ impl Worker {
     where
         R: AllocGlobal + RandomSource + Wait,
     {
+        let record = Record::with_room(rt.alloc())?;
+        let (seat, resting) = two_seats(state)?;
         let task = MockTask::new(rt)?;
         let owner = flow.dup(rt)?;
-        let seat = state.take_seat(0)?;
-        let resting = state.take_seat(0)?;
-        let record = Record {
-            told: Vec::with_capacity(rt.alloc(), STEPS)?,
-            received: Vec::with_capacity(rt.alloc(), STEPS)?,
-            dropped: 0,
-            subscriptions: 0,
-            ended_at: None,
-            sets: 0,
-            given: 0,
-            is_right: true,
-        };
         let emitter = flow.emitter(rt, id)?;
         Ok(Worker {
             id,
