@@ -1,13 +1,12 @@
 //! A shared flow's worked examples on one thread, by its calls, and each call once where all goes well.
 
-use crate::tools::{Differences, assert_same};
+use crate::tools::Differences;
 use cold_flow::{Policy, Refusal};
 use hot_callers::{received_in_turn, received_once};
 use shared_core::{
-    Begun, Call, Config, Emit, Next, Prelude, Reply, SharedState, SubId, Ticket, Tried, Withdrawn,
+    Begun, Call, Config, Emit, Next, Reply, SharedState, SubId, Ticket, Tried, Withdrawn,
 };
 use std::alloc::{AllocError, Global};
-use std::process::Abort;
 use std::test::Fail;
 
 /// The numbers stay below this.
@@ -37,7 +36,6 @@ const HANDING_OVER: Config = Config {
 type Exchange = (Call<u64>, Reply<u64>);
 
 /// The calls of a new flow with their replies, and its replay cache after them.
-#[derive(Clone, Copy)]
 struct Row<'a> {
     name: &'a str,
     config: Config,
@@ -112,6 +110,32 @@ const ROWS: &[Row<'_>] = &[
             (Call::Count, Reply::Count(1)),
         ],
         cache: &[],
+    },
+    Row {
+        name: "each call where all goes well",
+        config: Config { replay: 2, ..PLAIN },
+        exchanges: &[
+            (Call::Try(0, 1), Reply::Tried(Ok(Tried::Accepted(0)))),
+            (Call::Try(0, 2), Reply::Tried(Ok(Tried::Accepted(1)))),
+            (Call::Try(0, 3), Reply::Tried(Ok(Tried::Accepted(2)))),
+            FIRST_SUBSCRIBES,
+            (Call::Subscribe, Reply::Sub(Err(Refusal::SubscribersFull))),
+            (Call::Count, Reply::Count(1)),
+            (Call::Reset, Reply::Reset),
+            (Call::Next(SubId(0)), Reply::Next(Next::Value(2))),
+            (Call::Start(0, 4), Reply::Begun(Ok(Begun::Accepted(3)))),
+            (Call::Start(0, 5), Reply::Begun(Ok(Begun::Accepted(4)))),
+            (
+                Call::Start(0, 6),
+                Reply::Begun(Ok(Begun::Waiting(Ticket(0)))),
+            ),
+            (Call::Start(0, 7), Reply::Begun(Err(Refusal::EmitsFull))),
+            (Call::Poll(Ticket(0)), Reply::Emit(Emit::Waiting)),
+            (Call::Cancel(SubId(0)), Reply::Cancelled(true)),
+            (Call::Poll(Ticket(0)), Reply::Emit(Emit::Done(5))),
+            GONE,
+        ],
+        cache: &[5, 6],
     },
     Row {
         name: "numbers_spent, from the last number on",
@@ -374,149 +398,6 @@ fn calls_are_replied_to(rt: HostRuntime) -> Result<(), Fail> {
     differences.assert_none(&rt);
     let refused = SharedState::<u64>::new(rt.alloc(), OVER);
     assert!(rt; matches!(refused, Err(Refusal::BadLimit)));
-    Ok(())
-}
-
-#[test]
-fn preludes_are_received_first(rt: HostRuntime) -> Result<(), Fail> {
-    let first = [
-        (Call::Try(0, 1), Reply::Tried(Ok(Tried::Accepted(0)))),
-        (
-            Call::SubscribeWith(Prelude::of(&[8, 9])?),
-            Reply::Sub(Ok(SubId(0))),
-        ),
-        (Call::Try(0, 2), Reply::Tried(Ok(Tried::Accepted(1)))),
-        (Call::Try(0, 3), Reply::Tried(Ok(Tried::Full))),
-        (Call::Next(SubId(0)), Reply::Next(Next::Value(8))),
-        (Call::Try(0, 3), Reply::Tried(Ok(Tried::Full))),
-        (Call::Next(SubId(0)), Reply::Next(Next::Value(9))),
-        (Call::Next(SubId(0)), Reply::Next(Next::Value(1))),
-        (Call::Next(SubId(0)), Reply::Next(Next::Value(2))),
-        (Call::Next(SubId(0)), Reply::Next(Next::Nothing)),
-    ];
-    let handed_over = [
-        (
-            Call::SubscribeWith(Prelude::of(&[5])?),
-            Reply::Sub(Ok(SubId(0))),
-        ),
-        EMISSION_WAITS,
-        (Call::Poll(Ticket(0)), Reply::Emit(Emit::Waiting)),
-        (Call::Next(SubId(0)), Reply::Next(Next::Value(5))),
-        (Call::Poll(Ticket(0)), Reply::Emit(Emit::Waiting)),
-        FIRST_RECEIVES,
-        (Call::Poll(Ticket(0)), Reply::Emit(Emit::Done(0))),
-    ];
-    let survives = [
-        (
-            Call::SubscribeWith(Prelude::of(&[5])?),
-            Reply::Sub(Ok(SubId(0))),
-        ),
-        (Call::Try(0, 1), Reply::Tried(Ok(Tried::Accepted(0)))),
-        (Call::Try(0, 2), Reply::Tried(Ok(Tried::Accepted(1)))),
-        (Call::Next(SubId(0)), Reply::Next(Next::Value(5))),
-        (Call::Next(SubId(0)), Reply::Next(Next::Value(2))),
-        (Call::Next(SubId(0)), Reply::Next(Next::Nothing)),
-    ];
-    let given_up = [
-        (
-            Call::SubscribeWith(Prelude::of(&[1, 2])?),
-            Reply::Sub(Ok(SubId(0))),
-        ),
-        (Call::Next(SubId(0)), Reply::Next(Next::Value(1))),
-        (Call::Cancel(SubId(0)), Reply::Cancelled(true)),
-        (Call::Next(SubId(0)), Reply::Next(Next::Closed)),
-    ];
-    let dropping = Config {
-        policy: Policy::DropOldest,
-        ..PLAIN
-    };
-    let replaying = Config { replay: 1, ..PLAIN };
-    let rows = [
-        ("prelude_first", replaying, &first[..], &[2][..]),
-        ("prelude_at_hand_over", HANDING_OVER, &handed_over[..], &[]),
-        ("prelude_survives_drop", dropping, &survives[..], &[]),
-        ("prelude_given_up", HANDING_OVER, &given_up[..], &[]),
-    ];
-    let mut differences = Differences::none(rt.alloc());
-    for (name, config, exchanges, cache) in rows {
-        compare_row(
-            &mut differences,
-            rt.alloc(),
-            &Row {
-                name,
-                config,
-                exchanges,
-                cache,
-            },
-        )?;
-    }
-    differences.assert_none(&rt);
-    Ok(())
-}
-
-#[test]
-fn preludes_have_16_values_at_most(rt: HostRuntime) -> Result<(), Fail> {
-    let values: [u64; 17] = [1, 2, 3, 4, 5, 6, 7, 8, 9, 10, 11, 12, 13, 14, 15, 16, 17];
-    assert!(rt; matches!(Prelude::of(&values), Err(Refusal::PreludeTooLong)));
-    let prelude = Prelude::of(&values[..16])?;
-    assert_same(&rt, "length of a prelude", prelude.len(), 16);
-    for index in 0..prelude.len() {
-        assert_same(
-            &rt,
-            "value of a prelude",
-            prelude.at(index),
-            values[index as usize],
-        );
-    }
-    Ok(())
-}
-
-#[test]
-fn each_call_succeeds(rt: HostRuntime) -> Result<(), Fail> {
-    const CONFIG: Config = Config { replay: 2, ..PLAIN };
-    const TRIES: &[Exchange] = &[
-        (Call::Try(0, 1), Reply::Tried(Ok(Tried::Accepted(0)))),
-        (Call::Try(0, 2), Reply::Tried(Ok(Tried::Accepted(1)))),
-        (Call::Try(0, 3), Reply::Tried(Ok(Tried::Accepted(2)))),
-    ];
-    const SUBSCRIBED: &[Exchange] = &[
-        FIRST_SUBSCRIBES,
-        (Call::Subscribe, Reply::Sub(Err(Refusal::SubscribersFull))),
-        (Call::Count, Reply::Count(1)),
-    ];
-    const EMITTED: &[Exchange] = &[
-        (Call::Next(SubId(0)), Reply::Next(Next::Value(2))),
-        (Call::Start(0, 4), Reply::Begun(Ok(Begun::Accepted(3)))),
-        (Call::Start(0, 5), Reply::Begun(Ok(Begun::Accepted(4)))),
-        (
-            Call::Start(0, 6),
-            Reply::Begun(Ok(Begun::Waiting(Ticket(0)))),
-        ),
-        (Call::Start(0, 7), Reply::Begun(Err(Refusal::EmitsFull))),
-        (Call::Poll(Ticket(0)), Reply::Emit(Emit::Waiting)),
-        (Call::Cancel(SubId(0)), Reply::Cancelled(true)),
-        (Call::Poll(Ticket(0)), Reply::Emit(Emit::Done(5))),
-        GONE,
-    ];
-    let mut flow = SharedState::new(rt.alloc(), CONFIG)?;
-    assert_same(&rt, "tries", replied(&mut flow, TRIES), TRIES.len());
-    assert!(rt; caches(&flow, &[2, 3]));
-    assert_same(
-        &rt,
-        "subscriptions",
-        replied(&mut flow, SUBSCRIBED),
-        SUBSCRIBED.len(),
-    );
-    assert_same(&rt, "pending values", flow.pending(SubId(0)), 2);
-    flow.reset_replay();
-    assert!(rt; caches(&flow, &[]));
-    assert_same(
-        &rt,
-        "pending values after the reset",
-        flow.pending(SubId(0)),
-        2,
-    );
-    assert_same(&rt, "emissions", replied(&mut flow, EMITTED), EMITTED.len());
     Ok(())
 }
 

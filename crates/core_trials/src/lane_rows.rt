@@ -34,7 +34,6 @@ const DROPS_OLDEST: Config = Config {
 };
 
 /// A call, and its answer.
-#[derive(Clone, Copy)]
 enum Exchange {
     Try(u64, Tried<u64>),
     Start(u64, Begun<u64, Ticket>),
@@ -44,7 +43,6 @@ enum Exchange {
 }
 
 /// The calls while one reader is open, and what it says of itself after them.
-#[derive(Clone, Copy)]
 struct Life<'a> {
     exchanges: &'a [Exchange],
     start: u64,
@@ -52,7 +50,7 @@ struct Life<'a> {
     dropped: u64,
 }
 
-const WAITS_FOR_ROOM: Life<'_> = Life {
+const WAITS_FOR_ROOM: &Life<'_> = &Life {
     exchanges: &[
         Exchange::Try(7, Tried::Accepted(0)),
         Exchange::Try(8, Tried::Accepted(1)),
@@ -72,7 +70,7 @@ const WAITS_FOR_ROOM: Life<'_> = Life {
     dropped: 0,
 };
 
-const LOSES_THREE: Life<'_> = Life {
+const LOSES_THREE: &Life<'_> = &Life {
     exchanges: &[
         Exchange::Try(1, Tried::Accepted(0)),
         Exchange::Try(2, Tried::Accepted(1)),
@@ -88,7 +86,7 @@ const LOSES_THREE: Life<'_> = Life {
     dropped: 3,
 };
 
-const BEGINS_AT_THE_CACHE: Life<'_> = Life {
+const BEGINS_AT_THE_CACHE: &Life<'_> = &Life {
     exchanges: &[Exchange::Next(Taken::Value(5))],
     start: 4,
     received: 1,
@@ -117,7 +115,7 @@ fn assert_exchange(
     sequencer: &mut Sequencer<Global>,
     reader: &mut Reader,
     name: &str,
-    exchange: Exchange,
+    exchange: &Exchange,
 )
     requires { IsSequencerOf lane.now sequencer.old × IsReaderOf lane.now reader.old }
     ensures { IsSequencerOf lane.now sequencer.new × IsReaderOf lane.now reader.new }
@@ -127,23 +125,23 @@ fn assert_exchange(
             assert_same(
                 rt,
                 name,
-                sequencer.try_emit(lane, EMITTER, word),
-                Ok(answer),
+                sequencer.try_emit(lane, EMITTER, *word),
+                Ok(*answer),
             );
         }
         Exchange::Start(word, answer) => {
             assert_same(
                 rt,
                 name,
-                sequencer.start_emit(lane, EMITTER, word),
-                Ok(answer),
+                sequencer.start_emit(lane, EMITTER, *word),
+                Ok(*answer),
             );
         }
-        Exchange::Scan(answer) => assert_same(rt, name, sequencer.scan(lane), answer),
+        Exchange::Scan(answer) => assert_same(rt, name, sequencer.scan(lane), *answer),
         Exchange::Poll(ticket, answer) => {
-            assert_same(rt, name, sequencer.poll_emit(lane, ticket), answer);
+            assert_same(rt, name, sequencer.poll_emit(lane, *ticket), *answer);
         }
-        Exchange::Next(answer) => assert_same(rt, name, reader.try_next(lane), answer),
+        Exchange::Next(answer) => assert_same(rt, name, reader.try_next(lane), *answer),
     }
 }
 
@@ -154,13 +152,13 @@ fn assert_life(
     sequencer: &mut Sequencer<Global>,
     reader: &mut Reader,
     name: &str,
-    life: Life<'_>,
+    life: &Life<'_>,
 )
     requires { IsSequencerOf lane.now sequencer.old × IsReaderOf lane.now reader.old }
     ensures { IsSequencerOf lane.now sequencer.new × IsReaderOf lane.now reader.new }
 {
     for exchange in life.exchanges {
-        assert_exchange(rt, lane, sequencer, reader, name, *exchange);
+        assert_exchange(rt, lane, sequencer, reader, name, exchange);
     }
     let found = (reader.start(), reader.received(), reader.dropped());
     assert_same(rt, name, found, (life.start, life.received, life.dropped));

@@ -17,8 +17,8 @@ use std::thread::{Threads, for_each_mut, join_mut, yield_now};
 /// How many readers there are.
 const READERS: usize = 4;
 
-/// How many words each emitter has.
-const WORDS: u64 = 1000;
+/// The words of an emitter begin at so many times its id.
+const APART: u64 = 1_000_000;
 
 /// How often a thread asks at most. It yields where it gets nothing.
 const TURNS: u32 = 5_000_000;
@@ -32,7 +32,7 @@ struct Stage<'a> {
 }
 
 /// An emitter's next word, as a count, and the ticket of the one before where that waits.
-#[derive(Clone, Copy)]
+#[derive(Drop)]
 struct Emitting {
     id: u32,
     next: u64,
@@ -40,7 +40,7 @@ struct Emitting {
 }
 
 /// What a turn came to.
-#[derive(Clone, Copy, Debug, PartialEq, Eq)]
+#[derive(Drop)]
 enum Turn {
     Done,
     Waits,
@@ -58,7 +58,7 @@ impl<'a> Stage<'a> {
         }
     }
 
-    // Begins the emitter's next emission, or asks for the one that waits. Emitter `id` has the words from `id * WORDS` on.
+    // Begins the emitter's next emission, or asks for the one that waits. Emitter `id` has the words from `id * APART` on.
     fn turn(&mut self, emitting: &mut Emitting) -> Turn {
         if let Some(ticket) = emitting.ticket {
             return match self.sequencer.poll_emit(self.lane, ticket) {
@@ -71,7 +71,7 @@ impl<'a> Stage<'a> {
             };
         }
         let word = u64::from(emitting.id)
-            .wrapping_mul(WORDS)
+            .wrapping_mul(APART)
             .wrapping_add(emitting.next);
         let begun = self.sequencer.start_emit(self.lane, emitting.id, word);
         emitting.next = emitting.next.wrapping_add(1);
@@ -86,11 +86,11 @@ impl<'a> Stage<'a> {
     }
 
     // A turn of each emitter that isn't done, after those that wait were accepted where there is room.
-    fn round(&mut self, emitters: &mut [Emitting; 3]) -> Turn {
+    fn round(&mut self, emitters: &mut [Emitting; 3], words: u64) -> Turn {
         self.sequencer.scan(self.lane);
         let mut round = Turn::Done;
         for emitting in emitters.iter_mut() {
-            if emitting.next < WORDS || emitting.ticket.is_some() {
+            if emitting.next < words || emitting.ticket.is_some() {
                 match self.turn(emitting) {
                     Turn::Wrong => return Turn::Wrong,
                     Turn::Waits => round = Turn::Waits,
@@ -102,29 +102,29 @@ impl<'a> Stage<'a> {
     }
 }
 
-fn is_done(emitters: &[Emitting; 3]) -> bool {
-    emitters.iter().all(|emitting| emitting.next >= WORDS && emitting.ticket.is_none())
+fn is_done(emitters: &[Emitting; 3], words: u64) -> bool {
+    emitters.iter().all(|emitting| emitting.next >= words && emitting.ticket.is_none())
 }
 
-// Emits all words of three emitters. At its end, which may be because a reader gave up, no reader waits for more.
-fn emit_all(stage: &mut Stage<'_>, over: &AtomicBool) -> bool {
+// Emits so many words of each of three emitters. At its end, which may be because a reader gave up, no reader waits for more.
+fn emit_all(stage: &mut Stage<'_>, words: u64, over: &AtomicBool) -> bool {
     let mut emitters = [0, 1, 2].map(|id| Emitting {
         id,
         next: 0,
         ticket: None,
     });
     for _ in 0..TURNS {
-        if is_done(&emitters) || over.load(Ordering::SeqCst) {
+        if is_done(&emitters, words) || over.load(Ordering::SeqCst) {
             break;
         }
-        match stage.round(&mut emitters) {
+        match stage.round(&mut emitters, words) {
             Turn::Done => {}
             Turn::Waits => yield_now(),
             Turn::Wrong => break,
         }
     }
     over.store(true, Ordering::SeqCst);
-    is_done(&emitters)
+    is_done(&emitters, words)
 }
 
 /// A reader with its lane, the last word that it got from each emitter, and whether each was above the one before.
@@ -137,7 +137,7 @@ struct Listening<'a> {
 }
 
 /// What a reader came to.
-#[derive(Clone, Copy)]
+#[derive(Drop)]
 struct Heard {
     received: u64,
     dropped: u64,
@@ -147,7 +147,7 @@ struct Heard {
 
 impl<'a> Listening<'a> {
     fn note(&mut self, word: u64) {
-        let Some(last) = self.last.get_mut((word / WORDS) as usize) else {
+        let Some(last) = self.last.get_mut((word / APART) as usize) else {
             self.rises = false;
             return;
         };
@@ -216,12 +216,13 @@ fn run_all<R: Threads + Sync>(
     rt: &R,
     stage: &mut Stage<'_>,
     readers: &mut Vec<Listening<'_>>,
+    words: u64,
 ) -> bool {
     let over = AtomicBool::new(false);
     let ((), emitted) = join_mut(
         rt,
         &mut || listen_all(rt, readers, &over),
-        &mut || emit_all(stage, &over),
+        &mut || emit_all(stage, words, &over),
     );
     emitted
 }
@@ -236,7 +237,8 @@ fn listen_all<R: Threads + Sync>(rt: &R, readers: &mut Vec<Listening<'_>>, over:
 }
 
 // Ends each reader, and compares how many there were, and what each says.
-fn assert_each<R: Abort>(rt: &R, mut readers: Vec<Listening<'_>>, policy: Policy) {
+fn assert_each<R: Abort>(rt: &R, mut readers: Vec<Listening<'_>>, run: &Run) {
+    let all = run.words.saturating_mul(3);
     let mut count: usize = 0;
     while let Some(listening) = readers.pop() {
         let Heard {
@@ -245,14 +247,10 @@ fn assert_each<R: Abort>(rt: &R, mut readers: Vec<Listening<'_>>, policy: Policy
             rises,
         } = listening.leave();
         assert_same(rt, "the words of each emitter rise", rises, true);
-        match policy {
-            Policy::DropOldest => assert_same(
-                rt,
-                "received or dropped",
-                received.checked_add(dropped),
-                Some(3000),
-            ),
-            _ => assert_same(rt, "received and dropped", (received, dropped), (3000, 0)),
+        let heard = received.saturating_add(dropped);
+        assert_same(rt, "received or dropped", heard, all);
+        if run.policy != Policy::DropOldest {
+            assert_same(rt, "dropped", dropped, 0);
         }
         count = count.wrapping_add(1);
     }
@@ -260,15 +258,40 @@ fn assert_each<R: Abort>(rt: &R, mut readers: Vec<Listening<'_>>, policy: Policy
     assert_same(rt, "readers", count, READERS);
 }
 
-// Each of three emitters has all its words go through a new lane.
-fn assert_run<R>(rt: &R, policy: Policy) -> Result<(), Fail>
+/// So many words of each of three emitters, which go through a lane with so many places.
+struct Run {
+    words: u64,
+    extra: u64,
+    policy: Policy,
+}
+
+const RUNS: &[Run] = &[
+    Run {
+        words: 1000,
+        extra: 8,
+        policy: Policy::Suspend,
+    },
+    Run {
+        words: 1000,
+        extra: 8,
+        policy: Policy::DropOldest,
+    },
+    // Readers that are overtaken lose none uncounted.
+    Run {
+        words: 33_334,
+        extra: 2,
+        policy: Policy::DropOldest,
+    },
+];
+
+fn assert_run<R>(rt: &R, run: &Run) -> Result<(), Fail>
 where
     R: AllocGlobal + Threads + Abort + Sync,
 {
     let config = Config {
         replay: 0,
-        extra: 8,
-        policy,
+        extra: run.extra,
+        policy: run.policy,
         subscribers: 8,
         emits: 3,
         first: 0,
@@ -280,18 +303,16 @@ where
         sequencer,
     };
     let mut readers = admit_all(rt, &mut stage, places);
-    let emitted = run_all(rt, &mut stage, &mut readers);
-    assert_each(rt, readers, policy);
+    let emitted = run_all(rt, &mut stage, &mut readers, run.words);
+    assert_each(rt, readers, run);
     assert_same(rt, "all words were emitted", emitted, true);
     Ok(())
 }
 
 #[test]
-fn lane_three_emitters_under_suspend(rt: HostRuntime) -> Result<(), Fail> {
-    assert_run(&rt, Policy::Suspend)
-}
-
-#[test]
-fn lane_three_emitters_under_drop_oldest(rt: HostRuntime) -> Result<(), Fail> {
-    assert_run(&rt, Policy::DropOldest)
+fn lane_three_emitters(rt: HostRuntime) -> Result<(), Fail> {
+    for run in RUNS {
+        assert_run(&rt, run)?;
+    }
+    Ok(())
 }

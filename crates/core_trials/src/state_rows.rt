@@ -22,7 +22,6 @@ fn refused_seat(seat: &mut StateSeat<u64>, share: u32) -> u8
 }
 
 /// A call on a flow and on its collector, and its answer.
-#[derive(Clone, Copy)]
 enum Line {
     Set(u64),
     Value(u64),
@@ -45,19 +44,21 @@ fn is_answered(
     task: &MockTask,
     seat: &mut StateSeat<u64>,
     collector: &mut Collector<u64>,
-    line: Line,
+    line: &Line,
 ) -> bool {
     match line {
         Line::Set(value) => {
-            seat.set(value);
+            seat.set(*value);
             true
         }
-        Line::Value(wanted) => seat.value() == wanted,
-        Line::Compare(expect, update, wanted) => seat.compare_and_set(expect, update) == wanted,
-        Line::Ask(wanted) => collector.try_next() == wanted,
+        Line::Value(wanted) => seat.value() == *wanted,
+        Line::Compare(expect, update, wanted) => {
+            seat.compare_and_set(*expect, *update) == *wanted
+        }
+        Line::Ask(wanted) => collector.try_next() == *wanted,
         Line::Poll(wanted) => {
             let value = polled(task, collector);
-            value == wanted && (value.is_some() || task.is_woken())
+            value == *wanted && (value.is_some() || task.is_woken())
         }
     }
 }
@@ -70,7 +71,7 @@ fn answered(
     lines: &[Line],
 ) -> usize {
     for (number, line) in lines.iter().enumerate() {
-        if !is_answered(task, seat, collector, *line) {
+        if !is_answered(task, seat, collector, line) {
             return number;
         }
     }
@@ -137,14 +138,6 @@ fn two_writers_one_state(rt: HostRuntime) -> Result<(), Fail> {
     Ok(())
 }
 
-// The spare seats of a flow of so many, or why it is refused.
-fn spare_of(rt: &HostRuntime, seats: u32) -> Result<u32, u8> {
-    match StateFlow::new(rt.alloc(), 0u64, seats) {
-        Ok(seat) => Ok(seat.spare()),
-        Err(refusal) => Err(refusal.number()),
-    }
-}
-
 // Each taken seat begins to collect.
 fn all_collect(
     seats: Vec<StateSeat<u64>>,
@@ -183,19 +176,6 @@ fn take_seats(
 }
 
 #[test]
-fn seats_have_limits(rt: HostRuntime) {
-    const LIMITS: &[(u32, Result<u32, u8>)] = &[
-        (0, Err(3)),
-        (1, Ok(0)),
-        (1024, Ok(1023)),
-        (1025, Err(3)),
-    ];
-    for (seats, spare) in LIMITS {
-        assert_eq!(rt; spare_of(&rt, *seats), *spare, "{seats}");
-    }
-}
-
-#[test]
 fn seats_full(rt: HostRuntime) -> Result<(), Fail> {
     let mut seat = StateFlow::new(rt.alloc(), 0u64, 9)?;
     let first = seat.take_seat(0)?;
@@ -230,36 +210,6 @@ fn seats_full(rt: HostRuntime) -> Result<(), Fail> {
     );
     drop(ninth.cancel());
     assert_same(&rt, "collectors at the end", seat.collectors(), 0);
-    Ok(())
-}
-
-#[test]
-fn shares_are_counted(rt: HostRuntime) -> Result<(), Fail> {
-    let mut seat = StateFlow::new(rt.alloc(), 0u64, 10)?;
-    assert_same(&rt, "spare seats", seat.spare(), 9);
-    let mut half = seat.take_seat(4)?;
-    assert_same(
-        &rt,
-        "spare seats of both halves",
-        (seat.spare(), half.spare()),
-        (4, 4),
-    );
-    assert_same(
-        &rt,
-        "refusal of more seats than are spare",
-        refused_seat(&mut seat, 4),
-        5,
-    );
-    let quarter = half.take_seat(1)?;
-    assert_same(
-        &rt,
-        "spare seats of the quarters",
-        (half.spare(), quarter.spare()),
-        (2, 1),
-    );
-    seat.give_back(quarter);
-    seat.give_back(half);
-    assert_same(&rt, "spare seats at the end", seat.spare(), 9);
     Ok(())
 }
 

@@ -1,18 +1,14 @@
-//! Which sources a poll asks: how often each, and which it may leave unasked; how often an action at the
-//! end is asked; and that a buffer that is refused leaves nothing started.
-ghost use Rattle.std.specs.Prelude.{◌==◌, if◌then◌else◌};
+//! Which sources a poll asks: how often each, and which it may leave unasked; and that a buffer that is refused leaves nothing
+//! started.
 
 use crate::merge_rows::Watched;
-use crate::tools::{Polling, Sum, assert_same, broken, listed, next};
-use cold_flow::{
-    Apply, Cause, Event, Flow, Numbers, Policy, Refusal, Run, Step, Stepped, on_completion, range,
-    scripted,
-};
+use crate::tools::{ENDED, Pick, Polling, Sum, WAIT, assert_poll, assert_same, stepped};
+use cold_flow::{Event, Flow, Numbers, Policy, Refusal, Run, Step, range};
 use flow_buffer::buffer;
 use flow_merge::{combine, flat_map_concat, flat_map_merge, zip};
 use futures::task::{Context, Poll};
 use futures::test::MockTask;
-use std::alloc::{AllocError, Global};
+use std::alloc::Global;
 use std::cell::Cell;
 use std::process::Abort;
 use std::test::Fail;
@@ -76,16 +72,10 @@ impl<S: Run> Run for CountedRun<'_, S> {
     ghost over = { λ r. S.over r.source };
 }
 
-// Given steps, of which it is counted how often they are asked.
-pub(crate) fn counting<'a>(
-    alloc: Global,
-    steps: &[Step<u64, u64>],
-    count: &'a Cell<u32>,
-) -> Result<Counted<'a, Stepped<u64, u64>>, AllocError> {
-    Ok(Counted {
-        source: scripted(steps.to_vec(alloc)?),
-        count,
-    })
+impl<'a, F> Counted<'a, F> {
+    pub(crate) fn new(source: F, count: &'a Cell<u32>) -> Counted<'a, F> {
+        Counted { source, count }
+    }
 }
 
 // The steps of two sources, and of each poll of an operator over them its answer and how often each source was asked until then.
@@ -96,9 +86,7 @@ struct Asking<'a> {
     polls: &'a [(Polling, u32, u32)],
 }
 
-pub(crate) const WAIT: Step<u64, u64> = Step::Pending;
-
-const ENDED: Polling = Poll::Ready(Event::End(Cause::Finished));
+const SEVEN: Polling = Poll::Ready(Event::Value(7));
 
 const ELEVEN: Polling = Poll::Ready(Event::Value(11));
 
@@ -119,6 +107,17 @@ const PAIRS: &[Asking<'_>] = &[Asking {
 // A side that waits leaves the turn to the other, and is asked again after an answer of it that gave nothing.
 const LATEST: &[Asking<'_>] = &[
     Asking {
+        name: "combine_turns",
+        left: &[Step::Value(1), WAIT, Step::Value(2)],
+        right: &[Step::Value(10), Step::Value(20)],
+        polls: &[
+            (ELEVEN, 1, 1),
+            (Poll::Ready(Event::Value(21)), 2, 2),
+            (Poll::Ready(Event::Value(22)), 3, 2),
+            (ENDED, 4, 3),
+        ],
+    },
+    Asking {
         name: "combine asks the right where the left waits, and the left again",
         left: &[WAIT, Step::Value(1)],
         right: &[Step::Value(10), WAIT, WAIT],
@@ -131,17 +130,6 @@ const LATEST: &[Asking<'_>] = &[
         polls: &[(Poll::Pending, 1, 1), (Poll::Pending, 2, 2), (ELEVEN, 3, 3)],
     },
 ];
-
-// Polls a run once, and compares the answer. A poll that is pending has woken its task.
-fn assert_poll<R: Run<Item = u64, Fault = u64>>(
-    rt: &impl Abort,
-    task: &MockTask,
-    run: &mut R,
-    answer: &Polling,
-) {
-    assert_eq!(rt; next(task, run), *answer);
-    assert!(rt; answer.is_ready() || task.is_woken());
-}
 
 // Polls a run of the flow, and compares each answer and the counts after it.
 fn assert_asks<F: Flow<Item = u64, Fault = u64>>(
@@ -161,223 +149,177 @@ fn assert_asks<F: Flow<Item = u64, Fault = u64>>(
     Ok(())
 }
 
-// Steps whose polls are counted.
-type Counting<'a> = Counted<'a, Stepped<u64, u64>>;
+/// An operator over two flows.
+pub(crate) enum Pairing {
+    Zip,
+    Combine,
+}
 
-// Both sources of a row.
-fn sides<'a>(
-    alloc: Global,
+// Asks the operator over two flows, which are lent.
+fn assert_pairs<F: Flow<Item = u64, Fault = u64>>(
+    rt: &impl Abort,
+    task: &MockTask,
+    pairing: &Pairing,
+    sides: (F, F),
     row: &Asking<'_>,
-    left: &'a Cell<u32>,
-    right: &'a Cell<u32>,
-) -> Result<(Counting<'a>, Counting<'a>), AllocError> {
-    Ok((
-        counting(alloc, row.left, left)?,
-        counting(alloc, row.right, right)?,
-    ))
+    counts: (&Cell<u32>, &Cell<u32>),
+) -> Result<(), Refusal> {
+    let (one, other) = sides;
+    let (left, right) = counts;
+    match pairing {
+        Pairing::Zip => assert_asks(rt, task, zip(one, other, Sum), row, left, right),
+        Pairing::Combine => assert_asks(rt, task, combine(one, other, Sum), row, left, right),
+    }
 }
 
-#[test]
-fn pairs_ask_one_side_at_a_time(rt: HostRuntime) -> Result<(), Fail> {
-    let alloc = rt.alloc();
-    let task = MockTask::new(&rt)?;
-    for row in PAIRS {
-        let left = Cell::new(0);
-        let right = Cell::new(0);
-        let (one, other) = sides(alloc, row, &left, &right)?;
-        assert_asks(&rt, &task, zip(one, other, Sum), row, &left, &right)?;
+// The same of two flows whose polls are counted.
+fn assert_counted<F: Flow<Item = u64, Fault = u64>>(
+    rt: &impl Abort,
+    task: &MockTask,
+    pairing: &Pairing,
+    sides: (F, F),
+    row: &Asking<'_>,
+) -> Result<(), Refusal> {
+    let left = Cell::new(0);
+    let right = Cell::new(0);
+    let one = Counted::new(sides.0, &left);
+    let other = Counted::new(sides.1, &right);
+    assert_pairs(rt, task, pairing, (&one, &other), row, (&left, &right))
+}
+
+// Asks each row's two sources.
+fn assert_rows(
+    rt: &impl Abort,
+    alloc: Global,
+    task: &MockTask,
+    pairing: &Pairing,
+    rows: &[Asking<'_>],
+) -> Result<(), Refusal> {
+    for row in rows {
+        let left = stepped(alloc, row.left)?;
+        let right = stepped(alloc, row.right)?;
+        assert_counted(rt, task, pairing, (&left, &right), row)?;
     }
     Ok(())
 }
 
 #[test]
-fn combinations_wait_for_both_sides(rt: HostRuntime) -> Result<(), Fail> {
-    let alloc = rt.alloc();
+fn pairs_ask_their_sides(rt: HostRuntime) -> Result<(), Fail> {
     let task = MockTask::new(&rt)?;
-    for row in LATEST {
-        let left = Cell::new(0);
-        let right = Cell::new(0);
-        let (one, other) = sides(alloc, row, &left, &right)?;
-        assert_asks(&rt, &task, combine(one, other, Sum), row, &left, &right)?;
-    }
+    assert_rows(&rt, rt.alloc(), &task, &Pairing::Zip, PAIRS)?;
+    assert_rows(&rt, rt.alloc(), &task, &Pairing::Combine, LATEST)?;
     Ok(())
 }
 
-// One flow for the outer value 0, and one for any other.
-#[derive(Clone, Copy)]
-struct Either<F> {
-    zero: F,
-    other: F,
+// The steps of an outer flow whose inner flows give nothing for 0 and 7 for any other value; and of each poll its answer and how
+// often the outer was asked until then.
+struct Outer<'a> {
+    name: &'a str,
+    steps: &'a [Step<u64, u64>],
+    polls: &'a [(Polling, u32)],
 }
 
-impl<F: Copy> Apply<u64> for Either<F> {
-    type Out = F;
+const JOINED: &[Outer<'_>] = &[
+    Outer {
+        name: "the outer is asked in the poll in which an inner flow finishes",
+        steps: &[Step::Value(0), Step::Value(1), WAIT],
+        polls: &[(SEVEN, 2), (Poll::Pending, 3), (ENDED, 4)],
+    },
+    // The values and the ends of 32 inner flows.
+    Outer {
+        name: "a concatenation yields after 64 answers that give the caller nothing",
+        steps: &[Step::Value(0); 40],
+        polls: &[(Poll::Pending, 32), (ENDED, 41)],
+    },
+];
 
-    ghost gives = { λ f x. (if x == 0 then f.zero else f.other) };
-
-    fn apply(&self, argument: u64) -> F {
-        if argument == 0 { self.zero } else { self.other }
-    }
-}
-
-const SEVEN: Polling = Poll::Ready(Event::Value(7));
+const MERGED: &[Outer<'_>] = &[Outer {
+    name: "a merge asks its inner runs though the outer waits",
+    steps: &[Step::Value(1), WAIT, WAIT],
+    polls: &[(SEVEN, 2), (Poll::Pending, 3), (ENDED, 4)],
+}];
 
 // Of each poll of a run its answer, and how often the outer was asked until then.
 fn assert_asks_outer<R: Run<Item = u64, Fault = u64>>(
     rt: &impl Abort,
     task: &MockTask,
     mut run: R,
-    outer: &Cell<u32>,
-    polls: &[(Polling, u32)],
+    count: &Cell<u32>,
+    row: &Outer<'_>,
 ) {
-    for (answer, asked) in polls {
+    for (answer, asked) in row.polls {
         assert_poll(rt, task, &mut run, answer);
-        assert_same(rt, "how often the outer was asked", outer.get(), *asked);
+        assert_same(rt, row.name, count.get(), *asked);
     }
 }
 
 // No value for an outer 0, and 7 for any other.
-fn empty_or_seven() -> Either<Numbers<u64>> {
-    Either {
+fn empty_or_seven() -> Pick<Numbers<u64>> {
+    Pick {
         zero: range(0, 0),
+        one: range(7, 8),
         other: range(7, 8),
     }
 }
 
-// The outer is asked in the poll in which an inner flow finishes.
-#[test]
-fn concatenations_ask_on(rt: HostRuntime) -> Result<(), Fail> {
-    const OUTER: &[Step<u64, u64>] = &[Step::Value(0), Step::Value(1), WAIT];
-    const JOINED: &[(Polling, u32)] = &[(SEVEN, 2), (Poll::Pending, 3), (ENDED, 4)];
-    let task = MockTask::new(&rt)?;
-    let outer = Cell::new(0);
-    let joined = flat_map_concat(counting(rt.alloc(), OUTER, &outer)?, empty_or_seven());
-    assert_asks_outer(&rt, &task, joined.start()?, &outer, JOINED);
-    Ok(())
-}
-
-// A merge asks its inner runs though the outer waits.
-#[test]
-fn merges_ask_on(rt: HostRuntime) -> Result<(), Fail> {
-    const SLOW: &[Step<u64, u64>] = &[Step::Value(1), WAIT, WAIT];
-    const MERGED: &[(Polling, u32)] = &[(SEVEN, 2), (Poll::Pending, 3), (ENDED, 4)];
-    let alloc = rt.alloc();
-    let task = MockTask::new(&rt)?;
-    let outer = Cell::new(0);
-    let merged = flat_map_merge(alloc, counting(alloc, SLOW, &outer)?, empty_or_seven(), 2)?;
-    assert_asks_outer(&rt, &task, merged.start()?, &outer, MERGED);
-    Ok(())
-}
-
-// An action that counts how often it is asked.
-#[derive(Clone, Copy)]
-struct Asked<'a> {
-    asks: &'a Cell<u32>,
-    last: Option<u64>,
-}
-
-impl Apply<Cause<u64>> for Asked<'_> {
-    type Out = Option<u64>;
-
-    ghost gives = { λ f _. f.last };
-
-    fn apply(&self, _argument: Cause<u64>) -> Option<u64> {
-        self.asks.set(self.asks.get().saturating_add(1));
-        self.last
-    }
-}
-
-// How many polls of a run over one value are made before it is cancelled, and how often its action was asked until then.
-struct Told<'a> {
-    name: &'a str,
-    fault: Option<u64>,
-    last: Option<u64>,
-    polls: u32,
-    asked: u32,
-}
-
-const TOLD: &[Told<'_>] = &[
-    Told {
-        name: "cancelled before any poll",
-        fault: None,
-        last: Some(9),
-        polls: 0,
-        asked: 0,
-    },
-    Told {
-        name: "cancelled after a value",
-        fault: None,
-        last: Some(9),
-        polls: 1,
-        asked: 0,
-    },
-    Told {
-        name: "cancelled after the last value",
-        fault: None,
-        last: Some(9),
-        polls: 2,
-        asked: 1,
-    },
-    Told {
-        name: "finished with a last value",
-        fault: None,
-        last: Some(9),
-        polls: 4,
-        asked: 1,
-    },
-    Told {
-        name: "finished without one",
-        fault: None,
-        last: None,
-        polls: 3,
-        asked: 1,
-    },
-    Told {
-        name: "failed",
-        fault: Some(5),
-        last: Some(9),
-        polls: 3,
-        asked: 1,
-    },
-];
-
-// Polls a run, cancels it twice and polls it once more: from its end on its action was asked once.
-fn assert_told<R: Run<Item = u64, Fault = u64>>(
+// A concatenation of an outer flow that is lent.
+fn assert_joined<F: Flow<Item = u64, Fault = u64>>(
     rt: &impl Abort,
     task: &MockTask,
-    mut run: R,
-    row: &Told<'_>,
-    asks: &Cell<u32>,
-) {
-    for _poll in 0..row.polls {
-        let _answer = task.enter(|cx| run.poll_next(cx));
-    }
-    assert_same(rt, row.name, asks.get(), row.asked);
-    run.cancel();
-    assert_same(rt, row.name, asks.get(), 1);
-    run.cancel();
-    let _answer = task.enter(|cx| run.poll_next(cx));
-    assert_same(rt, row.name, asks.get(), 1);
+    outer: F,
+    row: &Outer<'_>,
+) -> Result<(), Refusal> {
+    let count = Cell::new(0);
+    let counted = Counted::new(outer, &count);
+    let run = flat_map_concat(&counted, empty_or_seven()).start()?;
+    assert_asks_outer(rt, task, run, &count, row);
+    Ok(())
 }
 
 #[test]
-fn completion_actions_are_asked_once(rt: HostRuntime) -> Result<(), Fail> {
-    let alloc = rt.alloc();
+fn concatenations_ask_on(rt: HostRuntime) -> Result<(), Fail> {
     let task = MockTask::new(&rt)?;
-    for row in TOLD {
-        let asks = Cell::new(0);
-        let action = Asked {
-            asks: &asks,
-            last: row.last,
-        };
-        let source = match row.fault {
-            Some(fault) => broken(alloc, &[1], fault)?,
-            None => listed(alloc, &[1])?,
-        };
-        let run = on_completion(source, action).start()?;
-        assert_told(&rt, &task, run, row, &asks);
+    for row in JOINED {
+        let outer = stepped(rt.alloc(), row.steps)?;
+        assert_joined(&rt, &task, &outer, row)?;
     }
     Ok(())
+}
+
+// A merge of an outer flow that is lent.
+fn assert_merged<F: Flow<Item = u64, Fault = u64>>(
+    rt: &impl Abort,
+    alloc: Global,
+    task: &MockTask,
+    outer: F,
+    row: &Outer<'_>,
+) -> Result<(), Refusal> {
+    let count = Cell::new(0);
+    let counted = Counted::new(outer, &count);
+    let run = flat_map_merge(alloc, &counted, empty_or_seven(), 2)?.start()?;
+    assert_asks_outer(rt, task, run, &count, row);
+    Ok(())
+}
+
+#[test]
+fn merges_ask_on(rt: HostRuntime) -> Result<(), Fail> {
+    let task = MockTask::new(&rt)?;
+    for row in MERGED {
+        let outer = stepped(rt.alloc(), row.steps)?;
+        assert_merged(&rt, rt.alloc(), &task, &outer, row)?;
+    }
+    Ok(())
+}
+
+// Starts the flow and cancels its run, or says why there is none.
+fn cancelled_or_refused<F: Flow>(flow: F) -> Option<Refusal> {
+    match flow.start() {
+        Ok(mut run) => {
+            run.cancel();
+            None
+        }
+        Err(refusal) => Some(refusal),
+    }
 }
 
 // A buffer whose ring is refused leaves no run of its source going. The ring is the only memory here, so that one is refused under
@@ -390,9 +332,9 @@ fn refused_ring_leaves_nothing_started(rt: HostRuntime) -> Result<(), Fail> {
         starts: &starts,
         cancels: &cancels,
     };
-    match buffer(rt.alloc(), source, 4, Policy::Suspend)?.start() {
-        Ok(mut run) => run.cancel(),
-        Err(refusal) => assert_same(&rt, "refusal of a ring", refusal, Refusal::NoMemory),
+    let refused = cancelled_or_refused(buffer(rt.alloc(), &source, 4, Policy::Suspend)?);
+    if let Some(refusal) = refused {
+        assert_same(&rt, "refusal of a ring", refusal, Refusal::NoMemory);
     }
     assert_same(
         &rt,

@@ -1,8 +1,8 @@
 //! Buffers, in one task and between two threads.
 
 use crate::meeting::Meeting;
-use crate::tools::{Differences, broken, listed};
-use cold_flow::{Cause, Event, Flow, Policy, Refusal, Run, Step, range, scripted};
+use crate::tools::{Differences, WAIT, stepped};
+use cold_flow::{Cause, Event, Flow, Policy, Refusal, Run, Step, range};
 use flow_buffer::{Buffer, Buffered, Drain, Feed, Fill, agree, buffer, conflate, split};
 use futures::task::{Context, Poll};
 use futures::test::MockTask;
@@ -24,9 +24,19 @@ enum Line {
     Cancel,
 }
 
-/// The commands on a new buffer, and how many values were taken and dropped after them.
+/// How much a buffer holds.
+enum Keeps {
+    /// So many values, and what becomes of those that find no place.
+    Places(u64, Policy),
+    /// The latest value alone.
+    Latest,
+}
+
+/// The commands on a new buffer behind a flow of these steps, and how many values were taken and dropped after them.
 struct Row<'a> {
     name: &'a str,
+    steps: &'a [Step<u64, u64>],
+    keeps: Keeps,
     lines: &'a [Line],
     taken: u64,
     dropped: u64,
@@ -64,135 +74,132 @@ fn answered<R: Run<Item = u64, Fault = u64>>(
     lines.len()
 }
 
+const ROWS: &[Row<'_>] = &[
+    Row {
+        name: "buffers_oldest",
+        steps: &[
+            Step::Value(1),
+            Step::Value(2),
+            Step::Value(3),
+            WAIT,
+            Step::Value(4),
+        ],
+        keeps: Keeps::Places(2, Policy::DropOldest),
+        lines: &[
+            Line::Fill(Fill::Took),
+            Line::Fill(Fill::Took),
+            Line::Fill(Fill::Overwrote),
+            Line::Value(2),
+            Line::Fill(Fill::Pending),
+            Line::Value(3),
+            Line::Value(4),
+            Line::End(Cause::Finished),
+            Line::Fill(Fill::Ended),
+        ],
+        taken: 3,
+        dropped: 1,
+    },
+    Row {
+        name: "buffers_latest",
+        steps: &[Step::Value(1), Step::Value(2), Step::Value(3)],
+        keeps: Keeps::Places(1, Policy::DropLatest),
+        lines: &[
+            Line::Fill(Fill::Took),
+            Line::Fill(Fill::Dropped),
+            Line::Value(1),
+            Line::Value(3),
+            Line::End(Cause::Finished),
+        ],
+        taken: 2,
+        dropped: 1,
+    },
+    Row {
+        name: "buffers_suspend",
+        steps: &[Step::Value(1), Step::Value(2), Step::Fail(6)],
+        keeps: Keeps::Places(1, Policy::Suspend),
+        lines: &[
+            Line::Fill(Fill::Took),
+            Line::Fill(Fill::Full),
+            Line::Value(1),
+            Line::Value(2),
+            Line::End(Cause::Failed(6)),
+        ],
+        taken: 2,
+        dropped: 0,
+    },
+    // The first two values are left out.
+    Row {
+        name: "conflating_buffer",
+        steps: &[Step::Value(1), Step::Value(2), Step::Value(3)],
+        keeps: Keeps::Latest,
+        lines: &[
+            Line::Fill(Fill::Took),
+            Line::Fill(Fill::Overwrote),
+            Line::Fill(Fill::Overwrote),
+            Line::Fill(Fill::Ended),
+            Line::Value(3),
+            Line::End(Cause::Finished),
+            Line::Fill(Fill::Ended),
+        ],
+        taken: 1,
+        dropped: 2,
+    },
+    // What is held at a cancel is given up.
+    Row {
+        name: "a cancelled buffer",
+        steps: &[
+            Step::Value(0),
+            Step::Value(1),
+            Step::Value(2),
+            Step::Value(3),
+        ],
+        keeps: Keeps::Places(2, Policy::DropOldest),
+        lines: &[
+            Line::Fill(Fill::Took),
+            Line::Fill(Fill::Took),
+            Line::Fill(Fill::Overwrote),
+            Line::Value(1),
+            Line::Cancel,
+            Line::End(Cause::Cancelled),
+            Line::Fill(Fill::Ended),
+            Line::End(Cause::Cancelled),
+        ],
+        taken: 1,
+        dropped: 1,
+    },
+];
+
+/// A buffer behind the flow.
+fn buffered<F: Flow>(alloc: Global, flow: F, keeps: &Keeps) -> Result<Buffer<F>, Refusal> {
+    match keeps {
+        Keeps::Places(capacity, policy) => buffer(alloc, flow, *capacity, *policy),
+        Keeps::Latest => Ok(conflate(alloc, flow)),
+    }
+}
+
+/// Makes the row's commands on a buffer behind the flow.
 fn compare_row<F: Flow<Item = u64, Fault = u64>>(
     differences: &mut Differences,
+    alloc: Global,
     task: &MockTask,
-    flow: Buffer<F>,
+    flow: F,
     row: &Row<'_>,
 ) -> Result<(), Fail> {
-    let mut buffered = flow.start()?;
+    let mut buffered = buffered(alloc, flow, &row.keeps)?.start()?;
     let lines = answered(task, &mut buffered, row.lines);
     differences.compare(row.name, lines, row.lines.len())?;
     differences.compare(row.name, buffered.taken_count(), row.taken)?;
     differences.compare(row.name, buffered.dropped_count(), row.dropped)
 }
 
-const DROPS_THE_OLDEST: &Row<'_> = &Row {
-    name: "buffers_oldest",
-    lines: &[
-        Line::Fill(Fill::Took),
-        Line::Fill(Fill::Took),
-        Line::Fill(Fill::Overwrote),
-        Line::Value(2),
-        Line::Fill(Fill::Pending),
-        Line::Value(3),
-        Line::Value(4),
-        Line::End(Cause::Finished),
-        Line::Fill(Fill::Ended),
-    ],
-    taken: 3,
-    dropped: 1,
-};
-
-const DROPS_THE_LATEST: &Row<'_> = &Row {
-    name: "buffers_latest",
-    lines: &[
-        Line::Fill(Fill::Took),
-        Line::Fill(Fill::Dropped),
-        Line::Value(1),
-        Line::Value(3),
-        Line::End(Cause::Finished),
-    ],
-    taken: 2,
-    dropped: 1,
-};
-
-const WAITS: &Row<'_> = &Row {
-    name: "buffers_suspend",
-    lines: &[
-        Line::Fill(Fill::Took),
-        Line::Fill(Fill::Full),
-        Line::Value(1),
-        Line::Value(2),
-        Line::End(Cause::Failed(6)),
-    ],
-    taken: 2,
-    dropped: 0,
-};
-
-/// The first two values are left out.
-const KEEPS_THE_LATEST: &Row<'_> = &Row {
-    name: "conflating_buffer",
-    lines: &[
-        Line::Fill(Fill::Took),
-        Line::Fill(Fill::Overwrote),
-        Line::Fill(Fill::Overwrote),
-        Line::Fill(Fill::Ended),
-        Line::Value(3),
-        Line::End(Cause::Finished),
-        Line::Fill(Fill::Ended),
-    ],
-    taken: 1,
-    dropped: 2,
-};
-
-/// What is held at a cancel is given up.
-const CANCELLED: &Row<'_> = &Row {
-    name: "a cancelled buffer",
-    lines: &[
-        Line::Fill(Fill::Took),
-        Line::Fill(Fill::Took),
-        Line::Fill(Fill::Overwrote),
-        Line::Value(1),
-        Line::Cancel,
-        Line::End(Cause::Cancelled),
-        Line::Fill(Fill::Ended),
-        Line::End(Cause::Cancelled),
-    ],
-    taken: 1,
-    dropped: 1,
-};
-
 #[test]
 fn buffers_in_one_task(rt: HostRuntime) -> Result<(), Fail> {
-    const STEPS: &[Step<u64, u64>] = &[
-        Step::Value(1),
-        Step::Value(2),
-        Step::Value(3),
-        Step::Pending,
-        Step::Value(4),
-    ];
-    let alloc = rt.alloc();
-    let task = MockTask::new(&rt)?;
-    let mut all = Differences::none(alloc);
-    let steps = scripted(STEPS.to_vec(alloc)?);
-    let oldest = buffer(alloc, steps, 2, Policy::DropOldest)?;
-    compare_row(&mut all, &task, oldest, DROPS_THE_OLDEST)?;
-    let waiting = buffer(alloc, broken(alloc, &[1, 2], 6)?, 1, Policy::Suspend)?;
-    compare_row(&mut all, &task, waiting, WAITS)?;
-    all.assert_none(&rt);
-    Ok(())
-}
-
-#[test]
-fn a_cancelled_buffer_gives_no_more(rt: HostRuntime) -> Result<(), Fail> {
     let task = MockTask::new(&rt)?;
     let mut all = Differences::none(rt.alloc());
-    let numbers = buffer(rt.alloc(), range::<u64>(0, 9), 2, Policy::DropOldest)?;
-    compare_row(&mut all, &task, numbers, CANCELLED)?;
-    all.assert_none(&rt);
-    Ok(())
-}
-
-#[test]
-fn buffers_that_drop_the_latest_or_keep_it_alone(rt: HostRuntime) -> Result<(), Fail> {
-    let alloc = rt.alloc();
-    let task = MockTask::new(&rt)?;
-    let mut all = Differences::none(alloc);
-    let latest = buffer(alloc, listed(alloc, &[1, 2, 3])?, 1, Policy::DropLatest)?;
-    compare_row(&mut all, &task, latest, DROPS_THE_LATEST)?;
-    let newest = conflate(alloc, listed(alloc, &[1, 2, 3])?);
-    compare_row(&mut all, &task, newest, KEEPS_THE_LATEST)?;
+    for row in ROWS {
+        let flow = stepped(rt.alloc(), row.steps)?;
+        compare_row(&mut all, rt.alloc(), &task, &flow, row)?;
+    }
     all.assert_none(&rt);
     Ok(())
 }
@@ -373,10 +380,13 @@ enum Turn {
     TryNext(Option<Event<u64, u64>>),
 }
 
-/// The calls of both sides in turn, then those of the drain once the feed is cancelled, and how many values were dropped and
+/// A flow of these steps that is split, the calls of both sides in turn, then those of the drain once the feed is cancelled, and how many values were dropped and
 /// taken then.
 struct Turns<'a> {
     name: &'a str,
+    steps: &'a [Step<u64, u64>],
+    capacity: u64,
+    policy: Policy,
     turns: &'a [Turn],
     rest: &'a [Event<u64, u64>],
     dropped: u64,
@@ -389,156 +399,198 @@ const FAILURE: Event<u64, u64> = Event::End(Cause::Failed(6));
 
 const CANCEL: Event<u64, u64> = Event::End(Cause::Cancelled);
 
-const CANCELLED_FEED: &Turns<'_> = &Turns {
-    name: "feed_cancelled",
-    turns: &[Turn::Pump(Fill::Took), Turn::Pump(Fill::Took)],
-    rest: &[Event::Value(1), Event::Value(2), CANCEL, CANCEL],
-    dropped: 0,
-    taken: 2,
-};
-
-/// A source that has nothing yet, and then fails.
-const ONE_END: &Turns<'_> = &Turns {
-    name: "a feed sends one end",
-    turns: &[
-        Turn::Pump(Fill::Pending),
-        Turn::Pump(Fill::Ended),
-        Turn::Pump(Fill::Ended),
-    ],
-    rest: &[FAILURE, FAILURE],
-    dropped: 0,
-    taken: 0,
-};
-
-/// A buffer that is never emptied while it is filled.
-const FULL_DROPS_THE_OLDEST: &Turns<'_> = &Turns {
-    name: "a full split drops the oldest",
-    turns: &[
-        Turn::Pump(Fill::Took),
-        Turn::Pump(Fill::Overwrote),
-        Turn::Pump(Fill::Overwrote),
-        Turn::Next(Event::Value(2)),
-        Turn::Pump(Fill::Ended),
-        Turn::Next(END),
-    ],
-    rest: &[END],
-    dropped: 2,
-    taken: 1,
-};
-
-const FULL_DROPS_THE_LATEST: &Turns<'_> = &Turns {
-    name: "a full split drops the latest",
-    turns: &[
-        Turn::Pump(Fill::Took),
-        Turn::Pump(Fill::Dropped),
-        Turn::Pump(Fill::Dropped),
-        Turn::Next(Event::Value(0)),
-        Turn::Pump(Fill::Ended),
-        Turn::Next(END),
-    ],
-    rest: &[END],
-    dropped: 2,
-    taken: 1,
-};
-
-/// A buffer that was full once drops nothing more while it has room.
-const REFILLED_AFTER_THE_OLDEST: &Turns<'_> = &Turns {
-    name: "a refilled split drops nothing, the oldest dropped before",
-    turns: &[
-        Turn::Pump(Fill::Took),
-        Turn::Pump(Fill::Took),
-        Turn::Pump(Fill::Overwrote),
-        Turn::Next(Event::Value(1)),
-        Turn::Pump(Fill::Took),
-        Turn::Next(Event::Value(2)),
-        Turn::Next(Event::Value(3)),
-        Turn::Pump(Fill::Took),
-        Turn::Next(Event::Value(4)),
-        Turn::Pump(Fill::Ended),
-        Turn::Next(END),
-    ],
-    rest: &[END],
-    dropped: 1,
-    taken: 4,
-};
-
-const REFILLED_AFTER_THE_LATEST: &Turns<'_> = &Turns {
-    name: "a refilled split drops nothing, the latest dropped before",
-    turns: &[
-        Turn::Pump(Fill::Took),
-        Turn::Pump(Fill::Took),
-        Turn::Pump(Fill::Dropped),
-        Turn::Next(Event::Value(0)),
-        Turn::Pump(Fill::Took),
-        Turn::Next(Event::Value(1)),
-        Turn::Next(Event::Value(3)),
-        Turn::Pump(Fill::Took),
-        Turn::Next(Event::Value(4)),
-        Turn::Pump(Fill::Ended),
-        Turn::Next(END),
-    ],
-    rest: &[END],
-    dropped: 1,
-    taken: 4,
-};
-
-/// A value and an end that find no place wait in the feed. A source that was asked over one that waits would lose it.
-const NEITHER_WAITS: &Turns<'_> = &Turns {
-    name: "neither side of a split waits",
-    turns: &[
-        Turn::TryNext(None),
-        Turn::TryPump(Some(Fill::Pending)),
-        Turn::TryPump(Some(Fill::Took)),
-        Turn::TryPump(None),
-        Turn::TryPump(None),
-        Turn::TryNext(Some(Event::Value(1))),
-        Turn::TryNext(None),
-        Turn::TryPump(Some(Fill::Took)),
-        Turn::TryPump(None),
-        Turn::TryNext(Some(Event::Value(2))),
-        Turn::TryNext(None),
-        Turn::TryPump(Some(Fill::Ended)),
-        Turn::TryPump(Some(Fill::Ended)),
-        Turn::TryNext(Some(FAILURE)),
-        Turn::TryNext(Some(FAILURE)),
-    ],
-    rest: &[FAILURE],
-    dropped: 0,
-    taken: 2,
-};
-
-/// The next pump puts what waits, and so does a cancel.
-const WAITED_IS_PUT: &Turns<'_> = &Turns {
-    name: "what waited is put",
-    turns: &[
-        Turn::TryPump(Some(Fill::Took)),
-        Turn::TryPump(Some(Fill::Took)),
-        Turn::TryPump(None),
-        Turn::Next(Event::Value(1)),
-        Turn::Pump(Fill::Took),
-        Turn::TryPump(None),
-        Turn::Next(Event::Value(2)),
-        Turn::Next(Event::Value(3)),
-    ],
-    rest: &[Event::Value(4), CANCEL],
-    dropped: 0,
-    taken: 4,
-};
-
-/// Only the end waits where the policy drops, and a cancel sends it.
-const ONLY_THE_END_WAITS: &Turns<'_> = &Turns {
-    name: "only the end waits",
-    turns: &[
-        Turn::TryPump(Some(Fill::Took)),
-        Turn::TryPump(Some(Fill::Overwrote)),
-        Turn::TryPump(None),
-        Turn::TryNext(Some(Event::Value(2))),
-        Turn::TryNext(None),
-    ],
-    rest: &[FAILURE, FAILURE],
-    dropped: 1,
-    taken: 1,
-};
+const TURNED: &[Turns<'_>] = &[
+    Turns {
+        name: "feed_cancelled",
+        steps: &[Step::Value(1), Step::Value(2), Step::Value(3)],
+        capacity: 4,
+        policy: Policy::Suspend,
+        turns: &[Turn::Pump(Fill::Took), Turn::Pump(Fill::Took)],
+        rest: &[Event::Value(1), Event::Value(2), CANCEL, CANCEL],
+        dropped: 0,
+        taken: 2,
+    },
+    // A source that has nothing yet, and then fails.
+    Turns {
+        name: "a feed sends one end",
+        steps: &[WAIT, Step::Fail(6)],
+        capacity: 1,
+        policy: Policy::Suspend,
+        turns: &[
+            Turn::Pump(Fill::Pending),
+            Turn::Pump(Fill::Ended),
+            Turn::Pump(Fill::Ended),
+        ],
+        rest: &[FAILURE, FAILURE],
+        dropped: 0,
+        taken: 0,
+    },
+    // A buffer that is never emptied while it is filled.
+    Turns {
+        name: "a full split drops the oldest",
+        steps: &[Step::Value(0), Step::Value(1), Step::Value(2)],
+        capacity: 1,
+        policy: Policy::DropOldest,
+        turns: &[
+            Turn::Pump(Fill::Took),
+            Turn::Pump(Fill::Overwrote),
+            Turn::Pump(Fill::Overwrote),
+            Turn::Next(Event::Value(2)),
+            Turn::Pump(Fill::Ended),
+            Turn::Next(END),
+        ],
+        rest: &[END],
+        dropped: 2,
+        taken: 1,
+    },
+    Turns {
+        name: "a full split drops the latest",
+        steps: &[Step::Value(0), Step::Value(1), Step::Value(2)],
+        capacity: 1,
+        policy: Policy::DropLatest,
+        turns: &[
+            Turn::Pump(Fill::Took),
+            Turn::Pump(Fill::Dropped),
+            Turn::Pump(Fill::Dropped),
+            Turn::Next(Event::Value(0)),
+            Turn::Pump(Fill::Ended),
+            Turn::Next(END),
+        ],
+        rest: &[END],
+        dropped: 2,
+        taken: 1,
+    },
+    // A buffer that was full once drops nothing more while it has room.
+    Turns {
+        name: "a refilled split drops nothing, the oldest dropped before",
+        steps: &[
+            Step::Value(0),
+            Step::Value(1),
+            Step::Value(2),
+            Step::Value(3),
+            Step::Value(4),
+        ],
+        capacity: 2,
+        policy: Policy::DropOldest,
+        turns: &[
+            Turn::Pump(Fill::Took),
+            Turn::Pump(Fill::Took),
+            Turn::Pump(Fill::Overwrote),
+            Turn::Next(Event::Value(1)),
+            Turn::Pump(Fill::Took),
+            Turn::Next(Event::Value(2)),
+            Turn::Next(Event::Value(3)),
+            Turn::Pump(Fill::Took),
+            Turn::Next(Event::Value(4)),
+            Turn::Pump(Fill::Ended),
+            Turn::Next(END),
+        ],
+        rest: &[END],
+        dropped: 1,
+        taken: 4,
+    },
+    Turns {
+        name: "a refilled split drops nothing, the latest dropped before",
+        steps: &[
+            Step::Value(0),
+            Step::Value(1),
+            Step::Value(2),
+            Step::Value(3),
+            Step::Value(4),
+        ],
+        capacity: 2,
+        policy: Policy::DropLatest,
+        turns: &[
+            Turn::Pump(Fill::Took),
+            Turn::Pump(Fill::Took),
+            Turn::Pump(Fill::Dropped),
+            Turn::Next(Event::Value(0)),
+            Turn::Pump(Fill::Took),
+            Turn::Next(Event::Value(1)),
+            Turn::Next(Event::Value(3)),
+            Turn::Pump(Fill::Took),
+            Turn::Next(Event::Value(4)),
+            Turn::Pump(Fill::Ended),
+            Turn::Next(END),
+        ],
+        rest: &[END],
+        dropped: 1,
+        taken: 4,
+    },
+    // A value and an end that find no place wait in the feed. A source that was asked over one that waits would lose it.
+    Turns {
+        name: "neither side of a split waits",
+        steps: &[WAIT, Step::Value(1), Step::Value(2), Step::Fail(6)],
+        capacity: 1,
+        policy: Policy::Suspend,
+        turns: &[
+            Turn::TryNext(None),
+            Turn::TryPump(Some(Fill::Pending)),
+            Turn::TryPump(Some(Fill::Took)),
+            Turn::TryPump(None),
+            Turn::TryPump(None),
+            Turn::TryNext(Some(Event::Value(1))),
+            Turn::TryNext(None),
+            Turn::TryPump(Some(Fill::Took)),
+            Turn::TryPump(None),
+            Turn::TryNext(Some(Event::Value(2))),
+            Turn::TryNext(None),
+            Turn::TryPump(Some(Fill::Ended)),
+            Turn::TryPump(Some(Fill::Ended)),
+            Turn::TryNext(Some(FAILURE)),
+            Turn::TryNext(Some(FAILURE)),
+        ],
+        rest: &[FAILURE],
+        dropped: 0,
+        taken: 2,
+    },
+    // The next pump puts what waits, and so does a cancel.
+    Turns {
+        name: "what waited is put",
+        steps: &[
+            Step::Value(1),
+            Step::Value(2),
+            Step::Value(3),
+            Step::Value(4),
+            Step::Value(5),
+            Step::Value(6),
+            Step::Value(7),
+            Step::Value(8),
+        ],
+        capacity: 2,
+        policy: Policy::Suspend,
+        turns: &[
+            Turn::TryPump(Some(Fill::Took)),
+            Turn::TryPump(Some(Fill::Took)),
+            Turn::TryPump(None),
+            Turn::Next(Event::Value(1)),
+            Turn::Pump(Fill::Took),
+            Turn::TryPump(None),
+            Turn::Next(Event::Value(2)),
+            Turn::Next(Event::Value(3)),
+        ],
+        rest: &[Event::Value(4), CANCEL],
+        dropped: 0,
+        taken: 4,
+    },
+    // Only the end waits where the policy drops, and a cancel sends it.
+    Turns {
+        name: "only the end waits",
+        steps: &[Step::Value(1), Step::Value(2), Step::Fail(6)],
+        capacity: 1,
+        policy: Policy::DropOldest,
+        turns: &[
+            Turn::TryPump(Some(Fill::Took)),
+            Turn::TryPump(Some(Fill::Overwrote)),
+            Turn::TryPump(None),
+            Turn::TryNext(Some(Event::Value(2))),
+            Turn::TryNext(None),
+        ],
+        rest: &[FAILURE, FAILURE],
+        dropped: 1,
+        taken: 1,
+    },
+];
 
 /// How many turns, from the first on, were answered as they say.
 fn taken_turns<U: Run<Item = u64, Fault = u64>>(
@@ -562,14 +614,15 @@ fn taken_turns<U: Run<Item = u64, Fault = u64>>(
     turns.len()
 }
 
-fn compare_turns<U: Run<Item = u64, Fault = u64>>(
+fn compare_turns<F: Flow<Item = u64, Fault = u64>>(
     rt: &impl Wait,
+    alloc: Global,
     differences: &mut Differences,
     task: &MockTask,
-    sides: (Feed<U>, Drain<u64, u64>),
+    flow: F,
     row: &Turns<'_>,
 ) -> Result<(), Fail> {
-    let (mut feed, mut drain) = sides;
+    let (mut feed, mut drain) = split(alloc, flow, row.capacity, row.policy)?;
     let count = taken_turns(rt, task, &mut feed, &mut drain, row.turns);
     let dropped = feed.dropped_count();
     feed.cancel(rt);
@@ -583,37 +636,12 @@ fn compare_turns<U: Run<Item = u64, Fault = u64>>(
 
 #[test]
 fn turns_of_a_split(rt: HostRuntime) -> Result<(), Fail> {
-    const STEPS: &[Step<u64, u64>] = &[Step::Pending, Step::Fail(6)];
-    let alloc = rt.alloc();
     let task = MockTask::new(&rt)?;
-    let mut all = Differences::none(alloc);
-    let sides = split(alloc, listed(alloc, &[1, 2, 3])?, 4, Policy::Suspend)?;
-    compare_turns(&rt, &mut all, &task, sides, CANCELLED_FEED)?;
-    let steps = scripted(STEPS.to_vec(alloc)?);
-    let sides = split(alloc, steps, 1, Policy::Suspend)?;
-    compare_turns(&rt, &mut all, &task, sides, ONE_END)?;
-    all.assert_none(&rt);
-    Ok(())
-}
-
-#[test]
-fn turns_that_do_not_wait(rt: HostRuntime) -> Result<(), Fail> {
-    const STEPS: &[Step<u64, u64>] = &[
-        Step::Pending,
-        Step::Value(1),
-        Step::Value(2),
-        Step::Fail(6),
-    ];
-    let alloc = rt.alloc();
-    let task = MockTask::new(&rt)?;
-    let mut all = Differences::none(alloc);
-    let steps = scripted(STEPS.to_vec(alloc)?);
-    let sides = split(alloc, steps, 1, Policy::Suspend)?;
-    compare_turns(&rt, &mut all, &task, sides, NEITHER_WAITS)?;
-    let sides = split(alloc, range::<u64>(1, 9), 2, Policy::Suspend)?;
-    compare_turns(&rt, &mut all, &task, sides, WAITED_IS_PUT)?;
-    let sides = split(alloc, broken(alloc, &[1, 2], 6)?, 1, Policy::DropOldest)?;
-    compare_turns(&rt, &mut all, &task, sides, ONLY_THE_END_WAITS)?;
+    let mut all = Differences::none(rt.alloc());
+    for row in TURNED {
+        let flow = stepped(rt.alloc(), row.steps)?;
+        compare_turns(&rt, rt.alloc(), &mut all, &task, &flow, row)?;
+    }
     all.assert_none(&rt);
     Ok(())
 }
@@ -670,34 +698,6 @@ fn neither_side_waits_for_the_other(rt: HostRuntime) -> Result<(), Fail> {
     Ok(())
 }
 
-#[test]
-fn turns_of_a_full_split(rt: HostRuntime) -> Result<(), Fail> {
-    let alloc = rt.alloc();
-    let task = MockTask::new(&rt)?;
-    let mut all = Differences::none(alloc);
-    let sides = split(alloc, range::<u64>(0, 3), 1, Policy::DropOldest)?;
-    compare_turns(&rt, &mut all, &task, sides, FULL_DROPS_THE_OLDEST)?;
-    let sides = split(alloc, range::<u64>(0, 3), 1, Policy::DropLatest)?;
-    compare_turns(&rt, &mut all, &task, sides, FULL_DROPS_THE_LATEST)?;
-    all.assert_none(&rt);
-    let (feed, drain) = split(alloc, range::<u64>(0, 2), 1, Policy::DropLatest)?;
-    agree(feed, drain);
-    Ok(())
-}
-
-#[test]
-fn refilled_split_drops_nothing(rt: HostRuntime) -> Result<(), Fail> {
-    let alloc = rt.alloc();
-    let task = MockTask::new(&rt)?;
-    let mut all = Differences::none(alloc);
-    let sides = split(alloc, range::<u64>(0, 5), 2, Policy::DropOldest)?;
-    compare_turns(&rt, &mut all, &task, sides, REFILLED_AFTER_THE_OLDEST)?;
-    let sides = split(alloc, range::<u64>(0, 5), 2, Policy::DropLatest)?;
-    compare_turns(&rt, &mut all, &task, sides, REFILLED_AFTER_THE_LATEST)?;
-    all.assert_none(&rt);
-    Ok(())
-}
-
 /// A buffer of capacity 1 that is emptied after each value: how many of the numbers from 0 up each came right after it was put
 /// in, and how many were dropped and taken.
 fn emptied_split<R: Wait + RandomSource + AllocGlobal>(
@@ -727,39 +727,10 @@ fn emptied_split_drops_nothing(rt: HostRuntime) -> Result<(), Fail> {
     Ok(())
 }
 
-/// Why no buffer of that capacity can be made and started in one task, where it can't.
-fn refused_buffer(alloc: Global, capacity: u64) -> Option<Refusal> {
-    match buffer(alloc, range::<u64>(0, 1), capacity, Policy::Suspend) {
-        Ok(flow) => flow.start().err(),
-        Err(refusal) => Some(refusal),
-    }
-}
-
-/// Why no buffer of that capacity can be split between two threads, where it can't. One that can is cancelled at once.
-fn refused_split<R: Wait + Abort + AllocGlobal>(rt: &R, capacity: u64) -> Option<Refusal> {
-    match split(rt.alloc(), range::<u64>(0, 1), capacity, Policy::Suspend) {
-        Ok((feed, mut drain)) => {
-            feed.cancel(rt);
-            assert_eq!(rt; drain.next(rt), CANCEL);
-            None
-        }
-        Err(refusal) => Some(refusal),
-    }
-}
-
+// Both sides are there at once.
 #[test]
-fn capacities_have_limits(rt: HostRuntime) {
-    const LIMITS: &[(u64, Option<Refusal>)] = &[
-        (0, Some(Refusal::NotPositive)),
-        (65536, None),
-        (65537, Some(Refusal::TooLarge)),
-    ];
-    for (capacity, refusal) in LIMITS {
-        assert_eq!(rt;
-            refused_buffer(rt.alloc(), *capacity),
-            *refusal,
-            "{capacity}"
-        );
-        assert_eq!(rt; refused_split(&rt, *capacity), *refusal, "{capacity}");
-    }
+fn both_sides_agree(rt: HostRuntime) -> Result<(), Fail> {
+    let (feed, drain) = split(rt.alloc(), range::<u64>(0, 2), 1, Policy::DropLatest)?;
+    agree(feed, drain);
+    Ok(())
 }

@@ -1,17 +1,17 @@
 //! Runs that are cancelled after each number of polls: the next poll is the cancellation, or the end that was given before, and no
 //! source is polled after it.
+ghost use Rattle.std.specs.Prelude.{◌≡◌, ⊤};
 
-ghost use Rattle.std.specs.Prelude.{Some};
-
-use crate::asking_rows::{WAIT, counting};
-use crate::tools::{Answer, Same, Sum, assert_same, next};
+use crate::asking_rows::{Counted, Pairing};
+use crate::cold_rows::Asked;
+use crate::tools::{Same, Sum, WAIT, assert_same, next, stepped};
 use cold_flow::{
     Apply, Caught, Cause, Event, Flow, Refusal, Run, Step, catch_with, on_completion, range, take,
 };
 use flow_merge::{combine, flat_map_concat, flat_map_merge, zip};
 use futures::task::Poll;
 use futures::test::MockTask;
-use std::alloc::Global;
+use std::alloc::{AllocError, Global};
 use std::cell::Cell;
 use std::process::Abort;
 use std::test::Fail;
@@ -22,29 +22,38 @@ const POLLS: u32 = 20;
 /// What a source gives.
 const STEPS: &[Step<u64, u64>] = &[Step::Value(0), WAIT, Step::Value(1), Step::Value(2)];
 
-/// A last value, whatever the cause.
-#[derive(Clone, Copy)]
-struct LastValue(u64);
+/// Any failure becomes a given answer.
+#[derive(Copy)]
+struct Answer(Caught<u64, u64>);
 
-impl Apply<Cause<u64>> for LastValue {
-    type Out = Option<u64>;
+impl Clone for Answer {
+    ghost is_clone = { λ function copy. copy ≡ function };
 
-    ghost gives = { λ f _. Some f.0 };
+    ghost is_infallible = { λ _. ⊤ };
 
-    fn apply(&self, _argument: Cause<u64>) -> Option<u64> {
-        Some(self.0)
+    fn clone(&self) -> Result<Self, AllocError> {
+        Ok(*self)
+    }
+}
+
+impl Apply<u64> for Answer {
+    type Out = Caught<u64, u64>;
+
+    ghost gives = { λ f _. f.0 };
+
+    fn apply(&self, _argument: u64) -> Caught<u64, u64> {
+        self.0
     }
 }
 
 // Cancels a run after so many polls. Its end follows, and no source is polled any more. Whether it had ended before.
-fn assert_cancelled<F: Flow<Item = u64, Fault = u64>>(
+fn assert_cancelled<R: Run<Item = u64, Fault = u64>>(
     rt: &impl Abort,
     task: &MockTask,
     counted: &Cell<u32>,
-    flow: &F,
+    mut run: R,
     polls: u32,
-) -> Result<bool, Refusal> {
-    let mut run = flow.start()?;
+) -> bool {
     let mut cause = Cause::Cancelled;
     for _poll in 0..polls {
         if let Poll::Ready(Event::End(given)) = next(task, &mut run) {
@@ -52,13 +61,13 @@ fn assert_cancelled<F: Flow<Item = u64, Fault = u64>>(
         }
     }
     let before = counted.get();
-    run.cancel();
-    for _poll in 0..2 {
+    for _cancel in 0..2 {
+        run.cancel();
         let polled = next(task, &mut run);
         assert_same(rt, "after it", polled, Poll::Ready(Event::End(cause)));
     }
     assert_same(rt, "polls of the sources", counted.get(), before);
-    Ok(cause == Cause::Finished)
+    cause == Cause::Finished
 }
 
 // The same after each number of polls. The flow had ended in the last of them, and not in the first.
@@ -70,7 +79,7 @@ fn assert_cancelled_at_any_time<F: Flow<Item = u64, Fault = u64>>(
 ) -> Result<(), Refusal> {
     let mut ended: u32 = 0;
     for polls in 0..POLLS {
-        if assert_cancelled(rt, task, counted, &flow, polls)? {
+        if assert_cancelled(rt, task, counted, flow.start()?, polls) {
             ended = ended.saturating_add(1);
         }
     }
@@ -78,53 +87,48 @@ fn assert_cancelled_at_any_time<F: Flow<Item = u64, Fault = u64>>(
     Ok(())
 }
 
-#[test]
-fn completion_polls_no_source_after_the_cancel(rt: HostRuntime) -> Result<(), Fail> {
-    let task = MockTask::new(&rt)?;
-    let polls = Cell::new(0);
-    let completed = on_completion(counting(rt.alloc(), STEPS, &polls)?, LastValue(9));
-    assert_cancelled_at_any_time(&rt, &task, &polls, completed)?;
-    Ok(())
-}
-
-#[test]
-fn take_polls_no_source_after_the_cancel(rt: HostRuntime) -> Result<(), Fail> {
-    let task = MockTask::new(&rt)?;
-    let polls = Cell::new(0);
-    let taken = take(counting(rt.alloc(), STEPS, &polls)?, 2)?;
-    assert_cancelled_at_any_time(&rt, &task, &polls, taken)?;
-    Ok(())
-}
-
-#[test]
-fn catch_polls_no_source_after_the_cancel(rt: HostRuntime) -> Result<(), Fail> {
-    let task = MockTask::new(&rt)?;
-    let polls = Cell::new(0);
-    let caught = catch_with(
-        counting(rt.alloc(), STEPS, &polls)?,
-        Answer(Caught::Last(9)),
-    );
-    assert_cancelled_at_any_time(&rt, &task, &polls, caught)?;
-    Ok(())
-}
-
-// Both sides of a pair count their polls.
-fn assert_pairs_cancelled<F: Flow<Item = u64, Fault = u64>>(
+// Operators over one flow, which counts its polls.
+fn assert_operators_cancelled<F: Flow<Item = u64, Fault = u64> + Copy>(
     rt: &impl Abort,
     task: &MockTask,
     counted: &Cell<u32>,
-    sides: (F, F),
-    is_zipped: bool,
+    source: F,
 ) -> Result<(), Refusal> {
-    let (left, right) = sides;
-    if is_zipped {
-        return assert_cancelled_at_any_time(rt, task, counted, zip(left, right, Sum));
-    }
-    assert_cancelled_at_any_time(rt, task, counted, combine(left, right, Sum))
+    let asks = Cell::new(0);
+    let action = Asked {
+        asks: &asks,
+        last: Some(9),
+    };
+    assert_cancelled_at_any_time(rt, task, counted, on_completion(source, action))?;
+    assert_cancelled_at_any_time(
+        rt,
+        task,
+        counted,
+        catch_with(source, Answer(Caught::Last(9))),
+    )?;
+    assert_cancelled_at_any_time(rt, task, counted, take(source, 2)?)
 }
 
-// The outer flow counts its polls.
-fn assert_flat_cancelled<F: Flow<Item = u64, Fault = u64>>(
+// Two flows, which count their polls.
+fn assert_pairs_cancelled<F: Flow<Item = u64, Fault = u64> + Copy>(
+    rt: &impl Abort,
+    task: &MockTask,
+    counted: &Cell<u32>,
+    source: F,
+    pairing: &Pairing,
+) -> Result<(), Refusal> {
+    match pairing {
+        Pairing::Zip => {
+            assert_cancelled_at_any_time(rt, task, counted, zip(source, source, Sum))
+        }
+        Pairing::Combine => {
+            assert_cancelled_at_any_time(rt, task, counted, combine(source, source, Sum))
+        }
+    }
+}
+
+// An outer flow that counts its polls.
+fn assert_flat_cancelled<F: Flow<Item = u64, Fault = u64> + Copy>(
     rt: &impl Abort,
     task: &MockTask,
     counted: &Cell<u32>,
@@ -144,19 +148,26 @@ fn assert_flat_cancelled<F: Flow<Item = u64, Fault = u64>>(
     }
 }
 
+fn assert_all_cancelled<F: Flow<Item = u64, Fault = u64> + Copy>(
+    rt: &impl Abort,
+    alloc: Global,
+    task: &MockTask,
+    counted: &Cell<u32>,
+    source: F,
+) -> Result<(), Refusal> {
+    assert_operators_cancelled(rt, task, counted, source)?;
+    assert_pairs_cancelled(rt, task, counted, source, &Pairing::Zip)?;
+    assert_pairs_cancelled(rt, task, counted, source, &Pairing::Combine)?;
+    assert_flat_cancelled(rt, task, counted, source, Some(alloc))?;
+    assert_flat_cancelled(rt, task, counted, source, None)
+}
+
 #[test]
-fn merges_poll_no_source_after_the_cancel(rt: HostRuntime) -> Result<(), Fail> {
-    let alloc = rt.alloc();
+fn no_source_is_polled_after_the_cancel(rt: HostRuntime) -> Result<(), Fail> {
     let task = MockTask::new(&rt)?;
-    let polls = Cell::new(0);
-    for is_zipped in [true, false] {
-        let left = counting(alloc, STEPS, &polls)?;
-        let sides = (left, counting(alloc, STEPS, &polls)?);
-        assert_pairs_cancelled(&rt, &task, &polls, sides, is_zipped)?;
-    }
-    for merging in [Some(alloc), None] {
-        let outer = counting(alloc, STEPS, &polls)?;
-        assert_flat_cancelled(&rt, &task, &polls, outer, merging)?;
-    }
+    let counted = Cell::new(0);
+    let steps = stepped(rt.alloc(), STEPS)?;
+    let source = Counted::new(&steps, &counted);
+    assert_all_cancelled(&rt, rt.alloc(), &task, &counted, &source)?;
     Ok(())
 }

@@ -2,26 +2,20 @@
 //! `rt try --test --fail-alloc N`, the call that wanted it is refused with 4 and leaves all as it was: made once more,
 //! it gives the same answer. So each test passes with ample memory, and whichever allocation is refused.
 
-use crate::tools::{Differences, Polling, Same, Sum, broken, listed, next, task_made};
+use crate::tools::{
+    Differences, ENDED, Polling, Same, Sum, WAIT, listed, next, stepped, task_made,
+};
 use cold_flow::{
     Cause, Collected, Collecting, Event, Finite, Flow, Listed, Policy, Refusal, Run, Step, Stepped,
-    collect, distinct, range, scripted, take, to_list,
+    collect, distinct, range, take, to_list,
 };
 use flow_buffer::{Drain, Feed, Fill, buffer, conflate, split};
 use flow_merge::{combine, flat_map_concat, flat_map_merge, zip};
 use futures::task::Poll;
 use futures::test::MockTask;
 use std::alloc::{AllocError, Global};
+use std::sync::Wait;
 use std::test::Fail;
-
-const END: Polling = Poll::Ready(Event::End(Cause::Finished));
-
-/// What a flat map of two values gives whose inner flow gives 10.
-const TENS: &[Polling] = &[
-    Poll::Ready(Event::Value(10)),
-    Poll::Ready(Event::Value(10)),
-    END,
-];
 
 const REFUSED: Polling = Poll::Ready(Event::End(Cause::Refused(Refusal::NoMemory)));
 
@@ -34,24 +28,21 @@ fn begun<F: Flow>(flow: &F) -> Result<F::Running, Refusal> {
 }
 
 /// The flow of a list, made again where it is refused.
-fn list_of(alloc: Global, values: &[u64]) -> Result<Listed<u64, u64>, AllocError> {
-    match listed(alloc, values) {
-        Err(_) => listed(alloc, values),
-        list => list,
-    }
-}
-
-fn broken_list_of(alloc: Global, values: &[u64]) -> Result<Listed<u64, u64>, AllocError> {
-    match broken(alloc, values, 7) {
-        Err(_) => broken(alloc, values, 7),
+fn list_of(
+    alloc: Global,
+    values: &[u64],
+    fault: Option<u64>,
+) -> Result<Listed<u64, u64>, AllocError> {
+    match listed(alloc, values, fault) {
+        Err(_) => listed(alloc, values, fault),
         list => list,
     }
 }
 
 fn steps_of(alloc: Global, steps: &[Step<u64, u64>]) -> Result<Stepped<u64, u64>, AllocError> {
-    match steps.to_vec(alloc) {
-        Err(_) => Ok(scripted(steps.to_vec(alloc)?)),
-        Ok(steps) => Ok(scripted(steps)),
+    match stepped(alloc, steps) {
+        Err(_) => stepped(alloc, steps),
+        flow => flow,
     }
 }
 
@@ -89,173 +80,189 @@ fn answered<F: Flow<Item = u64, Fault = u64>>(
     Ok(polled(task, &mut begun(flow)?, answers))
 }
 
-/// A flow by its name, and the polls of its run.
-struct Row<'a> {
-    name: &'a str,
-    answers: &'a [Polling],
-}
-
 fn compare_polls<F: Flow<Item = u64, Fault = u64>>(
     differences: &mut Differences,
     task: &MockTask,
+    name: &str,
     flow: F,
-    row: &Row<'_>,
+    answers: &[Polling],
 ) -> Result<(), Fail> {
-    let count = answered(task, &flow, row.answers)?;
-    differences.compare(row.name, count, Some(row.answers.len()))
+    let count = answered(task, &flow, answers)?;
+    differences.compare(name, count, Some(answers.len()))
 }
 
-#[test]
-fn starts_of_lists_take_memory(rt: HostRuntime) -> Result<(), Fail> {
-    const LIST: &Row<'_> = &Row {
+/// A flow of a list, and the polls of its run.
+struct ListRow<'a> {
+    name: &'a str,
+    values: &'a [u64],
+    fault: Option<u64>,
+    answers: &'a [Polling],
+}
+
+const LISTS: &[ListRow<'_>] = &[
+    ListRow {
         name: "of",
+        values: &[1, 2],
+        fault: None,
         answers: &[
             Poll::Ready(Event::Value(1)),
             Poll::Ready(Event::Value(2)),
-            END,
+            ENDED,
         ],
-    };
-    const FAILING: &Row<'_> = &Row {
+    },
+    ListRow {
         name: "failing",
+        values: &[1],
+        fault: Some(7),
         answers: &[
             Poll::Ready(Event::Value(1)),
             Poll::Ready(Event::End(Cause::Failed(7))),
         ],
-    };
-    let alloc = rt.alloc();
+    },
+];
+
+#[test]
+fn starts_of_lists_take_memory(rt: HostRuntime) -> Result<(), Fail> {
     let task = task_made(&rt)?;
-    let mut all = Differences::none(alloc);
-    compare_polls(&mut all, &task, list_of(alloc, &[1, 2])?, LIST)?;
-    compare_polls(&mut all, &task, broken_list_of(alloc, &[1])?, FAILING)?;
+    let mut all = Differences::none(rt.alloc());
+    for row in LISTS {
+        let list = list_of(rt.alloc(), row.values, row.fault)?;
+        compare_polls(&mut all, &task, row.name, list, row.answers)?;
+    }
     all.assert_none(&rt);
     Ok(())
 }
 
+/// A flow of steps, and the polls of its run.
+struct StepsRow<'a> {
+    name: &'a str,
+    steps: &'a [Step<u64, u64>],
+    answers: &'a [Polling],
+}
+
+const STEPS: &[StepsRow<'_>] = &[
+    StepsRow {
+        name: "scripted",
+        steps: &[Step::Value(1), WAIT],
+        answers: &[Poll::Ready(Event::Value(1)), Poll::Pending, ENDED],
+    },
+    StepsRow {
+        name: "scripted, the end by a fault is given again",
+        steps: &[Step::Value(1), WAIT, Step::Fail(5), Step::Value(2)],
+        answers: &[
+            Poll::Ready(Event::Value(1)),
+            Poll::Pending,
+            Poll::Ready(Event::End(Cause::Failed(5))),
+            Poll::Ready(Event::End(Cause::Failed(5))),
+        ],
+    },
+];
+
 #[test]
 fn starts_of_steps_take_memory(rt: HostRuntime) -> Result<(), Fail> {
-    const STEPS: &Row<'_> = &Row {
-        name: "scripted",
-        answers: &[Poll::Ready(Event::Value(1)), Poll::Pending, END],
-    };
-    let alloc = rt.alloc();
     let task = task_made(&rt)?;
-    let mut all = Differences::none(alloc);
-    let steps: [Step<u64, u64>; 2] = [Step::Value(1), Step::Pending];
-    compare_polls(&mut all, &task, steps_of(alloc, &steps)?, STEPS)?;
+    let mut all = Differences::none(rt.alloc());
+    for row in STEPS {
+        let steps = steps_of(rt.alloc(), row.steps)?;
+        compare_polls(&mut all, &task, row.name, steps, row.answers)?;
+    }
     all.assert_none(&rt);
     Ok(())
+}
+
+/// Compares operators over the list 1, 1, 2, 3.
+fn compare_operators<F: Flow<Item = u64, Fault = u64>>(
+    differences: &mut Differences,
+    task: &MockTask,
+    list: F,
+) -> Result<(), Fail> {
+    const ANSWERS: &[Polling] = &[
+        Poll::Ready(Event::Value(1)),
+        Poll::Ready(Event::Value(2)),
+        ENDED,
+    ];
+    let operators = take(distinct(list), 2)?;
+    compare_polls(differences, task, "take and distinct", operators, ANSWERS)
 }
 
 #[test]
 fn starts_of_operators_take_memory(rt: HostRuntime) -> Result<(), Fail> {
-    const OPERATORS: &Row<'_> = &Row {
-        name: "take and distinct",
-        answers: &[
-            Poll::Ready(Event::Value(1)),
-            Poll::Ready(Event::Value(2)),
-            END,
-        ],
-    };
-    let alloc = rt.alloc();
     let task = task_made(&rt)?;
-    let mut all = Differences::none(alloc);
-    let operators = take(distinct(list_of(alloc, &[1, 1, 2, 3])?), 2)?;
-    compare_polls(&mut all, &task, operators, OPERATORS)?;
+    let mut all = Differences::none(rt.alloc());
+    let list = list_of(rt.alloc(), &[1, 1, 2, 3], None)?;
+    compare_operators(&mut all, &task, &list)?;
     all.assert_none(&rt);
     Ok(())
 }
 
-/// Two lists are started one after the other.
+/// Compares pairs of the lists 1, 2 and 10, 20, which are started one after the other.
+fn compare_pairs<F: Flow<Item = u64, Fault = u64> + Copy>(
+    differences: &mut Differences,
+    task: &MockTask,
+    ones: F,
+    tens: F,
+) -> Result<(), Fail> {
+    const ZIPPED: &[Polling] = &[
+        Poll::Ready(Event::Value(11)),
+        Poll::Ready(Event::Value(22)),
+        ENDED,
+    ];
+    const COMBINED: &[Polling] = &[
+        Poll::Ready(Event::Value(11)),
+        Poll::Ready(Event::Value(12)),
+        Poll::Ready(Event::Value(22)),
+        ENDED,
+    ];
+    compare_polls(differences, task, "zip", zip(ones, tens, Sum), ZIPPED)?;
+    compare_polls(
+        differences,
+        task,
+        "combine",
+        combine(ones, tens, Sum),
+        COMBINED,
+    )
+}
+
 #[test]
 fn starts_of_pairs_take_memory(rt: HostRuntime) -> Result<(), Fail> {
-    const ZIP: &Row<'_> = &Row {
-        name: "zip",
-        answers: &[
-            Poll::Ready(Event::Value(11)),
-            Poll::Ready(Event::Value(22)),
-            END,
-        ],
-    };
-    let alloc = rt.alloc();
     let task = task_made(&rt)?;
-    let mut all = Differences::none(alloc);
-    let tens = list_of(alloc, &[10, 20])?;
-    compare_polls(
-        &mut all,
-        &task,
-        zip(list_of(alloc, &[1, 2])?, tens, Sum),
-        ZIP,
-    )?;
+    let mut all = Differences::none(rt.alloc());
+    let ones = list_of(rt.alloc(), &[1, 2], None)?;
+    let tens = list_of(rt.alloc(), &[10, 20], None)?;
+    compare_pairs(&mut all, &task, &ones, &tens)?;
     all.assert_none(&rt);
     Ok(())
 }
 
-/// The same of `combine`.
-#[test]
-fn starts_of_combinations_take_memory(rt: HostRuntime) -> Result<(), Fail> {
-    const COMBINE: &Row<'_> = &Row {
-        name: "combine",
-        answers: &[
-            Poll::Ready(Event::Value(11)),
-            Poll::Ready(Event::Value(12)),
-            Poll::Ready(Event::Value(22)),
-            END,
-        ],
-    };
-    let alloc = rt.alloc();
-    let task = task_made(&rt)?;
-    let mut all = Differences::none(alloc);
-    let tens = list_of(alloc, &[10, 20])?;
-    compare_polls(
-        &mut all,
-        &task,
-        combine(list_of(alloc, &[1, 2])?, tens, Sum),
-        COMBINE,
-    )?;
-    all.assert_none(&rt);
-    Ok(())
-}
-
-/// Compares flat maps of this inner flow, which gives 10.
+/// Compares flat maps of two values, whose inner flow gives 10.
 fn compare_flat_maps<F: Flow<Item = u64, Fault = u64> + Copy>(
     differences: &mut Differences,
     alloc: Global,
     task: &MockTask,
+    outer: F,
     inner: F,
 ) -> Result<(), Fail> {
-    const CONCAT: &Row<'_> = &Row {
-        name: "flat_map_concat",
-        answers: TENS,
-    };
-    const MERGE: &Row<'_> = &Row {
-        name: "flat_map_merge",
-        answers: TENS,
-    };
-    let concat = flat_map_concat(list_of(alloc, &[1, 2])?, Same(inner));
-    compare_polls(differences, task, concat, CONCAT)?;
-    let merge = flat_map_merge(alloc, list_of(alloc, &[1, 2])?, Same(inner), 2)?;
-    compare_polls(differences, task, merge, MERGE)
+    const TENS: &[Polling] = &[
+        Poll::Ready(Event::Value(10)),
+        Poll::Ready(Event::Value(10)),
+        ENDED,
+    ];
+    let concat = flat_map_concat(outer, Same(inner));
+    compare_polls(differences, task, "flat_map_concat", concat, TENS)?;
+    let merge = flat_map_merge(alloc, outer, Same(inner), 2)?;
+    compare_polls(differences, task, "flat_map_merge", merge, TENS)
 }
 
 /// An inner start that is refused ends the run.
 #[test]
 fn polls_of_flat_maps_take_memory(rt: HostRuntime) -> Result<(), Fail> {
-    let alloc = rt.alloc();
     let task = task_made(&rt)?;
-    let mut all = Differences::none(alloc);
-    let ten = list_of(alloc, &[10])?;
-    compare_flat_maps(&mut all, alloc, &task, &ten)?;
+    let mut all = Differences::none(rt.alloc());
+    let ones = list_of(rt.alloc(), &[1, 2], None)?;
+    let ten = list_of(rt.alloc(), &[10], None)?;
+    compare_flat_maps(&mut all, rt.alloc(), &task, &ones, &ten)?;
     all.assert_none(&rt);
     Ok(())
-}
-
-/// What one poll of a collection came to.
-#[derive(Clone, Copy, Debug, PartialEq, Eq)]
-enum Outcome {
-    All,
-    /// It was given up with 4, keeps what came before, and answers that again.
-    GivenUp,
-    Wrong,
 }
 
 /// All values of the list and its end.
@@ -263,24 +270,25 @@ fn is_all(list: &Collected<u64, u64>, values: &[u64]) -> bool {
     list.values.as_slice() == values && list.cause == Cause::Finished
 }
 
-/// One poll of a collection of these values.
+/// Whether one poll of a collection gives these values. None where it was given up with 4, keeps what came before, and answers
+/// that again.
 fn gather<R: Run<Item = u64, Fault = u64>>(
     task: &MockTask,
     gathering: &mut Collecting<R>,
     values: &[u64],
-) -> Outcome {
+) -> Option<bool> {
     match task.enter(|cx| gathering.poll(cx)) {
-        Poll::Ready(Ok(list)) if is_all(&list, values) => Outcome::All,
+        Poll::Ready(Ok(list)) => Some(is_all(&list, values)),
         Poll::Ready(Err(Refusal::NoMemory)) => {
             let so_far = gathering.so_far();
             let is_front = values.get(..so_far.len()) == Some(so_far);
             let again = task.enter(|cx| gathering.poll(cx));
             match again {
-                Poll::Ready(Err(Refusal::NoMemory)) if is_front => Outcome::GivenUp,
-                _ => Outcome::Wrong,
+                Poll::Ready(Err(Refusal::NoMemory)) if is_front => None,
+                _ => Some(false),
             }
         }
-        _ => Outcome::Wrong,
+        _ => Some(false),
     }
 }
 
@@ -289,12 +297,11 @@ fn gathered<F: Flow<Item = u64, Fault = u64>>(
     task: &MockTask,
     flow: &F,
     values: &[u64],
-) -> Result<Outcome, Refusal> {
-    let first = gather(task, &mut collect(alloc, begun(flow)?), values);
-    if first != Outcome::GivenUp {
-        return Ok(first);
+) -> Result<Option<bool>, Refusal> {
+    match gather(task, &mut collect(alloc, begun(flow)?), values) {
+        None => Ok(gather(task, &mut collect(alloc, begun(flow)?), values)),
+        gathered => Ok(gathered),
     }
-    Ok(gather(task, &mut collect(alloc, begun(flow)?), values))
 }
 
 fn listed_again<F: Flow<Item = u64, Fault = u64>>(
@@ -323,64 +330,78 @@ fn ends_take_memory(rt: HostRuntime) -> Result<(), Fail> {
     let numbers = range::<u64>(0, 12);
     let mut all = Differences::none(alloc);
     let collected = gathered(alloc, &task, &numbers, VALUES)?;
-    all.compare("collect", collected, Outcome::All)?;
+    all.compare("collect", collected, Some(true))?;
     let list = listed_again(alloc, &task, &numbers)?;
     all.compare("to_list", is_all(&list, VALUES), true)?;
     all.assert_none(&rt);
     Ok(())
 }
 
-/// Both sides of a list that is split.
-type Sides<'a> = (
-    Feed<<&'a Listed<u64, u64> as Flow>::Running>,
-    Drain<u64, u64>,
-);
+/// Compares buffers behind the list 5.
+fn compare_buffers<F: Flow<Item = u64, Fault = u64> + Copy>(
+    differences: &mut Differences,
+    alloc: Global,
+    task: &MockTask,
+    list: F,
+) -> Result<(), Fail> {
+    const ANSWERS: &[Polling] = &[Poll::Ready(Event::Value(5)), ENDED];
+    let held = buffer(alloc, list, 2, Policy::Suspend)?;
+    compare_polls(differences, task, "buffer", held, ANSWERS)?;
+    compare_polls(
+        differences,
+        task,
+        "conflate",
+        conflate(alloc, list),
+        ANSWERS,
+    )
+}
 
-fn split_again(alloc: Global, list: &Listed<u64, u64>) -> Result<Sides<'_>, Refusal> {
+#[test]
+fn buffers_take_memory(rt: HostRuntime) -> Result<(), Fail> {
+    let task = task_made(&rt)?;
+    let mut all = Differences::none(rt.alloc());
+    let list = list_of(rt.alloc(), &[5], None)?;
+    compare_buffers(&mut all, rt.alloc(), &task, &list)?;
+    all.assert_none(&rt);
+    Ok(())
+}
+
+/// Both sides of a flow that is split.
+type Sides<F> = (Feed<<F as Flow>::Running>, Drain<u64, u64>);
+
+fn split_again<F: Flow<Item = u64, Fault = u64> + Copy>(
+    alloc: Global,
+    list: F,
+) -> Result<Sides<F>, Refusal> {
     match split(alloc, list, 2, Policy::Suspend) {
         Err(Refusal::NoMemory) => split(alloc, list, 2, Policy::Suspend),
         sides => sides,
     }
 }
 
-#[test]
-fn buffers_take_memory(rt: HostRuntime) -> Result<(), Fail> {
-    const HELD: &Row<'_> = &Row {
-        name: "buffer",
-        answers: &[Poll::Ready(Event::Value(5)), END],
-    };
-    const LATEST: &Row<'_> = &Row {
-        name: "conflate",
-        answers: &[Poll::Ready(Event::Value(5)), END],
-    };
-    let alloc = rt.alloc();
-    let task = task_made(&rt)?;
-    let mut all = Differences::none(alloc);
-    let held = buffer(alloc, list_of(alloc, &[5])?, 2, Policy::Suspend)?;
-    compare_polls(&mut all, &task, held, HELD)?;
-    compare_polls(
-        &mut all,
-        &task,
-        conflate(alloc, list_of(alloc, &[5])?),
-        LATEST,
-    )?;
-    all.assert_none(&rt);
-    Ok(())
+/// Splits the list 5, and compares what one pump and the drain give.
+fn compare_split<F: Flow<Item = u64, Fault = u64> + Copy>(
+    rt: &impl Wait,
+    differences: &mut Differences,
+    alloc: Global,
+    task: &MockTask,
+    list: F,
+) -> Result<(), Fail> {
+    let (mut feed, mut drain) = split_again(alloc, list)?;
+    let took = task.enter(|cx| feed.pump(rt, cx));
+    feed.cancel(rt);
+    let gave = (drain.next(rt), drain.next(rt));
+    let wanted = (Event::Value(5), Event::End(Cause::Cancelled));
+    differences.compare("split, pumped", took, Fill::Took)?;
+    differences.compare("split, drained", gave, wanted)
 }
 
 #[test]
 fn a_split_takes_memory(rt: HostRuntime) -> Result<(), Fail> {
-    let alloc = rt.alloc();
     let task = task_made(&rt)?;
-    let mut all = Differences::none(alloc);
-    let list = list_of(alloc, &[5])?;
-    let (mut feed, mut drain) = split_again(alloc, &list)?;
-    let took = task.enter(|cx| feed.pump(&rt, cx));
-    feed.cancel(&rt);
-    let gave = (drain.next(&rt), drain.next(&rt));
-    let wanted = (Event::Value(5), Event::End(Cause::Cancelled));
-    all.compare("split, pumped", took, Fill::Took)?;
-    all.compare("split, drained", gave, wanted)?;
+    let mut all = Differences::none(rt.alloc());
+    let list = list_of(rt.alloc(), &[5], None)?;
+    compare_split(&rt, &mut all, rt.alloc(), &task, &list)?;
     all.assert_none(&rt);
     Ok(())
 }

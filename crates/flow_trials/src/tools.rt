@@ -1,7 +1,9 @@
-//! Tools of the tests: functions as values, flows of lists and their polls, and what a table says that didn't come.
-ghost use Rattle.std.specs.Prelude.{◌≡◌, ◌+◌, ◌%◌, ◌^◌};
+//! Tools of the tests: functions as values, flows of lists and of steps and their polls, and what a table says that didn't come.
+ghost use Rattle.std.specs.Prelude.{◌≡◌, ◌+◌, ◌%◌, ◌^◌, ◌==◌, if◌then◌else◌, ⊤};
 
-use cold_flow::{Apply, Caught, Cause, Collected, Event, Listed, Run, failing, of};
+use cold_flow::{
+    Apply, Cause, Collected, Event, Listed, Run, Step, Stepped, failing, of, scripted,
+};
 use futures::task::Poll;
 use futures::test::MockTask;
 use std::alloc::{AllocError, AllocGlobal, Global};
@@ -11,8 +13,18 @@ use std::random::RandomSource;
 use std::test::Fail;
 
 /// The sum of two values.
-#[derive(Clone, Copy)]
+#[derive(Copy)]
 pub struct Sum;
+
+impl Clone for Sum {
+    ghost is_clone = { λ function copy. copy ≡ function };
+
+    ghost is_infallible = { λ _. ⊤ };
+
+    fn clone(&self) -> Result<Self, AllocError> {
+        Ok(*self)
+    }
+}
 
 impl Apply<(u64, u64)> for Sum {
     type Out = u64;
@@ -25,8 +37,18 @@ impl Apply<(u64, u64)> for Sum {
 }
 
 /// A given number more.
-#[derive(Clone, Copy)]
+#[derive(Copy)]
 pub struct Add(pub u64);
+
+impl Clone for Add {
+    ghost is_clone = { λ function copy. copy ≡ function };
+
+    ghost is_infallible = { λ _. ⊤ };
+
+    fn clone(&self) -> Result<Self, AllocError> {
+        Ok(*self)
+    }
+}
 
 impl Apply<u64> for Add {
     type Out = u64;
@@ -39,8 +61,18 @@ impl Apply<u64> for Add {
 }
 
 /// The same flow for each value.
-#[derive(Clone, Copy)]
+#[derive(Copy)]
 pub struct Same<F>(pub F);
+
+impl<F: Copy> Clone for Same<F> {
+    ghost is_clone = { λ function copy. copy ≡ function };
+
+    ghost is_infallible = { λ _. ⊤ };
+
+    fn clone(&self) -> Result<Self, AllocError> {
+        Ok(*self)
+    }
+}
 
 impl<F: Copy> Apply<u64> for Same<F> {
     type Out = F;
@@ -52,45 +84,65 @@ impl<F: Copy> Apply<u64> for Same<F> {
     }
 }
 
-/// Any failure becomes a given answer.
-#[derive(Clone, Copy)]
-pub struct Answer(pub Caught<u64, u64>);
+/// One flow for the value 0, one for 1, and one for any other.
+#[derive(Copy)]
+pub struct Pick<F> {
+    pub zero: F,
+    pub one: F,
+    pub other: F,
+}
 
-impl Apply<u64> for Answer {
-    type Out = Caught<u64, u64>;
+impl<F: Copy> Clone for Pick<F> {
+    ghost is_clone = { λ function copy. copy ≡ function };
 
-    ghost gives = { λ f _. f.0 };
+    ghost is_infallible = { λ _. ⊤ };
 
-    fn apply(&self, _argument: u64) -> Caught<u64, u64> {
-        self.0
+    fn clone(&self) -> Result<Self, AllocError> {
+        Ok(*self)
     }
 }
 
-/// The flow of a list.
-pub(crate) fn listed(alloc: Global, values: &[u64]) -> Result<Listed<u64, u64>, AllocError> {
-    Ok(of(values.to_vec(alloc)?))
+impl<F: Copy> Apply<u64> for Pick<F> {
+    type Out = F;
+
+    ghost gives = { λ f x. (if x == 0 then f.zero else (if x == 1 then f.one else f.other)) };
+
+    fn apply(&self, argument: u64) -> F {
+        if argument == 0 {
+            return self.zero;
+        }
+        if argument == 1 {
+            return self.one;
+        }
+        self.other
+    }
 }
 
-/// The flow of a list that fails then.
-pub(crate) fn broken(
+/// The flow of a list. Where there is a fault, it fails with that at its end.
+pub(crate) fn listed(
     alloc: Global,
     values: &[u64],
-    fault: u64,
+    fault: Option<u64>,
 ) -> Result<Listed<u64, u64>, AllocError> {
-    Ok(failing(values.to_vec(alloc)?, fault))
-}
-
-/// What the call makes. It is made once more where memory was refused, as under `rt try --test --fail-alloc N`.
-pub(crate) fn made_again<T, F: Fn() -> Result<T, AllocError>>(call: &F) -> Result<T, AllocError>
-    requires { F.IsAlwaysCallable call.now }
-{
-    match call() {
-        Err(_) => call(),
-        made => made,
+    let values = values.to_vec(alloc)?;
+    match fault {
+        Some(fault) => Ok(failing(values, fault)),
+        None => Ok(of(values)),
     }
 }
 
-/// A task that is polled by hand. It too is made once more where memory was refused.
+/// A step that waits.
+pub(crate) const WAIT: Step<u64, u64> = Step::Pending;
+
+/// The flow of these steps.
+pub(crate) fn stepped(
+    alloc: Global,
+    steps: &[Step<u64, u64>],
+) -> Result<Stepped<u64, u64>, AllocError> {
+    Ok(scripted(steps.to_vec(alloc)?))
+}
+
+/// A task that is polled by hand. It is made once more where memory was refused, as under `rt try --test --fail-alloc N`.
 pub(crate) fn task_made<R: RandomSource + AllocGlobal>(rt: &R) -> Result<MockTask, Fail> {
     match MockTask::new(rt) {
         Ok(task) => Ok(task),
@@ -154,12 +206,29 @@ pub(crate) fn assert_list<T: Copy + PartialEq + Debug, E: Copy + PartialEq + Deb
 /// What a poll of a run gives.
 pub type Polling = Poll<Event<u64, u64>>;
 
+/// The end of a flow that finished.
+pub(crate) const ENDED: Polling = Poll::Ready(Event::End(Cause::Finished));
+
+/// The end of a run that was cancelled.
+pub(crate) const CANCELLED: Polling = Poll::Ready(Event::End(Cause::Cancelled));
+
 /// One poll.
 pub(crate) fn next<R: Run<Item = u64, Fault = u64>>(task: &MockTask, run: &mut R) -> Polling {
     task.enter(|cx| run.poll_next(cx))
 }
 
-/// Polls a run, and compares each answer. A poll that is pending has woken its task.
+/// Polls a run, and compares the answer. A poll that is pending has woken its task.
+pub(crate) fn assert_poll<R: Run<Item = u64, Fault = u64>>(
+    rt: &impl Abort,
+    task: &MockTask,
+    run: &mut R,
+    answer: &Polling,
+) {
+    assert_eq!(rt; next(task, run), *answer);
+    assert!(rt; answer.is_ready() || task.is_woken());
+}
+
+/// The same of several polls.
 pub(crate) fn assert_polls<R: Run<Item = u64, Fault = u64>>(
     rt: &impl Abort,
     task: &MockTask,
@@ -167,7 +236,6 @@ pub(crate) fn assert_polls<R: Run<Item = u64, Fault = u64>>(
     answers: &[Polling],
 ) {
     for answer in answers {
-        assert_eq!(rt; next(task, run), *answer);
-        assert!(rt; answer.is_ready() || task.is_woken());
+        assert_poll(rt, task, run, answer);
     }
 }

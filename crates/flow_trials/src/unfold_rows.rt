@@ -1,30 +1,41 @@
 //! Sources of one's own, by a state and a step or by steps that a type gives itself: what they give, how often a step is asked, and
 //! that none is asked once the run has ended.
-ghost use Rattle.std.specs.Prelude.{◌*◌, ◌%◌, ◌^◌, nat_lt, if◌then◌else◌};
+ghost use Rattle.std.specs.Prelude.{◌≡◌, ◌*◌, ◌%◌, ◌^◌, nat_lt, if◌then◌else◌, ⊤};
 ghost use Rattle.std.specs.Iterator.{at_most};
 ghost use Rattle.cold_flow.specs.declared.builders.unfold.Unfolded.TheVariants.{Next};
 ghost use Rattle.flow_trials.specs.Uncancelled.{AnyTrace};
 
-use crate::tools::{Add, Differences, Polling, assert_list, assert_same, next};
-use cold_callers::{Repeated, gathered_halves, mapped_halves, repeated_list};
+use crate::tools::{Add, CANCELLED, Differences, ENDED, Polling, assert_list, assert_same, next};
+use cold_callers::{gathered_halves, mapped_halves, repeated_list};
 use cold_flow::{
-    Apply, Cause, Collected, EndingRun, Event, FiniteSteps, Flow, Refusal, Run, Step, Steps,
-    Unfolded, collect, map, take, to_list, unfold,
+    Apply, Cause, Collected, Collecting, EndingRun, Event, Finite, FiniteSteps, Flow, Refusal, Run,
+    Step, Steps, Unfolded, collect, take, to_list, unfold,
 };
 use futures::task::Poll;
 use futures::test::MockTask;
-use std::alloc::Global;
+use std::alloc::{AllocError, Global};
 use std::cell::Cell;
 use std::fmt::Debug;
+use std::process::Abort;
 use std::test::Fail;
 
 // Gives a number that is below a limit, and goes on with its double. It counts how often it is asked.
-#[derive(Clone, Copy)]
+#[derive(Copy)]
 struct Doubling<'a> {
     limit: u64,
     // What it answers from the limit on.
     end: Unfolded<u64, u64, u64>,
     asked: &'a Cell<u32>,
+}
+
+impl Clone for Doubling<'_> {
+    ghost is_clone = { λ it copy. copy ≡ it };
+
+    ghost is_infallible = { λ _. ⊤ };
+
+    fn clone(&self) -> Result<Self, AllocError> {
+        Ok(*self)
+    }
 }
 
 impl Apply<u64> for Doubling<'_> {
@@ -43,10 +54,20 @@ impl Apply<u64> for Doubling<'_> {
 }
 
 // Counts down from an odd number to 0, and gives only what is even: every other step is pending. It counts how often it is asked.
-#[derive(Clone, Copy)]
+#[derive(Copy)]
 struct Pausing<'a> {
     left: u64,
     asked: &'a Cell<u32>,
+}
+
+impl Clone for Pausing<'_> {
+    ghost is_clone = { λ it copy. copy ≡ it };
+
+    ghost is_infallible = { λ _. ⊤ };
+
+    fn clone(&self) -> Result<Self, AllocError> {
+        Ok(*self)
+    }
 }
 
 impl<'a> Flow for Pausing<'a> {
@@ -98,11 +119,7 @@ const FINISH: Unfolded<u64, u64, u64> = Unfolded::Finish;
 
 const FAIL: Unfolded<u64, u64, u64> = Unfolded::Fail(7);
 
-const ENDED: Polling = Poll::Ready(Event::End(Cause::Finished));
-
 const FAILED: Polling = Poll::Ready(Event::End(Cause::Failed(7)));
-
-const CANCELLED: Polling = Poll::Ready(Event::End(Cause::Cancelled));
 
 const ZERO: Polling = Poll::Ready(Event::Value(0));
 
@@ -200,6 +217,21 @@ fn compare_gathered<E: Copy + PartialEq + Debug>(
     }
 }
 
+// Compares what one poll of a collection of the flow gathers with a whole list.
+fn compare_collected<E: Copy + PartialEq + Debug, F: Flow<Item = u64, Fault = E>>(
+    differences: &mut Differences,
+    alloc: Global,
+    task: &MockTask,
+    name: &str,
+    flow: &F,
+    values: &[u64],
+    cause: Cause<E>,
+) -> Result<(), Fail> {
+    let mut gathering = collect(alloc, flow.start()?);
+    let gathered = task.enter(|cx| gathering.poll(cx));
+    compare_gathered(differences, name, gathered, values, cause)
+}
+
 // Two starts of a row's flow. Each begins with its state: both give the same, and ask as often.
 fn compare_row(
     differences: &mut Differences,
@@ -216,9 +248,15 @@ fn compare_row(
     let flow = unfold(row.from, step);
     for _start in 0..2 {
         asked.set(0);
-        let mut gathering = collect(alloc, flow.start()?);
-        let gathered = task.enter(|cx| gathering.poll(cx));
-        compare_gathered(differences, row.name, gathered, row.values, row.cause)?;
+        compare_collected(
+            differences,
+            alloc,
+            task,
+            row.name,
+            &flow,
+            row.values,
+            row.cause,
+        )?;
         differences.compare(row.name, asked.get(), row.asked)?;
     }
     Ok(())
@@ -342,6 +380,29 @@ fn unfolds_ask_one_step_a_poll(rt: HostRuntime) -> Result<(), Fail> {
 }
 
 // Two runs of one flow, side by side. Each has a state of its own, and a cancel of one leaves the other going.
+fn compare_side_by_side<F: Flow<Item = u64, Fault = u64>>(
+    all: &mut Differences,
+    task: &MockTask,
+    flow: F,
+    asked: &Cell<u32>,
+) -> Result<(), Fail> {
+    let mut left = flow.start()?;
+    let mut right = flow.start()?;
+    compare_polls(all, task, "left", &mut left, asked, &[(ONE, 1), (TWO, 2)])?;
+    compare_polls(all, task, "right", &mut right, asked, &[(ONE, 3)])?;
+    left.cancel();
+    let on = [(TWO, 4), (FOUR, 5), (ENDED, 6)];
+    compare_polls(all, task, "right goes on", &mut right, asked, &on)?;
+    compare_polls(
+        all,
+        task,
+        "left is over",
+        &mut left,
+        asked,
+        &[(CANCELLED, 6)],
+    )
+}
+
 #[test]
 fn runs_of_an_unfold_stand_side_by_side(rt: HostRuntime) -> Result<(), Fail> {
     let task = MockTask::new(&rt)?;
@@ -352,45 +413,29 @@ fn runs_of_an_unfold_stand_side_by_side(rt: HostRuntime) -> Result<(), Fail> {
         end: FINISH,
         asked: &asked,
     };
-    let flow = unfold(1u64, step);
-    let mut left = flow.start()?;
-    let mut right = flow.start()?;
-    let begun = [(ONE, 1), (TWO, 2)];
-    compare_polls(&mut all, &task, "left", &mut left, &asked, &begun)?;
-    let behind = [(ONE, 3)];
-    compare_polls(&mut all, &task, "right", &mut right, &asked, &behind)?;
-    left.cancel();
-    let on = [(TWO, 4), (FOUR, 5), (ENDED, 6)];
-    compare_polls(&mut all, &task, "right goes on", &mut right, &asked, &on)?;
-    let over = [(CANCELLED, 6)];
-    compare_polls(&mut all, &task, "left is over", &mut left, &asked, &over)?;
+    compare_side_by_side(&mut all, &task, unfold(1u64, step), &asked)?;
     all.assert_none(&rt);
     Ok(())
 }
 
-// Doubling without an end: the powers of two that fit, and then 0 for good. A collection takes 64 values a poll.
-#[test]
-fn unfolds_without_an_end(rt: HostRuntime) -> Result<(), Fail> {
+// One poll of a collection takes the 64 powers of two, and waits.
+fn assert_endless<R: Run<Item = u64, Fault = u64>>(
+    rt: &impl Abort,
+    task: &MockTask,
+    mut gathering: Collecting<R>,
+) {
     const GREATEST_POWER: u64 = 0x8000_0000_0000_0000;
-    let task = MockTask::new(&rt)?;
-    let asked = Cell::new(0);
-    let step = Doubling {
-        limit: u64::MAX,
-        end: FINISH,
-        asked: &asked,
-    };
-    let mut gathering = collect(rt.alloc(), unfold(1u64, step).start()?);
     assert!(rt; task.enter(|cx| gathering.poll(cx)).is_pending());
     assert!(rt; task.is_woken());
-    assert_same(&rt, "values", gathering.so_far().len(), 64);
+    assert_same(rt, "values", gathering.so_far().len(), 64);
     let last = gathering.so_far().last().copied();
-    assert_same(&rt, "last value", last, Some(GREATEST_POWER));
-    assert_same(&rt, "steps", asked.get(), 64);
-    Ok(())
+    assert_same(rt, "last value", last, Some(GREATEST_POWER));
 }
 
+// Doubling without an end: the powers of two that fit, and then 0 for good.
 #[test]
-fn a_take_ends_an_endless_unfold(rt: HostRuntime) -> Result<(), Fail> {
+fn unfolds_without_an_end(rt: HostRuntime) -> Result<(), Fail> {
+    let alloc = rt.alloc();
     let task = MockTask::new(&rt)?;
     let asked = Cell::new(0);
     let step = Doubling {
@@ -398,18 +443,23 @@ fn a_take_ends_an_endless_unfold(rt: HostRuntime) -> Result<(), Fail> {
         end: FINISH,
         asked: &asked,
     };
-    let mut gathering = collect(rt.alloc(), take(unfold(1u64, step), 3)?.start()?);
-    let mut differences = Differences::none(rt.alloc());
-    let gathered = task.enter(|cx| gathering.poll(cx));
-    compare_gathered(
-        &mut differences,
-        "the first three",
-        gathered,
+    let flow = unfold(1u64, step);
+    assert_endless(&rt, &task, collect(alloc, flow.start()?));
+    assert_same(&rt, "steps", asked.get(), 64);
+    asked.set(0);
+    let mut all = Differences::none(alloc);
+    let taken = take(flow, 3)?;
+    compare_collected(
+        &mut all,
+        alloc,
+        &task,
+        "a take of three",
+        &taken,
         &[1, 2, 4],
         Cause::Finished,
     )?;
-    differences.compare("steps of them", asked.get(), 3)?;
-    differences.assert_none(&rt);
+    all.compare("steps of them", asked.get(), 3)?;
+    all.assert_none(&rt);
     Ok(())
 }
 
@@ -457,37 +507,43 @@ fn steps_of_ones_own_may_wait(rt: HostRuntime) -> Result<(), Fail> {
 }
 
 // `to_list` asks again at once; a collection waits with its task. Both starts begin anew.
+fn assert_waits<F: Flow<Item = u64, Fault = u64>>(
+    rt: &impl Abort,
+    alloc: Global,
+    task: &MockTask,
+    source: F,
+    asked: &Cell<u32>,
+) -> Result<(), Fail>
+where
+    F::Running: Finite,
+{
+    const VALUES: &[u64] = &[4, 2, 0];
+    let run = source.start()?;
+    let list = task.enter(move |cx| to_list(alloc, run, cx))?;
+    assert_list(rt, &list, VALUES, Cause::Finished);
+    assert_same(rt, "steps", asked.get(), 6);
+    let mut gathering = collect(alloc, source.start()?);
+    for count in [1, 2] {
+        assert!(rt; task.enter(|cx| gathering.poll(cx)).is_pending());
+        assert!(rt; task.is_woken());
+        assert_same(rt, "values so far", gathering.so_far().len(), count);
+    }
+    let Poll::Ready(list) = task.enter(|cx| gathering.poll(cx)) else {
+        return Err(Fail::from("it waits"));
+    };
+    assert_list(rt, &list?, VALUES, Cause::Finished);
+    Ok(())
+}
+
 #[test]
 fn steps_of_ones_own_are_listed(rt: HostRuntime) -> Result<(), Fail> {
-    const VALUES: &[u64] = &[4, 2, 0];
-    let alloc = rt.alloc();
     let task = MockTask::new(&rt)?;
     let asked = Cell::new(0);
     let source = Pausing {
         left: 5,
         asked: &asked,
     };
-    let run = source.start()?;
-    let list = task.enter(move |cx| to_list(alloc, run, cx))?;
-    assert_list(&rt, &list, VALUES, Cause::Finished);
-    assert_same(&rt, "steps", asked.get(), 6);
-    let mut gathering = collect(alloc, source.start()?);
-    for count in [1, 2] {
-        assert!(rt; task.enter(|cx| gathering.poll(cx)).is_pending());
-        assert!(rt; task.is_woken());
-        assert_same(&rt, "values so far", gathering.so_far().len(), count);
-    }
-    let mut differences = Differences::none(alloc);
-    let gathered = task.enter(|cx| gathering.poll(cx));
-    compare_gathered(
-        &mut differences,
-        "third poll",
-        gathered,
-        VALUES,
-        Cause::Finished,
-    )?;
-    differences.assert_none(&rt);
-    Ok(())
+    assert_waits(&rt, rt.alloc(), &task, source, &asked)
 }
 
 // A number, its half and so on, and these with 1 added.
@@ -534,9 +590,9 @@ fn halves(rt: HostRuntime) -> Result<(), Fail> {
     for row in HALVED {
         let gathered = task.enter(|cx| gathered_halves(alloc, row.number, cx));
         compare_gathered(&mut all, row.name, gathered, row.values, Cause::Finished)?;
-        let mut gathering = collect(alloc, mapped_halves(row.number, Add(1)).start()?);
-        let mapped = task.enter(|cx| gathering.poll(cx));
-        compare_gathered(&mut all, row.name, mapped, row.more, Cause::Finished)?;
+        let mapped = mapped_halves(row.number, Add(1));
+        let (name, more) = (row.name, row.more);
+        compare_collected(&mut all, alloc, &task, name, &mapped, more, Cause::Finished)?;
     }
     all.assert_none(&rt);
     Ok(())
@@ -559,21 +615,15 @@ fn halves_of_great_numbers(rt: HostRuntime) -> Result<(), Fail> {
     Ok(())
 }
 
-// What the caller of a source by its steps gives, and an operator over that source.
+// What the caller of a source by its steps gives.
 #[test]
 fn repeated_values(rt: HostRuntime) -> Result<(), Fail> {
+    const SEVENS: &[u64] = &[7, 7, 7];
     let alloc = rt.alloc();
     let task = MockTask::new(&rt)?;
-    let list = task.enter(|cx| repeated_list(alloc, 7u64, 3, cx))?;
-    assert_list(&rt, &list, &[7, 7, 7], Cause::Finished);
-    let list = task.enter(|cx| repeated_list(alloc, 7u64, 0, cx))?;
-    assert_list(&rt, &list, &[], Cause::Finished);
-    let source = Repeated {
-        value: 7u64,
-        times: 2,
-    };
-    let run = map(source, Add(1)).start()?;
-    let list = task.enter(move |cx| to_list(alloc, run, cx))?;
-    assert_list(&rt, &list, &[8, 8], Cause::Finished);
+    for times in [0, 3] {
+        let list = task.enter(|cx| repeated_list(alloc, 7u64, times, cx))?;
+        assert_list(&rt, &list, &SEVENS[..times as usize], Cause::Finished);
+    }
     Ok(())
 }

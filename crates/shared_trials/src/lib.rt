@@ -3,8 +3,6 @@
 #![tactic(auto)]
 
 #[cfg(test)]
-mod hostile;
-#[cfg(test)]
 mod meeting;
 #[cfg(test)]
 mod memory_rows;

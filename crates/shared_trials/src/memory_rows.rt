@@ -3,8 +3,8 @@
 //! it gives the same answer. So each test passes with ample memory, and whichever allocation is refused. The calls of a
 //! shared flow between threads stand in `shared_memory.rt`.
 
-use crate::tools::{Differences, listed, made_again, task_made};
-use cold_flow::{Flow, Listed, Policy, Refusal};
+use crate::tools::{Differences, made_again, task_made};
+use cold_flow::{Flow, Policy, Refusal, Step, Stepped, scripted};
 use flow_sharing::{Polled, Sharing, Started, StateSharing, share_in, state_in};
 use futures::test::MockTask;
 use shared_core::{Call, Config, Next, Reply, SharedState, SubId, Tried};
@@ -14,11 +14,12 @@ use std::alloc::{AllocError, Global};
 use std::sync::Wait;
 use std::test::Fail;
 
-/// The flow of a list, made again where it is refused.
-fn list_of(alloc: Global, values: &[u64]) -> Result<Listed<u64, u64>, AllocError> {
-    match listed(alloc, values) {
-        Err(_) => listed(alloc, values),
-        list => list,
+/// A flow of the values 1 and 2, made again where it is refused. Its start takes memory.
+fn one_and_two(alloc: Global) -> Result<Stepped<u64, u64>, AllocError> {
+    const STEPS: &[Step<u64, u64>] = &[Step::Value(1), Step::Value(2)];
+    match STEPS.to_vec(alloc) {
+        Err(_) => Ok(scripted(STEPS.to_vec(alloc)?)),
+        Ok(steps) => Ok(scripted(steps)),
     }
 }
 
@@ -73,13 +74,22 @@ fn compare_replies(
     differences.compare("replies", replies.as_slice(), REPLIES)
 }
 
+/// A list with one reply, made again where it is refused.
+fn one_reply(alloc: Global) -> Result<Vec<Reply<u64>>, AllocError> {
+    const REPLIES: &[Reply<u64>] = &[Reply::Reset];
+    match REPLIES.to_vec(alloc) {
+        Err(_) => REPLIES.to_vec(alloc),
+        replies => replies,
+    }
+}
+
 /// What stood in the list of replies before stays.
 #[test]
 fn new_flows_and_runs_of_calls_take_memory(rt: HostRuntime) -> Result<(), Fail> {
     let mut all = Differences::none(rt.alloc());
-    let mut replies = made_again(&|| Vec::with_capacity(rt.alloc(), 1))?;
-    replies.push(Reply::Reset)?;
-    compare_replies(&mut all, &mut made(rt.alloc())?, &mut replies)?;
+    let mut replies = one_reply(rt.alloc())?;
+    let mut flow = made(rt.alloc())?;
+    compare_replies(&mut all, &mut flow, &mut replies)?;
     all.assert_none(&rt);
     Ok(())
 }
@@ -120,14 +130,14 @@ fn state_turns_on<F: Flow<Item = u64, Fault = u64>>(
     sharing.fault().is_none() && task.enter(|cx| sharing.poll(4, cx)) == on_at(4)
 }
 
-/// Shares a list, once more where that was refused.
-fn share_again(
+/// Shares a flow, once more where that was refused.
+fn share_again<F: Flow<Item = u64, Fault = u64> + Copy>(
     rt: &impl Wait,
-    alloc: Global,
     flow: &mut SharedFlow<u64>,
-) -> Result<Sharing<u64, Listed<u64, u64>>, Refusal> {
-    match share_in(rt, flow, list_of(alloc, &[1, 2])?, Started::Eagerly) {
-        Err(Refusal::NoMemory) => share_in(rt, flow, list_of(alloc, &[1, 2])?, Started::Eagerly),
+    upstream: F,
+) -> Result<Sharing<u64, F>, Refusal> {
+    match share_in(rt, flow, upstream, Started::Eagerly) {
+        Err(Refusal::NoMemory) => share_in(rt, flow, upstream, Started::Eagerly),
         sharing => sharing,
     }
 }
@@ -184,14 +194,14 @@ fn states_take_memory(rt: HostRuntime) -> Result<(), Fail> {
     Ok(())
 }
 
-/// Whether a list that is shared is turned on by its first poll.
-fn shared(
+/// Whether a flow that is shared is turned on by its first poll.
+fn shared<F: Flow<Item = u64, Fault = u64> + Copy>(
     rt: &impl Wait,
-    alloc: Global,
     task: &MockTask,
     flow: &mut SharedFlow<u64>,
+    upstream: F,
 ) -> Result<bool, Refusal> {
-    let mut sharing = share_again(rt, alloc, flow)?;
+    let mut sharing = share_again(rt, flow, upstream)?;
     let turned = turns_on(rt, task, &mut sharing);
     sharing.close(rt);
     Ok(turned)
@@ -214,23 +224,33 @@ fn sharings_take_memory(rt: HostRuntime) -> Result<(), Fail> {
     let mut all = Differences::none(rt.alloc());
     let mut cache = made_again(&|| Vec::with_capacity(rt.alloc(), 2))?;
     let mut flow = flow_made(rt.alloc())?;
-    let turned = shared(&rt, rt.alloc(), &task, &mut flow)?;
+    let upstream = one_and_two(rt.alloc())?;
+    let turned = shared(&rt, &task, &mut flow, &upstream)?;
     all.compare("share_in and its first poll", turned, true)?;
     compare_cache(&rt, &mut all, &mut flow, &mut cache)?;
     all.assert_none(&rt);
     Ok(())
 }
 
+/// Whether a state that a flow sets is so from the first poll on, and its value then.
+fn set_from<F: Flow<Item = u64, Fault = u64>>(
+    task: &MockTask,
+    seat: StateSeat<u64>,
+    upstream: F,
+) -> (bool, u64) {
+    let mut sharing = state_in(seat, 7, upstream, Started::Eagerly);
+    let turned = state_turns_on(task, &mut sharing);
+    let mut seat = sharing.close();
+    (turned, seat.value())
+}
+
 #[test]
 fn sharings_of_states_take_memory(rt: HostRuntime) -> Result<(), Fail> {
     let task = task_made(&rt)?;
     let mut all = Differences::none(rt.alloc());
-    let list = list_of(rt.alloc(), &[1, 2])?;
-    let mut sharing = state_in(seat_made(rt.alloc(), 1)?, 7, list, Started::Eagerly);
-    let turned = state_turns_on(&task, &mut sharing);
-    let mut seat = sharing.close();
-    all.compare("state_in and its first poll", turned, true)?;
-    all.compare("the state", seat.value(), 2)?;
+    let upstream = one_and_two(rt.alloc())?;
+    let set = set_from(&task, seat_made(rt.alloc(), 1)?, &upstream);
+    all.compare("state_in, its first poll and the state", set, (true, 2))?;
     all.assert_none(&rt);
     Ok(())
 }

@@ -1,24 +1,46 @@
-//! A flow that can't be started at first.
+//! Flows whose start is refused at first.
 
-use cold_flow::{Flow, Numbers, Refusal, range};
+use cold_flow::{Flow, Refusal, Step, Stepped, scripted};
+use std::alloc::{AllocError, Global};
 use std::cell::Cell;
 
-/// A flow whose start finds no memory so many times.
-#[derive(Clone, Copy)]
-pub(crate) struct Scarce<'a, F> {
-    refusals: &'a Cell<u32>,
-    flow: F,
+/// What a flow gives.
+pub(crate) enum Source<'a> {
+    /// These steps.
+    Steps(&'a [Step<u64, u64>]),
+    /// So many numbers from 0 up, and the end by a fault, where there is one.
+    Rising(u64, Option<u64>),
 }
 
-/// The values 1 and 2, after so many refused starts.
-pub(crate) fn one_and_two(refusals: &Cell<u32>) -> Scarce<'_, Numbers<u64>> {
-    Scarce {
-        refusals,
-        flow: range(1, 3),
+impl Source<'_> {
+    /// The flow, by its steps.
+    pub(crate) fn flow(&self, alloc: Global) -> Result<Stepped<u64, u64>, AllocError> {
+        match self {
+            Source::Steps(steps) => Ok(scripted(steps.to_vec(alloc)?)),
+            Source::Rising(count, fault) => rising(alloc, *count, *fault),
+        }
     }
 }
 
-impl<F: Flow + Copy> Flow for Scarce<'_, F> {
+fn rising(alloc: Global, count: u64, fault: Option<u64>) -> Result<Stepped<u64, u64>, AllocError> {
+    let mut steps = Vec::new(alloc);
+    for number in 0..count {
+        steps.push(Step::Value(number))?;
+    }
+    if let Some(fault) = fault {
+        steps.push(Step::Fail(fault))?;
+    }
+    Ok(scripted(steps))
+}
+
+/// A flow whose start finds no memory so many times.
+#[derive(Drop)]
+pub(crate) struct Scarce<'a, F> {
+    pub(crate) refusals: &'a Cell<u32>,
+    pub(crate) flow: F,
+}
+
+impl<F: Flow> Flow for Scarce<'_, F> {
     type Item = F::Item;
 
     type Fault = F::Fault;

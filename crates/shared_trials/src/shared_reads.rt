@@ -1,21 +1,20 @@
 //! What a subscription of a shared flow reads without the lock: while the lock is kept, when it was told, and its own counts.
 
-ghost use Rattle.std.specs.Prelude.{◌≡◌, None, IfSome};
+ghost use Rattle.std.specs.Prelude.{◌≡◌, None, IfSome, ⊤};
 ghost use Rattle.shared_flow.specs.Parties.{OfFlow};
 ghost use Rattle.shared_lane.specs.Readers.{IsReceiptOf};
 
-use crate::shared_rows::PLAIN;
+use crate::shared_rows::{PLAIN, three_accepted};
 use crate::shared_stage::Answer::{
     Accepted, Done, NotMade, Nothing, Pending, Subscribed, Value, Waiting,
 };
 use crate::shared_stage::Call::{Ask, Emit, Subscribe, Try};
 use crate::shared_stage::{Answer, Emitting, Listening};
 use crate::tools::assert_same;
-use cold_flow::Policy;
 use shared_core::{Config, Tried};
 use shared_flow::{Emitter, Held, Met, Parker, Prelude, Receipt, SharedFlow, Subscription, Taken};
 use state_flow::{StateFlow, StateSeat};
-use std::alloc::AllocGlobal;
+use std::alloc::{AllocError, AllocGlobal};
 use std::process::Abort;
 use std::random::RandomSource;
 use std::sync::Wait;
@@ -35,10 +34,20 @@ const KEEPS_TWO: Config = Config {
 };
 
 /// What a flow shows whose lock is kept: how many subscriptions are live, and the two values of the replay cache.
-#[derive(Clone, Copy, Debug, PartialEq, Eq)]
+#[derive(Copy, Debug, PartialEq)]
 struct Shown {
     count: u32,
     cache: Option<[u64; 2]>,
+}
+
+impl Clone for Shown {
+    ghost is_clone = { λ it copy. copy ≡ it };
+
+    ghost is_infallible = { λ _. ⊤ };
+
+    fn clone(&self) -> Result<Self, AllocError> {
+        Ok(*self)
+    }
 }
 
 fn look_at(held: &Held<'_, u64>) -> Shown {
@@ -112,26 +121,6 @@ fn emit_fourth(rt: &impl Wait, emitting: &mut Emitting, signals: &Signals) -> An
     }
 }
 
-// An emitter whose first three values are accepted.
-fn three_accepted<R>(rt: &R, flow: &mut SharedFlow<u64>) -> Emitting
-where
-    R: Wait + Abort + RandomSource + AllocGlobal,
-{
-    let mut emitting = Emitting::new(rt, flow, 1);
-    let answers = [
-        emitting.perform(rt, Try(1)),
-        emitting.perform(rt, Try(2)),
-        emitting.perform(rt, Try(3)),
-    ];
-    assert_same(
-        rt,
-        "three values",
-        answers,
-        [Accepted(0), Accepted(1), Accepted(2)],
-    );
-    emitting
-}
-
 // A thread takes what is there while another keeps the lock and a third waits for it.
 #[test]
 fn readers_pass_a_held_lock(rt: HostRuntime) -> Result<(), Fail> {
@@ -142,7 +131,7 @@ fn readers_pass_a_held_lock(rt: HostRuntime) -> Result<(), Fail> {
     };
     let mut listening = Listening::new(&rt);
     let subscribed = listening.perform(&rt, &mut flow, Subscribe);
-    let mut emitting = three_accepted(&rt, &mut flow);
+    let mut emitting = three_accepted(&rt, &mut flow, 1);
     let (kept, (taken, fourth)) = thread::join(
         &rt,
         || keep_lock(&rt, &mut flow, &signals),
@@ -181,7 +170,7 @@ fn a_ready_poll_passes_a_held_lock(rt: HostRuntime) -> Result<(), Fail> {
     let mut flow = SharedFlow::new(rt.alloc(), KEEPS_TWO)?;
     let mut listening = Listening::new(&rt);
     let subscribed = listening.perform(&rt, &mut flow, Subscribe);
-    let first = three_accepted(&rt, &mut flow);
+    let first = three_accepted(&rt, &mut flow, 1);
     let mut second = Emitting::new(&rt, &mut flow, 2);
     let begun = second.perform(&rt, Emit(4));
     let received = listening.next(&rt);
@@ -217,56 +206,6 @@ fn a_ready_poll_passes_a_held_lock(rt: HostRuntime) -> Result<(), Fail> {
         [Value(2), Value(3), Value(4), Nothing],
     );
     assert_same(&rt, "after", (pending, idle), (Pending, (true, true)));
-    Ok(())
-}
-
-// Of five values the first three are dropped, and one of the two that are left is received.
-#[test]
-fn a_subscription_is_counted(rt: HostRuntime) -> Result<(), Fail> {
-    let config = Config {
-        replay: 1,
-        extra: 1,
-        policy: Policy::DropOldest,
-        first: 10,
-        ..PLAIN
-    };
-    let mut flow = SharedFlow::new(rt.alloc(), config)?;
-    let mut emitting = Emitting::new(&rt, &mut flow, 1);
-    let mut subscription = flow.subscribe(&rt).expect(&rt, "a subscription");
-    let mut accepted = NotMade;
-    for value in 1..6 {
-        accepted = emitting.perform(&rt, Try(value));
-    }
-    let taken = subscription.try_next();
-    let mut held = flow.hold(&rt);
-    let met = held.meet(&mut subscription);
-    let kept = (held.count(), held.replay_len());
-    held.release(&rt);
-    let counts = (
-        subscription.start(),
-        subscription.received(),
-        subscription.dropped(),
-    );
-    let last = (subscription.try_next(), subscription.try_next());
-    subscription.cancel(&rt);
-    let idle = emitting.close(&rt);
-    assert_same(&rt, "the last number", accepted, Accepted(14));
-    assert_same(&rt, "the first value that is left", taken, Taken::Value(4));
-    let wanted = Met {
-        accepted: 5,
-        received: 1,
-        dropped: 3,
-    };
-    assert_same(&rt, "met", met, wanted);
-    assert_same(&rt, "count and cache", kept, (1, 1));
-    assert_same(&rt, "start, received, dropped", counts, (10, 1, 3));
-    assert_same(
-        &rt,
-        "the last value",
-        last,
-        (Taken::Value(5), Taken::Nothing),
-    );
-    assert!(rt; idle);
     Ok(())
 }
 
@@ -368,7 +307,7 @@ where
 }
 
 /// What was answered while the lock was kept.
-#[derive(Clone, Copy, Debug, PartialEq, Eq)]
+#[derive(Debug, Drop, PartialEq)]
 struct Answered {
     taken: [Taken<u64>; 2],
     start: u64,

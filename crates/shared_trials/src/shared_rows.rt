@@ -1,16 +1,16 @@
 //! A shared flow's worked examples by calls of its owner, emitters and subscriptions, and its refusals.
 
 use crate::shared_stage::Answer::{
-    Accepted, Cancelled, Count, Done, Full, Gone, Left, NotMade, Pending, Refused, Removed, Reset,
-    Subscribed, Value, Waiting,
+    Accepted, Cancelled, Count, Done, Full, Gone, Left, NotMade, Nothing, Pending, Refused,
+    Removed, Reset, Subscribed, Value, Waiting,
 };
-use crate::shared_stage::Call::{Ask, Cancel, Emit, Next, Subscribe, TakeBack, Try};
+use crate::shared_stage::Call::{Ask, Cancel, Emit, Next, Subscribe, Take, TakeBack, Try};
 use crate::shared_stage::Party::{A, B, First, Owner, Second, Third};
 use crate::shared_stage::{Call, Emitting, Line, Listening, played};
 use crate::tools::{Differences, assert_same};
 use cold_flow::Policy;
-use shared_core::{Begun, Config, Withdrawn};
-use shared_flow::{Emitter, SharedFlow};
+use shared_core::Config;
+use shared_flow::{SharedFlow, Taken};
 use std::alloc::AllocGlobal;
 use std::process::Abort;
 use std::random::RandomSource;
@@ -29,6 +29,9 @@ pub(crate) const PLAIN: Config = Config {
     emits: 8,
     first: 0,
 };
+
+/// The same with one emission in flight.
+const ONE_IN_FLIGHT: Config = Config { emits: 1, ..PLAIN };
 
 /// The calls on a new flow with their answers, and the replay cache after them.
 struct Row<'a> {
@@ -129,6 +132,70 @@ const ROWS: &[Row<'_>] = &[
         cache: &[],
     },
     Row {
+        name: "a hand over that is given up before a receipt leaves its value",
+        config: ONE_IN_FLIGHT,
+        lines: &[
+            (A, Subscribe, Subscribed),
+            (B, Subscribe, Subscribed),
+            (First, Emit(7), Waiting),
+            (First, TakeBack, Left(0)),
+            (First, TakeBack, Gone),
+            (A, Take, Value(7)),
+            (B, Take, Value(7)),
+            (A, Take, Nothing),
+            (B, Take, Nothing),
+        ],
+        cache: &[],
+    },
+    Row {
+        name: "a hand over that is given up after one receipt leaves its value",
+        config: ONE_IN_FLIGHT,
+        lines: &[
+            (A, Subscribe, Subscribed),
+            (B, Subscribe, Subscribed),
+            (First, Emit(7), Waiting),
+            (A, Take, Value(7)),
+            (First, TakeBack, Left(0)),
+            (First, TakeBack, Gone),
+            (B, Take, Value(7)),
+            (A, Take, Nothing),
+            (B, Take, Nothing),
+        ],
+        cache: &[],
+    },
+    Row {
+        name: "a hand over that is given up after both receipts leaves its value",
+        config: ONE_IN_FLIGHT,
+        lines: &[
+            (A, Subscribe, Subscribed),
+            (B, Subscribe, Subscribed),
+            (First, Emit(7), Waiting),
+            (A, Take, Value(7)),
+            (B, Take, Value(7)),
+            (First, TakeBack, Left(0)),
+            (First, TakeBack, Gone),
+            (A, Take, Nothing),
+            (B, Take, Nothing),
+        ],
+        cache: &[],
+    },
+    Row {
+        name: "a finished hand over has nothing to give up",
+        config: ONE_IN_FLIGHT,
+        lines: &[
+            (A, Subscribe, Subscribed),
+            (B, Subscribe, Subscribed),
+            (First, Emit(7), Waiting),
+            (A, Take, Value(7)),
+            (B, Take, Value(7)),
+            (First, Ask, Done(0)),
+            (First, TakeBack, Gone),
+            (A, Take, Nothing),
+            (B, Take, Nothing),
+        ],
+        cache: &[],
+    },
+    Row {
         name: "places_run_out",
         config: Config {
             subscribers: 1,
@@ -213,7 +280,8 @@ fn calls_are_answered(rt: HostRuntime) -> Result<(), Fail> {
 fn another_owner_emits(rt: HostRuntime) -> Result<(), Fail> {
     let mut flow = SharedFlow::new(rt.alloc(), Config { replay: 2, ..PLAIN })?;
     let mut other = flow.dup(&rt)?;
-    assert_three_accepted(&rt, &mut other);
+    let idle = three_accepted(&rt, &mut other, 7).close(&rt);
+    assert!(rt; idle);
     let mut cache = Vec::new(rt.alloc());
     let added = flow.replay_cache_into(&rt, &mut cache);
     assert_same(&rt, "the cache's call", added, Ok(()));
@@ -223,20 +291,24 @@ fn another_owner_emits(rt: HostRuntime) -> Result<(), Fail> {
     Ok(())
 }
 
-// An emitter of the flow tries three values.
-fn assert_three_accepted<R>(rt: &R, flow: &mut SharedFlow<u64>)
+// An emitter of the flow with this id, whose first three values are accepted.
+pub(crate) fn three_accepted<R>(rt: &R, flow: &mut SharedFlow<u64>, id: u32) -> Emitting
 where
     R: Wait + Abort + RandomSource + AllocGlobal,
 {
-    let mut emitting = Emitting::new(rt, flow, 7);
+    let mut emitting = Emitting::new(rt, flow, id);
     let receipts = [
         emitting.perform(rt, Try(1)),
         emitting.perform(rt, Try(2)),
         emitting.perform(rt, Try(3)),
     ];
-    let idle = emitting.close(rt);
-    assert_eq!(rt; receipts, [Accepted(0), Accepted(1), Accepted(2)]);
-    assert!(rt; idle);
+    assert_same(
+        rt,
+        "three values",
+        receipts,
+        [Accepted(0), Accepted(1), Accepted(2)],
+    );
+    emitting
 }
 
 // A subscription receives the last two of them, and is the only one while it does.
@@ -258,63 +330,40 @@ where
     assert_same(rt, "subscriptions", count, 1);
 }
 
-// An emitter with this id, whose emission of this value waits.
-fn waiting<R: Wait + Abort>(
-    rt: &R,
-    flow: &mut SharedFlow<u64>,
-    id: u32,
-    value: u64,
-) -> Emitter<u64> {
-    let mut emitter = flow.emitter(rt, id).expect(rt, "an emitter");
-    if !emitter.in_flight() {
-        let begun = emitter.start_emit(rt, value);
-        assert!(rt; matches!(begun, Ok(Begun::Waiting(()))));
-    }
-    assert!(rt; emitter.in_flight());
-    emitter
-}
-
 // The emission of the second emitter waits when its emitter is closed. That of the third was accepted by then.
 #[test]
 fn close_gives_up_the_emission_in_flight(rt: HostRuntime) -> Result<(), Fail> {
     let mut flow = SharedFlow::new(rt.alloc(), Config { extra: 1, ..PLAIN })?;
     let mut listening = Listening::new(&rt);
-    let subscribed = listening.perform(&rt, &mut flow, Subscribe);
     let mut first = Emitting::new(&rt, &mut flow, 1);
-    let accepted = first.perform(&rt, Try(1));
-    let second = waiting(&rt, &mut flow, 2, 2);
-    let third = waiting(&rt, &mut flow, 3, 3);
-    let removed = second.close(&rt);
-    let received = listening.perform(&rt, &mut flow, Next);
-    let left = match third.close(&rt) {
-        Withdrawn::Left(receipt) => Some((receipt.emitter(), receipt.number())),
-        _ => None,
-    };
-    let last = listening.perform(&rt, &mut flow, Next);
-    let none = listening.perform(&rt, &mut flow, Next);
-    let idle = first.close(&rt);
+    let mut second = Emitting::new(&rt, &mut flow, 2);
+    let mut third = Emitting::new(&rt, &mut flow, 3);
+    let begun = [
+        listening.perform(&rt, &mut flow, Subscribe),
+        first.perform(&rt, Try(1)),
+        second.perform(&rt, Emit(2)),
+        third.perform(&rt, Emit(3)),
+    ];
+    let removed = second.end(&rt);
+    let received = listening.next(&rt);
+    let left = third.end(&rt);
+    let rest = [listening.next(&rt), listening.next(&rt)];
+    let ended = first.end(&rt);
     listening.leave(&rt);
     assert_same(
         &rt,
-        "subscription and first emission",
-        (subscribed, accepted),
-        (Subscribed, Accepted(0)),
-    );
-    let is_removed = matches!(removed, Withdrawn::Removed);
-    assert_same(&rt, "the second emission was removed", is_removed, true);
-    assert_same(
-        &rt,
-        "first value, and the third emission",
-        (received, left),
-        (Value(1), Some((3, 1))),
+        "subscription and emissions",
+        begun,
+        [Subscribed, Accepted(0), Waiting, Waiting],
     );
     assert_same(
         &rt,
-        "second value, and an ask after it",
-        (last, none),
-        (Value(3), Pending),
+        "the second emission, the first value, the third emission",
+        [removed, received, left],
+        [Removed, Value(1), Left(1)],
     );
-    assert!(rt; idle);
+    assert_same(&rt, "the second value", rest, [Value(3), Pending]);
+    assert_same(&rt, "the first emitter was idle", ended, Gone);
     Ok(())
 }
 
@@ -351,22 +400,67 @@ fn each_close_gives_up_once(rt: HostRuntime) -> Result<(), Fail> {
     };
     let mut flow = SharedFlow::new(rt.alloc(), config)?;
     let mut listening = Listening::new(&rt);
-    let subscribed = listening.perform(&rt, &mut flow, Subscribe);
     let mut first = Emitting::new(&rt, &mut flow, 1);
-    let before = first.perform(&rt, Try(1));
+    let before = [
+        listening.perform(&rt, &mut flow, Subscribe),
+        first.perform(&rt, Try(1)),
+    ];
     assert_given_up(&rt, &mut flow, &mut first, 2);
     assert_given_up(&rt, &mut flow, &mut first, 3);
-    let received = (listening.next(&rt), listening.next(&rt));
-    let after = first.perform(&rt, Try(5));
-    let idle = first.close(&rt);
+    let after = [
+        listening.next(&rt),
+        listening.next(&rt),
+        first.perform(&rt, Try(5)),
+        first.end(&rt),
+    ];
     listening.leave(&rt);
     assert_same(
         &rt,
-        "subscription and emissions",
-        (subscribed, before, after),
-        (Subscribed, Accepted(0), Accepted(1)),
+        "subscription and emission",
+        before,
+        [Subscribed, Accepted(0)],
     );
-    assert_same(&rt, "receipts", received, (Value(1), Pending));
-    assert!(rt; idle);
+    assert_same(
+        &rt,
+        "receipts, and an emission",
+        after,
+        [Value(1), Pending, Accepted(1), Gone],
+    );
+    Ok(())
+}
+
+// A subscription in the only place takes the value with this number, finds nothing more, and leaves.
+fn assert_round<R>(rt: &R, flow: &mut SharedFlow<u64>, emitting: &mut Emitting, number: u64)
+where
+    R: Wait + Abort,
+{
+    let mut subscription = flow.subscribe(rt).expect(rt, "the place");
+    let emitted = emitting.perform(rt, Try(number));
+    let taken = (subscription.try_next(), subscription.try_next());
+    let counts = (
+        subscription.start(),
+        subscription.received(),
+        subscription.dropped(),
+    );
+    subscription.cancel(rt);
+    assert_same(rt, "emitted", emitted, Accepted(number));
+    assert_same(rt, "taken", taken, (Taken::Value(number), Taken::Nothing));
+    assert_same(rt, "start, received, dropped", counts, (number, 1, 0));
+}
+
+#[test]
+fn a_place_is_used_again_a_thousand_times(rt: HostRuntime) -> Result<(), Fail> {
+    let config = Config {
+        subscribers: 1,
+        extra: 1,
+        ..PLAIN
+    };
+    let mut flow = SharedFlow::new(rt.alloc(), config)?;
+    let mut emitting = Emitting::new(&rt, &mut flow, 1);
+    for number in 0..1000 {
+        assert_round(&rt, &mut flow, &mut emitting, number);
+    }
+    let is_idle = emitting.close(&rt);
+    assert!(rt; is_idle);
     Ok(())
 }

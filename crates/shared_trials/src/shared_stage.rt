@@ -1,17 +1,19 @@
 //! A shared flow with three emitters and two subscriptions, whose calls are made line by line.
 
+ghost use Rattle.std.specs.Prelude.{◌≡◌, ⊤};
+
 use cold_flow::Policy;
 use futures::task::Poll;
 use futures::test::MockTask;
 use shared_core::{Begun, Config, Tried, Withdrawn};
 use shared_flow::{Emitter, Receipt, SharedFlow, Subscription, Taken};
-use std::alloc::AllocGlobal;
+use std::alloc::{AllocError, AllocGlobal};
 use std::process::Abort;
 use std::random::RandomSource;
 use std::sync::Wait;
 
 /// Who makes a call: the owner of the flow, an emitter, or a subscription.
-#[derive(Clone, Copy, Debug, PartialEq, Eq)]
+#[derive(Copy)]
 pub enum Party {
     Owner,
     First,
@@ -21,8 +23,18 @@ pub enum Party {
     B,
 }
 
+impl Clone for Party {
+    ghost is_clone = { λ it copy. copy ≡ it };
+
+    ghost is_infallible = { λ _. ⊤ };
+
+    fn clone(&self) -> Result<Self, AllocError> {
+        Ok(*self)
+    }
+}
+
 /// A call of the owner, of an emitter, or of a subscription.
-#[derive(Clone, Copy, Debug, PartialEq, Eq)]
+#[derive(Copy)]
 pub enum Call {
     Reset,
     Count,
@@ -37,8 +49,18 @@ pub enum Call {
     Cancel,
 }
 
+impl Clone for Call {
+    ghost is_clone = { λ it copy. copy ≡ it };
+
+    ghost is_infallible = { λ _. ⊤ };
+
+    fn clone(&self) -> Result<Self, AllocError> {
+        Ok(*self)
+    }
+}
+
 /// What a call answered.
-#[derive(Clone, Copy, Debug, PartialEq, Eq)]
+#[derive(Copy, Debug, PartialEq)]
 pub enum Answer {
     Accepted(u64),
     Dropped,
@@ -61,6 +83,16 @@ pub enum Answer {
     Foreign,
     // Nobody has such a call, or it may not be made now.
     NotMade,
+}
+
+impl Clone for Answer {
+    ghost is_clone = { λ it copy. copy ≡ it };
+
+    ghost is_infallible = { λ _. ⊤ };
+
+    fn clone(&self) -> Result<Self, AllocError> {
+        Ok(*self)
+    }
 }
 
 /// A call, and what it has to answer.

@@ -152,18 +152,18 @@ impl Stage {
     }
 
     // Each party runs in a thread of its own.
-    fn run_all<R: Wait + Threads + Sync>(&self, rt: &R, parties: &mut [&mut Party]) {
+    fn run_all<R: Wait + Threads + Sync>(&self, rt: &R, parties: &mut [Party]) {
         for_each_mut(
             rt,
             parties,
             THREADS,
-            &|index, party: &mut &mut Party| self.enter(rt, index, party),
+            &|index, party: &mut Party| self.enter(rt, index, party),
         );
     }
 }
 
 /// What one that ran came to.
-#[derive(Clone, Copy, Debug, PartialEq, Eq)]
+#[derive(Debug, Drop, PartialEq)]
 struct Outcome {
     /// How many values were accepted for it, or received by it.
     count: u64,
@@ -188,6 +188,18 @@ fn all_of(count: u64) -> Outcome {
     }
 }
 
+/// What one that runs in a thread has to do.
+enum Part {
+    /// It emits values by the emitter with this id, at least so many.
+    Emits(u32, u64),
+    /// The same, and it goes on after that until a subscription has left.
+    EmitsOn(u32, u64),
+    /// It receives so many values.
+    Receives(u64),
+    /// It keeps the lock for a while.
+    Keeps,
+}
+
 /// One that runs in a thread: it emits, receives, or keeps the lock.
 enum Party {
     Emitting(Emitting),
@@ -196,6 +208,21 @@ enum Party {
 }
 
 impl Party {
+    // One with this part, in a flow of this policy.
+    fn of<R: Wait + Abort>(
+        rt: &R,
+        flow: &mut SharedFlow<u64>,
+        part: &Part,
+        policy: Policy,
+    ) -> Party {
+        match part {
+            Part::Emits(id, least) => Emitting::party(rt, flow, *id, *least, policy, false),
+            Part::EmitsOn(id, least) => Emitting::party(rt, flow, *id, *least, policy, true),
+            Part::Receives(most) => Listening::party(rt, flow, *most),
+            Part::Keeps => Party::Keeping(flow.dup(rt).expect(rt, "another owner")),
+        }
+    }
+
     fn is_done(&self, stage: &Stage) -> bool {
         match self {
             Party::Emitting(emitting) => emitting.is_done(stage),
@@ -244,11 +271,6 @@ struct Emitting {
 }
 
 impl Emitting {
-    // An emitter that emits just so many, none of which is dropped.
-    fn of<R: Wait + Abort>(rt: &R, flow: &mut SharedFlow<u64>, id: u32, count: u64) -> Party {
-        Emitting::party(rt, flow, id, count, Policy::Suspend, false)
-    }
-
     fn party<R: Wait + Abort>(
         rt: &R,
         flow: &mut SharedFlow<u64>,
@@ -442,158 +464,220 @@ impl Listening {
     }
 }
 
-// One emitter hands so many values over to one subscription, where so many more may be pending. A wake that is lost has both sleep
-// for good.
-fn assert_all_pass<R>(rt: &R, extra: u64, count: u64) -> Result<(), Fail>
+// One party for each part. One for which there is no place is ended.
+fn joined<R: Wait + Abort>(
+    rt: &R,
+    stage: &Stage,
+    flow: &mut SharedFlow<u64>,
+    scene: &Scene<'_>,
+    mut parties: Vec<Party>,
+) -> Vec<Party> {
+    for part in scene.parts {
+        if let Err(refused) = parties.push(Party::of(rt, flow, part, scene.policy)) {
+            refused.value.end(rt, stage);
+        }
+    }
+    parties
+}
+
+// Ends each party, the last one first, and adds what it came to.
+fn end_all(
+    rt: &impl Wait,
+    stage: &Stage,
+    mut parties: Vec<Party>,
+    mut outcomes: Vec<Outcome>,
+) -> Vec<Outcome> {
+    while let Some(party) = parties.pop() {
+        let _is_added = outcomes.push(party.end(rt, stage));
+    }
+    parties.destroy_empty();
+    outcomes
+}
+
+/// Those that run on a new flow, each in a thread of its own. Where one keeps the lock, the others wait for it before they begin.
+#[derive(Drop)]
+struct Scene<'a> {
+    name: &'a str,
+    extra: u64,
+    policy: Policy,
+    is_open: bool,
+    parts: &'a [Part],
+}
+
+// What each party of a scene came to, the last one first, and how many subscriptions were left.
+fn played<R>(rt: &R, scene: &Scene<'_>) -> Result<(Vec<Outcome>, u32), Fail>
 where
     R: Wait + Threads + Abort + RandomSource + AllocGlobal + Sync,
 {
-    let stage = Stage::new(rt, 2, u64::MAX, true)?;
-    let mut flow = SharedFlow::new(rt.alloc(), config(0, extra, Policy::Suspend))?;
-    let mut emitting = Emitting::of(rt, &mut flow, 0, count);
-    let mut listening = Listening::party(rt, &mut flow, count);
-    stage.run_all(rt, &mut [&mut emitting, &mut listening]);
-    let outcomes = (emitting.end(rt, &stage), listening.end(rt, &stage));
-    assert_same(
-        rt,
-        "emitted and received",
-        outcomes,
-        (all_of(count), all_of(count)),
-    );
-    Ok(())
+    let count = scene.parts.len();
+    let outcomes = Vec::with_capacity(rt.alloc(), count)?;
+    let stage = Stage::new(rt, count, scene.emitters(), scene.is_open)?;
+    let mut flow = SharedFlow::new(rt.alloc(), config(0, scene.extra, scene.policy))?;
+    let places = Vec::with_capacity(rt.alloc(), count)?;
+    let mut parties = joined(rt, &stage, &mut flow, scene, places);
+    stage.run_all(rt, &mut parties);
+    let outcomes = end_all(rt, &stage, parties, outcomes);
+    Ok((outcomes, flow.subscription_count(rt)))
 }
 
-#[test]
-fn a_thousand_hand_overs_between_threads(rt: HostRuntime) -> Result<(), Fail> {
-    assert_all_pass(&rt, 0, 1000)
-}
-
-// Now and then a value is accepted between a subscription's two looks, or received right before or after an emission's last look.
-// One thread can't make that happen, since each lies inside one call.
-#[test]
-fn no_wake_is_lost(rt: HostRuntime) -> Result<(), Fail> {
-    for extra in [0, 1, 2] {
-        assert_all_pass(&rt, extra, 10_000)?;
+impl Scene<'_> {
+    // After how many emitters nobody sleeps any more: those that go on. Where none does, the last emission isn't the end.
+    fn emitters(&self) -> u64 {
+        let mut count: u64 = 0;
+        for part in self.parts {
+            if let Part::EmitsOn(..) = part {
+                count = count.saturating_add(1);
+            }
+        }
+        if count == 0 { u64::MAX } else { count }
     }
-    Ok(())
 }
 
-#[test]
-fn three_emitters_and_four_subscriptions_in_threads(rt: HostRuntime) -> Result<(), Fail> {
-    let stage = Stage::new(&rt, 7, u64::MAX, true)?;
-    let mut flow = SharedFlow::new(rt.alloc(), config(0, 8, Policy::Suspend))?;
-    let mut first = Emitting::of(&rt, &mut flow, 0, 1000);
-    let mut second = Emitting::of(&rt, &mut flow, 1, 1000);
-    let mut third = Emitting::of(&rt, &mut flow, 2, 1000);
-    let mut a = Listening::party(&rt, &mut flow, 3000);
-    let mut b = Listening::party(&rt, &mut flow, 3000);
-    let mut c = Listening::party(&rt, &mut flow, 3000);
-    let mut d = Listening::party(&rt, &mut flow, 3000);
-    stage.run_all(
-        &rt,
-        &mut [
-            &mut first,
-            &mut second,
-            &mut third,
-            &mut a,
-            &mut b,
-            &mut c,
-            &mut d,
-        ],
-    );
-    let emitted = [
-        first.end(&rt, &stage),
-        second.end(&rt, &stage),
-        third.end(&rt, &stage),
-    ];
-    let received = [
-        a.end(&rt, &stage),
-        b.end(&rt, &stage),
-        c.end(&rt, &stage),
-        d.end(&rt, &stage),
-    ];
-    assert_same(&rt, "emitted", emitted, [all_of(1000); 3]);
-    assert_same(&rt, "received", received, [all_of(3000); 4]);
-    Ok(())
-}
-
-// Two emitters emit until the second subscription has left, which it does after a hundred values. The first stays, and has in the
-// end all that was accepted, less what was dropped for it.
-fn assert_under<R>(rt: &R, policy: Policy) -> Result<(), Fail>
-where
-    R: Wait + Threads + Abort + RandomSource + AllocGlobal + Sync,
-{
-    let stage = Stage::new(rt, 4, 2, true)?;
-    let mut flow = SharedFlow::new(rt.alloc(), config(0, 4, policy))?;
-    let mut first = Emitting::party(rt, &mut flow, 0, 1000, policy, true);
-    let mut second = Emitting::party(rt, &mut flow, 1, 1000, policy, true);
-    let mut stays = Listening::party(rt, &mut flow, u64::MAX);
-    let mut leaves = Listening::party(rt, &mut flow, 100);
-    stage.run_all(rt, &mut [&mut first, &mut second, &mut stays, &mut leaves]);
-    let (first, second) = (first.end(rt, &stage), second.end(rt, &stage));
-    let (stays, leaves) = (stays.end(rt, &stage), leaves.end(rt, &stage));
-    let count = flow.subscription_count(rt);
-    let are_done = [first.is_done, second.is_done, stays.is_done, leaves.is_done];
-    assert_same(rt, "who is done", are_done, [true, true, false, true]);
-    assert_same(rt, "the values up to the end", leaves.count, 100);
-    let rise = [first.rises, second.rises, stays.rises, leaves.rises];
-    assert_same(rt, "receipts and values that rise", rise, [true; 4]);
-    let accepted = first.count.saturating_add(second.count);
-    let received = stays.count.saturating_add(stays.dropped);
-    assert_same(rt, "received or dropped", received, accepted);
-    if policy != Policy::DropOldest {
-        assert_same(rt, "dropped from what was accepted", stays.dropped, 0);
-    }
-    if policy == Policy::Suspend {
-        assert_same(
-            rt,
-            "none is lost",
-            (stays.is_whole, leaves.is_whole),
-            (true, true),
-        );
-    }
-    assert_same(rt, "subscriptions", count, 0);
-    Ok(())
-}
-
-#[test]
-fn one_of_two_leaves_under_each_policy(rt: HostRuntime) -> Result<(), Fail> {
-    for policy in [Policy::Suspend, Policy::DropOldest, Policy::DropLatest] {
-        assert_under(&rt, policy)?;
-    }
-    Ok(())
-}
+// Each party of a scene does all that it has to do and misses nothing. Beside a scene stand the counts, the last party's first.
+const PASSING: &[(Scene<'_>, &[u64])] = &[
+    (
+        Scene {
+            name: "a thousand hand overs",
+            extra: 0,
+            policy: Policy::Suspend,
+            is_open: true,
+            parts: &[Part::Emits(0, 1000), Part::Receives(1000)],
+        },
+        &[1000, 1000],
+    ),
+    (
+        Scene {
+            name: "no wake is lost without places",
+            extra: 0,
+            policy: Policy::Suspend,
+            is_open: true,
+            parts: &[Part::Emits(0, 10_000), Part::Receives(10_000)],
+        },
+        &[10_000, 10_000],
+    ),
+    (
+        Scene {
+            name: "no wake is lost with one place",
+            extra: 1,
+            policy: Policy::Suspend,
+            is_open: true,
+            parts: &[Part::Emits(0, 10_000), Part::Receives(10_000)],
+        },
+        &[10_000, 10_000],
+    ),
+    (
+        Scene {
+            name: "no wake is lost with two places",
+            extra: 2,
+            policy: Policy::Suspend,
+            is_open: true,
+            parts: &[Part::Emits(0, 10_000), Part::Receives(10_000)],
+        },
+        &[10_000, 10_000],
+    ),
+    (
+        Scene {
+            name: "three emitters and four subscriptions",
+            extra: 8,
+            policy: Policy::Suspend,
+            is_open: true,
+            parts: &[
+                Part::Emits(0, 1000),
+                Part::Emits(1, 1000),
+                Part::Emits(2, 1000),
+                Part::Receives(3000),
+                Part::Receives(3000),
+                Part::Receives(3000),
+                Part::Receives(3000),
+            ],
+        },
+        &[3000, 3000, 3000, 3000, 1000, 1000, 1000],
+    ),
+];
 
 // A subscription looks for a value, and finds none without the lock. While it waits for the lock, an emitter does too: whoever is
 // first, the value is received.
-fn assert_met_at_the_lock<R>(rt: &R) -> Result<(), Fail>
+const MEETING: &Scene<'_> = &Scene {
+    name: "emitter and subscription meet at the lock",
+    extra: 1,
+    policy: Policy::Suspend,
+    is_open: false,
+    parts: &[Part::Emits(0, 1), Part::Receives(1), Part::Keeps],
+};
+
+fn assert_all_pass<R>(rt: &R, scene: &Scene<'_>, counts: &[u64]) -> Result<(), Fail>
 where
     R: Wait + Threads + Abort + RandomSource + AllocGlobal + Sync,
 {
-    let stage = Stage::new(rt, 3, u64::MAX, false)?;
-    let mut flow = SharedFlow::new(rt.alloc(), config(0, 1, Policy::Suspend))?;
-    let mut emitting = Emitting::of(rt, &mut flow, 0, 1);
-    let mut listening = Listening::party(rt, &mut flow, 1);
-    let mut keeping = Party::Keeping(flow);
-    stage.run_all(rt, &mut [&mut emitting, &mut listening, &mut keeping]);
-    let outcomes = [
-        emitting.end(rt, &stage),
-        listening.end(rt, &stage),
-        keeping.end(rt, &stage),
-    ];
-    assert_same(
-        rt,
-        "emitted and received",
-        outcomes,
-        [all_of(1), all_of(1), all_of(0)],
-    );
+    let (outcomes, _) = played(rt, scene)?;
+    assert_same(rt, scene.name, outcomes.len(), counts.len());
+    for (outcome, count) in outcomes.iter().zip(counts) {
+        assert_same(rt, scene.name, outcome, &all_of(*count));
+    }
+    Ok(())
+}
+
+// A wake that is lost has those that sleep do so for good. Now and then a value is accepted between a subscription's two looks, or
+// received right before or after an emission's last look. One thread can't make that happen, since each lies inside one call.
+#[test]
+fn no_wake_is_lost(rt: HostRuntime) -> Result<(), Fail> {
+    for (scene, counts) in PASSING {
+        assert_all_pass(&rt, scene, counts)?;
+    }
     Ok(())
 }
 
 #[test]
 fn emitter_and_subscription_meet_at_the_lock(rt: HostRuntime) -> Result<(), Fail> {
     for _ in 0..300 {
-        assert_met_at_the_lock(&rt)?;
+        assert_all_pass(&rt, MEETING, &[0, 1, 1])?;
+    }
+    Ok(())
+}
+
+// Of two emitters and two subscriptions, one of which has left after a hundred values, the last one first. The other stays, and has
+// in the end all that was accepted, less what was dropped for it.
+fn assert_one_left(rt: &impl Abort, scene: &Scene<'_>, outcomes: &[Outcome]) {
+    let [leaves, stays, second, first] = outcomes else {
+        assert!(rt; false, "an outcome is missing");
+        return;
+    };
+    let are_done = [first.is_done, second.is_done, stays.is_done, leaves.is_done];
+    assert_same(rt, scene.name, are_done, [true, true, false, true]);
+    assert_same(rt, "the values up to the end", leaves.count, 100);
+    let rise = [first.rises, second.rises, stays.rises, leaves.rises];
+    assert_same(rt, "receipts and values that rise", rise, [true; 4]);
+    let accepted = first.count.saturating_add(second.count);
+    let received = stays.count.saturating_add(stays.dropped);
+    assert_same(rt, "received or dropped", received, accepted);
+    if scene.policy != Policy::DropOldest {
+        assert_same(rt, "dropped from what was accepted", stays.dropped, 0);
+    }
+    if scene.policy == Policy::Suspend {
+        let are_whole = [stays.is_whole, leaves.is_whole];
+        assert_same(rt, "none is lost", are_whole, [true; 2]);
+    }
+}
+
+#[test]
+fn one_of_two_leaves_under_each_policy(rt: HostRuntime) -> Result<(), Fail> {
+    const PARTS: &[Part] = &[
+        Part::EmitsOn(0, 1000),
+        Part::EmitsOn(1, 1000),
+        Part::Receives(u64::MAX),
+        Part::Receives(100),
+    ];
+    for policy in [Policy::Suspend, Policy::DropOldest, Policy::DropLatest] {
+        let scene = Scene {
+            name: "who is done",
+            extra: 4,
+            policy,
+            is_open: true,
+            parts: PARTS,
+        };
+        let (outcomes, count) = played(&rt, &scene)?;
+        assert_one_left(&rt, &scene, &outcomes);
+        assert_same(&rt, "subscriptions", count, 0);
     }
     Ok(())
 }

@@ -1,10 +1,10 @@
 //! Worked examples of a state that is set from a cold flow.
 
-use crate::scarce::one_and_two;
+use crate::scarce::{Scarce, Source};
 use crate::ticks::Tick;
-use crate::tools::{Differences, broken, listed};
+use crate::tools::Differences;
 use crate::when::When;
-use cold_flow::{Cause, EndingRun, Flow, Numbers, Refusal, Step, range, scripted};
+use cold_flow::{Cause, Flow, Step};
 use flow_sharing::{StateSharing, state_in};
 use futures::test::MockTask;
 use state_flow::{Collector, StateFlow, StateSeat};
@@ -14,7 +14,6 @@ use std::random::RandomSource;
 use std::test::Fail;
 
 /// What is done with a sharing, its state or a collector, and what has to come of it.
-#[derive(Clone, Copy)]
 enum Line {
     /// A poll at a moment, with so many collectors.
     Poll(u64, u32, Tick),
@@ -26,122 +25,135 @@ enum Line {
     Cancel,
 }
 
-/// What is done with a new sharing, whose state has the initial value from then on.
+/// What is done with a new sharing of a source, some of whose first starts are refused. Its state has the initial value from then
+/// on.
 struct Row<'a> {
     name: &'a str,
+    source: Source<'a>,
+    refusals: u32,
     initial: u64,
     when: When,
     lines: &'a [Line],
 }
 
-const STATED_AND_SHARED: &Row<'_> = &Row {
-    name: "stated_and_shared",
-    initial: 7,
-    when: When::WhileSubscribed {
-        stop: 0,
-        expire: Some(0),
+const ROWS: &[Row<'_>] = &[
+    Row {
+        name: "stated_and_shared",
+        source: Source::Steps(&[Step::Value(1)]),
+        refusals: 0,
+        initial: 7,
+        when: When::WhileSubscribed {
+            stop: 0,
+            expire: Some(0),
+        },
+        lines: &[
+            Line::Collect,
+            Line::Ask(Some(7)),
+            Line::Poll(5, 1, Tick::On),
+            Line::Value(1),
+            Line::Cancel,
+            Line::Poll(6, 0, Tick::Reset),
+            Line::Value(7),
+        ],
     },
-    lines: &[
-        Line::Collect,
-        Line::Ask(Some(7)),
-        Line::Poll(5, 1, Tick::On),
-        Line::Value(1),
-        Line::Cancel,
-        Line::Poll(6, 0, Tick::Reset),
-        Line::Value(7),
-    ],
-};
-
-const TAKES_32_EVENTS: &Row<'_> = &Row {
-    name: "32 events in a poll",
-    initial: 0,
-    when: When::Eagerly,
-    lines: &[
-        Line::Poll(0, 0, Tick::On),
-        Line::Value(31),
-        Line::Woken,
-        Line::Poll(0, 0, Tick::On),
-        Line::Value(32),
-    ],
-};
-
-/// The end after 31 values is the last event of the first poll.
-const FAILS_AFTER_31: &Row<'_> = &Row {
-    name: "a failure after 31 values",
-    initial: 99,
-    when: When::Eagerly,
-    lines: &[
-        Line::Poll(4, 0, Tick::Ends(Cause::Failed(6))),
-        Line::Poll(3, 0, Tick::Over(Cause::Failed(6))),
-        Line::Poll(9, 0, Tick::Over(Cause::Failed(6))),
-        Line::Value(30),
-    ],
-};
-
-const FAILS_AFTER_32: &Row<'_> = &Row {
-    name: "a failure after 32 values",
-    initial: 99,
-    when: When::Eagerly,
-    lines: &[
-        Line::Poll(4, 0, Tick::On),
-        Line::Poll(3, 0, Tick::Ends(Cause::Failed(6))),
-        Line::Poll(9, 0, Tick::Over(Cause::Failed(6))),
-        Line::Value(31),
-    ],
-};
-
-const STARTS_ANEW: &Row<'_> = &Row {
-    name: "a stop cancels and a start begins anew",
-    initial: 0,
-    when: When::WhileSubscribed {
-        stop: 0,
-        expire: None,
+    Row {
+        name: "32 events in a poll",
+        source: Source::Rising(33, None),
+        refusals: 0,
+        initial: 0,
+        when: When::Eagerly,
+        lines: &[
+            Line::Poll(0, 0, Tick::On),
+            Line::Value(31),
+            Line::Woken,
+            Line::Poll(0, 0, Tick::On),
+            Line::Value(32),
+        ],
     },
-    lines: &[
-        Line::Collect,
-        Line::Poll(1, 1, Tick::On),
-        Line::Value(1),
-        Line::Cancel,
-        Line::Poll(2, 0, Tick::Off),
-        Line::Value(1),
-        Line::Set(5),
-        Line::Collect,
-        Line::Poll(3, 1, Tick::On),
-        Line::Value(1),
-        Line::Poll(4, 1, Tick::On),
-        Line::Value(2),
-        Line::Cancel,
-    ],
-};
-
-/// The latest moment stays too.
-const NEVER_STARTS: &Row<'_> = &Row {
-    name: "a refused start changes nothing",
-    initial: 8,
-    when: When::Lazily,
-    lines: &[
-        Line::Collect,
-        Line::Poll(100, 1, Tick::Refused),
-        Line::Poll(100, 1, Tick::Refused),
-        Line::Cancel,
-        Line::Poll(5, 0, Tick::Off),
-        Line::Value(8),
-    ],
-};
-
-/// So that a later poll, at an earlier moment, gives what the first try would have given.
-const STARTS_LATER: &Row<'_> = &Row {
-    name: "a refused start is made again",
-    initial: 8,
-    when: When::Eagerly,
-    lines: &[
-        Line::Poll(100, 0, Tick::Refused),
-        Line::Poll(100, 0, Tick::Refused),
-        Line::Value(8),
-        Line::Poll(5, 0, Tick::On),
-        Line::Value(2),
-    ],
-};
+    // The end after 31 values is the last event of the first poll.
+    Row {
+        name: "a failure after 31 values",
+        source: Source::Rising(31, Some(6)),
+        refusals: 0,
+        initial: 99,
+        when: When::Eagerly,
+        lines: &[
+            Line::Poll(4, 0, Tick::Ends(Cause::Failed(6))),
+            Line::Poll(3, 0, Tick::Over(Cause::Failed(6))),
+            Line::Poll(9, 0, Tick::Over(Cause::Failed(6))),
+            Line::Value(30),
+        ],
+    },
+    Row {
+        name: "a failure after 32 values",
+        source: Source::Rising(32, Some(6)),
+        refusals: 0,
+        initial: 99,
+        when: When::Eagerly,
+        lines: &[
+            Line::Poll(4, 0, Tick::On),
+            Line::Poll(3, 0, Tick::Ends(Cause::Failed(6))),
+            Line::Poll(9, 0, Tick::Over(Cause::Failed(6))),
+            Line::Value(31),
+        ],
+    },
+    Row {
+        name: "a stop cancels and a start begins anew",
+        source: Source::Steps(&[Step::Value(1), Step::Pending, Step::Value(2)]),
+        refusals: 0,
+        initial: 0,
+        when: When::WhileSubscribed {
+            stop: 0,
+            expire: None,
+        },
+        lines: &[
+            Line::Collect,
+            Line::Poll(1, 1, Tick::On),
+            Line::Value(1),
+            Line::Cancel,
+            Line::Poll(2, 0, Tick::Off),
+            Line::Value(1),
+            Line::Set(5),
+            Line::Collect,
+            Line::Poll(3, 1, Tick::On),
+            Line::Value(1),
+            Line::Poll(4, 1, Tick::On),
+            Line::Value(2),
+            Line::Cancel,
+        ],
+    },
+    // The latest moment stays too.
+    Row {
+        name: "a refused start changes nothing",
+        source: Source::Steps(&[]),
+        refusals: u32::MAX,
+        initial: 8,
+        when: When::Lazily,
+        lines: &[
+            Line::Collect,
+            Line::Poll(100, 1, Tick::Refused),
+            Line::Poll(100, 1, Tick::Refused),
+            Line::Cancel,
+            Line::Poll(5, 0, Tick::Off),
+            Line::Value(8),
+        ],
+    },
+    // So that a later poll, at an earlier moment, gives what the first try would have given.
+    Row {
+        name: "a refused start is made again",
+        source: Source::Steps(&[Step::Value(1), Step::Value(2)]),
+        refusals: 2,
+        initial: 8,
+        when: When::Eagerly,
+        lines: &[
+            Line::Poll(100, 0, Tick::Refused),
+            Line::Poll(100, 0, Tick::Refused),
+            Line::Value(8),
+            Line::Poll(5, 0, Tick::On),
+            Line::Value(2),
+        ],
+    },
+];
 
 /// Two seats of a state, of which one may collect, and the latest moment of a poll of its sharing.
 struct Stage {
@@ -175,16 +187,16 @@ impl Stage {
     }
 
     /// Is the line of the state or the collector so?
-    fn is_so(&mut self, line: Line) -> bool {
+    fn is_so(&mut self, line: &Line) -> bool {
         match line {
-            Line::Value(value) => self.seat.value() == value,
+            Line::Value(value) => self.seat.value() == *value,
             Line::Set(value) => {
-                self.seat.set(value);
+                self.seat.set(*value);
                 true
             }
             Line::Collect => self.collect(),
             Line::Ask(value) => match &mut self.collector {
-                Some(collector) => collector.try_next() == value,
+                Some(collector) => collector.try_next() == *value,
                 None => false,
             },
             Line::Cancel => self.cancel(),
@@ -198,7 +210,7 @@ impl Stage {
         sharing: &mut StateSharing<u64, F>,
         now: u64,
         count: u32,
-        tick: Tick,
+        tick: &Tick,
     ) -> bool {
         let answer = self.task.enter(|cx| sharing.poll(now, cx));
         if answer.is_ok() {
@@ -214,8 +226,8 @@ impl Stage {
         lines: &[Line],
     ) -> usize {
         for (number, line) in lines.iter().enumerate() {
-            let same = match *line {
-                Line::Poll(now, count, tick) => self.is_polled(sharing, now, count, tick),
+            let same = match line {
+                Line::Poll(now, count, tick) => self.is_polled(sharing, *now, *count, tick),
                 other => self.is_so(other),
             };
             if !same {
@@ -266,49 +278,18 @@ fn compare_row<R: RandomSource + AllocGlobal, F: Flow<Item = u64, Fault = u64>>(
     differences.compare(row.name, lines, row.lines.len())
 }
 
-// A flow that never starts.
-#[derive(Drop)]
-struct Unstarted;
-
-impl Flow for Unstarted {
-    type Item = u64;
-
-    type Fault = u64;
-
-    type Running = EndingRun<Numbers<u64>, u64>;
-
-    ghost may = { λ flow t. ⊥ };
-
-    fn start(&self) -> Result<EndingRun<Numbers<u64>, u64>, Refusal> {
-        Err(Refusal::NoMemory)
-    }
-
-    ghost uncancelled = { λ flow xs never. never };
-}
-
-const UP_TO_30: [u64; 31] = [
-    0, 1, 2, 3, 4, 5, 6, 7, 8, 9, 10, 11, 12, 13, 14, 15, 16, 17, 18, 19, 20, 21, 22, 23, 24, 25,
-    26, 27, 28, 29, 30,
-];
-
-const UP_TO_31: [u64; 32] = [
-    0, 1, 2, 3, 4, 5, 6, 7, 8, 9, 10, 11, 12, 13, 14, 15, 16, 17, 18, 19, 20, 21, 22, 23, 24, 25,
-    26, 27, 28, 29, 30, 31,
-];
-
 #[test]
 fn states_are_set(rt: HostRuntime) -> Result<(), Fail> {
-    const STEPS: &[Step<u64, u64>] = &[Step::Value(1), Step::Pending, Step::Value(2)];
-    let alloc = rt.alloc();
-    let mut all = Differences::none(alloc);
-    compare_row(&rt, &mut all, listed(alloc, &[1])?, STATED_AND_SHARED)?;
-    compare_row(&rt, &mut all, range::<u64>(0, 33), TAKES_32_EVENTS)?;
-    compare_row(&rt, &mut all, broken(alloc, &UP_TO_30, 6)?, FAILS_AFTER_31)?;
-    compare_row(&rt, &mut all, broken(alloc, &UP_TO_31, 6)?, FAILS_AFTER_32)?;
-    compare_row(&rt, &mut all, scripted(STEPS.to_vec(alloc)?), STARTS_ANEW)?;
-    compare_row(&rt, &mut all, Unstarted, NEVER_STARTS)?;
-    let refusals = Cell::new(2);
-    compare_row(&rt, &mut all, one_and_two(&refusals), STARTS_LATER)?;
+    let mut all = Differences::none(rt.alloc());
+    for row in ROWS {
+        let flow = row.source.flow(rt.alloc())?;
+        let refusals = Cell::new(row.refusals);
+        let scarce = Scarce {
+            refusals: &refusals,
+            flow,
+        };
+        compare_row(&rt, &mut all, scarce, row)?;
+    }
     all.assert_none(&rt);
     Ok(())
 }

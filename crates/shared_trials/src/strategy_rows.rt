@@ -1,9 +1,8 @@
 //! Worked examples of sharing strategies: what each poll commands.
 use crate::tools::Differences;
 use crate::when::When;
-use cold_flow::Refusal;
 use flow_sharing::polls::commands_of;
-use flow_sharing::{Command, Entry, Plan, Started, Strategy};
+use flow_sharing::{Command, Entry, Plan, Started};
 use std::test::Fail;
 
 const START: Option<Command> = Some(Command::Start);
@@ -11,36 +10,6 @@ const START: Option<Command> = Some(Command::Start);
 const STOP: Option<Command> = Some(Command::Stop);
 
 const RESET: Option<Command> = Some(Command::StopAndReset);
-
-/// Polls of a strategy that stops after 100 and expires 50 later: moment, count, command, and whether it is on then.
-const WHILE_SUBSCRIBED: &[(u64, u32, Option<Command>, bool)] = &[
-    (0, 0, None, false),
-    (10, 1, START, true),
-    (20, 1, None, true),
-    (1000, 0, None, true),
-    (1099, 0, None, true),
-    (1100, 0, STOP, false),
-    (1149, 0, None, false),
-    (1150, 0, RESET, false),
-    (1151, 0, None, false),
-    (1151, 1, START, true),
-];
-
-#[test]
-fn while_subscribed(rt: HostRuntime) -> Result<(), Fail> {
-    let started = Started::WhileSubscribed {
-        stop: 100,
-        expire: Some(50),
-    };
-    let mut strategy = Strategy::new(started);
-    assert!(rt; !strategy.on());
-    for (now, count, command, on) in WHILE_SUBSCRIBED {
-        assert_eq!(rt; strategy.step(*now, *count), *command, "at {now}");
-        assert_eq!(rt; strategy.on(), *on, "at {now}");
-        assert_eq!(rt; strategy.latest(), *now);
-    }
-    Ok(())
-}
 
 /// Polls of a new strategy, each a moment and a count, what they command, and whether it is on after them. The latest moment
 /// is the greatest one.
@@ -54,6 +23,30 @@ struct Row<'a> {
 }
 
 const ROWS: &[Row<'_>] = &[
+    Row {
+        name: "while subscribed",
+        when: When::WhileSubscribed {
+            stop: 100,
+            expire: Some(50),
+        },
+        polls: &[
+            (0, 0),
+            (10, 1),
+            (20, 1),
+            (1000, 0),
+            (1099, 0),
+            (1100, 0),
+            (1149, 0),
+            (1150, 0),
+            (1151, 0),
+            (1151, 1),
+        ],
+        commands: &[
+            None, START, None, None, None, STOP, None, RESET, None, START,
+        ],
+        is_on: true,
+        latest: 1151,
+    },
     Row {
         name: "a moment that goes back",
         when: When::WhileSubscribed {
@@ -219,16 +212,5 @@ fn plans(rt: HostRuntime) -> Result<(), Fail> {
         differences.compare(row.name, commands.as_slice(), row.commands)?;
     }
     differences.assert_none(&rt);
-    Ok(())
-}
-
-#[test]
-fn bad_plans(rt: HostRuntime) -> Result<(), Fail> {
-    let entry = entry_of((0, 1, 1, Command::Start));
-    let upside_down = entry_of((0, 2, 1, Command::Start));
-    assert!(rt; Plan::of(&[entry; 32]).is_ok());
-    assert_eq!(rt; Plan::of(&[entry; 33]), Err(Refusal::BadPlan));
-    assert_eq!(rt; Plan::of(&[entry, upside_down]), Err(Refusal::BadPlan));
-    assert_eq!(rt; Refusal::BadPlan.number(), 11);
     Ok(())
 }

@@ -4,7 +4,6 @@ use cold_flow::{Cause, Refusal};
 use flow_sharing::Polled;
 
 /// What a poll has to come to.
-#[derive(Clone, Copy)]
 pub enum Tick {
     On,
     Off,
@@ -19,20 +18,20 @@ pub enum Tick {
 }
 
 impl Tick {
-    fn is_on(self) -> bool {
+    fn is_on(&self) -> bool {
         matches!(self, Tick::On | Tick::Ends(_))
     }
 
-    fn fault(self) -> Option<Cause<u64>> {
+    fn fault(&self) -> Option<Cause<u64>> {
         match self {
-            Tick::Ends(cause) | Tick::Over(cause) => Some(cause),
+            Tick::Ends(cause) | Tick::Over(cause) => Some(*cause),
             _ => None,
         }
     }
 
     /// Is that the answer, for so many subscriptions or collectors, where `now` is the latest moment, and that the fault?
     pub(crate) fn fits(
-        self,
+        &self,
         now: u64,
         count: u32,
         answer: Result<Polled, Refusal>,

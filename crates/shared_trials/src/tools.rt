@@ -1,26 +1,11 @@
-//! Tools of the tests: flows of lists, a task by hand, and what a table says that didn't come.
+//! Tools of the tests: what is made once more, a task by hand, and what a table says that didn't come.
 
-use cold_flow::{Listed, failing, of};
 use futures::test::MockTask;
 use std::alloc::{AllocError, AllocGlobal, Global};
 use std::fmt::Debug;
 use std::process::Abort;
 use std::random::RandomSource;
 use std::test::Fail;
-
-/// The flow of a list.
-pub(crate) fn listed(alloc: Global, values: &[u64]) -> Result<Listed<u64, u64>, AllocError> {
-    Ok(of(values.to_vec(alloc)?))
-}
-
-/// The flow of a list that fails then.
-pub(crate) fn broken(
-    alloc: Global,
-    values: &[u64],
-    fault: u64,
-) -> Result<Listed<u64, u64>, AllocError> {
-    Ok(failing(values.to_vec(alloc)?, fault))
-}
 
 /// What the call makes. It is made once more where memory was refused, as under `rt try --test --fail-alloc N`.
 pub(crate) fn made_again<T, F: Fn() -> Result<T, AllocError>>(call: &F) -> Result<T, AllocError>

@@ -4,7 +4,6 @@ use flow_sharing::Started;
 
 /// A strategy without a plan. A row of a constant names it so: the check of a constant with references doesn't cover the array
 /// inside a plan, and so no `Started` there.
-#[derive(Clone, Copy)]
 pub enum When {
     Eagerly,
     Lazily,
@@ -12,11 +11,14 @@ pub enum When {
 }
 
 impl When {
-    pub(crate) fn started(self) -> Started {
+    pub(crate) fn started(&self) -> Started {
         match self {
             When::Eagerly => Started::Eagerly,
             When::Lazily => Started::Lazily,
-            When::WhileSubscribed { stop, expire } => Started::WhileSubscribed { stop, expire },
+            When::WhileSubscribed { stop, expire } => Started::WhileSubscribed {
+                stop: *stop,
+                expire: *expire,
+            },
         }
     }
 }
