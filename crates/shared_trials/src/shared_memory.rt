@@ -101,37 +101,51 @@ fn number_of<R: Wait>(rt: &R, emitter: &mut Emitter<u64>, value: u64) -> Option<
     }
 }
 
-#[test]
-fn what_was_refused_for_want_of_memory_is_as_before(rt: HostRuntime) -> Result<(), Fail> {
+// Two values are accepted, by their own numbers.
+fn assert_accepted<R: Wait + Abort>(rt: &R, emitter: &mut Emitter<u64>) {
+    let first = number_of(rt, emitter, 5);
+    let second = number_of(rt, emitter, 6);
+    assert_same(rt, "receipts", (first, second), (Some(0), Some(1)));
+}
+
+// One subscribes to a flow that has another owner too, who counts it, and then keeps the lock.
+fn assert_subscribed<R: Wait + Abort + AllocGlobal>(
+    rt: &R,
+    flow: &mut SharedFlow<u64>,
+    other: &mut SharedFlow<u64>,
+) {
+    let subscription = subscription_made(rt, flow, &[5, 6]).expect(rt, "a subscription");
+    let count = other.subscription_count(rt);
+    let held = other.hold(rt);
+    let kept = (held.count(), held.replay_len());
+    held.release(rt);
+    subscription.cancel(rt);
+    assert_same(rt, "subscriptions", count, 1);
+    assert_same(rt, "count and cache while the lock is kept", kept, (1, 2));
+}
+
+// The replay cache is added to a list that has one value, and room for no other.
+fn assert_cached<R: Wait + Abort + AllocGlobal>(
+    rt: &R,
+    flow: &mut SharedFlow<u64>,
+) -> Result<(), Fail> {
     let alloc = rt.alloc();
     let mut cache = made_again(&|| Vec::with_capacity(alloc, 1))?;
     cache.push(4)?;
-    let mut flow = flow_made(&rt).map_err(|refusal| refusal.number())?;
-    let mut emitter = emitter_made(&rt, &mut flow, &[]).expect(&rt, "an emitter");
-    let first = number_of(&rt, &mut emitter, 5);
-    let second = number_of(&rt, &mut emitter, 6);
-    let mut other = other_made(&rt, &mut flow, &[5, 6]).expect(&rt, "another owner");
-    let subscription = subscription_made(&rt, &mut flow, &[5, 6]).expect(&rt, "a subscription");
-    let count = other.subscription_count(&rt);
-    let held = other.hold(&rt);
-    let kept = (held.count(), held.replay_len());
-    held.release(&rt);
-    subscription.cancel(&rt);
-    let idle = matches!(emitter.close(&rt), Withdrawn::Gone);
-    assert_same(
-        &rt,
-        "the cache's call",
-        cache_added(&rt, &mut other, &mut cache),
-        Ok(()),
-    );
-    assert_same(
-        &rt,
-        "receipts and subscriptions",
-        (first, second, count),
-        (Some(0), Some(1), 1),
-    );
-    assert_same(&rt, "count and cache while the lock is kept", kept, (1, 2));
-    assert_same(&rt, "the emitter was idle at its close", idle, true);
-    assert_same(&rt, "cache", cache.as_slice(), [4, 5, 6].as_slice());
+    let added = cache_added(rt, flow, &mut cache);
+    assert_same(rt, "the cache's call", added, Ok(()));
+    assert_same(rt, "cache", cache.as_slice(), [4, 5, 6].as_slice());
     Ok(())
+}
+
+#[test]
+fn what_was_refused_for_want_of_memory_is_as_before(rt: HostRuntime) -> Result<(), Fail> {
+    let mut flow = flow_made(&rt).expect(&rt, "a flow");
+    let mut emitter = emitter_made(&rt, &mut flow, &[]).expect(&rt, "an emitter");
+    assert_accepted(&rt, &mut emitter);
+    let mut other = other_made(&rt, &mut flow, &[5, 6]).expect(&rt, "another owner");
+    assert_subscribed(&rt, &mut flow, &mut other);
+    let idle = matches!(emitter.close(&rt), Withdrawn::Gone);
+    assert_same(&rt, "the emitter was idle at its close", idle, true);
+    assert_cached(&rt, &mut other)
 }

@@ -80,31 +80,51 @@ fn receive_all<R: Wait>(
     VALUES
 }
 
-// What passed from a thread that emits to one that receives, where so many values have room.
-fn passed<R>(rt: &R, extra: u64) -> Result<(u64, u64), Refusal>
+// What passed from a thread that emits to one that receives.
+fn received_from<R>(
+    rt: &R,
+    flow: &mut SharedFlow<u64>,
+    emitter: &mut Emitter<u64>,
+    (first, second): (&mut Parker, &mut Parker),
+) -> Result<(u64, u64), Refusal>
 where
-    R: Wait + Threads + Abort + RandomSource + AllocGlobal + Sync,
+    R: Wait + Threads + Sync,
 {
-    let mut first = Parker::new(rt)?;
-    let mut second = Parker::new(rt)?;
-    let mut flow = SharedFlow::new(rt.alloc(), config(0, extra, Policy::Suspend))?;
-    let mut emitter = flow.emitter(rt, 1)?;
-    let mut subscription = match flow.subscribe(rt) {
-        Ok(subscription) => subscription,
-        Err(refusal) => {
-            emitter.close(rt);
-            return Err(refusal);
-        }
-    };
+    let mut subscription = flow.subscribe(rt)?;
     let meeting = Meeting::new();
     let passed = thread::join(
         rt,
-        || emit_all(rt, &mut emitter, &mut first, &meeting),
-        || receive_all(rt, &mut subscription, &mut second, &meeting),
+        || emit_all(rt, emitter, first, &meeting),
+        || receive_all(rt, &mut subscription, second, &meeting),
     );
     subscription.cancel(rt);
-    emitter.close(rt);
     Ok(passed)
+}
+
+// The same over a new flow, where so many values have room.
+fn passed_over<R>(
+    rt: &R,
+    extra: u64,
+    parkers: (&mut Parker, &mut Parker),
+) -> Result<(u64, u64), Refusal>
+where
+    R: Wait + Threads + AllocGlobal + Sync,
+{
+    let mut flow = SharedFlow::new(rt.alloc(), config(0, extra, Policy::Suspend))?;
+    let mut emitter = flow.emitter(rt, 1)?;
+    let passed = received_from(rt, &mut flow, &mut emitter, parkers);
+    emitter.close(rt);
+    passed
+}
+
+// The same, where each thread has something to wait by.
+fn passed<R>(rt: &R, extra: u64) -> Result<(u64, u64), Refusal>
+where
+    R: Wait + Threads + RandomSource + AllocGlobal + Sync,
+{
+    let mut first = Parker::new(rt)?;
+    let mut second = Parker::new(rt)?;
+    passed_over(rt, extra, (&mut first, &mut second))
 }
 
 #[test]
@@ -116,23 +136,31 @@ fn threads_that_wait_are_answered(rt: HostRuntime) -> Result<(), Fail> {
     Ok(())
 }
 
-// Under a policy that drops, nobody waits: of two values the first is kept in the one place, and the second dropped.
-#[test]
-fn what_is_there_is_answered_at_once(rt: HostRuntime) -> Result<(), Fail> {
-    let mut parker = Parker::new(&rt).map_err(|refusal| refusal.number())?;
-    let made = SharedFlow::<u64>::new(rt.alloc(), config(0, 1, Policy::DropLatest));
-    let mut flow = made.map_err(|refusal| refusal.number())?;
-    let mut emitter = flow.emitter(&rt, 1).expect(&rt, "an emitter");
-    let mut subscription = flow.subscribe(&rt).expect(&rt, "a subscription");
-    let first = emitter.emit(&rt, &mut parker, 5);
-    let second = emitter.emit(&rt, &mut parker, 6);
-    let value = subscription.next(&rt, &mut parker);
-    subscription.cancel(&rt);
-    emitter.close(&rt);
+// Of two values the first is kept in the one place, and the second dropped.
+fn assert_answered_at_once<R: Wait + Abort + AllocGlobal>(
+    rt: &R,
+    flow: &mut SharedFlow<u64>,
+    parker: &mut Parker,
+) {
+    let mut emitter = flow.emitter(rt, 1).expect(rt, "an emitter");
+    let mut subscription = flow.subscribe(rt).expect(rt, "a subscription");
+    let first = emitter.emit(rt, parker, 5);
+    let second = emitter.emit(rt, parker, 6);
+    let value = subscription.next(rt, parker);
+    subscription.cancel(rt);
+    emitter.close(rt);
     let numbers = (number_of(first), number_of(second));
-    assert_same(&rt, "receipts", numbers, (Ok(Some(0)), Ok(None)));
-    assert_same(&rt, "the value", value, Ok(5));
-    Ok(())
+    assert_same(rt, "receipts", numbers, (Ok(Some(0)), Ok(None)));
+    assert_same(rt, "the value", value, Ok(5));
+}
+
+// Under a policy that drops, nobody waits.
+#[test]
+fn what_is_there_is_answered_at_once(rt: HostRuntime) {
+    let mut parker = Parker::new(&rt).expect(&rt, "a parker");
+    let made = SharedFlow::<u64>::new(rt.alloc(), config(0, 1, Policy::DropLatest));
+    let mut flow = made.expect(&rt, "a flow");
+    assert_answered_at_once(&rt, &mut flow, &mut parker);
 }
 
 // The number of a receipt.
@@ -141,22 +169,30 @@ fn number_of(answer: Result<Option<Receipt>, Refusal>) -> Result<Option<u64>, Re
 }
 
 // The question is accepted, since nobody subscribes there, and the answer stands in the other flow's replay cache.
+fn assert_answered<R: Wait + Abort + AllocGlobal>(
+    rt: &R,
+    questions: &mut SharedFlow<u64>,
+    answers: &mut SharedFlow<u64>,
+    parker: &mut Parker,
+) {
+    let mut asking = questions.emitter(rt, 1).expect(rt, "an emitter");
+    let mut answering = answers.emitter(rt, 2).expect(rt, "an emitter");
+    let mut subscription = answers.subscribe(rt).expect(rt, "a subscription");
+    let there = matches!(answering.try_emit(rt, 7), Ok(Tried::Accepted(_)));
+    let answer = asked(rt, parker, &mut asking, &mut subscription, 5);
+    subscription.cancel(rt);
+    answering.close(rt);
+    asking.close(rt);
+    assert_same(rt, "the answer is there", there, true);
+    assert_same(rt, "the answer", answer, Ok(Some(7)));
+}
+
 #[test]
-fn a_question_is_answered(rt: HostRuntime) -> Result<(), Fail> {
-    let mut parker = Parker::new(&rt).map_err(|refusal| refusal.number())?;
+fn a_question_is_answered(rt: HostRuntime) {
+    let mut parker = Parker::new(&rt).expect(&rt, "a parker");
     let made = SharedFlow::<u64>::new(rt.alloc(), config(1, 0, Policy::Suspend));
-    let mut questions = made.map_err(|refusal| refusal.number())?;
+    let mut questions = made.expect(&rt, "a flow");
     let made = SharedFlow::<u64>::new(rt.alloc(), config(1, 0, Policy::Suspend));
-    let mut answers = made.map_err(|refusal| refusal.number())?;
-    let mut asking = questions.emitter(&rt, 1).expect(&rt, "an emitter");
-    let mut answering = answers.emitter(&rt, 2).expect(&rt, "an emitter");
-    let mut subscription = answers.subscribe(&rt).expect(&rt, "a subscription");
-    let there = matches!(answering.try_emit(&rt, 7), Ok(Tried::Accepted(_)));
-    let answer = asked(&rt, &mut parker, &mut asking, &mut subscription, 5);
-    subscription.cancel(&rt);
-    answering.close(&rt);
-    asking.close(&rt);
-    assert_same(&rt, "the answer is there", there, true);
-    assert_same(&rt, "the answer", answer, Ok(Some(7)));
-    Ok(())
+    let mut answers = made.expect(&rt, "a flow");
+    assert_answered(&rt, &mut questions, &mut answers, &mut parker);
 }
