@@ -2,7 +2,7 @@
 
 ghost use Rattle.std.specs.Prelude.{◌+◌, ◌%◌, ◌^◌, nat_lt};
 
-use crate::elapsed::nanoseconds_since;
+use crate::elapsed::{nanoseconds_since, now};
 use crate::fault::Fault;
 use crate::report::report;
 use crate::sums::sum_to;
@@ -13,7 +13,6 @@ use futures::task::{Doorbell, Poll, Solo};
 use std::alloc::AllocGlobal;
 use std::random::RandomSource;
 use std::rt::Clock;
-use std::time::Instant;
 
 /// How many elements the source has.
 const ELEMENTS: u64 = 10_000_000;
@@ -66,8 +65,12 @@ where
     R: Clock + Print + AllocGlobal + RandomSource,
 {
     let elements = size.of(ELEMENTS);
-    report(rt, chain(rt, elements)?, size)?;
-    report(rt, pairs(rt, elements)?, size)
+    // The even ones of 1 to `elements`: twice the numbers up to half of them.
+    let sum_of_chain = sum_to(elements / 2).wrapping_mul(2);
+    report(rt, chain(rt, elements)?, sum_of_chain, size)?;
+    // Both sides have the numbers from 0 to below `elements`.
+    let sum_of_pairs = sum_to(elements.saturating_sub(1)).wrapping_mul(2);
+    report(rt, pairs(rt, elements)?, sum_of_pairs, size)
 }
 
 /// The sum of a range's numbers, each one more, that are even.
@@ -76,9 +79,7 @@ where
     R: Clock + AllocGlobal + RandomSource,
 {
     let flow = filter(map(range::<u64>(0, elements), OneMore), IsEven);
-    let figure = folded(rt, "cold-chain", flow, elements)?;
-    // The even ones of 1 to `elements`: twice the numbers up to half of them.
-    Ok(figure.checked(sum_to(elements / 2).wrapping_mul(2))?)
+    folded(rt, "cold-chain", flow, elements)
 }
 
 /// The sum of two ranges' pairs.
@@ -87,9 +88,7 @@ where
     R: Clock + AllocGlobal + RandomSource,
 {
     let numbers = range::<u64>(0, elements);
-    let figure = folded(rt, "cold-zip", zip(numbers, numbers, Sum), elements)?;
-    // Both sides have the numbers from 0 to below `elements`.
-    Ok(figure.checked(sum_to(elements.saturating_sub(1)).wrapping_mul(2))?)
+    folded(rt, "cold-zip", zip(numbers, numbers, Sum), elements)
 }
 
 /// Starts the flow and adds up all that it gives.
@@ -99,7 +98,7 @@ where
     F: Flow<Item = u64, Fault = u64>,
 {
     let task = Solo::new(rt, Doorbell::spinning())?;
-    let start = Instant::now(rt)?;
+    let start = now(rt);
     let folding = fold(flow.start()?, 0, Sum);
     let total = sum_of(&task, folding).ok_or(Fault::WrongTotal(scenario))?;
     let nanoseconds = nanoseconds_since(rt, start)?;

@@ -1,13 +1,12 @@
 //! Receipts of a shared flow on one thread: a value is emitted, and each subscription takes it before the next one.
 
-use crate::elapsed::nanoseconds_since;
+use crate::elapsed::{nanoseconds_since, now};
 use crate::fault::Fault;
 use crate::receipts::{Received, SCENARIOS, VALUES, receipts_config, report_receipts};
 use bench_figures::{Part, Size};
 use shared_core::{Config, Next, SharedState, SubId, Tried};
 use std::alloc::{AllocGlobal, Global};
 use std::rt::Clock;
-use std::time::Instant;
 
 /// Makes the measurement with 1, 4 and 8 subscriptions.
 pub(crate) fn measure<R: Clock + Print + AllocGlobal>(rt: &R, size: Size) -> Result<(), Fault> {
@@ -37,7 +36,7 @@ where
     R: Clock + AllocGlobal,
 {
     let readers = subscribe(rt.alloc(), flow, subscriptions)?;
-    let start = Instant::now(rt)?;
+    let start = now(rt);
     let total = emit_and_take(flow, &readers, values);
     let nanoseconds = nanoseconds_since(rt, start)?;
     Ok((total.unwrap_or(0), nanoseconds))

@@ -38,5 +38,5 @@ pub(crate) fn report_fan_out<R: Print>(
         total,
     };
     let wanted = values.wrapping_mul(u64::from(readers));
-    report(rt, figure.checked(wanted)?, size)
+    report(rt, figure, wanted, size)
 }

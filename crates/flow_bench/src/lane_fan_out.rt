@@ -1,6 +1,6 @@
 //! A lane between threads, where no value is lost: one emits, and one, two or four others take every value.
 
-use crate::elapsed::nanoseconds_since;
+use crate::elapsed::{nanoseconds_since, now};
 use crate::fan_out::{SCENARIOS, fan_out_config, report_fan_out};
 use crate::fault::Fault;
 use crate::lane_ends::{LaneReader, LaneSequencer, close_all};
@@ -12,7 +12,6 @@ use std::alloc::AllocGlobal;
 use std::rt::Clock;
 use std::sync::Wait;
 use std::thread::{Threads, for_each_mut, join_mut};
-use std::time::Instant;
 
 /// How many values are emitted.
 const VALUES: u64 = 5_000_000;
@@ -69,7 +68,7 @@ fn fan_out<R>(
 where
     R: Clock + Threads + Wait + Sync,
 {
-    let start = Instant::now(rt)?;
+    let start = now(rt);
     join_mut(
         rt,
         &mut || feed(rt, sequencer, values),

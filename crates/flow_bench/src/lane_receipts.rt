@@ -1,6 +1,6 @@
 //! Receipts of a lane on one thread: a value is emitted, and each reader takes it before the next one.
 
-use crate::elapsed::nanoseconds_since;
+use crate::elapsed::{nanoseconds_since, now};
 use crate::fault::Fault;
 use crate::lane_ends::{LaneReader, LaneSequencer, close_all};
 use crate::receipts::{Received, SCENARIOS, VALUES, receipts_config, report_receipts};
@@ -9,7 +9,6 @@ use shared_core::{Config, Tried};
 use shared_lane::{Lane, Taken};
 use std::alloc::AllocGlobal;
 use std::rt::Clock;
-use std::time::Instant;
 
 /// Makes the measurement with 1, 4 and 8 readers.
 pub(crate) fn measure<R: Clock + Print + AllocGlobal>(rt: &R, size: Size) -> Result<(), Fault> {
@@ -53,7 +52,7 @@ fn receive_all<R: Clock>(
     readers: &mut Vec<LaneReader<'_>>,
     values: u64,
 ) -> Result<(u64, u64), Fault> {
-    let start = Instant::now(rt)?;
+    let start = now(rt);
     let total = emit_and_take(sequencer, readers, values);
     let nanoseconds = nanoseconds_since(rt, start)?;
     Ok((total.unwrap_or(0), nanoseconds))

@@ -53,5 +53,5 @@ pub(crate) fn report_receipts<R: Print>(
         total,
     };
     let wanted = sum_to(values).wrapping_mul(subscriptions);
-    report(rt, figure.checked(wanted)?, size)
+    report(rt, figure, wanted, size)
 }

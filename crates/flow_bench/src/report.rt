@@ -3,8 +3,14 @@
 use crate::fault::Fault;
 use bench_figures::{Figure, Part, Share, Size};
 
-/// Writes the line of a figure, or at the small size what never varies.
-pub(crate) fn report(rt: &impl Print, figure: Figure, size: Size) -> Result<(), Fault> {
+/// Writes the line of a figure whose total is this one, or at the small size what never varies.
+pub(crate) fn report(
+    rt: &impl Print,
+    figure: Figure,
+    wanted: u64,
+    size: Size,
+) -> Result<(), Fault> {
+    let figure = figure.checked(wanted)?;
     match size {
         Size::Small => report_total(rt, figure.part, figure.scenario, figure.name, figure.total),
         Size::Full => {
@@ -14,8 +20,14 @@ pub(crate) fn report(rt: &impl Print, figure: Figure, size: Size) -> Result<(), 
     }
 }
 
-/// Writes the line of a share, or at the small size what never varies.
-pub(crate) fn report_share(rt: &impl Print, share: Share, size: Size) -> Result<(), Fault> {
+/// The same of a share.
+pub(crate) fn report_share(
+    rt: &impl Print,
+    share: Share,
+    wanted: u64,
+    size: Size,
+) -> Result<(), Fault> {
+    let share = share.checked(wanted)?;
     match size {
         Size::Small => report_total(rt, share.part, share.scenario, share.name, share.total),
         Size::Full => {

@@ -1,6 +1,6 @@
 //! Lines of a script, from its bytes in memory to its answers in memory.
 
-use crate::elapsed::nanoseconds_since;
+use crate::elapsed::{nanoseconds_since, now};
 use crate::fault::Fault;
 use crate::report::report;
 use bench_figures::{Figure, Part, Size, Unit};
@@ -10,7 +10,6 @@ use std::fmt::Write as _;
 use std::random::RandomSource;
 use std::rt::Clock;
 use std::sync::Wait;
-use std::time::Instant;
 
 /// The most bytes of the script: as many as one may have.
 const BYTES: u64 = 1_048_576;
@@ -32,7 +31,7 @@ where
     R: Clock + Print + AllocGlobal + RandomSource + Wait,
 {
     let script = script_of(rt.alloc(), size.of(BYTES))?;
-    report(rt, lines(rt, &script)?.checked(script.lines)?, size)
+    report(rt, lines(rt, &script)?, script.lines, size)
 }
 
 /// Measures how long the answers to a script take. The total is the number of its lines, where each was answered as it should be.
@@ -42,7 +41,7 @@ where
 {
     let mut answers = Vec::with_capacity(rt.alloc(), script.answers.len())?;
     let mut rest = script.text.as_bytes();
-    let start = Instant::now(rt)?;
+    let start = now(rt);
     run_script(rt, &mut rest, &mut answers, Engine::Core)?;
     let nanoseconds = nanoseconds_since(rt, start)?;
     let is_right = answers.as_slice() == script.answers.as_bytes();

@@ -5,7 +5,7 @@ ghost use Rattle.std.specs.Prelude.{◌≡◌, None};
 ghost use Rattle.futures.specs.Poll.{OnPending};
 ghost use Rattle.futures.specs.Task.{IsArmed};
 
-use crate::elapsed::nanoseconds_since;
+use crate::elapsed::{nanoseconds_since, now};
 use crate::fan_out::{SCENARIOS, fan_out_config, report_fan_out};
 use crate::fault::Fault;
 use crate::pause::Pause;
@@ -18,7 +18,6 @@ use std::random::RandomSource;
 use std::rt::Clock;
 use std::sync::Wait;
 use std::thread::{Threads, for_each_mut, join_mut};
-use std::time::Instant;
 
 /// How many values are emitted.
 const VALUES: u64 = 2_000_000;
@@ -200,7 +199,7 @@ where
     R: Clock + Threads + Wait + Sync,
     requires { emitter.old.ticket ≡ None }
 {
-    let start = Instant::now(rt)?;
+    let start = now(rt);
     join_mut(
         rt,
         &mut || feed(rt, emitter, values),

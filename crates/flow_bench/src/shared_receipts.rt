@@ -2,7 +2,7 @@
 
 ghost use Rattle.std.specs.Prelude.{◌≡◌, None};
 
-use crate::elapsed::nanoseconds_since;
+use crate::elapsed::{nanoseconds_since, now};
 use crate::fault::Fault;
 use crate::receipts::{Received, SCENARIOS, VALUES, receipts_config, report_receipts};
 use bench_figures::{Part, Size};
@@ -13,7 +13,6 @@ use std::alloc::AllocGlobal;
 use std::random::RandomSource;
 use std::rt::Clock;
 use std::sync::Wait;
-use std::time::Instant;
 
 /// Makes the measurement with 1, 4 and 8 subscriptions.
 pub(crate) fn measure<R>(rt: &R, size: Size) -> Result<(), Fault>
@@ -62,7 +61,7 @@ fn receive_all<R: Clock + Wait>(
     readers: &mut Vec<Subscription<u64>>,
     values: u64,
 ) -> Result<(u64, u64), Fault> {
-    let start = Instant::now(rt)?;
+    let start = now(rt);
     let mut emitter = flow.emitter(rt, 0)?;
     let mut cx = task.begin();
     let total = emit_and_take(rt, &mut emitter, readers, &mut cx, values);

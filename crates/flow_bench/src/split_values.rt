@@ -1,6 +1,6 @@
 //! A buffer between two threads: one pumps a range in, the other takes it out, and nothing is dropped.
 
-use crate::elapsed::nanoseconds_since;
+use crate::elapsed::{nanoseconds_since, now};
 use crate::fault::Fault;
 use crate::report::report;
 use bench_figures::{Figure, Part, Size, Unit};
@@ -13,7 +13,6 @@ use std::rt::Clock;
 use std::sync::Wait;
 use std::thread;
 use std::thread::Threads;
-use std::time::Instant;
 
 /// Makes the measurement at capacities 4, 64 and 1,024. The smallest hands over fewer values, since its threads wait most.
 pub(crate) fn measure<R>(rt: &R, size: Size) -> Result<(), Fault>
@@ -25,8 +24,9 @@ where
         ("split-k64", 64, 5_000_000),
         ("split-k1024", 1024, 5_000_000),
     ] {
-        let figure = values_through(rt, scenario, capacity, size.of(values))?;
-        report(rt, figure, size)?;
+        let values = size.of(values);
+        let figure = values_through(rt, scenario, capacity, values)?;
+        report(rt, figure, values, size)?;
     }
     Ok(())
 }
@@ -42,7 +42,7 @@ where
     R: Clock + AllocGlobal + RandomSource + Threads + Wait + Sync,
 {
     let (total, nanoseconds) = handed_over(rt, capacity, values)?;
-    let figure = Figure {
+    Ok(Figure {
         part: Part::Buffer,
         scenario,
         name: "value",
@@ -50,8 +50,7 @@ where
         operations: values,
         nanoseconds,
         total,
-    };
-    Ok(figure.checked(values)?)
+    })
 }
 
 /// The number of the values that came in order, and the nanoseconds of them.
@@ -60,7 +59,7 @@ where
     R: Clock + AllocGlobal + RandomSource + Threads + Wait + Sync,
 {
     let task = Solo::new(rt, Doorbell::spinning())?;
-    let start = Instant::now(rt)?;
+    let start = now(rt);
     let (mut feed, drain) = split(
         rt.alloc(),
         range::<u64>(0, values),

@@ -1,9 +1,9 @@
 //! A state flow between threads: one sets without pause, and one or two others ask without pause.
 
-use crate::elapsed::nanoseconds_since;
+use crate::elapsed::{nanoseconds_since, now};
 use crate::fault::Fault;
 use crate::report::report;
-use crate::state_alone::set_up_to;
+use crate::state_alone::timed_sets;
 use bench_figures::{Figure, Part, Size, Unit};
 use state_flow::{StateFlow, StateSeat};
 use std::alloc::AllocGlobal;
@@ -11,7 +11,6 @@ use std::rt::Clock;
 use std::sync::Wait;
 use std::thread;
 use std::thread::Threads;
-use std::time::Instant;
 
 /// How many values are set.
 const SETS: u64 = 2_000_000;
@@ -66,18 +65,30 @@ where
     let mut writer = StateFlow::new(rt.alloc(), 0u64, 3)?;
     let one = writer.take_seat(0)?;
     let two = writer.take_seat(0)?;
-    let (set, (one, two)) = thread::join(
+    let (set, asked) = thread::join(
         rt,
         move || write(rt, writer, sets),
-        move || {
-            thread::join(
-                rt,
-                move || collect(rt, one, sets),
-                move || collect(rt, two, sets),
-            )
-        },
+        move || collect_both(rt, one, two, sets),
     );
-    report_both(rt, "state-c2", size, set?, both(one?, two?))
+    report_both(rt, "state-c2", size, set?, asked?)
+}
+
+/// Two threads ask.
+fn collect_both<R>(
+    rt: &R,
+    one: StateSeat<u64>,
+    two: StateSeat<u64>,
+    last: u64,
+) -> Result<Work, Fault>
+where
+    R: Clock + Threads + Wait + Sync,
+{
+    let (one, two) = thread::join(
+        rt,
+        move || collect(rt, one, last),
+        move || collect(rt, two, last),
+    );
+    Ok(both(one?, two?))
 }
 
 /// Reports what the one thread set, and what the others asked. The last value of both is the number of the sets.
@@ -92,8 +103,8 @@ where
     R: Clock + Print + AllocGlobal,
 {
     let sets = size.of(SETS);
-    report(rt, figure_of(scenario, "set", set).checked(sets)?, size)?;
-    report(rt, figure_of(scenario, "ask", asked).checked(sets)?, size)
+    report(rt, figure_of(scenario, "set", set), sets, size)?;
+    report(rt, figure_of(scenario, "ask", asked), sets, size)
 }
 
 fn figure_of(scenario: &'static str, name: &'static str, work: Work) -> Figure {
@@ -119,18 +130,17 @@ fn both(one: Work, two: Work) -> Work {
 
 /// Sets the numbers from 1 to `sets`.
 fn write(rt: &impl Clock, mut seat: StateSeat<u64>, sets: u64) -> Result<Work, Fault> {
-    let start = Instant::now(rt)?;
-    set_up_to(&mut seat, sets);
+    let (last, nanoseconds) = timed_sets(rt, &mut seat, sets)?;
     Ok(Work {
         operations: sets,
-        nanoseconds: nanoseconds_since(rt, start)?,
-        last: seat.value(),
+        nanoseconds,
+        last,
     })
 }
 
 /// Asks until the last value came.
 fn collect<R: Clock + Wait>(rt: &R, seat: StateSeat<u64>, last: u64) -> Result<Work, Fault> {
-    let start = Instant::now(rt)?;
+    let start = now(rt);
     let given = ask_up_to(rt, seat, last);
     Ok(Work {
         operations: given.asks,
