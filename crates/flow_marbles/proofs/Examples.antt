@@ -1,6 +1,6 @@
 -- Command lines, and what they ask for.
 use Rattle.std.proofs.Common.{refl, codes, ◌≡◌, [], ◌∷◌, Some, None}
-use Rattle.script_flows.specs.declared.engine.Engine.TheVariants.{Core, Lane}
+use Rattle.flow_script.specs.declared.engine.Engine.TheVariants.{Core, Lane}
 use Rattle.marble_drawing.specs.declared.drawing.Form.TheVariants.{Svg, Text}
 use Rattle.flow_marbles.specs.Wishes.{wish, wish_by}
 

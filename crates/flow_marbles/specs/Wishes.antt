@@ -1,8 +1,8 @@
 -- Read this first: what a command line asks for. The program's own name isn't among the words.
 use Rattle.std.specs.Prelude.{ℕ, Bool, List, [], ◌∷◌, Option, Some, None, codes, bytes_eq, if◌then◌else◌}
 use Rattle.std.specs.Option.{option_map}
-use Rattle.script_flows.specs.declared.engine.Engine.{Engine}
-use Rattle.script_flows.specs.declared.engine.Engine.TheVariants.{Core, Lane}
+use Rattle.flow_script.specs.declared.engine.Engine.{Engine}
+use Rattle.flow_script.specs.declared.engine.Engine.TheVariants.{Core, Lane}
 use Rattle.marble_drawing.specs.declared.drawing.Form.{Form}
 use Rattle.marble_drawing.specs.declared.drawing.Form.TheVariants.{Svg, Text}
 use Rattle.flow_marbles.specs.declared.wish.Wish.{Wish}

@@ -5,18 +5,18 @@
 //! where the command line is another.
 #![tactic(auto)]
 
-ghost use Rattle.std.specs.Prelude.{◌≡◌, IfOk, string_bytes};
+ghost use Rattle.std.specs.Prelude.{◌≡◌, IfOk, Ok};
 ghost use Rattle.std.specs.Process.{exit_status};
-ghost use Rattle.flow_script.specs.Scripts.{Findings};
-ghost use Rattle.marble_drawing.specs.Pictures.{ShowsLines};
-ghost use Rattle.marble_drawing.specs.Replied.{replied};
+ghost use Rattle.flow_script.specs.Running.{On};
+ghost use Rattle.marble_drawing.specs.Pictures.{DrawnBy};
 ghost use Rattle.flow_marbles.specs.Statuses.{status_by};
 
 mod wish;
 
 use crate::wish::{Wish, wish_of};
-use flow_script::{ScriptFault, read_script};
+use flow_script::{CoreObject, LaneObject, ScriptFault, read_script};
 use marble_drawing::draw_script;
+use script_commands::ScriptObject;
 use std::alloc::{AllocError, AllocGlobal};
 use std::process::ExitCode;
 use std::random::RandomSource;
@@ -63,12 +63,20 @@ fn asked(rt: &HostRuntime) -> Result<Wish, Stop> {
 }
 
 /// The picture that a wish asks for.
-fn picture_for(
-    rt: &(impl Wait + RandomSource + AllocGlobal),
+fn picture_for<'r, H: Wait + RandomSource + AllocGlobal>(
+    rt: &'r H,
     wish: Wish,
     script: &[u8],
 ) -> Result<String, Stop>
-    ensures { IfOk result (λ picture. (findings : Findings) × ShowsLines wish.form (replied wish.engine findings script.now) (string_bytes picture)) }
+    ensures { IfOk result (λ picture. On wish.engine
+        (DrawnBy ⟦<CoreObject<'r, 'r, H> as ScriptObject<'r>>⟧.makes
+        ⟦<CoreObject<'r, 'r, H> as ScriptObject<'r>>⟧.asks
+        ⟦<CoreObject<'r, 'r, H> as ScriptObject<'r>>⟧.joins
+        wish.form script.now (Ok picture))
+        (DrawnBy ⟦<LaneObject<'r, 'r, H> as ScriptObject<'r>>⟧.makes
+        ⟦<LaneObject<'r, 'r, H> as ScriptObject<'r>>⟧.asks
+        ⟦<LaneObject<'r, 'r, H> as ScriptObject<'r>>⟧.joins
+        wish.form script.now (Ok picture))) }
 {
     let picture = draw_script(rt, wish.engine, wish.form, script)?;
     Ok(picture)

@@ -1,6 +1,2 @@
-pub mod Input
-pub mod Output
-pub mod Names
-pub mod Worlds
-pub mod Pictures
-pub mod Scripts
+pub mod Makers
+pub mod Running

@@ -1,17 +1,17 @@
 //! Scripts of commands on flows: a script is read, and each of its lines is answered.
 //!
-//! `run_script` does it whole, over any reader and any writer. `read_script` only reads one, for what shows scripts.
+//! `run_script` does it whole, over any reader and any writer; `answers_of` gives the answers as values, and `read_script` only reads
+//! a script, for what shows scripts. The shared flows of a script stand on one of two engines.
 #![tactic(auto)]
 
-mod binding;
-mod fault;
-mod input;
-mod names;
-mod output;
-mod runner;
+mod core_object;
+mod engine;
+mod lane_object;
+mod making;
 mod script;
 
-pub use fault::ScriptFault;
-pub use input::read_script;
-pub use script::run_script;
-pub use script_flows::Engine;
+pub use core_object::CoreObject;
+pub use engine::Engine;
+pub use lane_object::LaneObject;
+pub use script::{answers_of, run_script};
+pub use script_run::{LineAnswer, ScriptFault, read_script};

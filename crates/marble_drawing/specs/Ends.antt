@@ -1,7 +1,7 @@
 -- How a call on a script ends.
 use Rattle.std.specs.Prelude.{ℕ, ◌<◌, ◌≤◌, List, length, Result, Ok, Err}
-use Rattle.flow_script.specs.declared.fault.ScriptFault.{ScriptFault}
-use Rattle.flow_script.specs.declared.fault.ScriptFault.TheVariants.{Read, TooLong, Write, NoMemory}
+use Rattle.script_run.specs.declared.fault.ScriptFault.{ScriptFault}
+use Rattle.script_run.specs.declared.fault.ScriptFault.TheVariants.{Read, TooLong, Write, NoMemory}
 
 -- what a fault says of the script
 abbrev pub Faulted : List ℕ → ScriptFault → Type 0

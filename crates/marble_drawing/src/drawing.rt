@@ -1,16 +1,15 @@
 //! Draws a script.
 
-ghost use Rattle.std.specs.Prelude.{◌≡◌, ◌≤◌, length, IfOk, string_bytes};
-ghost use Rattle.flow_script.specs.Scripts.{Findings, text_of_script};
-ghost use Rattle.marble_drawing.specs.Ends.{Ends};
-ghost use Rattle.marble_drawing.specs.Pictures.{DrawsLines, ShowsLines};
+ghost use Rattle.std.specs.Prelude.{◌≡◌, ◌≤◌, length, map, IfOk, string_bytes};
+ghost use Rattle.flow_script.specs.Running.{On};
+ghost use Rattle.marble_drawing.specs.Pictures.{DrawsLines, ShowsLines, DrawnBy, saying_of};
 ghost use Rattle.marble_drawing.specs.declared.drawing.Form.TheVariants.{Text};
-ghost use Rattle.marble_drawing.specs.Replied.{replied};
-ghost use Rattle.marble_marks.specs.Turns.{asked_of};
+ghost use Rattle.marble_marks.specs.Turns.{asked_of, saying_in};
 
-use flow_script::{Engine, ScriptFault, run_script};
-use marble_marks::marks;
+use flow_script::{CoreObject, Engine, LaneObject, LineAnswer, ScriptFault, answers_of};
+use marble_marks::{Said, marks};
 use marble_pictures::{svg_picture, text_picture};
+use script_commands::ScriptObject;
 use std::alloc::{AllocError, AllocGlobal, Global};
 use std::random::RandomSource;
 use std::sync::Wait;
@@ -23,40 +22,34 @@ pub enum Form {
     Text,
 }
 
-/// What a script answers on this engine: the text that `run_script` writes of it.
-pub fn answers_of(
-    rt: &(impl Wait + RandomSource + AllocGlobal),
-    engine: Engine,
-    script: &[u8],
-) -> Result<Vec<u8>, ScriptFault>
-    ensures { Ends script.now (λ answers. (findings : Findings) × (answers.items ≡ text_of_script engine findings script.now)) result }
+/// These answers, each beside its text.
+fn said_of(alloc: Global, answers: Vec<LineAnswer>) -> Result<Vec<Said>, AllocError>
+    ensures { IfOk result (λ said. map saying_in said.items ≡ map saying_of answers.items) }
 {
-    let mut answers: Vec<u8> = Vec::new(rt.alloc());
-    let mut reader = script;
-    match run_script(rt, &mut reader, &mut answers, engine) {
-        Ok(()) => Ok(answers),
-        // Only for want of memory does a list of bytes refuse what is written.
-        Err(ScriptFault::Write) => Err(ScriptFault::NoMemory),
-        Err(fault) => Err(fault),
+    let mut said = Vec::new(alloc);
+    for answered in answers {
+        let LineAnswer { line, answer } = answered;
+        said.push(Said::new(alloc, line, answer)?)?;
     }
+    Ok(said)
 }
 
 /// The picture in SVG of a script with these answers.
-fn svg_of(alloc: Global, script: &[u8], answers: &[u8]) -> Result<String, AllocError>
+fn svg_of(alloc: Global, script: &[u8], said: &[Said]) -> Result<String, AllocError>
     requires { length script.now ≤ 1048576 }
-    ensures { IfOk result (λ picture. DrawsLines (asked_of script.now answers.now) (string_bytes picture)) }
+    ensures { IfOk result (λ picture. DrawsLines (asked_of script.now (map saying_in said.now)) (string_bytes picture)) }
 {
-    let mut marks = marks(alloc, script, answers)?;
+    let mut marks = marks(alloc, script, said)?;
     let picture = svg_picture(alloc, &mut marks)?;
     Ok(picture)
 }
 
 /// The picture in characters of a script with these answers.
-fn text_of(alloc: Global, script: &[u8], answers: &[u8]) -> Result<String, AllocError>
+fn text_of(alloc: Global, script: &[u8], said: &[Said]) -> Result<String, AllocError>
     requires { length script.now ≤ 1048576 }
-    ensures { IfOk result (λ picture. ShowsLines Text (asked_of script.now answers.now) (string_bytes picture)) }
+    ensures { IfOk result (λ picture. ShowsLines Text (asked_of script.now (map saying_in said.now)) (string_bytes picture)) }
 {
-    let mut marks = marks(alloc, script, answers)?;
+    let mut marks = marks(alloc, script, said)?;
     let picture = text_picture(alloc, &mut marks)?;
     Ok(picture)
 }
@@ -66,28 +59,37 @@ fn picture_of(
     alloc: Global,
     form: Form,
     script: &[u8],
-    answers: &[u8],
+    answers: Vec<LineAnswer>,
 ) -> Result<String, AllocError>
     requires { length script.now ≤ 1048576 }
-    ensures { IfOk result (λ picture. ShowsLines form (asked_of script.now answers.now) (string_bytes picture)) }
+    ensures { IfOk result (λ picture. ShowsLines form (asked_of script.now (map saying_of answers.items)) (string_bytes picture)) }
 {
+    let said = said_of(alloc, answers)?;
     match form {
-        Form::Svg => svg_of(alloc, script, answers),
-        Form::Text => text_of(alloc, script, answers),
+        Form::Svg => svg_of(alloc, script, &said),
+        Form::Text => text_of(alloc, script, &said),
     }
 }
 
 /// Runs a script, and gives its picture. A fault is the one that the run answers with.
-pub fn draw_script(
-    rt: &(impl Wait + RandomSource + AllocGlobal),
+pub fn draw_script<'r, H: Wait + RandomSource + AllocGlobal>(
+    rt: &'r H,
     engine: Engine,
     form: Form,
     script: &[u8],
 ) -> Result<String, ScriptFault>
-    ensures { Ends script.now (λ picture. (findings : Findings) × ShowsLines form (replied engine findings script.now) (string_bytes picture)) result }
+    ensures { On engine
+        (DrawnBy ⟦<CoreObject<'r, 'r, H> as ScriptObject<'r>>⟧.makes
+        ⟦<CoreObject<'r, 'r, H> as ScriptObject<'r>>⟧.asks
+        ⟦<CoreObject<'r, 'r, H> as ScriptObject<'r>>⟧.joins
+        form script.now result)
+        (DrawnBy ⟦<LaneObject<'r, 'r, H> as ScriptObject<'r>>⟧.makes
+        ⟦<LaneObject<'r, 'r, H> as ScriptObject<'r>>⟧.asks
+        ⟦<LaneObject<'r, 'r, H> as ScriptObject<'r>>⟧.joins
+        form script.now result) }
 {
     let answers = answers_of(rt, engine, script)?;
-    match picture_of(rt.alloc(), form, script, answers.as_slice()) {
+    match picture_of(rt.alloc(), form, script, answers) {
         Ok(picture) => Ok(picture),
         Err(_) => Err(ScriptFault::NoMemory),
     }

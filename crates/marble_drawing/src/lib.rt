@@ -3,4 +3,4 @@
 
 mod drawing;
 
-pub use drawing::{Form, answers_of, draw_script};
+pub use drawing::{Form, draw_script};

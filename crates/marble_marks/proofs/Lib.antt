@@ -1,2 +1,1 @@
 pub mod Receiving
-pub mod Answered

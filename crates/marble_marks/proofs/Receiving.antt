@@ -4,10 +4,10 @@ use Rattle.std.specs.Option.{option_map, option_to_list}
 use Rattle.std.specs.List.{filter_map, flat_map, cons_option, slice_get}
 use Rattle.std.proofs.lemmas.List.{append-nil}
 use Rattle.std.proofs.lemmas.List.Elements.{filter_map-append}
-use Rattle.script_pipes.specs.declared.request.Request.{Request}
-use Rattle.script_pipes.specs.declared.request.Request.TheVariants as requested
-use Rattle.script_pipes.specs.Commands.{Order, Made, Joining}
-use Rattle.script_pipes.specs.Commands as commands
+use Rattle.script_commands.specs.declared.request.Request.{Request}
+use Rattle.script_commands.specs.declared.request.Request.TheVariants as requested
+use Rattle.script_commands.specs.Commands.{Order, Made, Joining}
+use Rattle.script_commands.specs.Commands as commands
 use Rattle.marble_marks.specs.declared.mark.Kind.{Kind}
 use Rattle.marble_marks.specs.declared.mark.Kind.TheVariants as kinds
 use Rattle.marble_marks.specs.declared.mark.Row.{Row}
@@ -63,7 +63,7 @@ next_counted names column answer name _ = refl
 
 none_ticket : (names : List (List ℕ)) (column : ℕ) (answer name : List ℕ) (reply : Reply) → counted names column answer name (ticket_kind reply) ≡ []
 none_ticket names column answer name replies.Waiting = refl
-none_ticket names column answer name replies.Finished = refl
+none_ticket names column answer name replies.Done = refl
 none_ticket names column answer name replies.Removed = refl
 none_ticket names column answer name replies.Left = refl
 none_ticket names column answer name _ = refl
@@ -125,8 +125,8 @@ no_line column number line _ rest = refl
 
 line_counted : (names : List (List ℕ)) (asked : Asked) → receipts_in (marks_at names asked) ≡ option_to_list (receipt_at names asked)
 line_counted names asked =
-    no_line asked.column asked.number asked.line (reply_of asked.answer) (row_marks names asked.column asked.answer (shown asked))
-    ∙ order_counted names asked.column asked.answer asked.order (reply_of asked.answer)
+    no_line asked.column asked.number asked.line (reply_of asked.answer) (row_marks names asked.column asked.text (shown asked))
+    ∙ order_counted names asked.column asked.text asked.order (reply_of asked.answer)
 
 onto : {Y : Type 0} (found : Option Y) (ys : List Y) → cons_option found ys ≡ option_to_list found ++ ys
 onto None ys = refl

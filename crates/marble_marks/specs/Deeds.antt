@@ -1,9 +1,9 @@
 -- What a line does to values, as far as more is told by it than by its own answer.
 use Rattle.std.specs.Prelude.{ℕ, List, Option, Some, None}
-use Rattle.script_pipes.specs.declared.request.Request.{Request}
-use Rattle.script_pipes.specs.declared.request.Request.TheVariants as requested
-use Rattle.script_pipes.specs.Commands.{Order, Made, Joining}
-use Rattle.script_pipes.specs.Commands as commands
+use Rattle.script_commands.specs.declared.request.Request.{Request}
+use Rattle.script_commands.specs.declared.request.Request.TheVariants as requested
+use Rattle.script_commands.specs.Commands.{Order, Made, Joining}
+use Rattle.script_commands.specs.Commands as commands
 use Rattle.marble_marks.specs.declared.deed.Act.{Act}
 use Rattle.marble_marks.specs.declared.deed.Deed.{Deed}
 use Rattle.marble_marks.specs.declared.deed.Deed.TheVariants as deeds
@@ -54,7 +54,7 @@ if_accepted replies.Accepted doing = doing
 if_accepted _ doing = nothing
 
 abbrev pub if_finished : Reply → Doing → Doing
-if_finished replies.Finished doing = doing
+if_finished replies.Done doing = doing
 if_finished _ doing = nothing
 
 abbrev pub emitting : List ℕ → List ℕ → ℕ → Reply → Doing

@@ -1,10 +1,10 @@
 -- What a command and its answer show, and for whom.
 use Rattle.std.specs.Prelude.{ℕ, List, Option, Some, None}
 use Rattle.std.specs.Option.{option_map}
-use Rattle.script_pipes.specs.declared.request.Request.{Request}
-use Rattle.script_pipes.specs.declared.request.Request.TheVariants as requested
-use Rattle.script_pipes.specs.Commands.{Order, Made, Joining}
-use Rattle.script_pipes.specs.Commands as commands
+use Rattle.script_commands.specs.declared.request.Request.{Request}
+use Rattle.script_commands.specs.declared.request.Request.TheVariants as requested
+use Rattle.script_commands.specs.Commands.{Order, Made, Joining}
+use Rattle.script_commands.specs.Commands as commands
 use Rattle.marble_marks.specs.declared.happening.Happening.{Happening}
 use Rattle.marble_marks.specs.declared.mark.Kind.{Kind}
 use Rattle.marble_marks.specs.declared.mark.Kind.TheVariants as kinds
@@ -59,7 +59,7 @@ next_kind reply = said reply
 
 abbrev pub ticket_kind : Reply → Option Kind
 ticket_kind replies.Waiting = Some kinds.Waiting
-ticket_kind replies.Finished = Some kinds.Done
+ticket_kind replies.Done = Some kinds.Done
 ticket_kind replies.Removed = Some kinds.Removed
 ticket_kind replies.Left = Some kinds.Left
 ticket_kind _ = None

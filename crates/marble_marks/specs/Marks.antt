@@ -1,7 +1,7 @@
 -- Which marks a picture has.
 use Rattle.std.specs.Prelude.{ℕ, ◌+◌, List, [], ◌∷◌, Option, Some, None, bytes_eq, if◌then◌else◌}
 use Rattle.std.specs.List.{filter_map, flat_map}
-use Rattle.script_pipes.specs.Commands.{Order}
+use Rattle.script_commands.specs.Commands.{Order}
 use Rattle.marble_marks.specs.declared.mark.Kind.{Kind}
 use Rattle.marble_marks.specs.declared.mark.Kind.TheVariants as kinds
 use Rattle.marble_marks.specs.declared.mark.Mark.{Mark}
@@ -80,7 +80,7 @@ row_marks names column answer (Some event) =
 
 -- the marks of a line, where these names have rows
 abbrev pub marks_at : List (List ℕ) → Asked → List Seen
-marks_at names asked = line_mark asked ∷ row_marks names asked.column asked.answer (shown asked)
+marks_at names asked = line_mark asked ∷ row_marks names asked.column asked.text (shown asked)
 
 -- THE MARKS of these lines
 abbrev pub marks_of : List Asked → List Seen

@@ -2,10 +2,10 @@
 use Rattle.std.specs.Prelude.{ℕ, List, Option, Some, None}
 use Rattle.std.specs.Option.{option_map}
 use Rattle.std.specs.List.{filter_map}
-use Rattle.script_pipes.specs.declared.request.Request.{Request}
-use Rattle.script_pipes.specs.declared.request.Request.TheVariants as requested
-use Rattle.script_pipes.specs.Commands.{Order}
-use Rattle.script_pipes.specs.Commands as commands
+use Rattle.script_commands.specs.declared.request.Request.{Request}
+use Rattle.script_commands.specs.declared.request.Request.TheVariants as requested
+use Rattle.script_commands.specs.Commands.{Order}
+use Rattle.script_commands.specs.Commands as commands
 use Rattle.marble_marks.specs.declared.mark.Kind.{Kind}
 use Rattle.marble_marks.specs.declared.mark.Kind.TheVariants as kinds
 use Rattle.marble_marks.specs.declared.reply.Reply.{Reply}
@@ -40,7 +40,7 @@ receipt_by names column answer (Some (commands.ask name request)) reply =
 receipt_by names column answer _ reply = None
 
 abbrev pub receipt_at : List (List ℕ) → Asked → Option Receipt
-receipt_at names asked = receipt_by names asked.column asked.answer asked.order (reply_of asked.answer)
+receipt_at names asked = receipt_by names asked.column asked.text asked.order (reply_of asked.answer)
 
 -- WHAT WAS RECEIVED in these lines
 abbrev pub receipts_of : List Asked → List Receipt

@@ -2,13 +2,13 @@
 
 ghost use Rattle.std.specs.Prelude.{◌≡◌, IfOk, map};
 ghost use Rattle.std.specs.Option.{option_map};
-ghost use Rattle.script_pipes.specs.Commands.{order_of, made_in, joining_in};
+ghost use Rattle.script_commands.specs.Commands.{order_of, made_in, joining_in};
 ghost use Rattle.marble_marks.specs.Turns.{asked_in};
 ghost use Rattle.marble_marks.specs.Deeds.{doing_in, emitting, withdrawing, making, joining, asking, doing_of, done_in, done_by};
 
 use crate::reply::Reply;
 use crate::turn::Turn;
-use script_pipes::{Command, Making, Party, Request};
+use script_commands::{Command, Making, Party, Request};
 use std::alloc::{AllocError, Global};
 
 /// What a line does.
@@ -128,7 +128,7 @@ fn asking<'a>(name: &'a [u8], request: Request, reply: Reply) -> Deed<'a>
             _ => Deed::Nothing,
         },
         Request::Poll => match reply {
-            Reply::Finished => Deed::Finishes { ticket: name },
+            Reply::Done => Deed::Finishes { ticket: name },
             _ => Deed::Nothing,
         },
         Request::Withdraw => withdrawing(name, reply),

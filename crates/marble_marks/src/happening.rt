@@ -2,12 +2,12 @@
 
 ghost use Rattle.std.specs.Prelude.{◌≡◌};
 ghost use Rattle.std.specs.Option.{option_map};
-ghost use Rattle.script_pipes.specs.Commands.{order_of, made_in, joining_in};
+ghost use Rattle.script_commands.specs.Commands.{order_of, made_in, joining_in};
 ghost use Rattle.marble_marks.specs.Happenings.{happening_in, happening_of as happening_by, row_made, joins, asks, next_kind, ticket_kind, try_kind, value_kind, said};
 
 use crate::mark::{Kind, Row};
 use crate::reply::Reply;
-use script_pipes::{Command, Making, Party, Request};
+use script_commands::{Command, Making, Party, Request};
 
 /// What happened to what a name stands for.
 #[derive(Clone, Copy)]
@@ -96,7 +96,7 @@ fn ticket_kind(reply: Reply) -> Option<Kind>
 {
     match reply {
         Reply::Waiting => Some(Kind::Waiting),
-        Reply::Finished => Some(Kind::Done),
+        Reply::Done => Some(Kind::Done),
         Reply::Removed => Some(Kind::Removed),
         Reply::Left => Some(Kind::Left),
         _ => None,

@@ -7,7 +7,7 @@ use crate::loss::Loss;
 use crate::reply::Reply;
 use crate::turn::Turn;
 use flow_terms::Policy;
-use script_pipes::{Command, Making, Party, Request};
+use script_commands::{Command, Making, Party, Request};
 use std::alloc::{AllocError, Global};
 
 /// A value that came to a host.

@@ -9,7 +9,9 @@ mod mark;
 mod marking;
 mod numbers;
 mod reply;
+mod said;
 mod turn;
 
 pub use mark::{Kind, Mark, Row};
 pub use marking::marks;
+pub use said::Said;

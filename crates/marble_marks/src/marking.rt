@@ -3,7 +3,7 @@
 ghost use Rattle.std.specs.Prelude.{◌≡◌, ◌≤◌, ◌++◌, Option, length, map, IfOk, OnOk};
 ghost use Rattle.std.specs.Option.{option_map};
 ghost use Rattle.std.specs.List.{flat_map};
-ghost use Rattle.marble_marks.specs.Turns.{asked_in, asked_of};
+ghost use Rattle.marble_marks.specs.Turns.{asked_in, asked_of, saying_in};
 ghost use Rattle.marble_marks.specs.Happenings.{happening_in};
 ghost use Rattle.marble_marks.specs.Marks.{shown, name_of, names_in, row_of, mark_in, line_mark, marks_at, marks_of};
 ghost use Rattle.marble_marks.specs.Receipts.{receipts_in, receipts_of};
@@ -16,6 +16,7 @@ use crate::loss::add_losses;
 use crate::mark::{Kind, Mark};
 use crate::numbers::add_numbers;
 use crate::reply::Reply;
+use crate::said::Said;
 use crate::turn::{Turn, turns};
 use std::alloc::{AllocError, Global};
 
@@ -98,7 +99,7 @@ fn add_marks<'a>(
         column: turn.column,
         row,
         kind,
-        text: turn.answer,
+        text: turn.text,
     })?;
     if let Kind::Begun(begun) = kind {
         marks.push(Mark {
@@ -126,18 +127,18 @@ fn marks_in<'a>(
     Ok(marks)
 }
 
-/// The marks of a script with these answers, which are lines, one for each line of the script that has one. First come the
+/// The marks of a script with these answers, each to the line with its number, in their order. First come the
 /// marks of what each answer shows by itself, in the order of the lines; then those of the emissions' numbers, and of the
 /// values that made way.
 #[tactic(auto, using(crate::proofs::Receiving::all_counted))]
 pub fn marks<'a>(
     alloc: Global,
     script: &'a [u8],
-    answers: &'a [u8],
+    answers: &'a [Said],
 ) -> Result<Vec<Mark<'a>>, AllocError>
     requires { length script.now ≤ 1048576 }
-    ensures marks { IfOk result (λ marks. Shows (asked_of script.now answers.now) (map mark_in marks.items)) }
-    ensures received { IfOk result (λ marks. receipts_in (map mark_in marks.items) ≡ receipts_of (asked_of script.now answers.now)) }
+    ensures marks { IfOk result (λ marks. Shows (asked_of script.now (map saying_in answers.now)) (map mark_in marks.items)) }
+    ensures received { IfOk result (λ marks. receipts_in (map mark_in marks.items) ≡ receipts_of (asked_of script.now (map saying_in answers.now))) }
 {
     let turns = turns(alloc, script, answers)?;
     let names = names_in(alloc, &turns)?;

@@ -2,11 +2,11 @@
 
 ghost use Rattle.std.specs.Prelude.{◌≡◌, ◌≤◌, Option, length, map, IfOk};
 ghost use Rattle.std.specs.Option.{option_map};
-ghost use Rattle.script_pipes.specs.Commands.{order_of};
-ghost use Rattle.marble_marks.specs.Turns.{is_answered, order_in, asked_in, asked_of, first_of, rest_of};
-ghost use Rattle.script_words.specs.Lines.{lines_of};
+ghost use Rattle.script_commands.specs.Commands.{order_of};
+ghost use Rattle.marble_marks.specs.Turns.{order_in, asked_in, asked_of, saying_in, saying_at};
 
-use script_pipes::Command;
+use crate::said::Said;
+use script_commands::{Answer, Command};
 use script_words::{Lines, Words};
 use std::alloc::{AllocError, Global};
 
@@ -19,19 +19,9 @@ pub(crate) struct Turn<'a> {
     pub(crate) number: u64,
     pub(crate) line: &'a [u8],
     pub(crate) command: Option<Command<'a>>,
-    pub(crate) answer: &'a [u8],
-}
-
-/// Whether a line has an answer: it has a word, and no comment begins there.
-fn is_answered(line: &[u8]) -> bool
-    ensures { result ≡ is_answered line.now }
-{
-    let mut words = Words::new(line);
-    match words.next() {
-        Some([first, ..]) => *first != b'#',
-        Some([]) => true,
-        None => false,
-    }
+    pub(crate) answer: &'a Answer,
+    /// The answer's text.
+    pub(crate) text: &'a [u8],
 }
 
 /// The command that a line says, if it says one.
@@ -43,43 +33,40 @@ fn command_in(line: &[u8]) -> Option<Command<'_>>
     Command::parse(first, words)
 }
 
-/// The next answer, or none where there is no further one.
-fn next_answer<'a>(said: &mut Lines<'a>) -> &'a [u8]
-    ensures first { result.now ≡ first_of (lines_of said.old.rest.now) }
-    ensures rest { lines_of said.new.rest.now ≡ rest_of (lines_of said.old.rest.now) }
+/// The first of these answers and the rest, where it is that of the line with this number.
+fn split_said(answers: &[Said], number: u64) -> Option<(&Said, &[Said])>
+    ensures { option_map (λ parts. (saying_in parts.0.now, map saying_in parts.1.now)) result ≡ saying_at number (map saying_in answers.now) }
 {
-    match said.next() {
-        Some(answer) => answer,
-        None => {
-            said.rest = b"";
-            b""
-        }
+    match answers {
+        [first, rest @ ..] if first.number() == number => Some((first, rest)),
+        _ => None,
     }
 }
 
-/// The lines of a script that have an answer, with these answers, in order.
+/// The lines of a script that have an answer, with these answers, which are in the order of their lines.
 pub(crate) fn turns<'a>(
     alloc: Global,
     script: &'a [u8],
-    answers: &'a [u8],
+    answers: &'a [Said],
 ) -> Result<Vec<Turn<'a>>, AllocError>
     requires { length script.now ≤ 1048576 }
-    ensures { IfOk result (λ turns. map asked_in turns.items ≡ asked_of script.now answers.now) }
+    ensures { IfOk result (λ turns. map asked_in turns.items ≡ asked_of script.now (map saying_in answers.now)) }
 {
     let mut turns = Vec::new(alloc);
     let mut lines = Lines::new(script);
-    let mut said = Lines::new(answers);
     let mut number: u64 = 0;
+    let mut left = answers;
     while let Some(line) = lines.next() {
         number += 1;
-        if is_answered(line) {
-            let answer = next_answer(&mut said);
+        if let Some((said, rest)) = split_said(left, number) {
+            left = rest;
             turns.push(Turn {
                 column: turns.len() + 1,
                 number,
                 line,
                 command: command_in(line),
-                answer,
+                answer: said.answer(),
+                text: said.text(),
             })?;
         }
     }

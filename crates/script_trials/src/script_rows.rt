@@ -1,7 +1,9 @@
 //! Scripts with known answers, and readers and writers that fail.
 
-ghost use Rattle.std.specs.Prelude.{◌≡◌, IfOk};
-ghost use Rattle.flow_script.specs.Scripts.{Findings, text_of_script};
+ghost use Rattle.std.specs.Prelude.{◌≡◌, IfOk, List};
+ghost use Rattle.flow_script.specs.Running.{On};
+ghost use Rattle.script_run.specs.declared.line_answer.LineAnswer.{LineAnswer};
+ghost use Rattle.script_run.specs.Scripts.{AnswersScript, text_of_answers};
 
 mod buffers;
 mod cuts;
@@ -12,8 +14,9 @@ mod sharings;
 mod streams;
 
 use crate::tools::Differences;
-use flow_script::{Engine, ScriptFault, run_script};
+use flow_script::{CoreObject, Engine, LaneObject, ScriptFault, run_script};
 use rows::{ROWS, Row};
+use script_commands::ScriptObject;
 use std::alloc::{AllocError, AllocGlobal, Global};
 use std::io;
 use std::process::Abort;
@@ -33,12 +36,18 @@ const TEXT: &[u8] =
 const ENGINES: [Engine; 2] = [Engine::Core, Engine::Lane];
 
 /// What a script answers.
-fn answers(
-    rt: &(impl Wait + RandomSource + AllocGlobal),
+fn answers<'r, H: Wait + RandomSource + AllocGlobal>(
+    rt: &'r H,
     engine: Engine,
     script: &[u8],
 ) -> Result<Vec<u8>, Fail>
-    ensures { IfOk result (λ text. (findings : Findings) × (text.items ≡ text_of_script engine findings script.now)) }
+    ensures { IfOk result (λ text. On engine
+        ((all : List LineAnswer) × AnswersScript ⟦<CoreObject<'r, 'r, H> as ScriptObject<'r>>⟧.makes
+        ⟦<CoreObject<'r, 'r, H> as ScriptObject<'r>>⟧.asks
+        ⟦<CoreObject<'r, 'r, H> as ScriptObject<'r>>⟧.joins script.now all × (text.items ≡ text_of_answers all))
+        ((all : List LineAnswer) × AnswersScript ⟦<LaneObject<'r, 'r, H> as ScriptObject<'r>>⟧.makes
+        ⟦<LaneObject<'r, 'r, H> as ScriptObject<'r>>⟧.asks
+        ⟦<LaneObject<'r, 'r, H> as ScriptObject<'r>>⟧.joins script.now all × (text.items ≡ text_of_answers all))) }
 {
     let mut reader = script;
     let mut text = Vec::new(rt.alloc());

@@ -1,11 +1,11 @@
 use Rattle.std.proofs.Common.{◌≡◌, ◌≤◌, ◌+◌, ◌++◌, length, map}
 use Rattle.script_words.specs.Lines.{lines_of}
-use Rattle.marble_marks.specs.Turns.{asked_in, asked_from, asked_of}
+use Rattle.marble_marks.specs.Turns.{asked_in, asked_from, asked_of, saying_in}
 use Rattle.marble_marks.proofs.turn.turns.Given as goal
 
 abbrev pub invariant-loop-line : goal.invariant-loop-line
 invariant-loop-line l = record {
-  read : map asked_in l.turns.items ++ asked_from (length l.turns.items) l.number (lines_of l.lines.rest.now) (lines_of l.said.rest.now) ≡ asked_of l.script l.answers;
+  read : map asked_in l.turns.items ++ asked_from (length l.turns.items) l.number (lines_of l.lines.rest.now) (map saying_in l.left) ≡ asked_of l.script (map saying_in l.answers);
   room : l.number + length l.lines.rest.now ≤ 1048576;
 }
 

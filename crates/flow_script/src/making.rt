@@ -1,0 +1,86 @@
+//! What a script's flows and states are made with.
+
+ghost use Rattle.std.specs.Prelude.{◌≡◌};
+ghost use Rattle.script_commands.specs.Sources.{origin_in};
+ghost use Rattle.script_words.specs.Starts.{starting_in};
+ghost use Rattle.script_engines.specs.Subscribing.{subscribing_of};
+ghost use Rattle.flow_script.specs.Makers.{config_of, MakesShare, MakesStated};
+
+use flow_terms::{Policy, Refusal};
+use script_commands::{Source, SourceFlow};
+use script_engines::{Share, Stated, Watched};
+use script_objects::Object;
+use script_words::Start;
+use shared_core::Config;
+use std::alloc::Global;
+use std::sync::Wait;
+
+/// How many subscriptions of a flow may be live at once, and how many of its emissions in flight.
+const SEATS: u32 = 8;
+
+/// What a name may stand for, where this is a shared flow.
+pub(crate) type Kinds<'s, 'r, W, F> = Object<
+    F,
+    Watched,
+    Share<'r, W, SourceFlow<'s>>,
+    Stated<SourceFlow<'s>>,
+>;
+
+/// What a script's flows are made with.
+pub(crate) fn config_of(replay: u64, extra: u64, policy: Policy) -> Config
+    ensures { result ≡ config_of replay extra policy }
+{
+    Config {
+        replay,
+        extra,
+        policy,
+        subscribers: SEATS,
+        emits: SEATS,
+        first: 0,
+    }
+}
+
+/// A shared flow into which a source will be emitted. Refused for the plan of its start, then with 1, 2 or 3, and then with 4.
+pub(crate) fn share<'s, 'r, W: Wait>(
+    rt: &'r W,
+    alloc: Global,
+    config: Config,
+    start: Start<'s>,
+    source: Source<'s>,
+) -> Result<Share<'r, W, SourceFlow<'s>>, Refusal>
+    ensures { MakesShare
+        (λ it. record {
+          subscriptions = subscribing_of it.subscriptions;
+          owner = it.sharing.flow;
+          waiting = it.sharing.outlet.waiting;
+          source = it.sharing.upstream.flow;
+          course = it.sharing.upstream.course;
+          strategy = it.sharing.strategy;
+        })
+        config (starting_in start.entry) (origin_in source.entry) result }
+{
+    let started = start.started()?;
+    Share::new(rt, alloc, config, started, SourceFlow::new(alloc, source))
+}
+
+/// A state with this value, which will be set from a source. Refused for the plan of its start, and then with 4.
+pub(crate) fn stated<'s>(
+    alloc: Global,
+    value: u64,
+    start: Start<'s>,
+    source: Source<'s>,
+) -> Result<Stated<SourceFlow<'s>>, Refusal>
+    ensures { MakesStated
+        (λ it. record {
+          state = it.state;
+          seat = it.sharing.seat;
+          initial = it.sharing.initial;
+          source = it.sharing.upstream.flow;
+          course = it.sharing.upstream.course;
+          strategy = it.sharing.strategy;
+        })
+        value (starting_in start.entry) (origin_in source.entry) result }
+{
+    let started = start.started()?;
+    Stated::new(alloc, value, started, SourceFlow::new(alloc, source))
+}

@@ -1,0 +1,12 @@
+pub mod Commands
+pub mod Listings
+pub mod Answers
+pub mod Replies
+pub mod Parts
+pub mod Items
+pub mod Sources
+pub mod Sourced
+pub mod Stages
+pub mod Pipes
+pub mod Piping
+pub mod Inners

@@ -1,0 +1,219 @@
+//! What a line asks for.
+
+ghost use Rattle.std.specs.Prelude.{◌≡◌};
+ghost use Rattle.std.specs.Option.{option_map};
+ghost use Rattle.script_words.specs.Lines.{words_of};
+ghost use Rattle.script_commands.specs.declared.request.Request.TheVariants.{Try, Set, CompareAndSet, Tick};
+ghost use Rattle.script_commands.specs.Commands.{order_of, asks, asks_with, asks_with_two, joins, joins_with, collector, emission, joining_in, subscribes, subscribing, cold_of, form_in, requests, parties, command_of};
+
+use crate::making::{self, Making};
+use crate::pipe::Pipe;
+use crate::request::{Party, Request};
+use script_words::{Numbers, Words};
+
+/// What a line asks for. Names are parts of the script.
+#[derive(Clone, Copy)]
+pub enum Command<'a> {
+    /// Something is made, and the name stands for it.
+    Make {
+        name: &'a [u8],
+        making: Making<'a>,
+    },
+    /// A party joins what the host's name stands for, under a name of its own.
+    Join {
+        host: &'a [u8],
+        name: &'a [u8],
+        party: Party<'a>,
+    },
+    /// What a name stands for is asked something.
+    Ask {
+        name: &'a [u8],
+        request: Request,
+    },
+    /// A pipe is collected whole.
+    Cold {
+        pipe: Pipe<'a>,
+    },
+}
+
+/// A name, and nothing after it.
+#[tactic(auto, unfolding(crate::specs::Commands::asks))]
+fn ask<'a>(mut words: Words<'a>, request: Request) -> Option<Command<'a>>
+    ensures { option_map order_of result ≡ asks request (words_of words.entry.rest.now) }
+{
+    let name = words.name()?;
+    words.end()?;
+    Some(Command::Ask { name, request })
+}
+
+#[tactic(auto, unfolding(crate::specs::Commands::asks_with))]
+fn try_emit<'a>(mut words: Words<'a>) -> Option<Command<'a>>
+    ensures { option_map order_of result ≡ asks_with Try (words_of words.entry.rest.now) }
+{
+    let name = words.name()?;
+    let request = Request::Try(words.number()?);
+    words.end()?;
+    Some(Command::Ask { name, request })
+}
+
+#[tactic(auto, unfolding(crate::specs::Commands::asks_with))]
+fn set<'a>(mut words: Words<'a>) -> Option<Command<'a>>
+    ensures { option_map order_of result ≡ asks_with Set (words_of words.entry.rest.now) }
+{
+    let name = words.name()?;
+    let request = Request::Set(words.number()?);
+    words.end()?;
+    Some(Command::Ask { name, request })
+}
+
+#[tactic(auto, unfolding(crate::specs::Commands::asks_with))]
+fn tick<'a>(mut words: Words<'a>) -> Option<Command<'a>>
+    ensures { option_map order_of result ≡ asks_with Tick (words_of words.entry.rest.now) }
+{
+    let name = words.name()?;
+    let request = Request::Tick(words.number()?);
+    words.end()?;
+    Some(Command::Ask { name, request })
+}
+
+#[tactic(auto, unfolding(crate::specs::Commands::asks_with_two))]
+fn compare_and_set<'a>(mut words: Words<'a>) -> Option<Command<'a>>
+    ensures { option_map order_of result ≡ asks_with_two CompareAndSet (words_of words.entry.rest.now) }
+{
+    let name = words.name()?;
+    let expect = words.number()?;
+    let update = words.number()?;
+    words.end()?;
+    let request = Request::CompareAndSet(expect, update);
+    Some(Command::Ask { name, request })
+}
+
+#[tactic(auto, unfolding(crate::specs::Commands::joins))]
+fn collect<'a>(mut words: Words<'a>) -> Option<Command<'a>>
+    ensures { option_map order_of result ≡ joins collector (words_of words.entry.rest.now) }
+{
+    let host = words.name()?;
+    let name = words.name()?;
+    words.end()?;
+    let party = Party::Collector;
+    Some(Command::Join { host, name, party })
+}
+
+/// A subscription, by the words after its name: none, or `with` and the numbers of its prelude.
+#[tactic(auto, unfolding(crate::specs::Commands::subscribing))]
+fn subscription<'a>(mut words: Words<'a>) -> Option<Party<'a>>
+    ensures { option_map joining_in result ≡ subscribing (words_of words.entry.rest.now) }
+{
+    let Some(word) = words.next() else {
+        return Some(Party::Subscription(Numbers::none()));
+    };
+    if word != b"with".as_slice() {
+        return None;
+    }
+    let numbers = Numbers::take(&mut words)?;
+    words.end()?;
+    Some(Party::Subscription(numbers))
+}
+
+#[tactic(auto, unfolding(crate::specs::Commands::subscribes))]
+fn subscribe<'a>(mut words: Words<'a>) -> Option<Command<'a>>
+    ensures { option_map order_of result ≡ subscribes (words_of words.entry.rest.now) }
+{
+    let host = words.name()?;
+    let name = words.name()?;
+    let party = subscription(words)?;
+    Some(Command::Join { host, name, party })
+}
+
+#[tactic(auto, unfolding(crate::specs::Commands::joins_with))]
+fn emit<'a>(mut words: Words<'a>) -> Option<Command<'a>>
+    ensures { option_map order_of result ≡ joins_with emission (words_of words.entry.rest.now) }
+{
+    let host = words.name()?;
+    let name = words.name()?;
+    let party = Party::Emission(words.number()?);
+    words.end()?;
+    Some(Command::Join { host, name, party })
+}
+
+#[tactic(auto, unfolding(crate::specs::Commands::cold_of))]
+fn cold<'a>(words: Words<'a>) -> Option<Command<'a>>
+    ensures { option_map order_of result ≡ cold_of (words_of words.entry.rest.now) }
+{
+    let pipe = Pipe::parse(words)?;
+    Some(Command::Cold { pipe })
+}
+
+impl<'a> Command<'a> {
+    /// The command that the words of a line say.
+    #[tactic(auto, unfolding(crate::specs::Commands::command_of))]
+    pub fn parse(first: &[u8], words: Words<'a>) -> Option<Command<'a>>
+        ensures { option_map order_of result ≡ command_of first.now (words_of words.entry.rest.now) }
+    {
+        if first == b"shared".as_slice() {
+            making::shared(words)
+        } else if first == b"state".as_slice() {
+            making::state(words)
+        } else if first == b"buffer".as_slice() {
+            making::buffer(words)
+        } else if first == b"share".as_slice() {
+            making::share(words)
+        } else if first == b"stated".as_slice() {
+            making::stated(words)
+        } else if first == b"cold".as_slice() {
+            cold(words)
+        } else {
+            Command::of_party(first, words)
+        }
+    }
+
+    /// The command by which a party joins, or one of those after them.
+    fn of_party(first: &[u8], words: Words<'a>) -> Option<Command<'a>>
+        ensures { option_map order_of result ≡ form_in parties first.now (words_of words.entry.rest.now) }
+    {
+        if first == b"sub".as_slice() {
+            subscribe(words)
+        } else if first == b"collect".as_slice() {
+            collect(words)
+        } else if first == b"emit".as_slice() {
+            emit(words)
+        } else {
+            Command::of_request(first, words)
+        }
+    }
+
+    /// The command that asks something.
+    fn of_request(first: &[u8], words: Words<'a>) -> Option<Command<'a>>
+        ensures { option_map order_of result ≡ form_in requests first.now (words_of words.entry.rest.now) }
+    {
+        if first == b"next".as_slice() {
+            ask(words, Request::Next)
+        } else if first == b"cancel".as_slice() {
+            ask(words, Request::Cancel)
+        } else if first == b"count".as_slice() {
+            ask(words, Request::Count)
+        } else if first == b"cache".as_slice() {
+            ask(words, Request::Cache)
+        } else if first == b"reset".as_slice() {
+            ask(words, Request::Reset)
+        } else if first == b"fill".as_slice() {
+            ask(words, Request::Fill)
+        } else if first == b"poll".as_slice() {
+            ask(words, Request::Poll)
+        } else if first == b"withdraw".as_slice() {
+            ask(words, Request::Withdraw)
+        } else if first == b"value".as_slice() {
+            ask(words, Request::Value)
+        } else if first == b"try".as_slice() {
+            try_emit(words)
+        } else if first == b"set".as_slice() {
+            set(words)
+        } else if first == b"cas".as_slice() {
+            compare_and_set(words)
+        } else if first == b"tick".as_slice() {
+            tick(words)
+        } else {
+            None
+        }
+    }
+}

@@ -1,0 +1,9 @@
+pub mod Makings
+pub mod Preludes
+pub mod Places
+pub mod Beside
+pub mod Modelling
+pub mod Watching
+pub mod Subscribing
+pub mod Parties
+pub mod Ticks

@@ -1,0 +1,164 @@
+//! A shared flow for threads, as a script calls it.
+
+ghost use Rattle.std.specs.Prelude.{◌≡◌, None};
+ghost use Rattle.shared_core.specs.Kept.{making_refusal};
+ghost use Rattle.script_engines.specs.Makings.{MadeUnless};
+ghost use Rattle.script_engines.specs.Subscribing.{subscribing_of};
+ghost use Rattle.script_engines.specs.Parties.{IsUntouched};
+
+use crate::places::{emission_of, ticket_at};
+use crate::subscriptions::Subscriptions;
+use flow_terms::{Begun, Emit, Next, Refusal, SubId, Ticket, Tried, Withdrawn};
+use futures::task::{Context, Poll};
+use script_calls::{MutableShared, Shared};
+use shared_core::Config;
+use shared_flow::{Emitter, SharedFlow};
+use std::alloc::{AllocError, Global};
+use std::sync::Wait;
+
+/// The emitter that stands behind each emission of a script.
+const EMITTER: u32 = 0;
+
+/// A shared flow for threads, as a script calls it: an owner with its subscriptions, and emitters. It must be spent, by
+/// [`close`](Shared::close).
+pub struct ForThreads<'a, W> {
+    rt: &'a W,
+    subscriptions: Subscriptions,
+    // Who makes each try and begins each emission.
+    emitter: Emitter<u64>,
+    // Each emission that had to wait has an emitter of its own, which is idle where that is finished or given up.
+    emissions: Vec<Emitter<u64>>,
+    ghost idle: { emitter.ticket ≡ None },
+}
+
+impl<'a, W: Wait> ForThreads<'a, W> {
+    /// A flow without subscriptions. Refused as `SharedFlow::new`, with 1, 2 or 3, and then with 4 at most.
+    pub fn new(rt: &'a W, alloc: Global, config: Config) -> Result<ForThreads<'a, W>, Refusal>
+        ensures { MadeUnless (making_refusal config) result (λ made. IsUntouched config (record {
+          subscriptions = subscribing_of made.subscriptions;
+          emitter = made.emitter;
+          emissions = made.emissions.items;
+        })) }
+    {
+        let mut flow = SharedFlow::new(alloc, config)?;
+        let emitter = flow.emitter(rt, EMITTER)?;
+        Ok(ForThreads {
+            rt,
+            subscriptions: Subscriptions::new(alloc, flow),
+            emitter,
+            emissions: Vec::new(alloc),
+        })
+    }
+}
+
+impl<'a, W: Wait> Shared for ForThreads<'a, W> {
+    ghost use Rattle.script_calls.specs.Views.{receipts_of};
+    ghost use Rattle.script_engines.specs.Subscribing.{subscribing_of};
+    ghost use Rattle.script_engines.specs.Parties.{receiving};
+
+    ghost receipts = { receipts_of (λ it. record { subscriptions = subscribing_of it.subscriptions; emitter = it.emitter; emissions = it.emissions.items }) receiving };
+
+    fn subscribe(&mut self, prelude: &[u64]) -> Result<SubId, Refusal> {
+        self.subscriptions.subscribe(self.rt, prelude)
+    }
+
+    fn next(&mut self, id: SubId, cx: &mut Context<'_>) -> Next<u64> {
+        self.subscriptions.next(self.rt, id, cx)
+    }
+
+    fn cancel(&mut self, id: SubId) -> bool {
+        self.subscriptions.cancel(self.rt, id)
+    }
+
+    fn cache(&mut self, alloc: Global) -> Result<Result<Vec<u64>, Refusal>, AllocError> {
+        Ok(self.subscriptions.cache(self.rt, alloc))
+    }
+
+    fn count(&mut self) -> u32 {
+        self.subscriptions.count(self.rt)
+    }
+
+    fn close(self) {
+        let ForThreads {
+            rt,
+            subscriptions,
+            emitter,
+            mut emissions,
+        } = self;
+        while let Some(emission) = emissions.pop() {
+            let _withdrawn = emission.close(rt);
+        }
+        emissions.destroy_empty();
+        let _idle = emitter.close(rt);
+        subscriptions.close(rt);
+    }
+}
+
+impl<'a, W: Wait> MutableShared for ForThreads<'a, W> {
+    ghost use Rattle.script_calls.specs.Views.{emissions_of};
+    ghost use Rattle.script_engines.specs.Subscribing.{subscribing_of};
+    ghost use Rattle.script_engines.specs.Parties.{emitting};
+
+    ghost emissions = { emissions_of (λ it. record { subscriptions = subscribing_of it.subscriptions; emitter = it.emitter; emissions = it.emissions.items }) emitting };
+
+    fn try_emit(&mut self, value: u64) -> Result<Tried<u64>, Refusal> {
+        match self.emitter.try_emit(self.rt, value)? {
+            Tried::Accepted(receipt) => Ok(Tried::Accepted(receipt.number())),
+            Tried::Dropped => Ok(Tried::Dropped),
+            Tried::Full => Ok(Tried::Full),
+        }
+    }
+
+    fn start_emit(&mut self, value: u64) -> Result<Begun<u64, Ticket>, Refusal> {
+        self.emissions.reserve(1)?;
+        let spare = self.subscriptions.flow.emitter(self.rt, EMITTER)?;
+        match self.emitter.start_emit(self.rt, value) {
+            Ok(Begun::Accepted(receipt)) => {
+                let _idle = spare.close(self.rt);
+                Ok(Begun::Accepted(receipt.number()))
+            }
+            Ok(Begun::Dropped) => {
+                let _idle = spare.close(self.rt);
+                Ok(Begun::Dropped)
+            }
+            Ok(Begun::Waiting(())) => {
+                let place = self.emissions.len();
+                let emitter = std::mem::replace(&mut self.emitter, spare);
+                self.emissions.push_reserved(emitter);
+                Ok(Begun::Waiting(ticket_at(place)))
+            }
+            Err(refusal) => {
+                let _idle = spare.close(self.rt);
+                Err(refusal)
+            }
+        }
+    }
+
+    fn poll_emit(&mut self, ticket: Ticket, cx: &mut Context<'_>) -> Emit {
+        let Some(emitter) = self.emissions.get_mut(emission_of(ticket)) else {
+            return Emit::Gone;
+        };
+        if !emitter.in_flight() {
+            return Emit::Gone;
+        }
+        let Poll::Ready(receipt) = emitter.poll_emit(self.rt, cx) else {
+            return Emit::Waiting;
+        };
+        Emit::Done(receipt.number())
+    }
+
+    fn withdraw(&mut self, ticket: Ticket) -> Withdrawn<u64> {
+        let Some(emitter) = self.emissions.get_mut(emission_of(ticket)) else {
+            return Withdrawn::Gone;
+        };
+        match emitter.cancel_emit(self.rt) {
+            Withdrawn::Removed => Withdrawn::Removed,
+            Withdrawn::Left(receipt) => Withdrawn::Left(receipt.number()),
+            Withdrawn::Gone => Withdrawn::Gone,
+        }
+    }
+
+    fn reset(&mut self) {
+        self.subscriptions.flow.reset_replay(self.rt);
+    }
+}

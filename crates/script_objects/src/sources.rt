@@ -1,0 +1,42 @@
+//! What shares a source of a script, and is told the time.
+
+ghost use Rattle.std.specs.Prelude.{IfOk};
+ghost use Rattle.script_objects.specs.Sources.{AsksShare, AsksStated};
+
+use crate::states::ask_read;
+use crate::subscriptions::ask_shared;
+use futures::task::Context;
+use script_calls::{SharedSource, SourcedState};
+use script_commands::{Answer, Part, Request};
+use std::alloc::{AllocError, Global};
+
+/// Answers a command to a part of a shared flow that shares a source, or nothing.
+pub(crate) fn ask_share<H: SharedSource>(
+    share: &mut H,
+    alloc: Global,
+    part: Part,
+    request: Request,
+    cx: &mut Context<'_>,
+) -> Result<Option<Answer>, AllocError>
+    ensures { IfOk result (λ answer. AsksShare H.receipts H.turns part request share.old answer share.new) }
+{
+    match (part, request) {
+        (Part::Whole, Request::Tick(now)) => Ok(Some(Answer::from(share.tick(now, cx)))),
+        _ => ask_shared(share, alloc, part, request, cx),
+    }
+}
+
+/// Answers a command to a part of a state that is set from a source, or nothing: only the source sets it.
+pub(crate) fn ask_stated<S: SourcedState>(
+    state: &mut S,
+    part: Part,
+    request: Request,
+    cx: &mut Context<'_>,
+) -> Option<Answer>
+    ensures { AsksStated S.readings S.turns part request state.old result state.new }
+{
+    match (part, request) {
+        (Part::Whole, Request::Tick(now)) => Some(Answer::from(state.tick(now, cx))),
+        _ => ask_read(state, part, request),
+    }
+}

@@ -1,0 +1,4 @@
+pub mod Transfers
+pub mod Progress
+pub mod Writing
+pub mod Whole

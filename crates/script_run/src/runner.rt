@@ -1,0 +1,204 @@
+//! What the names of a script stand for, and what its lines do.
+
+ghost use Rattle.std.specs.Prelude.{◌≡◌, Bool, length, IfOk};
+ghost use Rattle.script_commands.specs.Commands.{order_of, made_in, joining_in, make, join, ask};
+ghost use Rattle.script_commands.specs.Pipes.{pipe_in};
+ghost use Rattle.script_commands.specs.Piping.{pipe_answer};
+ghost use Rattle.script_words.specs.Lines.{starts_with_hash};
+ghost use Rattle.script_run.specs.Standings.{IsFresh, standing};
+ghost use Rattle.script_run.specs.Executing.{Executes};
+ghost use Rattle.script_run.specs.Replying.{Replies};
+
+use crate::binding::Binding;
+use crate::names::Names;
+use futures::task::{Poll, Solo};
+use script_commands::{Answer, Command, Making, Part, Party, Pipe, Request, ScriptObject};
+use script_words::Words;
+use std::alloc::{AllocError, Global};
+
+/// The most bytes of a line without its end.
+const MOST_LINE_BYTES: usize = 1024;
+
+/// Whether a line that begins with this word has no answer.
+fn is_comment(word: &[u8]) -> bool
+    ensures { result ≡ starts_with_hash word.now }
+{
+    match word {
+        [first, ..] => *first == b'#',
+        [] => false,
+    }
+}
+
+/// What a script has made so far. It must be spent, by [`close`](Runner::close), since its objects must be.
+pub struct Runner<'s, 't, O: ScriptObject<'s>> {
+    names: Names<'s>,
+    // In the order in which they were made.
+    objects: Vec<O>,
+    // Who makes them.
+    maker: &'t O::Maker,
+    // The task in whose name flows are polled.
+    task: &'t Solo,
+}
+
+impl<'s, 't, O: ScriptObject<'s>> Runner<'s, 't, O> {
+    /// Nothing is made yet.
+    pub fn new(alloc: Global, task: &'t Solo, maker: &'t O::Maker) -> Runner<'s, 't, O>
+        ensures { IsFresh (standing result) }
+    {
+        Runner {
+            names: Names::new(alloc),
+            objects: Vec::new(alloc),
+            maker,
+            task,
+        }
+    }
+
+    /// Makes an object and binds its name.
+    fn make(
+        &mut self,
+        alloc: Global,
+        name: &'s [u8],
+        making: Making<'s>,
+    ) -> Result<Option<Answer>, AllocError>
+        ensures { IfOk result (λ answer. Executes O.makes O.asks O.joins (make name.entry.now (made_in making.entry)) (standing self.old) answer (standing self.new)) }
+    {
+        if self.names.get(name).is_some() {
+            return Ok(None);
+        }
+        self.names.reserve()?;
+        self.objects.reserve(1)?;
+        match O::make(self.maker, alloc, making) {
+            Ok(object) => {
+                let binding = Binding {
+                    object_index: self.objects.len(),
+                    part: Part::Whole,
+                };
+                self.names.bind(name, binding);
+                self.objects.push_reserved(object);
+                Ok(Some(Answer::Ok))
+            }
+            Err(refusal) => Ok(Some(Answer::Refused(refusal))),
+        }
+    }
+
+    /// Lets a party join what the host's name stands for, and binds its name.
+    fn join(
+        &mut self,
+        host: &[u8],
+        name: &'s [u8],
+        party: Party<'_>,
+    ) -> Result<Option<Answer>, AllocError>
+        ensures { IfOk result (λ answer. Executes O.makes O.asks O.joins (join host.now name.entry.now (joining_in party.entry)) (standing self.old) answer (standing self.new)) }
+    {
+        let Some(binding) = self.names.get(host) else {
+            return Ok(None);
+        };
+        if self.names.get(name).is_some() {
+            return Ok(None);
+        }
+        self.names.reserve()?;
+        let Some(object) = self.objects.get_mut(binding.object_index) else {
+            return Ok(None);
+        };
+        let Some((answer, joined)) = object.join(binding.part, party) else {
+            return Ok(None);
+        };
+        if let Some(part) = joined {
+            self.names.bind(name, Binding { part, ..binding });
+        }
+        Ok(Some(answer))
+    }
+
+    /// Asks what a name stands for something.
+    fn ask(
+        &mut self,
+        alloc: Global,
+        name: &[u8],
+        request: Request,
+    ) -> Result<Option<Answer>, AllocError>
+        ensures { IfOk result (λ answer. Executes O.makes O.asks O.joins (ask name.now request) (standing self.old) answer (standing self.new)) }
+    {
+        let Some(binding) = self.names.get(name) else {
+            return Ok(None);
+        };
+        let task = self.task;
+        let Some(object) = self.objects.get_mut(binding.object_index) else {
+            return Ok(None);
+        };
+        let mut cx = task.begin();
+        let answer = object.ask(alloc, binding.part, request, &mut cx);
+        // A task is parked only where it waits for something or asks to be polled again.
+        let _woken: Poll<()> = cx.yield_now();
+        cx.park();
+        answer
+    }
+
+    /// What a pipe answers. It leaves the runner as it was.
+    fn collect(&self, alloc: Global, pipe: Pipe<'_>) -> Answer
+        ensures { (refused : Bool) × (result ≡ pipe_answer refused (pipe_in pipe.entry)) }
+    {
+        let mut cx = self.task.begin();
+        let answer = pipe.answer(alloc, &mut cx);
+        let _woken: Poll<()> = cx.yield_now();
+        cx.park();
+        answer
+    }
+
+    /// What a command answers, or nothing where a name stands in its way or stands for what doesn't know it.
+    fn execute(&mut self, alloc: Global, command: Command<'s>) -> Result<Option<Answer>, AllocError>
+        ensures { IfOk result (λ answer. Executes O.makes O.asks O.joins (order_of command.entry) (standing self.old) answer (standing self.new)) }
+    {
+        match command {
+            Command::Make { name, making } => self.make(alloc, name, making),
+            Command::Join { host, name, party } => self.join(host, name, party),
+            Command::Ask { name, request } => self.ask(alloc, name, request),
+            Command::Cold { pipe } => Ok(Some(self.collect(alloc, pipe))),
+        }
+    }
+
+    /// What a line answers, if anything. Its number counts from 1.
+    #[tactic(auto, unfolding(crate::specs::Replying::Replies))]
+    pub fn reply(
+        &mut self,
+        alloc: Global,
+        number: u64,
+        line: &'s [u8],
+    ) -> Result<Option<Answer>, AllocError>
+        ensures { IfOk result (λ answer. Replies O.makes O.asks O.joins number line.now (standing self.old) answer (standing self.new)) }
+    {
+        let mut words = Words::new(line);
+        let Some(first) = words.next() else {
+            return Ok(None);
+        };
+        if is_comment(first) {
+            return Ok(None);
+        }
+        let bad = Answer::BadCommand(number);
+        if line.len() > MOST_LINE_BYTES {
+            return Ok(Some(bad));
+        }
+        match Command::parse(first, words) {
+            Some(command) => Ok(Some(self.execute(alloc, command)?.unwrap_or(bad))),
+            None => Ok(Some(bad)),
+        }
+    }
+
+    /// Closes every object, and says how many there were.
+    pub fn close(self) -> usize
+        ensures { result ≡ length self.entry.objects.items }
+    {
+        let Runner {
+            names: _,
+            mut objects,
+            maker: _,
+            task: _,
+        } = self;
+        let mut closed = 0;
+        while let Some(object) = objects.pop() {
+            object.close();
+            closed += 1;
+        }
+        objects.destroy_empty();
+        closed
+    }
+}
