@@ -1,7 +1,6 @@
 //! Why the program ends early.
 
 use bench_figures::WrongTotal;
-use clap::error::ErrorKind;
 use cold_flow::Refusal;
 use flow_script::ScriptFault;
 use std::alloc::{AllocError, AllocFailed};
@@ -11,9 +10,6 @@ use thiserror::Error;
 /// Why the program ends early. The name is that of a scenario.
 #[derive(Debug, Drop, Error)]
 pub enum Fault {
-    /// The command line has another word, or asks for help.
-    #[error("no such command line")]
-    Usage,
     /// What arrived isn't what was sent.
     #[error("wrong total at {0}")]
     WrongTotal(&'static str),
@@ -63,14 +59,5 @@ impl From<Refusal> for Fault {
 impl From<ScriptFault> for Fault {
     fn from(fault: ScriptFault) -> Fault {
         Fault::Script(fault)
-    }
-}
-
-impl From<clap::Error> for Fault {
-    fn from(error: clap::Error) -> Fault {
-        match error.kind() {
-            ErrorKind::OutOfMemory => Fault::NoMemory,
-            _ => Fault::Usage,
-        }
     }
 }

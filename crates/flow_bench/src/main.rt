@@ -29,54 +29,36 @@ mod state_threads;
 mod sums;
 
 use bench_figures::Size;
-use clap::{Arg, ArgAction, Command};
 use fault::Fault;
+use program_words::{Stop, WordsFault, plain_words, status_of, words_of};
 use scenario::Scenario;
-use std::alloc::{AllocError, AllocGlobal, Global};
+use std::alloc::{AllocGlobal, Global};
 use std::process::ExitCode;
 use std::random::RandomSource;
 use std::rt::{Clock, Env};
 use std::sync::Wait;
 use std::thread::Threads;
-use std::{env, io};
 
 /// How often each measurement is made.
 const REPEATS: u32 = 5;
 
-/// The command lines that there are.
-fn command_of<'a>(alloc: Global) -> Result<Command<'a>, AllocError> {
-    let names = Arg::new(alloc, "scenario")
-        .num_args(0..)
-        .action(ArgAction::Append)
-        .value_parser(Scenario::NAMES.as_slice());
-    Command::new(alloc, "flow_bench").arg(names)
-}
-
-/// The scenarios that the command line asks for, in its order.
-fn asked_for(alloc: Global, words: &[String]) -> Result<Vec<Scenario>, Fault> {
-    let matches = command_of(alloc)?.try_get_matches_from(words)?;
-    named(alloc, matches.get_strs("scenario").unwrap_or(&[]))
-}
-
 /// The scenarios of these names.
-fn named(alloc: Global, names: &[&str]) -> Result<Vec<Scenario>, Fault> {
+fn named(alloc: Global, names: &[&str]) -> Result<Vec<Scenario>, WordsFault> {
     let mut scenarios = Vec::new(alloc);
     for name in names {
         let Some(scenario) = Scenario::of(name) else {
-            return Err(Fault::Usage);
+            return Err(WordsFault::Usage);
         };
         scenarios.push(scenario)?;
     }
     Ok(scenarios)
 }
 
-/// The words of the command line.
-fn words_of<R: Env + AllocGlobal>(rt: &R) -> Result<Vec<String>, Fault> {
-    match env::args(rt) {
-        Ok(words) => Ok(words.collect::<Vec<String>>(rt.alloc())?),
-        Err(error) if error.kind() == io::ErrorKind::OutOfMemory => Err(Fault::NoMemory),
-        Err(_) => Err(Fault::Usage),
-    }
+/// The scenarios that the command line asks for, in its order.
+fn scenarios_asked<R: Env + AllocGlobal>(rt: &R) -> Result<Vec<Scenario>, WordsFault> {
+    let words = words_of(rt)?;
+    let names = plain_words(rt.alloc(), words.as_slice())?;
+    named(rt.alloc(), names.as_slice())
 }
 
 /// Makes the measurements of each scenario.
@@ -90,29 +72,29 @@ where
     Ok(())
 }
 
-/// Makes what the command line asks for.
-fn run<R>(rt: &R) -> Result<(), Fault>
+/// Makes the measurements of these scenarios, and where there is none, every one in small.
+fn measure<R>(rt: &R, scenarios: &[Scenario]) -> Result<(), Fault>
 where
-    R: Env + Clock + Print + AllocGlobal + RandomSource + Threads + Wait + Sync,
+    R: Clock + Print + AllocGlobal + RandomSource + Threads + Wait + Sync,
 {
-    let words = words_of(rt)?;
-    let scenarios = asked_for(rt.alloc(), words.as_slice())?;
     if scenarios.is_empty() {
         return measure_all(rt, Scenario::ALL.as_slice(), Size::Small);
     }
     for _repeat in 0..REPEATS {
-        measure_all(rt, scenarios.as_slice(), Size::Full)?;
+        measure_all(rt, scenarios, Size::Full)?;
     }
     Ok(())
 }
 
+/// Makes what the command line asks for.
+fn run<R>(rt: &R) -> Result<(), Stop<Fault>>
+where
+    R: Env + Clock + Print + AllocGlobal + RandomSource + Threads + Wait + Sync,
+{
+    let scenarios = scenarios_asked(rt)?;
+    measure(rt, scenarios.as_slice()).map_err(Stop::Fault)
+}
+
 fn main(rt: HostRuntime) -> ExitCode {
-    match run(&rt) {
-        Ok(()) => ExitCode::SUCCESS,
-        Err(Fault::Usage) => ExitCode::from(2),
-        Err(fault) => {
-            let _ = eprintln!(rt; "flow_bench: {fault}");
-            ExitCode::from(1)
-        }
-    }
+    status_of(&rt, "flow_bench", run(&rt))
 }

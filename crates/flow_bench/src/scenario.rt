@@ -32,11 +32,6 @@ pub enum Scenario {
 }
 
 impl Scenario {
-    /// The names, as a command line has them.
-    pub const NAMES: [&'static str; 7] = [
-        "receipts", "fan-out", "lossy", "state", "split", "cold", "script",
-    ];
-
     /// Every scenario.
     pub const ALL: [Scenario; 7] = [
         Scenario::Receipts,

@@ -1,2 +1,1 @@
-pub mod Wishes
-pub mod Statuses
+pub mod Forms

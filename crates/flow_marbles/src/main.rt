@@ -6,60 +6,24 @@
 #![tactic(auto)]
 
 ghost use Rattle.std.specs.Prelude.{◌≡◌, IfOk, Ok};
-ghost use Rattle.std.specs.Process.{exit_status};
 ghost use Rattle.flow_script.specs.Running.{On};
 ghost use Rattle.marble_drawing.specs.Pictures.{DrawnBy};
-ghost use Rattle.flow_marbles.specs.Statuses.{status_by};
+ghost use Rattle.flow_marbles.specs.Forms.{form_of};
 
-mod wish;
-
-use crate::wish::{Wish, wish_of};
 use flow_script::{CoreObject, LaneObject, ScriptFault, read_script};
-use marble_drawing::draw_script;
+use marble_drawing::{Form, draw_script};
+use program_words::{Stop, Wish, status_of, wish_asked};
 use script_commands::ScriptObject;
-use std::alloc::{AllocError, AllocGlobal};
+use std::alloc::AllocGlobal;
 use std::process::ExitCode;
 use std::random::RandomSource;
 use std::sync::Wait;
-use std::{env, io};
 
-/// Why the program ends early.
-#[derive(Clone, Copy, Debug, PartialEq, Eq)]
-enum Stop {
-    /// The command line has another word.
-    Usage,
-    Fault(ScriptFault),
-}
-
-impl From<AllocError> for Stop {
-    fn from(_error: AllocError) -> Stop {
-        Stop::Fault(ScriptFault::NoMemory)
-    }
-}
-
-impl From<ScriptFault> for Stop {
-    fn from(fault: ScriptFault) -> Stop {
-        Stop::Fault(fault)
-    }
-}
-
-/// What the program's own command line asks for.
-fn asked(rt: &HostRuntime) -> Result<Wish, Stop> {
-    let words = match env::args(rt) {
-        Ok(words) => words,
-        Err(error) => {
-            return Err(match error.kind() {
-                io::ErrorKind::OutOfMemory => Stop::Fault(ScriptFault::NoMemory),
-                _ => Stop::Usage,
-            });
-        }
-    };
-    let words = words.collect::<Vec<String>>(rt.alloc())?;
-    let wish = match words.as_slice() {
-        [_, rest @ ..] => wish_of(rest),
-        [] => wish_of(&[]),
-    };
-    wish.ok_or(Stop::Usage)
+/// What the wished picture is drawn as.
+fn form_of(wish: Wish) -> Form
+    ensures { result ≡ form_of wish }
+{
+    if wish.is_text { Form::Text } else { Form::Svg }
 }
 
 /// The picture that a wish asks for.
@@ -67,18 +31,18 @@ fn picture_for<'r, H: Wait + RandomSource + AllocGlobal>(
     rt: &'r H,
     wish: Wish,
     script: &[u8],
-) -> Result<String, Stop>
+) -> Result<String, ScriptFault>
     ensures { IfOk result (λ picture. On wish.engine
         (DrawnBy ⟦<CoreObject<'r, 'r, H> as ScriptObject<'r>>⟧.makes
         ⟦<CoreObject<'r, 'r, H> as ScriptObject<'r>>⟧.asks
         ⟦<CoreObject<'r, 'r, H> as ScriptObject<'r>>⟧.joins
-        wish.form script.now (Ok picture))
+        (form_of wish) script.now (Ok picture))
         (DrawnBy ⟦<LaneObject<'r, 'r, H> as ScriptObject<'r>>⟧.makes
         ⟦<LaneObject<'r, 'r, H> as ScriptObject<'r>>⟧.asks
         ⟦<LaneObject<'r, 'r, H> as ScriptObject<'r>>⟧.joins
-        wish.form script.now (Ok picture))) }
+        (form_of wish) script.now (Ok picture))) }
 {
-    let picture = draw_script(rt, wish.engine, wish.form, script)?;
+    let picture = draw_script(rt, wish.engine, form_of(wish), script)?;
     Ok(picture)
 }
 
@@ -87,39 +51,32 @@ fn draw(
     rt: &(impl Wait + RandomSource + AllocGlobal + Print),
     wish: Wish,
     script: &[u8],
-) -> Result<(), Stop> {
+) -> Result<(), ScriptFault> {
     let picture = picture_for(rt, wish, script)?;
     match rt.print(picture.as_str()) {
         Ok(()) => Ok(()),
-        Err(_) => Err(Stop::Fault(ScriptFault::Write)),
+        Err(_) => Err(ScriptFault::Write),
     }
 }
 
 /// The command line's wish, and the script.
-fn given(rt: &HostRuntime) -> Result<(Wish, Vec<u8>), Stop> {
-    let wish = asked(rt)?;
-    let script = read_script(rt.alloc(), &mut rt.reader())?;
-    Ok((wish, script))
+fn given(rt: &HostRuntime) -> Result<(Wish, Vec<u8>), Stop<ScriptFault>> {
+    let wish = wish_asked(rt)?;
+    match read_script(rt.alloc(), &mut rt.reader()) {
+        Ok(script) => Ok((wish, script)),
+        Err(fault) => Err(Stop::Fault(fault)),
+    }
 }
 
 /// Gives the status of such an end, and names a fault on standard error.
-fn status_of(rt: &HostRuntime, ended: Result<(), Stop>) -> ExitCode
-    ensures { exit_status result ≡ status_by ended }
-{
-    match ended {
-        Ok(()) => ExitCode::SUCCESS,
-        Err(Stop::Usage) => ExitCode::from(2),
-        Err(Stop::Fault(fault)) => {
-            let _ = eprintln!(rt; "flow_marbles: {fault}");
-            ExitCode::from(1)
-        }
-    }
+fn end(rt: &HostRuntime, ended: Result<(), Stop<ScriptFault>>) -> ExitCode {
+    status_of(rt, "flow_marbles", ended)
 }
 
 fn main(rt: HostRuntime) -> ExitCode {
     let (wish, script) = match given(&rt) {
         Ok(given) => given,
-        Err(stop) => return status_of(&rt, Err(stop)),
+        Err(stop) => return end(&rt, Err(stop)),
     };
-    status_of(&rt, draw(&rt, wish, &script))
+    end(&rt, draw(&rt, wish, &script).map_err(Stop::Fault))
 }

@@ -1,6 +1,6 @@
 -- What follows on either engine.
-use Rattle.flow_script.specs.declared.engine.Engine.{Engine}
-use Rattle.flow_script.specs.declared.engine.Engine.TheVariants.{Core, Lane}
+use Rattle.script_words.specs.declared.engine.Engine.{Engine}
+use Rattle.script_words.specs.declared.engine.Engine.TheVariants.{Core, Lane}
 use Rattle.flow_script.specs.Running.{On}
 
 pub on_each : {A B X Y : Type 0} (engine : Engine) → (A → X) → (B → Y) → On engine A B → On engine X Y

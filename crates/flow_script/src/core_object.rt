@@ -1,16 +1,17 @@
 //! What a name of a script stands for, with the engine `core`.
 
 ghost use Rattle.script_commands.specs.Commands.{made_in};
-ghost use Rattle.script_engines.specs.Subscribing.{subscribing_of};
 ghost use Rattle.flow_script.specs.Makers.{MakesOneThread, MakesWith};
 
 use crate::making::{Kinds, config_of, share, stated};
 use flow_terms::Refusal;
 use futures::task::Context;
-use script_calls::{MutableShared, MutableState, Shared, SharedSource, SourcedState, State};
+use script_calls::{MutableShared, MutableState, Shared, SharedSource, State};
 use script_commands::{Answer, Making, Part, Party, Request, ScriptObject, SourceFlow};
-use script_engines::{OneThread, Share, Stated, Watched};
+use script_engines::{OneThread, Subscriptions};
 use script_objects::{Object, ScriptBuffer};
+use script_sharings::{Share, Stated};
+use script_states::Watched;
 use std::alloc::{AllocError, Global};
 use std::sync::Wait;
 
@@ -25,24 +26,7 @@ fn made<'s, 'r, W: Wait>(
     alloc: Global,
     making: Making<'s>,
 ) -> Result<Kinds<'s, 'r, W, OneThread>, Refusal>
-    ensures { MakesWith (MakesOneThread (λ it. it.state))
-        (λ it. record {
-          subscriptions = subscribing_of it.subscriptions;
-          owner = it.sharing.flow;
-          waiting = it.sharing.outlet.waiting;
-          source = it.sharing.upstream.flow;
-          course = it.sharing.upstream.course;
-          strategy = it.sharing.strategy;
-        })
-        (λ it. record {
-          state = it.state;
-          seat = it.sharing.seat;
-          initial = it.sharing.initial;
-          source = it.sharing.upstream.flow;
-          course = it.sharing.upstream.course;
-          strategy = it.sharing.strategy;
-        })
-        (made_in making.entry) result }
+    ensures { MakesWith MakesOneThread (made_in making.entry) result }
 {
     match making {
         Making::Shared {
@@ -72,43 +56,24 @@ fn made<'s, 'r, W: Wait>(
 }
 
 impl<'s, 'r, W: Wait> ScriptObject<'s> for CoreObject<'s, 'r, W> {
-    ghost use Rattle.script_engines.specs.Subscribing.{subscribing_of};
     ghost use Rattle.script_objects.specs.Objects.{AsksObject, JoinsObject};
     ghost use Rattle.flow_script.specs.Makers.{MakesOneThread, MakesWith, made_as};
 
     type Maker = &'r W;
 
-    ghost makes = { λ made result. MakesWith (MakesOneThread (λ it. it.state))
-        (λ it. record {
-          subscriptions = subscribing_of it.subscriptions;
-          owner = it.sharing.flow;
-          waiting = it.sharing.outlet.waiting;
-          source = it.sharing.upstream.flow;
-          course = it.sharing.upstream.course;
-          strategy = it.sharing.strategy;
-        })
-        (λ it. record {
-          state = it.state;
-          seat = it.sharing.seat;
-          initial = it.sharing.initial;
-          source = it.sharing.upstream.flow;
-          course = it.sharing.upstream.course;
-          strategy = it.sharing.strategy;
-        })
-        made (made_as (λ it. it.object) result) };
+    ghost makes = { λ made result. MakesWith MakesOneThread made (made_as (λ it. it.object) result) };
 
     ghost asks = { λ part request old answer new. AsksObject
         ⟦<OneThread as Shared>⟧.receipts ⟦<OneThread as MutableShared>⟧.emissions
         ⟦<Watched as State>⟧.readings ⟦<Watched as MutableState>⟧.settings
-        ⟦<Share<'r, W, SourceFlow<'s>> as Shared>⟧.receipts ⟦<Share<'r, W, SourceFlow<'s>> as SharedSource>⟧.turns
-        ⟦<Stated<SourceFlow<'s>> as State>⟧.readings ⟦<Stated<SourceFlow<'s>> as SourcedState>⟧.turns
+        ⟦<Subscriptions<'r, W> as Shared>⟧.receipts ⟦<Share<'r, W, SourceFlow<'s>> as SharedSource>⟧.turns
+        ⟦<Stated<SourceFlow<'s>> as SharedSource>⟧.turns
         part request old.object answer new.object };
 
     ghost joins = { λ part joining old joined new. JoinsObject
         ⟦<OneThread as Shared>⟧.receipts ⟦<OneThread as MutableShared>⟧.emissions
-        ⟦<Watched as State>⟧.readings ⟦<Watched as MutableState>⟧.settings
-        ⟦<Share<'r, W, SourceFlow<'s>> as Shared>⟧.receipts ⟦<Share<'r, W, SourceFlow<'s>> as SharedSource>⟧.turns
-        ⟦<Stated<SourceFlow<'s>> as State>⟧.readings ⟦<Stated<SourceFlow<'s>> as SourcedState>⟧.turns
+        ⟦<Watched as State>⟧.readings
+        ⟦<Subscriptions<'r, W> as Shared>⟧.receipts
         part joining old.object joined new.object };
 
     fn make(

@@ -1,27 +1,23 @@
 //! What a name of a script stands for, with the engine `lane`.
 
 ghost use Rattle.script_commands.specs.Commands.{made_in};
-ghost use Rattle.script_engines.specs.Subscribing.{subscribing_of};
 ghost use Rattle.flow_script.specs.Makers.{MakesForThreads, MakesWith};
 
 use crate::making::{Kinds, config_of, share, stated};
 use flow_terms::Refusal;
 use futures::task::Context;
-use script_calls::{MutableShared, MutableState, Shared, SharedSource, SourcedState, State};
+use script_calls::{MutableShared, MutableState, Shared, SharedSource, State};
 use script_commands::{Answer, Making, Part, Party, Request, ScriptObject, SourceFlow};
-use script_engines::{ForThreads, Share, Stated, Watched};
+use script_engines::{ForThreads, Subscriptions};
 use script_objects::{Object, ScriptBuffer};
+use script_sharings::{Share, Stated};
+use script_states::Watched;
 use std::alloc::{AllocError, Global};
 use std::sync::Wait;
 
 /// What a name stands for where shared flows are flows for threads, on a lane.
 pub struct LaneObject<'s, 'r, W> {
-    object: Object<
-        ForThreads<'r, W>,
-        Watched,
-        Share<'r, W, SourceFlow<'s>>,
-        Stated<SourceFlow<'s>>,
-    >,
+    object: Kinds<'s, 'r, W, ForThreads<'r, W>>,
 }
 
 /// Makes what a line says. Refused for the plan of its start, then for what it is made with, and then with 4.
@@ -30,25 +26,7 @@ fn made<'s, 'r, W: Wait>(
     alloc: Global,
     making: Making<'s>,
 ) -> Result<Kinds<'s, 'r, W, ForThreads<'r, W>>, Refusal>
-    ensures { MakesWith (MakesForThreads
-        (λ it. record { subscriptions = subscribing_of it.subscriptions; emitter = it.emitter; emissions = it.emissions.items }))
-        (λ it. record {
-          subscriptions = subscribing_of it.subscriptions;
-          owner = it.sharing.flow;
-          waiting = it.sharing.outlet.waiting;
-          source = it.sharing.upstream.flow;
-          course = it.sharing.upstream.course;
-          strategy = it.sharing.strategy;
-        })
-        (λ it. record {
-          state = it.state;
-          seat = it.sharing.seat;
-          initial = it.sharing.initial;
-          source = it.sharing.upstream.flow;
-          course = it.sharing.upstream.course;
-          strategy = it.sharing.strategy;
-        })
-        (made_in making.entry) result }
+    ensures { MakesWith MakesForThreads (made_in making.entry) result }
 {
     match making {
         Making::Shared {
@@ -78,44 +56,24 @@ fn made<'s, 'r, W: Wait>(
 }
 
 impl<'s, 'r, W: Wait> ScriptObject<'s> for LaneObject<'s, 'r, W> {
-    ghost use Rattle.script_engines.specs.Subscribing.{subscribing_of};
     ghost use Rattle.script_objects.specs.Objects.{AsksObject, JoinsObject};
     ghost use Rattle.flow_script.specs.Makers.{MakesForThreads, MakesWith, made_as};
 
     type Maker = &'r W;
 
-    ghost makes = { λ made result. MakesWith (MakesForThreads
-        (λ it. record { subscriptions = subscribing_of it.subscriptions; emitter = it.emitter; emissions = it.emissions.items }))
-        (λ it. record {
-          subscriptions = subscribing_of it.subscriptions;
-          owner = it.sharing.flow;
-          waiting = it.sharing.outlet.waiting;
-          source = it.sharing.upstream.flow;
-          course = it.sharing.upstream.course;
-          strategy = it.sharing.strategy;
-        })
-        (λ it. record {
-          state = it.state;
-          seat = it.sharing.seat;
-          initial = it.sharing.initial;
-          source = it.sharing.upstream.flow;
-          course = it.sharing.upstream.course;
-          strategy = it.sharing.strategy;
-        })
-        made (made_as (λ it. it.object) result) };
+    ghost makes = { λ made result. MakesWith MakesForThreads made (made_as (λ it. it.object) result) };
 
     ghost asks = { λ part request old answer new. AsksObject
         ⟦<ForThreads<'r, W> as Shared>⟧.receipts ⟦<ForThreads<'r, W> as MutableShared>⟧.emissions
         ⟦<Watched as State>⟧.readings ⟦<Watched as MutableState>⟧.settings
-        ⟦<Share<'r, W, SourceFlow<'s>> as Shared>⟧.receipts ⟦<Share<'r, W, SourceFlow<'s>> as SharedSource>⟧.turns
-        ⟦<Stated<SourceFlow<'s>> as State>⟧.readings ⟦<Stated<SourceFlow<'s>> as SourcedState>⟧.turns
+        ⟦<Subscriptions<'r, W> as Shared>⟧.receipts ⟦<Share<'r, W, SourceFlow<'s>> as SharedSource>⟧.turns
+        ⟦<Stated<SourceFlow<'s>> as SharedSource>⟧.turns
         part request old.object answer new.object };
 
     ghost joins = { λ part joining old joined new. JoinsObject
         ⟦<ForThreads<'r, W> as Shared>⟧.receipts ⟦<ForThreads<'r, W> as MutableShared>⟧.emissions
-        ⟦<Watched as State>⟧.readings ⟦<Watched as MutableState>⟧.settings
-        ⟦<Share<'r, W, SourceFlow<'s>> as Shared>⟧.receipts ⟦<Share<'r, W, SourceFlow<'s>> as SharedSource>⟧.turns
-        ⟦<Stated<SourceFlow<'s>> as State>⟧.readings ⟦<Stated<SourceFlow<'s>> as SourcedState>⟧.turns
+        ⟦<Watched as State>⟧.readings
+        ⟦<Subscriptions<'r, W> as Shared>⟧.receipts
         part joining old.object joined new.object };
 
     fn make(

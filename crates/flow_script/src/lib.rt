@@ -5,13 +5,12 @@
 #![tactic(auto)]
 
 mod core_object;
-mod engine;
 mod lane_object;
 mod making;
 mod script;
 
 pub use core_object::CoreObject;
-pub use engine::Engine;
 pub use lane_object::LaneObject;
 pub use script::{answers_of, run_script};
 pub use script_run::{LineAnswer, ScriptFault, read_script};
+pub use script_words::Engine;

@@ -3,13 +3,14 @@
 ghost use Rattle.std.specs.Prelude.{◌≡◌};
 ghost use Rattle.script_commands.specs.Sources.{origin_in};
 ghost use Rattle.script_words.specs.Starts.{starting_in};
-ghost use Rattle.script_engines.specs.Subscribing.{subscribing_of};
 ghost use Rattle.flow_script.specs.Makers.{config_of, MakesShare, MakesStated};
 
 use flow_terms::{Policy, Refusal};
 use script_commands::{Source, SourceFlow};
-use script_engines::{Share, Stated, Watched};
-use script_objects::Object;
+use script_engines::Subscriptions;
+use script_objects::{Object, Sourced};
+use script_sharings::{Share, Stated};
+use script_states::Watched;
 use script_words::Start;
 use shared_core::Config;
 use std::alloc::Global;
@@ -22,6 +23,7 @@ const SEATS: u32 = 8;
 pub(crate) type Kinds<'s, 'r, W, F> = Object<
     F,
     Watched,
+    Subscriptions<'r, W>,
     Share<'r, W, SourceFlow<'s>>,
     Stated<SourceFlow<'s>>,
 >;
@@ -47,20 +49,16 @@ pub(crate) fn share<'s, 'r, W: Wait>(
     config: Config,
     start: Start<'s>,
     source: Source<'s>,
-) -> Result<Share<'r, W, SourceFlow<'s>>, Refusal>
-    ensures { MakesShare
-        (λ it. record {
-          subscriptions = subscribing_of it.subscriptions;
-          owner = it.sharing.flow;
-          waiting = it.sharing.outlet.waiting;
-          source = it.sharing.upstream.flow;
-          course = it.sharing.upstream.course;
-          strategy = it.sharing.strategy;
-        })
-        config (starting_in start.entry) (origin_in source.entry) result }
+) -> Result<Sourced<Subscriptions<'r, W>, Share<'r, W, SourceFlow<'s>>>, Refusal>
+    ensures { MakesShare config (starting_in start.entry) (origin_in source.entry) result }
 {
     let started = start.started()?;
-    Share::new(rt, alloc, config, started, SourceFlow::new(alloc, source))
+    let source = SourceFlow::new(alloc, source);
+    let (flow, source) = Share::new(rt, alloc, config, started, source)?;
+    Ok(Sourced {
+        shown: Subscriptions::new(rt, alloc, flow),
+        source,
+    })
 }
 
 /// A state with this value, which will be set from a source. Refused for the plan of its start, and then with 4.
@@ -69,18 +67,14 @@ pub(crate) fn stated<'s>(
     value: u64,
     start: Start<'s>,
     source: Source<'s>,
-) -> Result<Stated<SourceFlow<'s>>, Refusal>
-    ensures { MakesStated
-        (λ it. record {
-          state = it.state;
-          seat = it.sharing.seat;
-          initial = it.sharing.initial;
-          source = it.sharing.upstream.flow;
-          course = it.sharing.upstream.course;
-          strategy = it.sharing.strategy;
-        })
-        value (starting_in start.entry) (origin_in source.entry) result }
+) -> Result<Sourced<Watched, Stated<SourceFlow<'s>>>, Refusal>
+    ensures { MakesStated value (starting_in start.entry) (origin_in source.entry) result }
 {
     let started = start.started()?;
-    Stated::new(alloc, value, started, SourceFlow::new(alloc, source))
+    let (shown, seat) = Watched::stated(alloc, value)?;
+    let source = SourceFlow::new(alloc, source);
+    Ok(Sourced {
+        shown,
+        source: Stated::new(seat, value, started, source),
+    })
 }

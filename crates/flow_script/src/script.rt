@@ -6,10 +6,10 @@ ghost use Rattle.script_run.specs.Scripts.{Runs, Gives};
 ghost use Rattle.flow_script.specs.Running.{On};
 
 use crate::core_object::CoreObject;
-use crate::engine::Engine;
 use crate::lane_object::LaneObject;
 use script_commands::ScriptObject;
 use script_run::{LineAnswer, ScriptFault};
+use script_words::Engine;
 use std::alloc::AllocGlobal;
 use std::io::{Read, Write};
 use std::random::RandomSource;

@@ -4,7 +4,7 @@ use Rattle.flow_terms.specs.declared.policy.Policy.TheVariants.{Suspend}
 use Rattle.flow_terms.specs.declared.refusal.Refusal.{Refusal}
 use Rattle.flow_terms.specs.declared.refusal.Refusal.TheVariants.{Spent, EmitsFull}
 use Rattle.shared_flow.specs.Names.{FlowName}
-use Rattle.flow_sharing.specs.Destinations.{Steps}
+use Rattle.sharing_upstream.specs.Destinations.{Steps}
 
 -- the flow lets emissions wait
 abbrev pub Suspends : Option FlowName → Type 0

@@ -1,9 +1,2 @@
-pub mod Strategies
-pub mod Keeping
-pub mod Shown
-pub mod Polls
-pub mod Courses
-pub mod Destinations
 pub mod FlowDestinations
 pub mod StateDestinations
-pub mod Sharings

@@ -2,7 +2,7 @@
 use Rattle.std.specs.Prelude.{◌≡◌, false}
 use Rattle.state_flow.specs.declared.view.View.{View}
 use Rattle.state_flow.specs.Calls.{Counts, Sets}
-use Rattle.flow_sharing.specs.Destinations.{Steps}
+use Rattle.sharing_upstream.specs.Destinations.{Steps}
 
 -- Each value is set at once, and a reset sets this one
 abbrev pub setting : {T : Type 0} → T → Steps T (View T)

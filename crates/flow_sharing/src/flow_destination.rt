@@ -5,12 +5,11 @@ ghost use Rattle.std.specs.Borrow.{GName};
 ghost use Rattle.shared_flow.specs.Parties.{PartyName, named};
 ghost use Rattle.flow_sharing.specs.FlowDestinations.{emitting};
 
-use crate::destination::Destination;
-use crate::offer::Offer;
 use crate::outlet::Outlet;
 use cold_flow::Word;
 use futures::task::Context;
 use shared_flow::SharedFlow;
+use sharing_upstream::{Destination, Offer};
 use std::sync::Wait;
 
 /// A shared flow that is emitted into, for the time of one poll.

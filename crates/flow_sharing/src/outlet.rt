@@ -4,14 +4,14 @@ ghost use Rattle.std.specs.Prelude.{◌≡◌, ◌≢◌, ◌⊎◌, None, is_so
 ghost use Rattle.futures.specs.Task.{IsArmed, Keeps};
 ghost use Rattle.flow_terms.specs.declared.answers.Withdrawn.TheVariants as withdrawn;
 ghost use Rattle.shared_flow.specs.Parties.{IfLeft, IsSameEmitter};
-ghost use Rattle.flow_sharing.specs.Destinations.{Offered};
+ghost use Rattle.sharing_upstream.specs.Destinations.{Offered};
 ghost use Rattle.flow_sharing.specs.FlowDestinations.{emitting};
 
-use crate::offer::Offer;
 use cold_flow::Word;
 use futures::task::Context;
 use shared_core::{Begun, Withdrawn};
 use shared_flow::{Emitter, Receipt};
+use sharing_upstream::Offer;
 use std::sync::Wait;
 
 /// An emitter with the value that waits in it. It must be spent, by `close`.

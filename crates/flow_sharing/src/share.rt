@@ -2,8 +2,8 @@
 
 ghost use Rattle.std.specs.Prelude.{◌≡◌, [], None, IfOk, IsOkUnless};
 ghost use Rattle.shared_flow.specs.Parties.{named};
-ghost use Rattle.flow_sharing.specs.declared.course.Course.TheVariants.{Idle};
-ghost use Rattle.flow_sharing.specs.Shown.{Shows};
+ghost use Rattle.sharing_upstream.specs.declared.course.Course.TheVariants.{Idle};
+ghost use Rattle.sharing_upstream.specs.Shown.{Shows};
 
 use crate::sharing::{Sharing, leave};
 use cold_flow::{Flow, Refusal, Word};

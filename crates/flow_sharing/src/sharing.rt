@@ -5,24 +5,21 @@ ghost use Rattle.futures.specs.Task.{IsArmed, Keeps};
 ghost use Rattle.flow_terms.specs.declared.refusal.Refusal.TheVariants.{NoMemory};
 ghost use Rattle.flow_terms.specs.declared.answers.Withdrawn.TheVariants as withdrawn;
 ghost use Rattle.shared_flow.specs.Parties.{IfLeft, named};
-ghost use Rattle.flow_sharing.specs.declared.course.Course.TheVariants.{Idle};
-ghost use Rattle.flow_sharing.specs.Courses.{kept_cause, is_running};
-ghost use Rattle.flow_sharing.specs.Shown.{Shows};
-ghost use Rattle.flow_sharing.specs.Polls.{ShowsMore, Answers};
+ghost use Rattle.sharing_upstream.specs.declared.course.Course.TheVariants.{Idle};
+ghost use Rattle.sharing_upstream.specs.Courses.{kept_cause, is_running};
+ghost use Rattle.sharing_upstream.specs.Shown.{Shows};
+ghost use Rattle.sharing_upstream.specs.Polls.{ShowsMore, Answers};
 ghost use Rattle.flow_sharing.specs.FlowDestinations.{emitting};
-ghost use Rattle.flow_sharing.specs.Sharings.{ActsAt, IsRefusedAt};
+ghost use Rattle.sharing_upstream.specs.Sharings.{ActsAt, IsRefusedAt};
 
 use crate::flow_destination::FlowDestination;
 use crate::outlet::Outlet;
-use crate::polled::Polled;
-use crate::polling::poll_sharing;
-use crate::strategy::Strategy;
-use crate::upstream::Upstream;
 use cold_flow::{Cause, Flow, Refusal, Word};
 use flow_terms::Started;
 use futures::task::Context;
 use shared_core::Withdrawn;
 use shared_flow::{Emitter, Receipt, SharedFlow};
+use sharing_upstream::{Polled, Strategy, Upstream, poll_sharing};
 use std::sync::Wait;
 
 /// A cold flow that is being shared. It must be spent, by [`Sharing::close`].

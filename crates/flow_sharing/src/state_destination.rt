@@ -6,10 +6,9 @@ ghost use Rattle.atomic_table.specs.Seated.{TableId};
 ghost use Rattle.state_flow.specs.declared.view.View.{View};
 ghost use Rattle.flow_sharing.specs.StateDestinations.{setting};
 
-use crate::destination::Destination;
-use crate::offer::Offer;
 use cold_flow::Word;
 use futures::task::Context;
+use sharing_upstream::{Destination, Offer};
 use state_flow::StateSeat;
 use std::alloc::Allocator;
 

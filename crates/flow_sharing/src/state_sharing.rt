@@ -3,21 +3,18 @@ ghost use Rattle.std.specs.Prelude.{◌≡◌, [], None, IsTrue, IfOk, IfErr, On
 ghost use Rattle.futures.specs.Task.{IsArmed, Keeps};
 ghost use Rattle.flow_terms.specs.declared.refusal.Refusal.TheVariants.{NoMemory};
 ghost use Rattle.state_flow.specs.Calls.{Sets};
-ghost use Rattle.flow_sharing.specs.declared.course.Course.TheVariants.{Idle};
-ghost use Rattle.flow_sharing.specs.Shown.{Shows};
-ghost use Rattle.flow_sharing.specs.Courses.{kept_cause, is_running};
-ghost use Rattle.flow_sharing.specs.Polls.{ShowsMore, Answers};
+ghost use Rattle.sharing_upstream.specs.declared.course.Course.TheVariants.{Idle};
+ghost use Rattle.sharing_upstream.specs.Shown.{Shows};
+ghost use Rattle.sharing_upstream.specs.Courses.{kept_cause, is_running};
+ghost use Rattle.sharing_upstream.specs.Polls.{ShowsMore, Answers};
 ghost use Rattle.flow_sharing.specs.StateDestinations.{setting};
-ghost use Rattle.flow_sharing.specs.Sharings.{ActsAt, IsRefusedAt};
+ghost use Rattle.sharing_upstream.specs.Sharings.{ActsAt, IsRefusedAt};
 
-use crate::polled::Polled;
-use crate::polling::poll_sharing;
 use crate::state_destination::StateDestination;
-use crate::strategy::Strategy;
-use crate::upstream::Upstream;
 use cold_flow::{Cause, Flow, Refusal, Word};
 use flow_terms::Started;
 use futures::task::Context;
+use sharing_upstream::{Polled, Strategy, Upstream, poll_sharing};
 use state_flow::StateSeat;
 use std::alloc::{Allocator, Global};
 

@@ -1,18 +1,13 @@
 //! Why the program ends early.
 
-use clap::error::ErrorKind;
 use shared_core::Refusal;
 use std::alloc::{AllocError, AllocFailed};
 use std::io;
-use std::num::ParseIntError;
 use thiserror::Error;
 
 /// Why the program ends early.
 #[derive(Debug, Drop, Error)]
 pub enum Fault {
-    /// The command line has another word, or asks for help.
-    #[error("no such command line")]
-    Usage,
     /// The receipts of one emitter, or what one party received, didn't rise; or a value was dropped under a policy that
     /// drops none.
     #[error("a value was out of order")]
@@ -54,20 +49,5 @@ impl From<io::Error> for Fault {
 impl From<Refusal> for Fault {
     fn from(refusal: Refusal) -> Fault {
         Fault::Refused(refusal.number())
-    }
-}
-
-impl From<clap::Error> for Fault {
-    fn from(error: clap::Error) -> Fault {
-        match error.kind() {
-            ErrorKind::OutOfMemory => Fault::NoMemory,
-            _ => Fault::Usage,
-        }
-    }
-}
-
-impl From<ParseIntError> for Fault {
-    fn from(_error: ParseIntError) -> Fault {
-        Fault::Usage
     }
 }

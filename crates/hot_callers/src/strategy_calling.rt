@@ -2,7 +2,7 @@
 ghost use Rattle.std.specs.Prelude.{◌≡◌, Some};
 ghost use Rattle.flow_terms.specs.declared.command.Command.TheVariants.{Start, Stop, StopAndReset};
 
-use flow_sharing::{Command, Started, Strategy};
+use sharing_upstream::{Command, Started, Strategy};
 
 /// What a strategy commands that stops 100 milliseconds after the last subscription and resets 50 later: a subscription comes at 10, is
 /// gone at 1000, and the polls at 1100 and 1150 stop and reset.

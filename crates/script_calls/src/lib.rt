@@ -7,9 +7,9 @@
 
 mod mutable_shared;
 mod mutable_state;
+pub mod places;
 mod shared;
 mod shared_source;
-mod sourced_state;
 mod state;
 mod ticked;
 
@@ -17,6 +17,5 @@ pub use mutable_shared::MutableShared;
 pub use mutable_state::MutableState;
 pub use shared::Shared;
 pub use shared_source::SharedSource;
-pub use sourced_state::SourcedState;
 pub use state::State;
 pub use ticked::Ticked;

@@ -3,7 +3,6 @@
 use flow_terms::Refusal;
 
 /// What one poll of a sharing comes to.
-#[derive(Clone, Copy, Debug, PartialEq, Eq)]
 pub enum Ticked {
     /// The source is being collected.
     On,

@@ -1,2 +1,3 @@
-pub mod Watching
 pub mod Caching
+pub mod Found
+pub mod Parties

@@ -1,9 +1,7 @@
-pub mod Makings
 pub mod Preludes
 pub mod Places
 pub mod Beside
 pub mod Modelling
-pub mod Watching
 pub mod Subscribing
 pub mod Parties
-pub mod Ticks
+pub mod Seen

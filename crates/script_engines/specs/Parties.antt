@@ -1,5 +1,5 @@
 -- The calls of a script on a flow for threads, with all the parties that were made of it.
-use Rattle.std.specs.Prelude.{◌≡◌, ◌⊎◌, ℕ, Option, Some, None, Result, Ok, Err, List, [], ◌∷◌, ◌++◌, length, slice_get, slice_set}
+use Rattle.std.specs.Prelude.{◌≡◌, ◌⊎◌, ℕ, None, Result, Ok, Err, List, [], ◌∷◌, ◌++◌, length, slice_get, slice_set}
 use Rattle.flow_terms.specs.declared.refusal.Refusal.{Refusal}
 use Rattle.flow_terms.specs.declared.refusal.Refusal.TheVariants.{NoMemory}
 use Rattle.flow_terms.specs.declared.ids.Ticket.{Ticket}
@@ -74,8 +74,8 @@ Polled e emit.Gone f = (e.ticket ≡ None) × (f ≡ e)
 -- an emitter gave up its emission in flight, if it has one
 abbrev pub GaveUp : Emitting → Withdrawn ℕ → Emitting → Type 0
 GaveUp e (withdrawn.Left number) f = (receipt : ReceiptSeen) × (number ≡ receipt.number) × WasLeft e receipt f
-GaveUp e withdrawn.Removed f = (e.ticket ≡ None → ⊥) × WasGivenUp {N = ℕ} e withdrawn.Removed f
-GaveUp e withdrawn.Gone f = (e.ticket ≡ None → f ≡ e) × WasGivenUp {N = ℕ} e withdrawn.Gone f
+GaveUp e withdrawn.Removed f = (e.ticket ≡ None → ⊥) × WasGivenUp {N = ReceiptSeen} e withdrawn.Removed f
+GaveUp e withdrawn.Gone f = (e.ticket ≡ None → f ≡ e) × WasGivenUp {N = ReceiptSeen} e withdrawn.Gone f
 
 -- the parties, where this emitter stands at a place now
 abbrev pub with_emission : Parties → ℕ → Emitting → Parties

@@ -20,7 +20,7 @@ pub record Subscribing : Type 0 where
   pub flow : Owning
   pub places : List (Option (Subscribed ℕ))
 
-abbrev pub subscribing_of : Subscriptions → Subscribing
+abbrev pub subscribing_of : {W : Type 0} → Subscriptions W → Subscribing
 subscribing_of it = record { flow = it.flow; places = it.places.items }
 
 -- the owner made the round that let a subscription in, which has the next place and these values still to be given; or its round left

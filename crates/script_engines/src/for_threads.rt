@@ -2,14 +2,14 @@
 
 ghost use Rattle.std.specs.Prelude.{◌≡◌, None};
 ghost use Rattle.shared_core.specs.Kept.{making_refusal};
-ghost use Rattle.script_engines.specs.Makings.{MadeUnless};
-ghost use Rattle.script_engines.specs.Subscribing.{subscribing_of};
+ghost use Rattle.script_calls.specs.Makings.{MadeUnless};
 ghost use Rattle.script_engines.specs.Parties.{IsUntouched};
+ghost use Rattle.script_engines.specs.Subscribing.{subscribing_of};
 
-use crate::places::{emission_of, ticket_at};
 use crate::subscriptions::Subscriptions;
 use flow_terms::{Begun, Emit, Next, Refusal, SubId, Ticket, Tried, Withdrawn};
 use futures::task::{Context, Poll};
+use script_calls::places::{emission_of, ticket_at};
 use script_calls::{MutableShared, Shared};
 use shared_core::Config;
 use shared_flow::{Emitter, SharedFlow};
@@ -23,7 +23,7 @@ const EMITTER: u32 = 0;
 /// [`close`](Shared::close).
 pub struct ForThreads<'a, W> {
     rt: &'a W,
-    subscriptions: Subscriptions,
+    subscriptions: Subscriptions<'a, W>,
     // Who makes each try and begins each emission.
     emitter: Emitter<u64>,
     // Each emission that had to wait has an emitter of its own, which is idle where that is finished or given up.
@@ -44,7 +44,7 @@ impl<'a, W: Wait> ForThreads<'a, W> {
         let emitter = flow.emitter(rt, EMITTER)?;
         Ok(ForThreads {
             rt,
-            subscriptions: Subscriptions::new(alloc, flow),
+            subscriptions: Subscriptions::new(rt, alloc, flow),
             emitter,
             emissions: Vec::new(alloc),
         })
@@ -59,23 +59,23 @@ impl<'a, W: Wait> Shared for ForThreads<'a, W> {
     ghost receipts = { receipts_of (λ it. record { subscriptions = subscribing_of it.subscriptions; emitter = it.emitter; emissions = it.emissions.items }) receiving };
 
     fn subscribe(&mut self, prelude: &[u64]) -> Result<SubId, Refusal> {
-        self.subscriptions.subscribe(self.rt, prelude)
+        self.subscriptions.subscribe(prelude)
     }
 
     fn next(&mut self, id: SubId, cx: &mut Context<'_>) -> Next<u64> {
-        self.subscriptions.next(self.rt, id, cx)
+        self.subscriptions.next(id, cx)
     }
 
     fn cancel(&mut self, id: SubId) -> bool {
-        self.subscriptions.cancel(self.rt, id)
+        self.subscriptions.cancel(id)
     }
 
     fn cache(&mut self, alloc: Global) -> Result<Result<Vec<u64>, Refusal>, AllocError> {
-        Ok(self.subscriptions.cache(self.rt, alloc))
+        self.subscriptions.cache(alloc)
     }
 
     fn count(&mut self) -> u32 {
-        self.subscriptions.count(self.rt)
+        self.subscriptions.count()
     }
 
     fn close(self) {
@@ -90,7 +90,7 @@ impl<'a, W: Wait> Shared for ForThreads<'a, W> {
         }
         emissions.destroy_empty();
         let _idle = emitter.close(rt);
-        subscriptions.close(rt);
+        subscriptions.close();
     }
 }
 

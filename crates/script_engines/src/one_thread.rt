@@ -4,7 +4,7 @@ ghost use Rattle.std.specs.Prelude.{IfOk};
 ghost use Rattle.shared_core.specs.Flow.{cache, empty};
 ghost use Rattle.shared_core.specs.Kept.{making_refusal, parameters_of};
 ghost use Rattle.shared_core.specs.Shown.{Shows, Reads};
-ghost use Rattle.script_engines.specs.Makings.{MadeUnless};
+ghost use Rattle.script_calls.specs.Makings.{MadeUnless};
 
 use flow_terms::{Begun, Emit, Next, Refusal, SubId, Ticket, Tried, Withdrawn};
 use futures::task::Context;

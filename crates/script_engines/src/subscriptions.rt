@@ -1,29 +1,27 @@
 //! The subscriptions of a script to a flow for threads.
 
-ghost use Rattle.std.specs.Prelude.{◌≡◌, [], None, Ok, Err, IfOk};
-ghost use Rattle.script_calls.specs.Calls.{listed};
-ghost use Rattle.shared_core.specs.Kept.{making_refusal};
-ghost use Rattle.shared_flow.specs.Names.{IsMadeWith};
-ghost use Rattle.script_engines.specs.Subscribing.{subscribing_of, subscribing, LooksIn, EndsIn};
+ghost use Rattle.std.specs.Prelude.{◌≡◌, []};
+ghost use Rattle.script_engines.specs.Subscribing.{subscribing_of, LooksIn, EndsIn};
 
-use crate::places::{id_at, place_of};
 use flow_terms::{Next, Refusal, SubId};
 use futures::task::{Context, Poll};
+use script_calls::Shared;
+use script_calls::places::{id_at, place_of};
 use shared_core::Prelude;
 use shared_flow::{SharedFlow, Subscription};
-use std::alloc::Global;
+use std::alloc::{AllocError, Global};
 use std::sync::Wait;
 
-/// An owner of a flow for threads, with the subscriptions that a script made by it. It must be spent, by
-/// [`close`](Subscriptions::close).
-pub(crate) struct Subscriptions {
+/// An owner of a flow for threads, with the subscriptions that a script made by it. It must be spent, by [`close`](Shared::close).
+pub struct Subscriptions<'a, W> {
+    pub(crate) rt: &'a W,
     pub(crate) flow: SharedFlow<u64>,
     // Each keeps its place; a cancelled one is gone.
     places: Vec<Option<Subscription<u64>>>,
 }
 
 /// Lets an owner of a flow go. In one place, since the proof of all that goes with it is long.
-pub(crate) fn leave(_flow: SharedFlow<u64>) {}
+fn leave(_flow: SharedFlow<u64>) {}
 
 /// Asks what stands at a place for its next value.
 fn looked(place: &mut Option<Subscription<u64>>, rt: &impl Wait, cx: &mut Context<'_>) -> Next<u64>
@@ -51,68 +49,66 @@ fn ended(place: &mut Option<Subscription<u64>>, rt: &impl Wait) -> bool
     }
 }
 
-impl Subscriptions {
+impl<'a, W: Wait> Subscriptions<'a, W> {
     /// None yet, of this owner's flow.
-    pub(crate) fn new(alloc: Global, flow: SharedFlow<u64>) -> Subscriptions
+    pub fn new(rt: &'a W, alloc: Global, flow: SharedFlow<u64>) -> Subscriptions<'a, W>
         ensures { subscribing_of result ≡ record { flow = flow; places = [] } }
     {
         Subscriptions {
+            rt,
             flow,
             places: Vec::new(alloc),
         }
     }
+}
 
-    /// A new subscription, which is given these values first. Refused with 10, 4, 7 or 5.
-    pub(crate) fn subscribe(&mut self, rt: &impl Wait, values: &[u64]) -> Result<SubId, Refusal>
-        ensures { subscribing.Subscribes (subscribing_of self.old) values.now result (subscribing_of self.new) }
-    {
+impl<'a, W: Wait> Shared for Subscriptions<'a, W> {
+    ghost use Rattle.script_calls.specs.Views.{receipts_of};
+    ghost use Rattle.script_engines.specs.Subscribing.{subscribing_of, subscribing};
+
+    ghost receipts = { receipts_of subscribing_of subscribing };
+
+    fn subscribe(&mut self, values: &[u64]) -> Result<SubId, Refusal> {
         let prelude = Prelude::of(values)?;
         self.places.reserve(1)?;
-        let subscription = self.flow.subscribe_with(rt, prelude)?;
+        let subscription = self.flow.subscribe_with(self.rt, prelude)?;
         let place = self.places.len();
         self.places.push_reserved(Some(subscription));
         Ok(id_at(place))
     }
 
-    /// The next value of a subscription.
-    pub(crate) fn next(&mut self, rt: &impl Wait, id: SubId, cx: &mut Context<'_>) -> Next<u64>
-        ensures { subscribing.Nexts (subscribing_of self.old) id result (subscribing_of self.new) }
-    {
+    fn next(&mut self, id: SubId, cx: &mut Context<'_>) -> Next<u64> {
         let Some(place) = self.places.get_mut(place_of(id)) else {
             return Next::Closed;
         };
-        looked(place, rt, cx)
+        looked(place, self.rt, cx)
     }
 
-    /// Ends a subscription, and says whether it was live.
-    pub(crate) fn cancel(&mut self, rt: &impl Wait, id: SubId) -> bool
-        ensures { subscribing.Cancels (subscribing_of self.old) id result (subscribing_of self.new) }
-    {
+    fn cancel(&mut self, id: SubId) -> bool {
         let Some(place) = self.places.get_mut(place_of(id)) else {
             return false;
         };
-        ended(place, rt)
+        ended(place, self.rt)
     }
 
-    /// The values of the flow's replay cache, the oldest first, or a refusal with 4.
-    pub(crate) fn cache(&mut self, rt: &impl Wait, alloc: Global) -> Result<Vec<u64>, Refusal>
-        ensures { subscribing.Caches (subscribing_of self.old) (listed result) (subscribing_of self.new) }
-    {
+    fn cache(&mut self, alloc: Global) -> Result<Result<Vec<u64>, Refusal>, AllocError> {
         let mut values = Vec::new(alloc);
-        self.flow.replay_cache_into(rt, &mut values)?;
-        Ok(values)
+        match self.flow.replay_cache_into(self.rt, &mut values) {
+            Ok(()) => Ok(Ok(values)),
+            Err(refusal) => Ok(Err(refusal)),
+        }
     }
 
-    /// How many subscriptions of the flow are live.
-    pub(crate) fn count(&mut self, rt: &impl Wait) -> u32
-        ensures { subscribing.Counts (subscribing_of self.old) result (subscribing_of self.new) }
-    {
-        self.flow.subscription_count(rt)
+    fn count(&mut self) -> u32 {
+        self.flow.subscription_count(self.rt)
     }
 
-    /// Ends the subscriptions, and lets the owner go.
-    pub(crate) fn close(self, rt: &impl Wait) {
-        let Subscriptions { flow, mut places } = self;
+    fn close(self) {
+        let Subscriptions {
+            rt,
+            flow,
+            mut places,
+        } = self;
         while let Some(place) = places.pop() {
             if let Some(subscription) = place {
                 subscription.cancel(rt);

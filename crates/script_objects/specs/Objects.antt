@@ -13,11 +13,12 @@ use Rattle.script_commands.specs.Sources.{Origin}
 use Rattle.script_objects.specs.declared.buffer.ScriptBuffer.{ScriptBuffer}
 use Rattle.script_objects.specs.declared.object.Object.{Object}
 use Rattle.script_objects.specs.declared.object.Object.TheVariants as objects
+use Rattle.script_objects.specs.declared.sourced.Sourced.{Sourced}
 use Rattle.script_objects.specs.Buffered.{AsksBuffer, MadeUnless, ShowsBuffer}
 use Rattle.script_objects.specs.Buffers.{begun}
-use Rattle.script_objects.specs.Flows.{AsksFlow, JoinsFlow, JoinsShared}
+use Rattle.script_objects.specs.Flows.{AsksFlow, JoinsFlow}
 use Rattle.script_objects.specs.Replied.{Joined, NoAnswer}
-use Rattle.script_objects.specs.Sources.{AsksShare, AsksStated}
+use Rattle.script_objects.specs.Sources.{AsksShare, AsksStated, JoinsShare, JoinsStated}
 use Rattle.script_objects.specs.States.{AsksState, JoinsState}
 use Rattle.script_words.specs.Starts.{Starting}
 
@@ -32,13 +33,13 @@ as_object kind (Err refusal) = Err refusal
 abbrev pub Makes : {A O : Type 0} → (Result A Refusal → Type 0) → (A → O) → Result O Refusal → Type 0
 Makes {A} maker kind result = (reply : Result A Refusal) × maker reply × (result ≡ as_object kind reply)
 
-module _ {F S H T : Type 0}
+module _ {F S L H K : Type 0}
     (flows : ℕ → ℕ → Policy → Result F Refusal → Type 0)
     (states : ℕ → Result S Refusal → Type 0)
-    (shares : ℕ → ℕ → Policy → Starting → Origin → Result H Refusal → Type 0)
-    (stateds : ℕ → Starting → Origin → Result T Refusal → Type 0) where
+    (shares : ℕ → ℕ → Policy → Starting → Origin → Result (Sourced L H) Refusal → Type 0)
+    (stateds : ℕ → Starting → Origin → Result (Sourced S K) Refusal → Type 0) where
   -- WHAT A LINE MAKES: a maker is called with the line's numbers, once
-  abbrev pub MakesObject : Made → Result (Object F S H T) Refusal → Type 0
+  abbrev pub MakesObject : Made → Result (Object F S L H K) Refusal → Type 0
   MakesObject (commands.shared replay extra policy) result = Makes (flows replay extra policy) objects.Flow result
   MakesObject (commands.state value) result = Makes (states value) objects.State result
   MakesObject (commands.buffer capacity policy origin) result =
@@ -52,23 +53,23 @@ module _ {F S H T : Type 0}
 abbrev pub Keeps : {A O : Type 0} → (A → O) → (A → Type 0) → O → Type 0
 Keeps {A} kind holds new = (after : A) × holds after × (new ≡ kind after)
 
-module _ {F S H T : Type 0}
+module _ {F S L H K : Type 0}
     (receipts : Receipts F) (emissions : Emissions F)
     (readings : Readings S) (settings : Settings S)
-    (share_receipts : Receipts H) (share_turns : Turns H)
-    (stated_readings : Readings T) (stated_turns : Turns T) where
+    (share_receipts : Receipts L) (share_turns : Turns H) (stated_turns : Turns K) where
   -- WHAT AN OBJECT ANSWERS to a command to this part, and what that leaves of it
-  abbrev pub AsksObject : Part → Request → Object F S H T → Option Answer → Object F S H T → Type 0
+  abbrev pub AsksObject : Part → Request → Object F S L H K → Option Answer → Object F S L H K → Type 0
   AsksObject part request (objects.Flow flow) answer new = Keeps objects.Flow (λ after. AsksFlow receipts emissions part request flow answer after) new
   AsksObject part request (objects.State state) answer new = Keeps objects.State (λ after. AsksState readings settings part request state answer after) new
   AsksObject part request (objects.Share share) answer new = Keeps objects.Share (λ after. AsksShare share_receipts share_turns part request share answer after) new
-  AsksObject part request (objects.Stated state) answer new = Keeps objects.Stated (λ after. AsksStated stated_readings stated_turns part request state answer after) new
+  AsksObject part request (objects.Stated stated) answer new = Keeps objects.Stated (λ after. AsksStated readings stated_turns part request stated answer after) new
   AsksObject part request (objects.Buffer buffer) answer new = Keeps objects.Buffer (λ after. AsksBuffer part request buffer answer after) new
 
+module _ {F S L H K : Type 0} (receipts : Receipts F) (emissions : Emissions F) (readings : Readings S) (share_receipts : Receipts L) where
   -- WHO JOINS AN OBJECT at this part, and what that leaves of it
-  abbrev pub JoinsObject : Part → Joining → Object F S H T → Option Joined → Object F S H T → Type 0
+  abbrev pub JoinsObject : Part → Joining → Object F S L H K → Option Joined → Object F S L H K → Type 0
   JoinsObject part joining (objects.Flow flow) joined new = Keeps objects.Flow (λ after. JoinsFlow receipts emissions part joining flow joined after) new
   JoinsObject part joining (objects.State state) joined new = Keeps objects.State (λ after. JoinsState readings part joining state joined after) new
-  JoinsObject part joining (objects.Share share) joined new = Keeps objects.Share (λ after. JoinsShared share_receipts part joining share joined after) new
-  JoinsObject part joining (objects.Stated state) joined new = Keeps objects.Stated (λ after. JoinsState stated_readings part joining state joined after) new
+  JoinsObject part joining (objects.Share share) joined new = Keeps objects.Share (λ after. JoinsShare share_receipts part joining share joined after) new
+  JoinsObject part joining (objects.Stated stated) joined new = Keeps objects.Stated (λ after. JoinsStated readings part joining stated joined after) new
   JoinsObject part joining (objects.Buffer buffer) joined new = NoAnswer (objects.Buffer buffer) joined new

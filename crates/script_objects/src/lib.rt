@@ -7,9 +7,11 @@
 mod buffer;
 mod flows;
 mod object;
+mod sourced;
 mod sources;
 mod states;
 mod subscriptions;
 
 pub use buffer::ScriptBuffer;
 pub use object::Object;
+pub use sourced::Sourced;

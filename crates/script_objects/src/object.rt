@@ -6,29 +6,36 @@ ghost use Rattle.script_objects.specs.Objects.{AsksObject, JoinsObject};
 
 use crate::buffer::ScriptBuffer;
 use crate::flows::{ask_flow, join_flow};
+use crate::sourced::Sourced;
 use crate::sources::{ask_share, ask_stated};
 use crate::states::{ask_state, join_state};
 use crate::subscriptions::join_shared;
 use futures::task::Context;
-use script_calls::{MutableShared, MutableState, SharedSource, SourcedState};
+use script_calls::{MutableShared, MutableState, Shared, SharedSource};
 use script_commands::{Answer, Part, Party, Request};
 use std::alloc::{AllocError, Global};
 
 /// What a name of a script may stand for. It must be spent, by [`close`](Object::close).
-pub enum Object<F, S, H, T> {
+pub enum Object<F, S, L, H, K> {
     /// A shared flow.
     Flow(F),
     /// A state with its collectors.
     State(S),
     /// A shared flow that shares a source.
-    Share(H),
+    Share(Sourced<L, H>),
     /// A state that is set from a source.
-    Stated(T),
+    Stated(Sourced<S, K>),
     /// A buffer behind a source.
     Buffer(ScriptBuffer),
 }
 
-impl<F: MutableShared, S: MutableState, H: SharedSource, T: SourcedState> Object<F, S, H, T> {
+impl<F: MutableShared, S: MutableState, L: Shared, H: SharedSource, K: SharedSource> Object<
+    F,
+    S,
+    L,
+    H,
+    K,
+> {
     /// Answers a command to the part that a name is of it, or nothing where it is none for that part. Without memory for what the
     /// answer lists, there is no answer.
     pub fn ask(
@@ -38,14 +45,14 @@ impl<F: MutableShared, S: MutableState, H: SharedSource, T: SourcedState> Object
         request: Request,
         cx: &mut Context<'_>,
     ) -> Result<Option<Answer>, AllocError>
-        ensures { IfOk result (λ answer. AsksObject F.receipts F.emissions S.readings S.settings H.receipts H.turns T.readings T.turns
+        ensures { IfOk result (λ answer. AsksObject F.receipts F.emissions S.readings S.settings L.receipts H.turns K.turns
             part request self.old answer self.new) }
     {
         match self {
             Object::Flow(flow) => Ok(ask_flow(flow, alloc, part, request, cx)?),
             Object::State(state) => Ok(ask_state(state, part, request)),
             Object::Share(share) => Ok(ask_share(share, alloc, part, request, cx)?),
-            Object::Stated(state) => Ok(ask_stated(state, part, request, cx)),
+            Object::Stated(stated) => Ok(ask_stated(stated, part, request, cx)),
             Object::Buffer(buffer) => Ok(buffer.ask(part, request, cx)),
         }
     }
@@ -53,14 +60,14 @@ impl<F: MutableShared, S: MutableState, H: SharedSource, T: SourcedState> Object
     /// Lets a party join the part that a name is of it, and says what the party's name is, if anything was made; nothing where that
     /// part takes no such party.
     pub fn join(&mut self, part: Part, party: Party<'_>) -> Option<(Answer, Option<Part>)>
-        ensures { JoinsObject F.receipts F.emissions S.readings S.settings H.receipts H.turns T.readings T.turns
+        ensures { JoinsObject F.receipts F.emissions S.readings L.receipts
             part (joining_in party.entry) self.old result self.new }
     {
         match self {
             Object::Flow(flow) => join_flow(flow, part, party),
             Object::State(state) => join_state(state, part, party),
-            Object::Share(share) => join_shared(share, part, party),
-            Object::Stated(state) => join_state(state, part, party),
+            Object::Share(share) => join_shared(&mut share.shown, part, party),
+            Object::Stated(stated) => join_state(&mut stated.shown, part, party),
             Object::Buffer(_) => None,
         }
     }
@@ -70,8 +77,14 @@ impl<F: MutableShared, S: MutableState, H: SharedSource, T: SourcedState> Object
         match self {
             Object::Flow(flow) => flow.close(),
             Object::State(state) => state.close(),
-            Object::Share(share) => share.close(),
-            Object::Stated(state) => state.close(),
+            Object::Share(Sourced { shown, source }) => {
+                source.close();
+                shown.close();
+            }
+            Object::Stated(Sourced { shown, source }) => {
+                source.close();
+                shown.close();
+            }
             Object::Buffer(_) => {}
         }
     }

@@ -3,40 +3,41 @@
 ghost use Rattle.std.specs.Prelude.{IfOk};
 ghost use Rattle.script_objects.specs.Sources.{AsksShare, AsksStated};
 
+use crate::sourced::Sourced;
 use crate::states::ask_read;
 use crate::subscriptions::ask_shared;
 use futures::task::Context;
-use script_calls::{SharedSource, SourcedState};
+use script_calls::{Shared, SharedSource, State};
 use script_commands::{Answer, Part, Request};
 use std::alloc::{AllocError, Global};
 
 /// Answers a command to a part of a shared flow that shares a source, or nothing.
-pub(crate) fn ask_share<H: SharedSource>(
-    share: &mut H,
+pub(crate) fn ask_share<L: Shared, H: SharedSource>(
+    share: &mut Sourced<L, H>,
     alloc: Global,
     part: Part,
     request: Request,
     cx: &mut Context<'_>,
 ) -> Result<Option<Answer>, AllocError>
-    ensures { IfOk result (λ answer. AsksShare H.receipts H.turns part request share.old answer share.new) }
+    ensures { IfOk result (λ answer. AsksShare L.receipts H.turns part request share.old answer share.new) }
 {
     match (part, request) {
-        (Part::Whole, Request::Tick(now)) => Ok(Some(Answer::from(share.tick(now, cx)))),
-        _ => ask_shared(share, alloc, part, request, cx),
+        (Part::Whole, Request::Tick(now)) => Ok(Some(Answer::from(share.source.tick(now, cx)))),
+        _ => ask_shared(&mut share.shown, alloc, part, request, cx),
     }
 }
 
 /// Answers a command to a part of a state that is set from a source, or nothing: only the source sets it.
-pub(crate) fn ask_stated<S: SourcedState>(
-    state: &mut S,
+pub(crate) fn ask_stated<S: State, K: SharedSource>(
+    stated: &mut Sourced<S, K>,
     part: Part,
     request: Request,
     cx: &mut Context<'_>,
 ) -> Option<Answer>
-    ensures { AsksStated S.readings S.turns part request state.old result state.new }
+    ensures { AsksStated S.readings K.turns part request stated.old result stated.new }
 {
     match (part, request) {
-        (Part::Whole, Request::Tick(now)) => Some(Answer::from(state.tick(now, cx))),
-        _ => ask_read(state, part, request),
+        (Part::Whole, Request::Tick(now)) => Some(Answer::from(stated.source.tick(now, cx))),
+        _ => ask_read(&mut stated.shown, part, request),
     }
 }

@@ -6,3 +6,4 @@ pub mod Segments
 pub mod Plans
 pub mod Starts
 pub mod Numbers
+pub mod Engines

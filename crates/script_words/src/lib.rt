@@ -1,6 +1,8 @@
-//! The lines of a script and the words of a line, and the fields and the segments that words are read as.
+//! The lines of a script and the words of a line, and the fields and the segments that words are read as; the engine that a
+//! word names.
 #![tactic(auto)]
 
+mod engine;
 mod fields;
 mod lines;
 mod numbers;
@@ -8,6 +10,7 @@ mod segments;
 mod start;
 mod words;
 
+pub use engine::Engine;
 pub use fields::number_of;
 pub use lines::Lines;
 pub use numbers::Numbers;

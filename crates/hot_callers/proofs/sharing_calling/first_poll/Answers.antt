@@ -1,13 +1,13 @@
 use Rattle.std.proofs.Common.{◌≡◌, refl, [], ◌∷◌, true}
 use Rattle.std.proofs.lemmas.Result.{IfOk-weaker}
-use Rattle.flow_sharing.specs.declared.course.Course.{Course}
-use Rattle.flow_sharing.specs.declared.course.Course.TheVariants.{Idle}
-use Rattle.flow_sharing.specs.declared.polled.Polled.{Polled}
+use Rattle.sharing_upstream.specs.declared.course.Course.{Course}
+use Rattle.sharing_upstream.specs.declared.course.Course.TheVariants.{Idle}
+use Rattle.sharing_upstream.specs.declared.polled.Polled.{Polled}
 use Rattle.flow_terms.specs.declared.started.Started.{Started}
 use Rattle.flow_terms.specs.declared.started.Started.TheVariants.{Eagerly}
-use Rattle.flow_sharing.specs.Strategies.{Look}
-use Rattle.flow_sharing.specs.Polls.{answer}
-use Rattle.flow_sharing.specs.Courses.{kept_cause}
+use Rattle.sharing_upstream.specs.Strategies.{Look}
+use Rattle.sharing_upstream.specs.Polls.{answer}
+use Rattle.sharing_upstream.specs.Courses.{kept_cause}
 use Rattle.hot_callers.proofs.sharing_calling.first_poll.Goals as goal
 
 on_first : {U E : Type 0} (polled : Polled) (course : Course U E) (started : Started) (look : Look) → course ≡ Idle → started ≡ Eagerly

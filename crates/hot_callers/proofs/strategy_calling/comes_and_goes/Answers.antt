@@ -1,6 +1,6 @@
 use Rattle.std.proofs.Common.{[], ◌∷◌, ℕ, ap, ◌∙◌}
 use Rattle.flow_terms.specs.declared.started.Started.{Started}
-use Rattle.flow_sharing.specs.Strategies.{Look, History, command}
+use Rattle.sharing_upstream.specs.Strategies.{Look, History, command}
 use Rattle.hot_callers.proofs.strategy_calling.comes_and_goes.Goals as goal
 
 abbrev look : ℕ → ℕ → Look

@@ -1,6 +1,0 @@
-use Rattle.std.proofs.Common.{rules}
-use Rattle.flow_sharing.proofs.strategy.Strategy.new.Goals as goal
-
--- A wrong body makes this false: so answered, it is refused at once.
-pub returns-clause-shows : goal.returns-clause-shows
-returns-clause-shows c = search rules

@@ -1,0 +1,3 @@
+pub mod Asked
+pub mod Statuses
+pub mod Wishes

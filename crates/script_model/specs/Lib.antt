@@ -1,0 +1,5 @@
+pub mod Findings
+pub mod Things
+pub mod Worlds
+pub mod Answering
+pub mod Running

@@ -1,0 +1,67 @@
+//! A source that is shared into a flow.
+
+ghost use Rattle.std.specs.Prelude.{◌≡◌, [], None, IfOk};
+ghost use Rattle.sharing_upstream.specs.declared.course.Course.TheVariants.{Idle};
+ghost use Rattle.sharing_upstream.specs.Shown.{Shows};
+ghost use Rattle.shared_core.specs.Kept.{making_refusal};
+ghost use Rattle.shared_flow.specs.Names.{IsMadeWith};
+ghost use Rattle.shared_flow.specs.Owners.{at_rest};
+ghost use Rattle.shared_flow.specs.Parties.{named, newcomer_of};
+ghost use Rattle.script_calls.specs.Makings.{MadeUnless};
+
+use crate::ticks::ticked;
+use cold_flow::Flow;
+use flow_sharing::{Sharing, share_in};
+use flow_terms::{Refusal, Started};
+use futures::task::Context;
+use script_calls::{SharedSource, Ticked};
+use shared_core::Config;
+use shared_flow::SharedFlow;
+use std::alloc::Global;
+use std::sync::Wait;
+
+/// A source that is shared into a flow for threads, as a script calls it. It must be spent, by [`close`](SharedSource::close).
+pub struct Share<'a, W, S: Flow<Item = u64>> {
+    rt: &'a W,
+    sharing: Sharing<u64, S>,
+}
+
+impl<'a, W: Wait, S: Flow<Item = u64, Fault = u64>> Share<'a, W, S> {
+    /// A new flow, and what shares this source into it, which isn't collected yet. Refused as `SharedFlow::new`, with 1, 2 or 3, and
+    /// then with 4 at most.
+    pub fn new(
+        rt: &'a W,
+        alloc: Global,
+        config: Config,
+        started: Started,
+        source: S,
+    ) -> Result<(SharedFlow<u64>, Share<'a, W, S>), Refusal>
+        ensures made { MadeUnless (making_refusal config) result (λ made. IsMadeWith config made.0.party.flow × (made.0 ≡ at_rest (newcomer_of made.0.party))) }
+        ensures sharing { IfOk result (λ made. (named made.1.sharing.flow.party ≡ named made.0.party) × (made.1.sharing.outlet.waiting ≡ None)
+            × (made.1.sharing.strategy.started ≡ started) × (made.1.sharing.upstream ≡ record { flow = source; course = Idle })) }
+        ensures shows { IfOk result (λ made. Shows made.1.sharing.strategy []) }
+    {
+        let mut flow = SharedFlow::new(alloc, config)?;
+        let sharing = share_in(rt, &mut flow, source, started)?;
+        Ok((flow, Share { rt, sharing }))
+    }
+}
+
+impl<'a, W: Wait, S: Flow<Item = u64, Fault = u64>> SharedSource for Share<'a, W, S> {
+    ghost use Rattle.script_calls.specs.Views.{turns_of};
+    ghost use Rattle.script_sharings.specs.Ticks.{sharings_of, sharing};
+
+    ghost turns = { turns_of
+        sharings_of
+        (sharing (λ live. S.Running.may live.run) (λ live. S.Running.ended live.run) S.may) };
+
+    fn tick(&mut self, now: u64, cx: &mut Context<'_>) -> Ticked {
+        let polled = self.sharing.poll(self.rt, now, cx);
+        ticked(polled, self.sharing.fault())
+    }
+
+    fn close(self) {
+        let Share { rt, sharing } = self;
+        let _withdrawn = sharing.close(rt);
+    }
+}

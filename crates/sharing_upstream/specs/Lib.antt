@@ -1,0 +1,7 @@
+pub mod Strategies
+pub mod Keeping
+pub mod Shown
+pub mod Polls
+pub mod Courses
+pub mod Destinations
+pub mod Sharings
