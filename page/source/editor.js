@@ -1,0 +1,146 @@
+// The script: a plain text field, with the numbers of its lines beside it and marked lines behind it.
+
+class Editor {
+  /** Tells `onInput` a change, and `onPoint` the number of a line that the pointer or the caret is on. */
+  constructor(field, gutter, backdrop, onInput, onPoint) {
+    Object.assign(this, { field, gutter, backdrop, onInput, onPoint });
+    this.bad = new Set();
+    this.pointed = 0;
+    this.lineStarts = [0];
+    field.addEventListener("input", () => this.change());
+    field.addEventListener("scroll", () => this.draw());
+    field.addEventListener("keydown", (event) => this.pressKey(event));
+    for (const part of [field, gutter]) part.addEventListener("pointermove", (event) => hasMoved(event) && this.pointAt(event));
+    document.addEventListener("selectionchange", () => this.followCaret());
+    new ResizeObserver(() => this.draw()).observe(field);
+  }
+
+  get script() {
+    return this.field.value;
+  }
+
+  set script(script) {
+    this.field.value = script;
+    this.field.scrollTop = 0;
+    this.field.setSelectionRange(0, 0);
+    this.readLines();
+  }
+
+  readLines() {
+    this.lineStarts = [0];
+    const { value } = this.field;
+    for (let at = value.indexOf("\n"); at >= 0; at = value.indexOf("\n", at + 1)) this.lineStarts.push(at + 1);
+    this.draw();
+  }
+
+  change() {
+    this.readLines();
+    this.onInput();
+  }
+
+  /** The number of the line in which a character stands. */
+  lineOf(character) {
+    let low = 0;
+    let high = this.lineStarts.length;
+    while (high - low > 1) {
+      const middle = Math.floor((low + high) / 2);
+      if (this.lineStarts[middle] <= character) low = middle;
+      else high = middle;
+    }
+    return low + 1;
+  }
+
+  measure() {
+    const style = getComputedStyle(this.field);
+    return { lineHeight: parseFloat(style.lineHeight), padding: parseFloat(style.paddingTop) };
+  }
+
+  pointAt({ clientY }) {
+    const { lineHeight, padding } = this.measure();
+    const y = clientY - this.field.getBoundingClientRect().top - padding + this.field.scrollTop;
+    const line = Math.floor(y / lineHeight) + 1;
+    if (line >= 1 && line <= this.lineStarts.length) this.onPoint(line);
+  }
+
+  followCaret() {
+    if (document.activeElement === this.field) this.onPoint(this.lineOf(this.field.selectionStart));
+  }
+
+  /** Alt with an arrow moves the caret's line up or down: its command comes earlier or later. */
+  pressKey(event) {
+    if (!event.altKey || (event.key !== "ArrowUp" && event.key !== "ArrowDown")) return;
+    event.preventDefault();
+    const line = this.lineOf(this.field.selectionStart);
+    const upper = event.key === "ArrowUp" ? line - 1 : line;
+    if (upper < 1 || upper >= this.lineStarts.length) return;
+    this.swapLines(upper, line === upper);
+  }
+
+  /** Swaps a line and the next one, by an edit that can be undone, and follows the one that the caret was on. */
+  swapLines(upper, followsDown) {
+    const { value, selectionStart } = this.field;
+    const [from, middle] = [this.lineStarts[upper - 1], this.lineStarts[upper]];
+    const end = this.lineStarts[upper + 1] ?? value.length + 1;
+    const [first, second] = [value.slice(from, middle - 1), value.slice(middle, end - 1)];
+    const inLine = selectionStart - (followsDown ? from : middle);
+    this.field.setSelectionRange(from, end - 1);
+    document.execCommand("insertText", false, `${second}\n${first}`);
+    const caret = (followsDown ? from + second.length + 1 : from) + inLine;
+    this.field.setSelectionRange(caret, caret);
+  }
+
+  /** Puts the caret on a line. */
+  goTo(line) {
+    const start = this.lineStarts[line - 1];
+    this.field.focus({ preventScroll: true });
+    this.field.setSelectionRange(start, start);
+    this.reveal(line);
+    this.field.scrollIntoView({ block: "nearest" });
+  }
+
+  /** Scrolls the field, and nothing else, until a line is in sight. */
+  reveal(line) {
+    const { lineHeight, padding } = this.measure();
+    const top = padding + (line - 1) * lineHeight;
+    const { scrollTop, clientHeight } = this.field;
+    if (top < scrollTop) this.field.scrollTop = top - padding;
+    else if (top + lineHeight > scrollTop + clientHeight) this.field.scrollTop = top + lineHeight - clientHeight;
+  }
+
+  mark(line) {
+    if (line === this.pointed) return;
+    this.pointed = line;
+    if (line > 0 && document.activeElement !== this.field) this.reveal(line);
+    this.draw();
+  }
+
+  markBad(lines) {
+    this.bad = new Set(lines);
+    this.draw();
+  }
+
+  /** Draws the numbers and the bands of the lines that are in sight. */
+  draw() {
+    const { lineHeight, padding } = this.measure();
+    const { scrollTop, clientHeight } = this.field;
+    const first = Math.max(1, Math.floor((scrollTop - padding) / lineHeight) + 1);
+    const last = Math.min(this.lineStarts.length, Math.ceil((scrollTop + clientHeight - padding) / lineHeight));
+    const numbers = [];
+    const bands = [];
+    for (let line = first; line <= last; line++) {
+      const top = padding + (line - 1) * lineHeight - scrollTop;
+      const looks = [this.bad.has(line) ? "bad" : "", line === this.pointed ? "pointed" : ""].join(" ").trim();
+      numbers.push(this.strip(line, looks, top));
+      if (looks) bands.push(this.strip("", looks, top));
+    }
+    this.gutter.style.width = `${String(this.lineStarts.length).length + 3}ch`;
+    this.gutter.replaceChildren(...numbers);
+    this.backdrop.replaceChildren(...bands);
+  }
+
+  strip(text, looks, top) {
+    const strip = textElement("div", text, { class: looks });
+    strip.style.top = `${top}px`;
+    return strip;
+  }
+}

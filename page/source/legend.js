@@ -1,0 +1,36 @@
+// The legend: marks cut out of a picture that the program drew of source/legend.script, each with what it says.
+
+const SAMPLE_WIDTH = 72;
+
+/** The mark of a line on a row, with what stands under it. A row without a name is that of the numbers of lines. */
+function sampleOf(picture, { line, row }) {
+  const rowIndex = row === "" ? 0 : picture.names.findIndex((name) => name?.words === row);
+  const heads = picture.cells.filter((cell) => cell.row === 0);
+  const column = 1 + heads.findIndex(({ elements }) => elements.some(({ words }) => words === String(line)));
+  const cell = picture.cells.find((one) => one.column === column && one.row === rowIndex);
+  const middle = picture.columnsFrom + (column - 1) * picture.columnWidth + Math.floor(picture.columnWidth / 2);
+  const ways = picture.ways.map(({ markup }) => markup);
+  return { left: middle - SAMPLE_WIDTH / 2, top: rowIndex * ROW_HEIGHT, elements: [...ways, groupOf("mark", cell)] };
+}
+
+function sampleSvg(picture, entry) {
+  const { left, top, elements } = sampleOf(picture, entry);
+  const svg = makeSvg(picture, left, SAMPLE_WIDTH, elements);
+  svg.setAttribute("viewBox", `${left} ${top} ${SAMPLE_WIDTH} ${ROW_HEIGHT}`);
+  svg.setAttribute("height", ROW_HEIGHT);
+  for (const title of svg.querySelectorAll("title")) title.remove();
+  return svg;
+}
+
+/** Each sample stands in a shadow tree, for its style. It is a picture beside its words, and told by them. */
+function showLegend(list) {
+  const picture = readPicture(blockOfData("legend-picture"));
+  for (const entry of JSON.parse(blockOfData("legend-list"))) {
+    const item = document.createElement("li");
+    const sample = textElement("span", "", { class: "sample", "aria-hidden": "true" });
+    const style = textElement("style", blockOfData("picture-style"));
+    sample.attachShadow({ mode: "open" }).replaceChildren(sampleSvg(picture, entry), style);
+    item.append(sample, textElement("span", entry.says));
+    list.append(item);
+  }
+}

@@ -1,0 +1,117 @@
+// The programs, as the page sees them: a script and engines go in, and what the programs wrote comes out.
+
+/** A run that takes this long says so; one that is overtaken by another script after so long is broken off. */
+const LONG_RUN_MILLISECONDS = 1000;
+
+/** Modules with a memory, and with a table, of 64-bit addresses: the least that the programs need of a browser. */
+const NEEDED = [
+  Uint8Array.of(0, 97, 115, 109, 1, 0, 0, 0, 5, 3, 1, 4, 1),
+  Uint8Array.of(0, 97, 115, 109, 1, 0, 0, 0, 4, 4, 1, 112, 4, 1),
+];
+
+function browserCanRun() {
+  return typeof WebAssembly === "object" && NEEDED.every((module) => WebAssembly.validate(module));
+}
+
+/** The text of a block of data in this file. */
+function blockOfData(id) {
+  return document.getElementById(id).textContent.trim();
+}
+
+/** The bytes of a module that is kept in this file, compressed. */
+async function moduleBytes(id) {
+  const compressed = Uint8Array.from(atob(blockOfData(id)), (character) => character.charCodeAt(0));
+  const whole = new Blob([compressed]).stream().pipeThrough(new DecompressionStream("gzip"));
+  return new Uint8Array(await new Response(whole).arrayBuffer());
+}
+
+class Programs {
+  /** Tells `onTrouble` why the modules don't load, and `onLong` that a run takes long. */
+  constructor(onTrouble, onLong) {
+    this.onTrouble = onTrouble;
+    this.onLong = onLong;
+    this.modules = null;
+    this.worker = null;
+    this.failure = null;
+    this.number = 0;
+    this.begun = null;
+    this.waiting = null;
+    this.timer = 0;
+  }
+
+  async load() {
+    try {
+      this.modules = [
+        ["flow_marbles", await moduleBytes("module-flow-marbles")],
+        ["flow_runner", await moduleBytes("module-flow-runner")],
+      ];
+      this.start();
+    } catch (error) {
+      this.giveUp(error);
+    }
+  }
+
+  start() {
+    const source = new Blob([blockOfData("worker")], { type: "text/javascript" });
+    const address = URL.createObjectURL(source);
+    this.worker = new Worker(address);
+    this.worker.onmessage = ({ data }) => this.hear(data);
+    this.worker.onerror = (error) => this.giveUp(error.message);
+    this.worker.postMessage({ modules: this.modules });
+    if (this.waiting) this.begin();
+  }
+
+  hear(message) {
+    if (message.failed) this.giveUp(message.failed);
+    else if (this.begun && message.number === this.begun.number) this.end(message.results);
+  }
+
+  /** The programs don't load: so it is now, and for each script that comes. */
+  giveUp(error) {
+    clearTimeout(this.timer);
+    this.worker?.terminate();
+    this.worker = null;
+    this.begun = null;
+    this.failure = error;
+    this.onTrouble(error);
+  }
+
+  /** Runs a script, once the run under way has ended or has taken long. Only the latest script that waits is run. */
+  run(script, engines, onResults) {
+    if (this.failure) return this.onTrouble(this.failure);
+    this.number += 1;
+    this.waiting = { number: this.number, script, engines, onResults };
+    if (!this.worker) return;
+    if (!this.begun) this.begin();
+    else if (performance.now() - this.begun.at > LONG_RUN_MILLISECONDS) this.stop();
+  }
+
+  begin() {
+    const { number, script, engines } = this.waiting;
+    this.begun = { ...this.waiting, at: performance.now() };
+    this.waiting = null;
+    this.timer = setTimeout(() => this.isLong(), LONG_RUN_MILLISECONDS);
+    this.worker.postMessage({ number, script, engines });
+  }
+
+  isLong() {
+    if (this.waiting) this.stop();
+    else this.onLong();
+  }
+
+  end(results) {
+    const { onResults } = this.begun;
+    clearTimeout(this.timer);
+    this.begun = null;
+    if (this.waiting) this.begin();
+    else onResults(results);
+  }
+
+  /** Breaks the run off. A worker can't be asked to stop, so it is left and another one begins. */
+  stop() {
+    clearTimeout(this.timer);
+    this.worker.terminate();
+    this.begun = null;
+    this.start();
+  }
+}
