@@ -1,0 +1,59 @@
+//! Cold flows over sources that answer pending often.
+
+use crate::actions::{Adds, IsSeldom, Sum};
+use crate::fault::Fault;
+use crate::values::{fold_all, list_all};
+use cold_flow::{Step, Stepped, distinct, filter, map, range, scripted};
+use flow_merge::{combine, zip};
+use futures::task::Solo;
+use std::alloc::Global;
+use workload_inputs::{Digest, Random, Scale};
+
+/// How many steps a source has.
+const STEPS: u64 = 400_000;
+
+/// How many flows of each shape there are.
+const FLOWS: u64 = 5;
+
+/// A source of so many steps, every other one pending, that fails at its end where that is asked for.
+fn source(
+    alloc: Global,
+    random: &mut Random,
+    steps: u64,
+    fails: bool,
+) -> Result<Stepped<u64, u64>, Fault> {
+    let mut script = Vec::new(alloc);
+    for _ in 0..steps {
+        if random.is_one_of(1, 2) {
+            script.push(Step::Pending)?;
+        } else {
+            script.push(Step::Value(random.below(1000)))?;
+        }
+    }
+    if fails {
+        script.push(Step::Fail(random.next()))?;
+    }
+    Ok(scripted(script))
+}
+
+/// Runs each flow.
+pub(crate) fn run(
+    alloc: Global,
+    task: &Solo,
+    random: &mut Random,
+    digest: &mut Digest,
+    scale: Scale,
+) -> Result<(), Fault> {
+    let steps = scale.of(STEPS);
+    for _ in 0..FLOWS {
+        let plain = source(alloc, random, steps, true)?;
+        list_all(alloc, task, digest, distinct(map(plain, Adds(5))))?;
+        let left = source(alloc, random, steps, false)?;
+        let right = filter(range::<u64>(0, steps), IsSeldom);
+        fold_all(task, digest, zip(left, right, Sum))?;
+        let left = source(alloc, random, steps, false)?;
+        let right = source(alloc, random, steps, true)?;
+        fold_all(task, digest, combine(left, right, Sum))?;
+    }
+    Ok(())
+}

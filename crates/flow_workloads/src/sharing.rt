@@ -1,0 +1,146 @@
+//! A cold flow that is shared among visitors who come and go, poll by poll at rising moments.
+
+use crate::fault::Fault;
+use cold_flow::{Flow, Policy, Refusal, Step, Stepped, scripted};
+use flow_sharing::{Sharing, Started, share_in};
+use futures::task::{Context, Solo};
+use shared_core::Config;
+use shared_flow::{SharedFlow, Subscription, Taken};
+use std::alloc::{AllocGlobal, Global};
+use std::sync::Wait;
+use workload_inputs::{Digest, Random, Scale};
+
+/// How many visitors come.
+const VISITS: u64 = 6_000;
+
+/// How many polls a visitor stays for.
+const STAY: u64 = 12;
+
+/// What the flow is made with.
+const PLACES: Config = Config {
+    replay: 4,
+    extra: 60,
+    policy: Policy::DropOldest,
+    subscribers: 4,
+    emits: 1,
+    first: 0,
+};
+
+/// A source of so many values, now and then pending.
+fn source(alloc: Global, random: &mut Random, steps: u64) -> Result<Stepped<u64, u64>, Fault> {
+    let mut script = Vec::new(alloc);
+    for _ in 0..steps {
+        if random.is_one_of(1, 24) {
+            script.push(Step::Pending)?;
+        } else {
+            script.push(Step::Value(random.next()))?;
+        }
+    }
+    Ok(scripted(script))
+}
+
+/// What a subscription has received is taken in.
+fn take(subscription: &mut Subscription<u64>, digest: &mut Digest) {
+    for _ in 0..64 {
+        match subscription.try_next() {
+            Taken::Value(value) => digest.number(value),
+            Taken::Nothing => break,
+            Taken::Overtaken => {}
+        }
+    }
+}
+
+/// A visitor comes, receives for some polls, and goes. Some polls later the next may come.
+fn visit<F: Flow<Item = u64, Fault = u64>>(
+    rt: &impl Wait,
+    flow: &mut SharedFlow<u64>,
+    sharing: &mut Sharing<u64, F>,
+    cx: &mut Context<'_>,
+    (now, digest): (&mut u64, &mut Digest),
+) -> Result<(), Refusal> {
+    let mut subscription = flow.subscribe(rt)?;
+    let mut polled = Ok(());
+    for _ in 0..STAY {
+        *now = now.wrapping_add(7);
+        match sharing.poll(rt, *now, cx) {
+            Ok(poll) => digest.number(u64::from(poll.on)),
+            Err(refusal) => polled = Err(refusal),
+        }
+        take(&mut subscription, digest);
+    }
+    subscription.cancel(rt);
+    for _ in 0..3 {
+        *now = now.wrapping_add(9);
+        let poll = sharing.poll(rt, *now, cx)?;
+        digest.number(u64::from(poll.on));
+    }
+    polled
+}
+
+/// So many visits of one sharing.
+fn visits<F: Flow<Item = u64, Fault = u64>>(
+    rt: &impl Wait,
+    flow: &mut SharedFlow<u64>,
+    sharing: &mut Sharing<u64, F>,
+    cx: &mut Context<'_>,
+    (count, digest): (u64, &mut Digest),
+) -> Result<(), Refusal> {
+    let mut now = 0;
+    for _ in 0..count {
+        visit(rt, flow, sharing, cx, (&mut now, digest))?;
+    }
+    Ok(())
+}
+
+/// A source shared into a flow.
+fn shared<R>(
+    rt: &R,
+    task: &Solo,
+    random: &mut Random,
+    digest: &mut Digest,
+    started: Started,
+    count: u64,
+) -> Result<(), Fault>
+where
+    R: AllocGlobal + Wait,
+{
+    let upstream = source(rt.alloc(), random, 3000)?;
+    let mut flow = SharedFlow::new(rt.alloc(), PLACES)?;
+    let mut sharing = share_in(rt, &mut flow, upstream, started)?;
+    let mut cx = task.begin();
+    let visited = visits(rt, &mut flow, &mut sharing, &mut cx, (count, digest));
+    cx.cancel();
+    sharing.close(rt);
+    visited?;
+    Ok(())
+}
+
+/// Shares sources by each kind of start.
+pub(crate) fn run<R>(
+    rt: &R,
+    task: &Solo,
+    random: &mut Random,
+    digest: &mut Digest,
+    scale: Scale,
+) -> Result<(), Fault>
+where
+    R: AllocGlobal + Wait,
+{
+    let while_subscribed = Started::WhileSubscribed {
+        stop: 20,
+        expire: None,
+    };
+    let soon_expired = Started::WhileSubscribed {
+        stop: 10,
+        expire: Some(5),
+    };
+    for started in [
+        while_subscribed,
+        soon_expired,
+        Started::Eagerly,
+        Started::Lazily,
+    ] {
+        shared(rt, task, random, digest, started, scale.of(VISITS))?;
+    }
+    Ok(())
+}

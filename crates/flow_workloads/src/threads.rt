@@ -1,0 +1,65 @@
+//! Events, states and buffers between threads.
+
+use crate::fan_out::{Cast, Emitters};
+use crate::fault::Fault;
+use crate::{fan_out, halves, states};
+use std::alloc::AllocGlobal;
+use std::random::RandomSource;
+use std::sync::Wait;
+use std::thread::Threads;
+use workload_inputs::{Digest, Random, Scale};
+
+const CASTS: [Cast; 6] = [
+    Cast {
+        places: 64,
+        emitters: Emitters::One,
+        values: 600_000,
+        listeners: 1,
+    },
+    Cast {
+        places: 65_536,
+        emitters: Emitters::One,
+        values: 300_000,
+        listeners: 3,
+    },
+    Cast {
+        places: 64,
+        emitters: Emitters::One,
+        values: 150_000,
+        listeners: 3,
+    },
+    Cast {
+        places: 1024,
+        emitters: Emitters::Two,
+        values: 100_000,
+        listeners: 2,
+    },
+    Cast {
+        places: 4,
+        emitters: Emitters::One,
+        values: 60_000,
+        listeners: 2,
+    },
+    Cast {
+        places: 1,
+        emitters: Emitters::Two,
+        values: 20_000,
+        listeners: 1,
+    },
+];
+
+/// Runs each cast, and then states and buffers.
+pub(crate) fn run<R>(rt: &R, seed: u64, scale: Scale) -> Result<Digest, Fault>
+where
+    R: AllocGlobal + RandomSource + Threads + Wait + Sync,
+{
+    let mut random = Random::new(seed);
+    let mut digest = Digest::new();
+    for cast in CASTS {
+        let values = scale.of(cast.values);
+        fan_out::run(rt, Cast { values, ..cast }, &mut random, &mut digest)?;
+    }
+    states::run(rt, &mut random, &mut digest, scale)?;
+    halves::run(rt, &mut random, &mut digest, scale)?;
+    Ok(digest)
+}

@@ -1,0 +1,71 @@
+//! The values of cold flows, taken into a digest.
+
+use crate::actions::Mixes;
+use crate::fault::Fault;
+use cold_flow::{Cause, Finite, Flow, Folding, Run, fold, to_list};
+use futures::task::{Poll, Solo};
+use std::alloc::Global;
+use workload_inputs::Digest;
+
+/// Polls until the fold is ready, and gives what it came to.
+#[inline(never)]
+fn folded<U: Run<Item = u64, Fault = u64>>(
+    task: &Solo,
+    mut folding: Folding<U, u64, Mixes>,
+) -> Option<(u64, Cause<u64>)> {
+    let mut cx = task.begin();
+    let mut found = None;
+    for _ in 0..u64::MAX {
+        if let Poll::Ready(ended) = folding.poll(&mut cx) {
+            found = Some(ended);
+            break;
+        }
+    }
+    cx.cancel();
+    found
+}
+
+/// Takes in how a flow ended.
+fn ended(digest: &mut Digest, cause: Cause<u64>) -> Result<(), Fault> {
+    match cause {
+        Cause::Finished => digest.number(6),
+        Cause::Failed(fault) => digest.number(fault),
+        Cause::Cancelled | Cause::Refused(_) => return Err(Fault::Ended),
+    }
+    Ok(())
+}
+
+/// Starts a flow, folds its values, and takes in what that came to.
+pub(crate) fn fold_all<F>(task: &Solo, digest: &mut Digest, flow: F) -> Result<(), Fault>
+where
+    F: Flow<Item = u64, Fault = u64>,
+{
+    let folding = fold(flow.start()?, 0, Mixes);
+    let Some((value, cause)) = folded(task, folding) else {
+        return Err(Fault::Ended);
+    };
+    digest.number(value);
+    ended(digest, cause)
+}
+
+/// Starts a flow, lists its values, and takes them in.
+pub(crate) fn list_all<F>(
+    alloc: Global,
+    task: &Solo,
+    digest: &mut Digest,
+    flow: F,
+) -> Result<(), Fault>
+where
+    F: Flow<Item = u64, Fault = u64>,
+    F::Running: Finite,
+{
+    let run = flow.start()?;
+    let mut cx = task.begin();
+    let listed = to_list(alloc, run, &mut cx);
+    cx.cancel();
+    let list = listed?;
+    for value in &list.values {
+        digest.number(*value);
+    }
+    ended(digest, list.cause)
+}

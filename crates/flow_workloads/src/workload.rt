@@ -1,0 +1,77 @@
+//! The workloads, by their names.
+
+use crate::fault::Fault;
+use crate::{chains, events, threads};
+use std::alloc::AllocGlobal;
+use std::random::RandomSource;
+use std::sync::Wait;
+use std::thread::Threads;
+use workload_inputs::{Digest, Scale};
+
+/// A workload.
+#[derive(Clone, Copy)]
+pub(crate) enum Workload {
+    /// Events to many on one thread.
+    Events,
+    /// Events, states and buffers between threads.
+    Threads,
+    /// Cold flows through operators, and shared ones.
+    Chains,
+}
+
+/// A workload, and the number that its inputs are made from.
+#[derive(Clone, Copy)]
+pub(crate) struct Order {
+    pub(crate) workload: Workload,
+    pub(crate) seed: u64,
+}
+
+impl Workload {
+    /// Each of them.
+    pub(crate) const ALL: [Workload; 3] = [Workload::Events, Workload::Threads, Workload::Chains];
+
+    /// Its name.
+    pub(crate) fn name(self) -> &'static str {
+        match self {
+            Workload::Events => "events",
+            Workload::Threads => "threads",
+            Workload::Chains => "chains",
+        }
+    }
+
+    /// The workload of this name.
+    fn named(name: &str) -> Option<Workload> {
+        match name {
+            "events" => Some(Workload::Events),
+            "threads" => Some(Workload::Threads),
+            "chains" => Some(Workload::Chains),
+            _ => None,
+        }
+    }
+
+    /// Runs it on the inputs of this number, and gives the digest of all results.
+    pub(crate) fn run<R>(self, rt: &R, seed: u64, scale: Scale) -> Result<Digest, Fault>
+    where
+        R: AllocGlobal + RandomSource + Threads + Wait + Sync,
+    {
+        match self {
+            Workload::Events => events::run(rt.alloc(), seed, scale),
+            Workload::Threads => threads::run(rt, seed, scale),
+            Workload::Chains => chains::run(rt, seed, scale),
+        }
+    }
+}
+
+impl Order {
+    /// What these two words ask for.
+    pub(crate) fn of(name: &str, seed: &str) -> Option<Order> {
+        let workload = Workload::named(name)?;
+        match seed.parse::<u32>() {
+            Ok(seed) => Some(Order {
+                workload,
+                seed: u64::from(seed),
+            }),
+            Err(_) => None,
+        }
+    }
+}
