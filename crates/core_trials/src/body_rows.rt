@@ -3,13 +3,17 @@
 use crate::list_body::ListBody;
 use cold_flow::Policy;
 use shared_core::{Call, Config, Prelude, SharedState, SubId, Ticket};
-use std::alloc::Global;
+use std::alloc::{AllocGlobal, Global};
+use std::process::Abort;
 use std::test::Fail;
 
 /// How many lists of calls are made, and how many calls each has.
 const LISTS: u64 = 10_000;
 
 const CALLS: u64 = 200;
+
+/// How many lists are made on flows with many seats.
+const MANY_SEATED: u64 = 3_000;
 
 /// The numbers stay below this.
 const LIMIT: u64 = 1 << 62;
@@ -18,6 +22,8 @@ const LIMIT: u64 = 1 << 62;
 #[derive(Drop)]
 struct Random {
     state: u64,
+    /// How many subscriptions, and how many tickets, a flow has at most: 64 or fewer.
+    seats: u64,
 }
 
 impl Random {
@@ -48,15 +54,15 @@ impl Random {
             replay,
             extra: capacity.saturating_sub(replay),
             policy,
-            subscribers: (1 + self.below(4).min(3)) as u32,
-            emits: (1 + self.below(4).min(3)) as u32,
+            subscribers: (1 + self.below(self.seats).min(63)) as u32,
+            emits: (1 + self.below(self.seats).min(63)) as u32,
             first,
         }
     }
 
     /// A number of which `given` were given from `first` on: mostly one of the latest.
     fn number(&mut self, first: u64, given: u64) -> u64 {
-        first.saturating_add(given.saturating_sub(self.below(6)))
+        first.saturating_add(given.saturating_sub(self.below(self.seats.saturating_add(2))))
     }
 
     /// A subscription with a prelude of at most three values.
@@ -135,13 +141,29 @@ fn same_state(ring: &SharedState<u64>, lists: &ListBody) -> bool {
     true
 }
 
-#[test]
-fn ring_replies_as_the_lists_did(rt: HostRuntime) -> Result<(), Fail> {
+/// Makes so many lists of calls on flows with so many seats at most.
+fn replies_are_the_same<R: AllocGlobal + Abort>(
+    rt: &R,
+    seats: u64,
+    lists: u64,
+) -> Result<(), Fail> {
     let mut random = Random {
         state: 0x9E37_79B9_7F4A_7C15,
+        seats,
     };
-    for list in 0..LISTS {
+    for list in 0..lists {
         assert!(rt; agree(rt.alloc(), &mut random)?, "list {list}");
     }
     Ok(())
+}
+
+#[test]
+fn ring_replies_as_the_lists_did(rt: HostRuntime) -> Result<(), Fail> {
+    replies_are_the_same(&rt, 4, LISTS)
+}
+
+// With so many seats, subscriptions and tickets are looked for among many, with gaps between their numbers.
+#[test]
+fn ring_replies_as_the_lists_did_among_many(rt: HostRuntime) -> Result<(), Fail> {
+    replies_are_the_same(&rt, 64, MANY_SEATED)
 }

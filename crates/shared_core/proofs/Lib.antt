@@ -31,6 +31,7 @@ pub mod Bodies
 pub mod Steps
 pub mod Sound
 pub mod Numbered
+pub mod Rising
 pub mod Rests
 pub mod Settling
 pub mod Handed

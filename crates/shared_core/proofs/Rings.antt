@@ -11,6 +11,8 @@ use Rattle.shared_core.specs.Places.{IsWithin, shown_place}
 use Rattle.shared_core.specs.Ringed.{Ringed, with_value, without_oldest, Receives}
 use Rattle.shared_core.specs.Shown.{Seen}
 use Rattle.shared_core.specs.Accepting.{with_accepted, without_oldest_of}
+use Rattle.shared_core.specs.Rising.{Rises}
+use Rattle.shared_core.proofs.Rising.{rises-map}
 use Rattle.shared_core.proofs.Entries.{list_any-map, set-same, none_first}
 use Rattle.shared_core.proofs.Latest.{kept-latest, first-kept}
 use Rattle.shared_core.proofs.Standing.{IsBelow, shown-accepted, shown-received}
@@ -52,6 +54,14 @@ module _ {T : Type 0} (next : ℕ) (values : List T) (places : List Place) (live
   pub none_shown : (r : Option ℕ) (n : ℕ) → IfNone r (list_any (λ p. eqb p.number n) places ≡ false) → IfNone r (list_any (λ e. eqb e.0 n) live ≡ false)
   none_shown None n none = ap (list_any (λ e. eqb e.0 n)) is ∙ list_any-map (λ e. eqb e.0 n) (shown_place next values) places ∙ none
   none_shown (Some i) n none = none
+
+  -- the same of a search, which asks that the numbers rise
+  pub search_shown : (r : Option ℕ) (n : ℕ) → IfNone r (Rises (λ (p : Place). p.number) places → list_any (λ p. eqb p.number n) places ≡ false)
+      → IfNone r (Rises (λ (e : ℕ × List T). e.0) live → list_any (λ e. eqb e.0 n) live ≡ false)
+  search_shown None n none = λ rises.
+      none_shown None n
+      (none (rises-map (shown_place next values) (λ (e : ℕ × List T). e.0) places (subst (Rises (λ (e : ℕ × List T). e.0)) is rises)))
+  search_shown (Some i) n none = none
 
   -- as many places as entries
   pub inside_places : (at n : ℕ) → at < length live → n ≡ length places → at < n

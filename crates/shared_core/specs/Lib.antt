@@ -5,6 +5,7 @@ pub mod Queues
 pub mod Ringed
 pub mod Preludes
 pub mod Places
+pub mod Rising
 pub mod Kept
 pub mod Story
 pub mod Accepting

@@ -1,8 +1,9 @@
 //! The places of live subscriptions.
 
-ghost use Rattle.std.specs.Prelude.{◌≡◌, ◌<◌, ◌^◌, ◌==◌, nat_lt, false, vec_capacity, map, IfSome, IfNone, slice_get};
+ghost use Rattle.std.specs.Prelude.{◌≡◌, ◌+◌, ◌<◌, ◌≤◌, ◌^◌, ◌==◌, nat_lt, false, length, vec_capacity, map, IsTrue, IfSome, IfNone, slice_get};
 ghost use Rattle.std.specs.List.{list_any, list_all};
 ghost use Rattle.shared_core.specs.Places.{moved_past};
+ghost use Rattle.shared_core.specs.Rising.{Rises, StandsWithin};
 
 /// A live subscription: its number, and where it stands.
 #[derive(Clone, Copy)]
@@ -39,12 +40,65 @@ fn place_without_gaps(places: &[Place], number: u64) -> Option<usize>
     None
 }
 
-/// Where the subscription with this number has its place.
-pub fn place_of(places: &[Place], number: u64) -> Option<usize>
+/// Where the subscription with this number has its place, among so many places from `from` on: a binary search, since places
+/// stand by rising numbers.
+fn place_among(places: &[Place], number: u64, from: usize, count: usize) -> Option<usize>
+    requires { from + count ≤ length places.now }
+    ensures found { IfSome result (λ i. (p : _) × (slice_get places.now i ≡ Some p) × (p.number ≡ number)) }
+    ensures none { IfNone result (Rises (λ p. p.number) places.now → StandsWithin (λ p. p.number) number places.now from (from + count)
+        → list_any (λ p. p.number == number) places.now ≡ false) }
+{
+    let mut base = from;
+    let mut size = count;
+    while size > 1 {
+        let half = size / 2;
+        let middle = base + half;
+        if places[middle].number <= number {
+            base = middle;
+        }
+        size -= half;
+    }
+    if size > 0 && places[base].number == number {
+        return Some(base);
+    }
+    None
+}
+
+/// Whether the subscription with this number has its place at this index.
+fn is_place(places: &[Place], number: u64, at: usize) -> bool
+    ensures { IsTrue result → (p : _) × (slice_get places.now at ≡ Some p) × (p.number ≡ number) }
+{
+    let Some(place) = places.get(at) else {
+        return false;
+    };
+    place.number == number
+}
+
+/// Where the subscription with this number has its place. Where there are gaps, it is often the one that received last, at
+/// `recent`, or the one after that.
+pub fn find_place(places: &[Place], number: u64, recent: usize) -> Option<usize>
+    ensures found { IfSome result (λ i. (p : _) × (slice_get places.now i ≡ Some p) × (p.number ≡ number)) }
+    ensures none { IfNone result (Rises (λ p. p.number) places.now → list_any (λ p. p.number == number) places.now ≡ false) }
+{
+    if let Some(at) = place_without_gaps(places, number) {
+        return Some(at);
+    }
+    if is_place(places, number, recent) {
+        return Some(recent);
+    }
+    let after = recent.wrapping_add(1);
+    if is_place(places, number, after) {
+        return Some(after);
+    }
+    place_among(places, number, 0, places.len())
+}
+
+/// Where the subscription with this number has its place, looked for at each place where a search by its number finds none.
+pub fn place_of(places: &[Place], number: u64, recent: usize) -> Option<usize>
     ensures found { IfSome result (λ i. (p : _) × (slice_get places.now i ≡ Some p) × (p.number ≡ number)) }
     ensures none { IfNone result (list_any (λ p. p.number == number) places.now ≡ false) }
 {
-    if let Some(at) = place_without_gaps(places, number) {
+    if let Some(at) = find_place(places, number, recent) {
         return Some(at);
     }
     for (i, place) in places.iter().enumerate() {

@@ -22,10 +22,11 @@ ghost use Rattle.std.specs.Prelude.{◌≡◌, ◌==◌, ◌+◌, ◌<◌, ◌�
 ghost use Rattle.std.specs.List.{list_all, list_any, remove};
 ghost use Rattle.shared_core.specs.Flow.{number_limit, capacity};
 ghost use Rattle.shared_core.specs.Kept.{parameters_of};
+ghost use Rattle.shared_core.specs.Rising.{Rises};
 ghost use Rattle.shared_core.specs.Ringed.{empty_ring, has_space, with_value, without_oldest, Receives};
 
 use crate::config::Config;
-use crate::place::{Place, each_past, move_past, place_of};
+use crate::place::{Place, each_past, find_place, move_past, place_of};
 use circular_buffer::HeapCircularBuffer;
 use std::alloc::{AllocError, Global};
 use std::marker::Model;
@@ -43,6 +44,8 @@ pub struct Ring<T: Copy> {
     replay: usize,
     /// The places of live subscriptions, by rising numbers.
     places: Vec<Place>,
+    /// Where the place stood that was asked for a value last.
+    recent: usize,
     /// How many subscriptions may be live.
     subscribers: usize,
 }
@@ -85,6 +88,7 @@ impl<T: Copy> Ring<T> {
             cached: 0,
             replay: config.replay as usize,
             places,
+            recent: 0,
             subscribers,
         })
     }
@@ -150,12 +154,20 @@ impl<T: Copy> Ring<T> {
         move_past(&mut self.places, self.next_number - limit);
     }
 
+    /// Where the live subscription with this number stands in their list, by whose order it is looked for.
+    pub fn find(&self, number: u64) -> Option<usize>
+        ensures found { IfSome result (λ i. (e : _) × (slice_get self.now.live i ≡ Some e) × (e.0 ≡ number)) }
+        ensures none { IfNone result (Rises (λ e. e.0) self.now.live → list_any (λ e. e.0 == number) self.now.live ≡ false) }
+    {
+        find_place(&self.places, number, self.recent)
+    }
+
     /// Where the live subscription with this number stands in their list.
     pub fn place_of(&self, number: u64) -> Option<usize>
         ensures found { IfSome result (λ i. (e : _) × (slice_get self.now.live i ≡ Some e) × (e.0 ≡ number)) }
         ensures none { IfNone result (list_any (λ e. e.0 == number) self.now.live ≡ false) }
     {
-        place_of(&self.places, number)
+        place_of(&self.places, number, self.recent)
     }
 
     /// The live subscription at this index receives its oldest pending value, where it has one.
@@ -163,6 +175,7 @@ impl<T: Copy> Ring<T> {
         requires { at < length self.old.live }
         ensures { Receives self.old at result self.new }
     {
+        self.recent = at;
         let place = self.places[at];
         let pending = (self.next_number - place.position) as usize;
         let value = *self.values.get(self.values.len() - pending)?;

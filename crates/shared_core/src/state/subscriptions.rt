@@ -57,7 +57,7 @@ impl<T: Copy> SharedState<T> {
     fn next_accepted(&mut self, id: SubId) -> Next<T>
         ensures { IsWithout id.0 self.old.rests → Follows (calls.next_value id.0) self.old result self.new }
     {
-        let Some(at) = self.ring.place_of(id.0) else {
+        let Some(at) = self.ring.find(id.0) else {
             return Next::Closed;
         };
         let Some(value) = self.ring.receive(at) else {
@@ -73,7 +73,7 @@ impl<T: Copy> SharedState<T> {
     pub fn cancel(&mut self, id: SubId) -> bool
         ensures { Follows (calls.cancel id.0) self.old result self.new }
     {
-        let Some(at) = self.ring.place_of(id.0) else {
+        let Some(at) = self.ring.find(id.0) else {
             return false;
         };
         self.ring.close(at);

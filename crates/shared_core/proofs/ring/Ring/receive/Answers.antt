@@ -1,4 +1,4 @@
-use Rattle.std.proofs.Common.{◌+◌, length, map, set, Some, refl, ap, sym, ◌∙◌, subst, arith}
+use Rattle.std.proofs.Common.{◌+◌, length, map, set, Some, None, refl, ap, sym, ◌∙◌, subst, arith}
 use Rattle.std.proofs.lemmas.List.{length-set}
 use Rattle.std.proofs.lemmas.List.Elements.{All-set}
 use Rattle.std.specs.Option.{option_copied}
@@ -13,11 +13,14 @@ returns-in_err-value g c =
     let ring = c.self.inside in
     let live = ap (λ (r : Ringed _). r.live) (sym c.self.view_is) in
     rw c.from_residual.ensures
-    (receives_none ring.next_number ring.values.items ring.places.items c.args.self.now.live live c.args.at c.index-place.result.now c.requires c.index-place.ensures c.len.result c.len.ensures.len c.self.invariant.within
-    c.args.self.now refl (sym c.get.ensures ∙ ap option_copied c.in_err-value.was))
+    (subst (Receives c.args.self.now c.args.at None) (sym c.self.view_is) (receives_none ring.next_number ring.values.items ring.places.items c.args.self.now.live live c.args.at c.index-place.result.now c.requires c.index-place.ensures c.len.result c.len.ensures.len c.self.invariant.within
+    c.args.self.now refl (sym c.get.ensures ∙ ap option_copied c.in_err-value.was)))
 
 pub invariant_of-self : goal.invariant_of-self
-invariant_of-self g c =
+invariant_of-self g c = c.self.invariant
+
+pub invariant_of-self-2 : goal.invariant_of-self-2
+invariant_of-self-2 g c =
     let kept = c.self.invariant in
     let ring = c.self.inside in
     let place = c.index-place.result.now in

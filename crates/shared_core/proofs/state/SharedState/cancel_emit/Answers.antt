@@ -8,6 +8,7 @@ use Rattle.flow_terms.specs.declared.answers.Withdrawn.TheVariants as withdrawn
 use Rattle.shared_core.specs.Calls.{cancel_emit}
 use Rattle.shared_core.specs.Queues.{Queued}
 use Rattle.shared_core.specs.Shown.{Seen, Follows}
+use Rattle.shared_core.proofs.Rising.{missing_accepted, missing_waiting}
 use Rattle.shared_core.proofs.Ticketing.{shown_out, still_indexes, holds_there, held_nowhere, held_accepted, held_waiting, without_accepted, without_waiting, withdraw_missing, withdraw_stands, withdraw_waiting}
 use Rattle.shared_core.proofs.state.SharedState.cancel_emit.Goals as goal
 
@@ -48,9 +49,15 @@ pub remove-waiting-requires : goal.remove-waiting-requires
 remove-waiting-requires g c = let found = c.in-Some-out_at.ensures.found in slice_get_within c.self.inside.waiting.values c.in-Some-out_at.at found.0 found.1
 
 pub returns-in-None : goal.returns-in-None
-returns-in-None g c =
-    withdraw_missing c.args.self.now c.args.ticket.0
-    (held_nowhere c.args.self.now c.self.inside.accepted.values c.self.inside.waiting.values (ap (λ (seen : Seen _). seen.out) (sym c.self.view_is)) c.args.ticket.0 c.in_default.ensures.none c.in-None.ensures.none)
+returns-in-None g c M shows =
+    let now = c.args.self.now in
+    let n = c.args.ticket.0 in
+    let us = c.self.inside.accepted.values in
+    let ws = c.self.inside.waiting.values in
+    let out = ap (λ (seen : Seen _). seen.out) (sym c.self.view_is) in
+    withdraw_missing now n
+    (held_nowhere now us ws out n (missing_accepted now M shows n us ws out c.in_default.ensures.none) (missing_waiting now M shows n us ws out c.in-None.ensures.none))
+    M shows
 
 pub returns-in-Some-out_at : goal.returns-in-Some-out_at
 returns-in-Some-out_at g c =

@@ -3,14 +3,17 @@ use Rattle.std.proofs.lemmas.Option.{slice_get_within}
 use Rattle.shared_core.specs.declared.tickets.OutTicket.{OutTicket}
 use Rattle.shared_core.specs.Shown.{Seen}
 use Rattle.shared_core.proofs.Ticketing.{holds_there, held_accepted}
+use Rattle.shared_core.proofs.Rising.{missing_accepted}
 use Rattle.shared_core.proofs.Asking.{done_where, done_nowhere}
 use Rattle.shared_core.proofs.state.SharedState.is_done.Goals as goal
 
 pub returns-in-None : goal.returns-in-None
-returns-in-None g c =
+returns-in-None g c M shows =
+    let now = c.args.self.now in
     let us = c.self.inside.accepted.values in
     let ws = c.self.inside.waiting.values in
-    done_nowhere c.args.self.now c.args.ticket.0 us ws (ap (λ (seen : Seen _). seen.out) (sym c.self.view_is)) c.in-None.ensures.none
+    let out = ap (λ (seen : Seen _). seen.out) (sym c.self.view_is) in
+    done_nowhere now c.args.ticket.0 us ws out (missing_accepted now M shows c.args.ticket.0 us ws out c.in-None.ensures.none) M shows
 
 pub returns-in-Some : goal.returns-in-Some
 returns-in-Some g c =

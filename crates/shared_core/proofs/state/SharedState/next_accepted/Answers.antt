@@ -8,12 +8,14 @@ use Rattle.shared_core.specs.Ringed.{Ringed}
 use Rattle.shared_core.specs.Shown.{Seen, Follows}
 use Rattle.shared_core.proofs.Bodies.{next_follows-closed, next_follows-none, next_follows-some}
 use Rattle.shared_core.proofs.Rings.{live_step}
+use Rattle.shared_core.proofs.Rising.{missing_live}
 use Rattle.shared_core.proofs.state.SharedState.next_accepted.Goals as goal
 
 pub returns-in_default : goal.returns-in_default
-returns-in_default g c missing =
-    next_follows-closed c.args.self.now c.args.id.0
-    (ap (λ (seen : Seen _). list_any (λ e. eqb e.0 c.args.id.0) seen.live) (sym c.self.view_is) ∙ c.in_default.ensures.none)
+returns-in_default g c missing M shows =
+    let now = c.args.self.now in
+    let live = ap (λ (seen : Seen _). seen.live) (sym c.self.view_is) in
+    next_follows-closed now c.args.id.0 (missing_live now M shows c.args.id.0 c.self.inside.ring.live live c.in_default.ensures.none) M shows
 
 pub receive-requires : goal.receive-requires
 receive-requires g c = let found = c.in-Some.ensures.found in slice_get_within c.self.inside.ring.live c.in-Some.at found.0 found.1

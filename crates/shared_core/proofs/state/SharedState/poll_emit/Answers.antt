@@ -9,22 +9,26 @@ use Rattle.flow_terms.specs.declared.answers.Emit.TheVariants as emit
 use Rattle.shared_core.specs.Calls.{poll_emit}
 use Rattle.shared_core.specs.Queues.{Queued}
 use Rattle.shared_core.specs.Shown.{Seen, Follows}
+use Rattle.shared_core.proofs.Rising.{missing_accepted, missing_waiting}
 use Rattle.shared_core.proofs.Ticketing.{shown_out, still_indexes, holds_there, held_nowhere, held_accepted, held_waiting, without_accepted, poll_missing, poll_waiting, poll_unfinished, poll_done}
 use Rattle.shared_core.proofs.state.SharedState.poll_emit.Goals as goal
 use Rattle.shared_core.proofs.state.SharedState.poll_emit.Goals.{in-None, in-Some-out_at}
 
 pub returns-in_default : goal.returns-in_default
-returns-in_default g c =
+returns-in_default g c M shows =
     let now = c.args.self.now in
     let us = c.self.inside.accepted.values in
     let ws = c.self.inside.waiting.values in
     let out = ap (λ (seen : Seen _). seen.out) (sym c.self.view_is) in
     elim c.match-out_at-2.branch [
       | in-None w ↦ subst (λ answer. Follows (poll_emit c.args.ticket.0) now answer now) (sym w.result-is)
-          (poll_missing now c.args.ticket.0 (held_nowhere now us ws out c.args.ticket.0 c.in_default.ensures.none w.in-None.ensures.none))
+          (poll_missing now c.args.ticket.0
+          (held_nowhere now us ws out c.args.ticket.0 (missing_accepted now M shows c.args.ticket.0 us ws out c.in_default.ensures.none) (missing_waiting now M shows c.args.ticket.0 us ws out w.in-None.ensures.none)))
+          M shows
       | in-Some-out_at w ↦ let found = w.in-Some-out_at.ensures.found in
           subst (λ answer. Follows (poll_emit c.args.ticket.0) now answer now) (sym w.result-is)
           (poll_waiting now (length us + w.in-Some-out_at.field-0) c.args.ticket.0 found.0.emission.emitter found.0.emission.value (held_waiting now us ws out w.in-Some-out_at.field-0 c.args.ticket.0 found))
+          M shows
     ]
 
 pub get-index-requires : goal.get-index-requires
