@@ -15,6 +15,28 @@ module _ {X : Type 0} where
   pub length-kept : (n : ℕ) (xs : List X) → n ≤ length xs → length (keep_last n xs) ≡ n
   length-kept n xs within = omega (arith, length-drop (length xs - n) xs, within)
 
+  -- no more than there are
+  pub length-kept_min : (n : ℕ) (xs : List X) → length (keep_last n xs) ≡ min n (length xs)
+  length-kept_min n xs = omega (arith, length-drop (length xs - n) xs)
+
+  pub kept-min : (n m : ℕ) (xs : List X) → m ≡ min n (length xs) → keep_last m xs ≡ keep_last n xs
+  kept-min n m xs is = let same : length xs - m ≡ length xs - n = omega (arith, is) in ap (λ k. drop k xs) same
+
+  pub kept-all : (n : ℕ) (xs : List X) → length xs ≤ n → keep_last n xs ≡ xs
+  kept-all n xs all = let none : length xs - n ≡ 0 = omega (arith, all) in ap (λ k. drop k xs) none
+
+  -- one more value at the end of a list that keeps the last `c` ones, and has so many
+  pub kept-pushed : (n c : ℕ) (xs : List X) (v : X) → 0 < c → length xs ≡ c → c ≤ n
+      → keep_last (n + 1) (keep_last c (xs ++ v ∷ [])) ≡ drop 1 (keep_last n xs) ++ v ∷ []
+  kept-pushed n c xs v some full over =
+      let ys = xs ++ v ∷ [] in
+      let more : length ys ≡ length xs + 1 = length-append xs (v ∷ []) in
+      let one : length ys - c ≡ 1 = omega (arith, more, full) in
+      kept-all (n + 1) (keep_last c ys) (omega (arith, length-kept_min c ys, over))
+      ∙ ap (λ k. drop k ys) one
+      ∙ drop-append-le 1 xs (v ∷ []) (omega (arith, full, some))
+      ∙ ap (λ zs. drop 1 zs ++ v ∷ []) (sym (kept-all n xs (omega (arith, full, over))))
+
   -- the last ones of the last ones
   kept-kept : (n c : ℕ) (ys : List X) → n ≤ c → n ≤ length ys → keep_last n (keep_last c ys) ≡ keep_last n ys
   kept-kept n c ys few within =

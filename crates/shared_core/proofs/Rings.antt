@@ -15,7 +15,7 @@ use Rattle.shared_core.specs.Rising.{Rises}
 use Rattle.shared_core.proofs.Rising.{rises-map}
 use Rattle.shared_core.proofs.Entries.{list_any-map, set-same, none_first}
 use Rattle.shared_core.proofs.Latest.{kept-latest, first-kept}
-use Rattle.shared_core.proofs.Standing.{IsBelow, shown-accepted, shown-received}
+use Rattle.shared_core.proofs.Standing.{IsBelow, AreWithin, pending_of, without_first, received_at, shown-accepted, shown-pushed, shown-received}
 
 -- a ring as contracts see it
 abbrev pub seen_ring : {T : Type 0} → ℕ → Buffer T → ℕ → ℕ → List Place → ℕ → Ringed T
@@ -28,16 +28,32 @@ seen_ring next values cached replay places subscribers = record {
   subscribers = subscribers;
 }
 
-pub accepted_shown : {T : Type 0} (next cached m replay subscribers : ℕ) (old new : Buffer T) (v : T) (places : List Place)
+-- what is kept of the values, and how many of them are cached, once a value was accepted by which the live ones become so
+accepted_by : {T : Type 0} (next cached m replay subscribers : ℕ) (old new : Buffer T) (v : T) (places : List Place) (live : List (ℕ × List T))
     → new ≡ buffer (keep_last old.capacity (old.items ++ v ∷ [])) old.capacity → m ≡ min (cached + 1) replay → cached ≤ length old.items → replay ≤ old.capacity
-    → All (IsWithin next (length old.items)) places → All (IsBelow old.capacity next) places
-    → seen_ring (next + 1) new m replay places subscribers ≡ with_value v (seen_ring next old cached replay places subscribers)
-accepted_shown next cached m replay subscribers old new v places is count some fits within below =
+    → map (shown_place (next + 1) (keep_last old.capacity (old.items ++ v ∷ []))) places ≡ map (λ e. (e.0, e.1 ++ v ∷ [])) live
+    → seen_ring (next + 1) new m replay places subscribers ≡ with_value v (record (seen_ring next old cached replay places subscribers) { live = live })
+accepted_by next cached m replay subscribers old new v places live is count some fits shown =
     let ys = keep_last old.capacity (old.items ++ v ∷ []) in
     ap (λ b. seen_ring (next + 1) b m replay places subscribers) is
-    ∙ ap (λ (xs : List _). record (seen_ring (next + 1) (buffer ys old.capacity) m replay places subscribers) { live = xs }) (shown-accepted next old.items old.capacity v places within below)
-    ∙ ap (λ (xs : List _). record (seen_ring (next + 1) (buffer ys old.capacity) m replay places subscribers) { live = map (λ e. (e.0, e.1 ++ v ∷ [])) (map (shown_place next old.items) places); cache = xs })
+    ∙ ap (λ (xs : List _). record (seen_ring (next + 1) (buffer ys old.capacity) m replay places subscribers) { live = xs }) shown
+    ∙ ap (λ (xs : List _). record (seen_ring (next + 1) (buffer ys old.capacity) m replay places subscribers) { live = map (λ e. (e.0, e.1 ++ v ∷ [])) live; cache = xs })
     (kept-latest m cached replay old.capacity old.items v count some fits)
+
+module _ {T : Type 0} (next cached m replay subscribers : ℕ) (old new : Buffer T) (v : T) (places : List Place)
+    (is : new ≡ buffer (keep_last old.capacity (old.items ++ v ∷ [])) old.capacity) (count : m ≡ min (cached + 1) replay)
+    (some : cached ≤ length old.items) (fits : replay ≤ old.capacity) (within : AreWithin next old.items old.capacity places) where
+  pub accepted_shown : All (IsBelow old.capacity next) places
+      → seen_ring (next + 1) new m replay places subscribers ≡ with_value v (seen_ring next old cached replay places subscribers)
+  accepted_shown below =
+      accepted_by next cached m replay subscribers old new v places (map (shown_place next old.items) places) is count some fits
+      (shown-accepted next old.items old.capacity v places within below)
+
+  pub pushed_shown : 0 < old.capacity → length old.items ≤ old.capacity
+      → seen_ring (next + 1) new m replay places subscribers ≡ with_value v (without_oldest (seen_ring next old cached replay places subscribers))
+  pushed_shown places_there kept =
+      accepted_by next cached m replay subscribers old new v places (map (without_first next old.items old.capacity) (map (shown_place next old.items) places)) is count some fits
+      (shown-pushed next old.items old.capacity v places places_there kept within)
 
 -- ---- one place
 
@@ -74,22 +90,27 @@ module _ {T : Type 0} (next : ℕ) (values : List T) (places : List Place) (live
     pub entry_there : slice_get live at ≡ Some (shown_place next values p)
     entry_there = entry_shown at p (slice_get-get_or places at p at_place ∙ ap Some (sym read))
 
-    pub within_there : All (IsWithin next (length values)) places → IsWithin next (length values) p
-    within_there within = subst (IsWithin next (length values)) (sym read) (All-get_or (IsWithin next (length values)) places at p at_place within)
+    pub within_there : (limit : ℕ) → AreWithin next values limit places → IsWithin next limit (length values) p
+    within_there limit within = subst (IsWithin next limit (length values)) (sym read) (All-get_or (IsWithin next limit (length values)) places at p at_place within)
 
-    module _ (count : ℕ) (long : count ≡ length values) (within : All (IsWithin next (length values)) places) where
-      first_there : slice_get (keep_last (next - p.position) values) 0 ≡ slice_get values (count - (next - p.position))
-      first_there = first-kept (next - p.position) values ∙ ap (λ n. slice_get values (n - (next - p.position))) (sym long)
+    module _ (count pending : ℕ) (long : count ≡ length values) (is_pending : pending ≡ min (next - p.position) count) where
+      pending_is : pending ≡ pending_of next values p
+      pending_is = is_pending ∙ ap (min (next - p.position)) long
 
-      -- a value was there, so it stood before the next number
-      some_there : (v : T) → slice_get values (count - (next - p.position)) ≡ Some v → p.position < next
-      some_there v gets = omega (arith, slice_get_within values (count - (next - p.position)) v gets, long, within_there within)
+      first_there : slice_get (keep_last (next - p.position) values) 0 ≡ slice_get values (count - pending)
+      first_there =
+          let same : length values - (next - p.position) ≡ count - pending = omega (arith, is_pending, long) in
+          first-kept (next - p.position) values ∙ ap (slice_get values) same
 
-      pub received_within : (v : T) → slice_get values (count - (next - p.position)) ≡ Some v → IsWithin next (length values) (record p { position = p.position + 1 })
-      received_within v gets = let some = some_there v gets in let here = within_there within in (omega (arith, some), omega (arith, some, here.1))
+      -- a value was there, so one is pending
+      pub some_there : (v : T) → slice_get values (count - pending) ≡ Some v → 0 < pending
+      some_there v gets = omega (arith, slice_get_within values (count - pending) v gets, long)
 
-      pub receives_some : (old : Ringed T) (v : T) → old.live ≡ live → slice_get values (count - (next - p.position)) ≡ Some v
-          → Receives old at (Some v) (record old { live = map (shown_place next values) (set places at (record p { position = p.position + 1 })) })
+      pub received_within : (limit : ℕ) (v : T) → slice_get values (count - pending) ≡ Some v → IsWithin next limit (length values) (received_at next values pending p)
+      received_within limit v gets = let some = some_there v gets in (omega (arith, some, is_pending), omega (arith, some, is_pending, long))
+
+      pub receives_some : (old : Ringed T) (v : T) → old.live ≡ live → slice_get values (count - pending) ≡ Some v
+          → Receives old at (Some v) (record old { live = map (shown_place next values) (set places at (received_at next values pending p)) })
       receives_some old v same gets =
           let n = next - p.position in
           record {
@@ -99,10 +120,10 @@ module _ {T : Type 0} (next : ℕ) (values : List T) (places : List Place) (live
             oldest = sym (first_there ∙ gets);
             left =
                 ap (λ xs. record old { live = xs })
-                (shown-received next values at p places (within_there within) (some_there v gets) ∙ ap (λ xs. set xs at (p.number, drop 1 (keep_last n values))) (sym is ∙ sym same));
+                (shown-received next values at pending p places pending_is (some_there v gets) ∙ ap (λ xs. set xs at (p.number, drop 1 (keep_last n values))) (sym is ∙ sym same));
           }
 
-      pub receives_none : (old : Ringed T) → old.live ≡ live → slice_get values (count - (next - p.position)) ≡ None → Receives old at None old
+      pub receives_none : (old : Ringed T) → old.live ≡ live → slice_get values (count - pending) ≡ None → Receives old at None old
       receives_none old same gets =
           let n = next - p.position in
           let empty : keep_last n values ≡ [] = none_first (keep_last n values) (first_there ∙ gets) in
@@ -136,13 +157,12 @@ module _ {T : Type 0} (view now : Seen T) (ring new : Ringed T) (view_is : view 
       ap (λ (r : Ringed T). record (seen_with view r) { subscriptions = view.subscriptions + 1 }) new_is
       ∙ ap (λ (s : Seen T). record s { live = s.live ++ (n, s.cache) ∷ []; subscriptions = s.subscriptions + 1 }) (has ∙ view_is)
 
-  -- a loss, then an acceptance
-  pub push_step : (v : T) (limit : ℕ) (middle : Ringed T) → ring.replay ≡ view.parameters.replay → ring.limit ≡ limit → middle ≡ without_oldest ring → new ≡ with_value v middle
+  -- an acceptance before which those with all places taken lose their oldest value
+  pub push_step : (v : T) (limit : ℕ) → ring.replay ≡ view.parameters.replay → ring.limit ≡ limit → new ≡ with_value v (without_oldest ring)
       → seen_with view new ≡ with_accepted v (without_oldest_of limit now)
-  push_step v limit middle replay same middle_is new_is =
+  push_step v limit replay same new_is =
       let left = map (λ (e : ℕ × List T). cond (eqb (length e.1) ring.limit) (e.0, drop 1 e.1) e) ring.live in
       ap (seen_with view) new_is
-      ∙ ap (λ (r : Ringed T). seen_with view (with_value v r)) middle_is
       ∙ ap (λ n. record view { next_number = ring.next_number + 1; cache = drop ((length ring.cache + 1) - n) (ring.cache ++ v ∷ []); live = map (λ e. (e.0, e.1 ++ v ∷ [])) left }) replay
       ∙ ap (λ n. with_accepted v (without_oldest_of n (seen_with view ring))) same
       ∙ ap (λ (s : Seen T). with_accepted v (without_oldest_of limit s)) (has ∙ view_is)

@@ -1,8 +1,7 @@
 //! The places of live subscriptions.
 
-ghost use Rattle.std.specs.Prelude.{◌≡◌, ◌+◌, ◌<◌, ◌≤◌, ◌^◌, ◌==◌, nat_lt, false, length, vec_capacity, map, IsTrue, IfSome, IfNone, slice_get};
+ghost use Rattle.std.specs.Prelude.{◌≡◌, ◌+◌, ◌≤◌, ◌==◌, nat_lt, false, length, IsTrue, IfSome, IfNone, slice_get};
 ghost use Rattle.std.specs.List.{list_any, list_all};
-ghost use Rattle.shared_core.specs.Places.{moved_past};
 ghost use Rattle.shared_core.specs.Rising.{Rises, StandsWithin};
 
 /// A live subscription: its number, and where it stands.
@@ -12,18 +11,6 @@ pub struct Place {
     pub number: u64,
     /// The number of the emission that it receives next.
     pub position: u64,
-}
-
-impl Place {
-    /// Moves on to the next emission, where it stands at this one.
-    fn move_past(&mut self, number: u64)
-        requires { number < 2 ^ 63 }
-        ensures { self.new ≡ moved_past number self.old }
-    {
-        if self.position == number {
-            self.position += 1;
-        }
-    }
 }
 
 /// Where the subscription with this number has its place, if none from the first live one on was cancelled before it. Places
@@ -119,15 +106,4 @@ pub fn each_past(places: &[Place], number: u64) -> bool
         }
     }
     true
-}
-
-/// Each place that stands at the emission with this number moves on to the next one.
-pub fn move_past(places: &mut Vec<Place>, number: u64)
-    requires { number < 2 ^ 63 }
-    ensures items { places.new.items ≡ map (moved_past number) places.old.items }
-    ensures capacity { vec_capacity places.new ≡ vec_capacity places.old }
-{
-    for place in places.iter_mut() {
-        place.move_past(number);
-    }
 }

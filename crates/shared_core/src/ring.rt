@@ -15,8 +15,9 @@
 //! waiting                                                                v  w   emissions without room, the oldest first
 //! ```
 //!
-//! The next emission takes the place of value 3, so `b` has to receive or lose that before: a drop moves the positions that
-//! stand at the oldest value. What waits is kept with the tickets (`tickets.rt`), since it has no number yet.
+//! The next emission takes the place of value 3, so `b` has to receive or lose that before. Where it loses it, its position stays
+//! behind the oldest value until it receives the next time: no place is touched when a value is accepted. What waits is kept
+//! with the tickets (`tickets.rt`), since it has no number yet.
 
 ghost use Rattle.std.specs.Prelude.{◌≡◌, ◌==◌, ◌+◌, ◌<◌, ◌≤◌, true, false, nat_lt, length, [], ◌∷◌, ◌++◌, IfOk, IfSome, IfNone, slice_get};
 ghost use Rattle.std.specs.List.{list_all, list_any, remove};
@@ -26,7 +27,7 @@ ghost use Rattle.shared_core.specs.Rising.{Rises};
 ghost use Rattle.shared_core.specs.Ringed.{empty_ring, has_space, with_value, without_oldest, Receives};
 
 use crate::config::Config;
-use crate::place::{Place, each_past, find_place, move_past, place_of};
+use crate::place::{Place, each_past, find_place, place_of};
 use circular_buffer::HeapCircularBuffer;
 use std::alloc::{AllocError, Global};
 use std::marker::Model;
@@ -125,7 +126,24 @@ impl<T: Copy> Ring<T> {
         requires { number < self.now.next_number }
         ensures { result ≡ list_all (λ e. nat_lt (number + length e.1) self.now.next_number) self.now.live }
     {
+        if number + (self.values.len() as u64) < self.next_number {
+            return true;
+        }
         each_past(&self.places, number)
+    }
+
+    // Writes the value behind the others. A full ring gives up its oldest value.
+    fn write(&mut self, value: T) -> u64
+        requires { self.old.next_number < number_limit }
+        ensures number { result ≡ self.old.next_number }
+        ensures accepted { has_space self.old ≡ true → self.new ≡ with_value value self.old }
+        ensures pushed { self.new ≡ with_value value (without_oldest self.old) }
+    {
+        let number = self.next_number;
+        let _overwritten = self.values.push_back(value);
+        self.cached = (self.cached + 1).min(self.replay);
+        self.next_number = number + 1;
+        number
     }
 
     /// The value is pending for each live subscription, and the latest of the replay cache. Answers its number.
@@ -135,23 +153,17 @@ impl<T: Copy> Ring<T> {
         ensures number { result ≡ self.old.next_number }
         ensures accepted { self.new ≡ with_value value self.old }
     {
-        let number = self.next_number;
-        let _overwritten = self.values.push_back(value);
-        self.cached = (self.cached + 1).min(self.replay);
-        self.next_number = number + 1;
-        number
+        self.write(value)
     }
 
-    /// Each live subscription that has all it may pending loses its oldest value.
-    pub fn drop_oldest(&mut self)
-        ensures dropped { self.new ≡ without_oldest self.old }
-        ensures room { has_space self.new ≡ true }
+    /// The same where there may be no room: each live subscription that has all it may pending loses its oldest value before. Its
+    /// place is moved when it receives the next time.
+    pub fn push(&mut self, value: T) -> u64
+        requires { self.old.next_number < number_limit }
+        ensures number { result ≡ self.old.next_number }
+        ensures pushed { self.new ≡ with_value value (without_oldest self.old) }
     {
-        let limit = self.limit();
-        if self.next_number < limit {
-            return;
-        }
-        move_past(&mut self.places, self.next_number - limit);
+        self.write(value)
     }
 
     /// Where the live subscription with this number stands in their list, by whose order it is looked for.
@@ -177,10 +189,12 @@ impl<T: Copy> Ring<T> {
     {
         self.recent = at;
         let place = self.places[at];
-        let pending = (self.next_number - place.position) as usize;
-        let value = *self.values.get(self.values.len() - pending)?;
+        let kept = self.values.len();
+        let ahead = self.next_number - place.position;
+        let pending = ahead.min(kept as u64);
+        let value = *self.values.get(kept - pending as usize)?;
         self.places[at] = Place {
-            position: place.position + 1,
+            position: self.next_number - pending + 1,
             ..place
         };
         Some(value)
@@ -192,7 +206,8 @@ impl<T: Copy> Ring<T> {
         ensures count { (e : _) × (slice_get self.now.live at ≡ Some e) × (result ≡ length e.1) }
         ensures bound { result ≤ number_limit }
     {
-        self.next_number - self.places[at].position
+        let ahead = self.next_number - self.places[at].position;
+        ahead.min(self.values.len() as u64)
     }
 
     /// How many subscriptions are live.

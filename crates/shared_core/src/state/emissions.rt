@@ -58,7 +58,7 @@ impl<T: Copy> SharedState<T> {
         match self.config.policy {
             Policy::Suspend => self.enters_or(Fate::HeldUp),
             Policy::DropLatest => self.enters_or(Fate::Dropped),
-            // Whether anybody has all places taken, the pass that takes the oldest value from them finds out.
+            // Whether anybody has all places taken, nobody has to ask.
             Policy::DropOldest => Fate::PushesIn,
         }
     }
@@ -90,8 +90,7 @@ impl<T: Copy> SharedState<T> {
         ensures number { result ≡ self.old.next_number }
         ensures accepted { self.new ≡ with_accepted value (without_oldest_of (places self.old.parameters) self.old) }
     {
-        self.ring.drop_oldest();
-        self.ring.accept(value)
+        self.ring.push(value)
     }
 
     /// Whether each ticket is out.

@@ -10,7 +10,7 @@ returns-then-self-limit g c =
     let ring = c.self.inside in
     let few : ring.next_number < ring.values.capacity = omega (arith, c.if-self-limit.true, c.limit-limit.ensures.limit, ap (λ (r : Ringed _). r.limit) c.self.view_is) in
     sym (ap has_space (sym c.self.view_is)
-    ∙ room-from_below ring.next_number ring.values.items ring.values.capacity ring.places.items c.self.invariant.within (below-few ring.next_number ring.values.items ring.values.capacity ring.places.items few))
+    ∙ room-from_below ring.next_number ring.values.items ring.values.capacity ring.places.items (below-few ring.next_number ring.values.items ring.values.capacity ring.places.items few))
 
 pub returns : goal.returns
 returns g c =

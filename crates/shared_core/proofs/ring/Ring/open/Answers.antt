@@ -45,8 +45,8 @@ invariant_of-self g c =
       numbers = kept.numbers;
       cache = kept.cache;
       within =
-          All-same (IsWithin ring.next_number (length ring.values.items)) c.push_reserved.new.self.items (ring.places.items ++ place ∷ []) c.push_reserved.ensures.items
-          (All-push (IsWithin ring.next_number (length ring.values.items)) ring.places.items place kept.within (omega arith, omega (arith, kept.cache.2)));
+          All-same (IsWithin ring.next_number ring.values.capacity (length ring.values.items)) c.push_reserved.new.self.items (ring.places.items ++ place ∷ []) c.push_reserved.ensures.items
+          (All-push (IsWithin ring.next_number ring.values.capacity (length ring.values.items)) ring.places.items place kept.within (omega arith, omega (arith, kept.cache.2)));
       seats = (
         omega (arith, room, ap length c.push_reserved.ensures.items, length-append ring.places.items (place ∷ [])),
         omega (arith, kept.seats.1, c.push_reserved.ensures.capacity),

@@ -1,8 +1,8 @@
-use Rattle.std.proofs.Common.{ap, sym}
+use Rattle.std.proofs.Common.{ap, sym, arith}
 use Rattle.shared_core.specs.Places.{shown_place}
 use Rattle.shared_core.specs.Ringed.{Ringed}
 use Rattle.shared_core.proofs.Standing.{length-pending_of}
-use Rattle.shared_core.proofs.Rings.{entry_there, within_there}
+use Rattle.shared_core.proofs.Rings.{entry_there}
 use Rattle.shared_core.proofs.ring.Ring.pending_at.Goals as goal
 
 pub returns-clause-count : goal.returns-clause-count
@@ -13,5 +13,5 @@ returns-clause-count g c =
     let live = ap (λ (r : Ringed _). r.live) (sym c.self.view_is) in (
       shown_place ring.next_number ring.values.items place,
       entry_there ring.next_number ring.values.items ring.places.items now live c.args.at place c.requires c.index.ensures,
-      sym (length-pending_of ring.next_number ring.values.items place (within_there ring.next_number ring.values.items ring.places.items now live c.args.at place c.requires c.index.ensures c.self.invariant.within)),
+      omega (arith, c.min.ensures, c.len.ensures.len, length-pending_of ring.next_number ring.values.items place),
     )

@@ -1,11 +1,11 @@
-use Rattle.std.proofs.Common.{◌+◌, length, map, set, Some, None, refl, ap, sym, ◌∙◌, subst, arith}
+use Rattle.std.proofs.Common.{length, map, set, Some, None, refl, ap, sym, ◌∙◌, subst, arith}
 use Rattle.std.proofs.lemmas.List.{length-set}
 use Rattle.std.proofs.lemmas.List.Elements.{All-set}
 use Rattle.std.specs.Option.{option_copied}
-use Rattle.shared_core.specs.declared.place.Place.{Place}
 use Rattle.shared_core.specs.Places.{IsWithin, shown_place}
 use Rattle.shared_core.specs.Ringed.{Ringed, Receives}
-use Rattle.shared_core.proofs.Rings.{inside_places, within_there, received_within, receives_some, receives_none}
+use Rattle.shared_core.proofs.Rings.{inside_places, received_within, receives_some, receives_none}
+use Rattle.shared_core.proofs.Standing.{received_at}
 use Rattle.shared_core.proofs.ring.Ring.receive.Goals as goal
 
 pub returns-in_err-value : goal.returns-in_err-value
@@ -13,8 +13,9 @@ returns-in_err-value g c =
     let ring = c.self.inside in
     let live = ap (λ (r : Ringed _). r.live) (sym c.self.view_is) in
     rw c.from_residual.ensures
-    (subst (Receives c.args.self.now c.args.at None) (sym c.self.view_is) (receives_none ring.next_number ring.values.items ring.places.items c.args.self.now.live live c.args.at c.index-place.result.now c.requires c.index-place.ensures c.len.result c.len.ensures.len c.self.invariant.within
-    c.args.self.now refl (sym c.get.ensures ∙ ap option_copied c.in_err-value.was)))
+    (subst (Receives c.args.self.now c.args.at None) (sym c.self.view_is)
+    (receives_none ring.next_number ring.values.items ring.places.items c.args.self.now.live live c.args.at c.index-place.result.now c.requires c.index-place.ensures
+    c.len-kept.result c.min-pending.result c.len-kept.ensures.len c.min-pending.ensures c.args.self.now refl (sym c.get.ensures ∙ ap option_copied c.in_err-value.was)))
 
 pub invariant_of-self : goal.invariant_of-self
 invariant_of-self g c = c.self.invariant
@@ -24,17 +25,18 @@ invariant_of-self-2 g c =
     let kept = c.self.invariant in
     let ring = c.self.inside in
     let place = c.index-place.result.now in
-    let next : Place = record place { position = place.position + 1 } in
+    let limit = ring.values.capacity in
+    let next = received_at ring.next_number ring.values.items c.min-pending.result place in
     let live = ap (λ (r : Ringed _). r.live) (sym c.self.view_is) in
-    let moved : IsWithin ring.next_number (length ring.values.items) next =
-    received_within ring.next_number ring.values.items ring.places.items c.args.self.now.live live c.args.at place c.requires c.index-place.ensures c.len.result c.len.ensures.len kept.within
-    c.in_ok-value.field-0.now (sym c.get.ensures ∙ ap option_copied c.in_ok-value.was) in
+    let moved : IsWithin ring.next_number limit (length ring.values.items) next =
+    received_within ring.next_number ring.values.items ring.places.items c.args.self.now.live live c.args.at place c.requires c.index-place.ensures
+    c.len-kept.result c.min-pending.result c.len-kept.ensures.len c.min-pending.ensures limit c.in_ok-value.field-0.now (sym c.get.ensures ∙ ap option_copied c.in_ok-value.was) in
     record {
       capacity = kept.capacity;
       kept = kept.kept;
       numbers = kept.numbers;
       cache = kept.cache;
-      within = All-set (IsWithin ring.next_number (length ring.values.items)) ring.places.items c.args.at next moved kept.within;
+      within = All-set (IsWithin ring.next_number limit (length ring.values.items)) ring.places.items c.args.at next moved kept.within;
       seats = (omega (arith, kept.seats.0, length-set ring.places.items c.args.at next), kept.seats.1, kept.seats.2);
     }
 
@@ -42,13 +44,13 @@ pub returns : goal.returns
 returns g c =
     let ring = c.self.inside in
     let place = c.index-place.result.now in
-    let next : Place = record place { position = place.position + 1 } in
+    let next = received_at ring.next_number ring.values.items c.min-pending.result place in
     let old = c.args.self.now in
     let live = ap (λ (r : Ringed _). r.live) (sym c.self.view_is) in
     subst (Receives old c.args.at (Some c.in_ok-value.field-0.now))
     (ap (λ (r : Ringed _). record r { live = map (shown_place ring.next_number ring.values.items) (set ring.places.items c.args.at next) }) (sym c.self.view_is))
-    (receives_some ring.next_number ring.values.items ring.places.items old.live live c.args.at place c.requires c.index-place.ensures c.len.result c.len.ensures.len c.self.invariant.within
-    old c.in_ok-value.field-0.now refl (sym c.get.ensures ∙ ap option_copied c.in_ok-value.was))
+    (receives_some ring.next_number ring.values.items ring.places.items old.live live c.args.at place c.requires c.index-place.ensures
+    c.len-kept.result c.min-pending.result c.len-kept.ensures.len c.min-pending.ensures old c.in_ok-value.field-0.now refl (sym c.get.ensures ∙ ap option_copied c.in_ok-value.was))
 
 pub index-place-requires : goal.index-place-requires
 index-place-requires g c =
@@ -59,25 +61,3 @@ pub index_mut-requires : goal.index_mut-requires
 index_mut-requires g c =
     let ring = c.self.inside in
     inside_places ring.next_number ring.values.items ring.places.items c.args.self.now.live (ap (λ (r : Ringed _). r.live) (sym c.self.view_is)) c.args.at ring.places.len c.requires ring.places.ok.0
-
-pub overflow_sub-pending : goal.overflow_sub-pending
-overflow_sub-pending g c =
-    let ring = c.self.inside in
-    let live = ap (λ (r : Ringed _). r.live) (sym c.self.view_is) in
-    (within_there ring.next_number ring.values.items ring.places.items c.args.self.now.live live c.args.at c.index-place.result.now c.requires c.index-place.ensures c.self.invariant.within).0
-
-pub overflow_sub-len : goal.overflow_sub-len
-overflow_sub-len g c =
-    let ring = c.self.inside in
-    let live = ap (λ (r : Ringed _). r.live) (sym c.self.view_is) in
-    let within = within_there ring.next_number ring.values.items ring.places.items c.args.self.now.live live c.args.at c.index-place.result.now c.requires c.index-place.ensures c.self.invariant.within in
-    omega (arith, within.1, c.len.ensures.len)
-
-pub overflow_add-place : goal.overflow_add-place
-overflow_add-place g c =
-    let ring = c.self.inside in
-    let live = ap (λ (r : Ringed _). r.live) (sym c.self.view_is) in
-    let moved =
-    received_within ring.next_number ring.values.items ring.places.items c.args.self.now.live live c.args.at c.index-place.result.now c.requires c.index-place.ensures c.len.result c.len.ensures.len c.self.invariant.within
-    c.in_ok-value.field-0.now (sym c.get.ensures ∙ ap option_copied c.in_ok-value.was) in
-    omega (arith, moved.0, c.self.invariant.numbers)

@@ -1,20 +1,15 @@
 use Rattle.std.proofs.Common.{refl, ap, ◌∙◌, arith}
 use Rattle.shared_core.specs.Flow.{places}
-use Rattle.shared_core.specs.Ringed.{Ringed, with_value}
+use Rattle.shared_core.specs.Ringed.{Ringed}
 use Rattle.shared_core.specs.Shown.{Seen}
 use Rattle.shared_core.proofs.Rings.{push_step}
 use Rattle.shared_core.proofs.Ticketing.{count_waiting}
 use Rattle.shared_core.proofs.state.SharedState.push_in.Goals as goal
 
-pub accept-requires-clause-numbers : goal.accept-requires-clause-numbers
-accept-requires-clause-numbers g c =
-    let numbers = rw (← c.self.view_is) at c.requires in
-    omega (arith, numbers, ap (λ (r : Ringed _). r.next_number) c.drop_oldest.ensures.dropped)
-
 pub invariant_of-self : goal.invariant_of-self
 invariant_of-self g c =
     let kept = c.self.invariant in
-    let ring = c.accept.ensures.accepted ∙ ap (with_value c.args.value) c.drop_oldest.ensures.dropped in
+    let ring = c.push.ensures.pushed in
     let numbers = rw (← c.self.view_is) at c.requires in
     let waiting = count_waiting c.self.inside.accepted.values c.self.inside.waiting.values in
     let next = ap (λ (r : Ringed _). r.next_number) ring in
@@ -42,11 +37,11 @@ invariant_of-self g c =
     }
 
 pub returns-clause-number : goal.returns-clause-number
-returns-clause-number g c = c.accept.ensures.number ∙ ap (λ (r : Ringed _). r.next_number) c.drop_oldest.ensures.dropped ∙ ap (λ (s : Seen _). s.next_number) c.self.view_is
+returns-clause-number g c = c.push.ensures.number ∙ ap (λ (s : Seen _). s.next_number) c.self.view_is
 
 pub returns-clause-accepted : goal.returns-clause-accepted
 returns-clause-accepted g c =
     let now = c.args.self.now in
     let kept = c.self.invariant.ring in
-    push_step _ now c.self.inside.ring c.accept.new.self c.self.view_is refl c.args.value (places now.parameters) c.drop_oldest.new.self kept.replay
-    (kept.limit ∙ ap (λ (s : Seen _). places s.parameters) c.self.view_is) c.drop_oldest.ensures.dropped c.accept.ensures.accepted
+    push_step _ now c.self.inside.ring c.push.new.self c.self.view_is refl c.args.value (places now.parameters) kept.replay
+    (kept.limit ∙ ap (λ (s : Seen _). places s.parameters) c.self.view_is) c.push.ensures.pushed
