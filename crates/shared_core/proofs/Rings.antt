@@ -15,7 +15,7 @@ use Rattle.shared_core.specs.Rising.{Rises}
 use Rattle.shared_core.proofs.Rising.{rises-map}
 use Rattle.shared_core.proofs.Entries.{list_any-map, set-same, none_first}
 use Rattle.shared_core.proofs.Latest.{kept-latest, first-kept}
-use Rattle.shared_core.proofs.Standing.{IsBelow, AreWithin, pending_of, without_first, received_at, shown-accepted, shown-pushed, shown-received}
+use Rattle.shared_core.proofs.Standing.{IsBelow, AreWithin, without_first, received_at, shown-accepted, shown-pushed, shown-received}
 
 -- a ring as contracts see it
 abbrev pub seen_ring : {T : Type 0} → ℕ → Buffer T → ℕ → ℕ → List Place → ℕ → Ringed T
@@ -93,24 +93,17 @@ module _ {T : Type 0} (next : ℕ) (values : List T) (places : List Place) (live
     pub within_there : (limit : ℕ) → AreWithin next values limit places → IsWithin next limit (length values) p
     within_there limit within = subst (IsWithin next limit (length values)) (sym read) (All-get_or (IsWithin next limit (length values)) places at p at_place within)
 
-    module _ (count pending : ℕ) (long : count ≡ length values) (is_pending : pending ≡ min (next - p.position) count) where
-      pending_is : pending ≡ pending_of next values p
-      pending_is = is_pending ∙ ap (min (next - p.position)) long
-
-      first_there : slice_get (keep_last (next - p.position) values) 0 ≡ slice_get values (count - pending)
+    module _ (oldest index : ℕ) (fits : length values ≤ next) (within : p.position ≤ next) (first : oldest ≡ next - length values) (is_index : index ≡ p.position - oldest) where
+      first_there : slice_get (keep_last (next - p.position) values) 0 ≡ slice_get values index
       first_there =
-          let same : length values - (next - p.position) ≡ count - pending = omega (arith, is_pending, long) in
+          let same : length values - (next - p.position) ≡ index = omega (arith, fits, within, first, is_index) in
           first-kept (next - p.position) values ∙ ap (slice_get values) same
 
-      -- a value was there, so one is pending
-      pub some_there : (v : T) → slice_get values (count - pending) ≡ Some v → 0 < pending
-      some_there v gets = omega (arith, slice_get_within values (count - pending) v gets, long)
+      pub received_within : (limit : ℕ) (v : T) → slice_get values index ≡ Some v → IsWithin next limit (length values) (received_at next values oldest index p)
+      received_within limit v gets = let some = slice_get_within values index v gets in (omega (arith, some, first, fits), omega (arith, some, first, fits))
 
-      pub received_within : (limit : ℕ) (v : T) → slice_get values (count - pending) ≡ Some v → IsWithin next limit (length values) (received_at next values pending p)
-      received_within limit v gets = let some = some_there v gets in (omega (arith, some, is_pending), omega (arith, some, is_pending, long))
-
-      pub receives_some : (old : Ringed T) (v : T) → old.live ≡ live → slice_get values (count - pending) ≡ Some v
-          → Receives old at (Some v) (record old { live = map (shown_place next values) (set places at (received_at next values pending p)) })
+      pub receives_some : (old : Ringed T) (v : T) → old.live ≡ live → slice_get values index ≡ Some v
+          → Receives old at (Some v) (record old { live = map (shown_place next values) (set places at (received_at next values oldest index p)) })
       receives_some old v same gets =
           let n = next - p.position in
           record {
@@ -120,10 +113,11 @@ module _ {T : Type 0} (next : ℕ) (values : List T) (places : List Place) (live
             oldest = sym (first_there ∙ gets);
             left =
                 ap (λ xs. record old { live = xs })
-                (shown-received next values at pending p places pending_is (some_there v gets) ∙ ap (λ xs. set xs at (p.number, drop 1 (keep_last n values))) (sym is ∙ sym same));
+                (shown-received next values at oldest index p places fits within first is_index (slice_get_within values index v gets)
+                ∙ ap (λ xs. set xs at (p.number, drop 1 (keep_last n values))) (sym is ∙ sym same));
           }
 
-      pub receives_none : (old : Ringed T) → old.live ≡ live → slice_get values (count - pending) ≡ None → Receives old at None old
+      pub receives_none : (old : Ringed T) → old.live ≡ live → slice_get values index ≡ None → Receives old at None old
       receives_none old same gets =
           let n = next - p.position in
           let empty : keep_last n values ≡ [] = none_first (keep_last n values) (first_there ∙ gets) in

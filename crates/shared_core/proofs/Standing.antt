@@ -157,16 +157,18 @@ module _ {T : Type 0} (next : ℕ) (values : List T) where
 
   -- ---- a receipt
 
-  -- a place once the oldest of so many pending values was received
-  abbrev pub received_at : ℕ → Place → Place
-  received_at pending p = record p { position = (next - pending) + 1 }
+  -- a place once the value at this index was received, where `oldest` is the number of the first one
+  abbrev pub received_at : ℕ → ℕ → Place → Place
+  received_at oldest index p = record p { position = (oldest + index) + 1 }
 
-  pub shown-received : (at pending : ℕ) (p : Place) (places : List Place) → pending ≡ pending_of p → 0 < pending
-      → map (shown_place next values) (set places at (received_at pending p))
+  pub shown-received : (at oldest index : ℕ) (p : Place) (places : List Place) → length values ≤ next → p.position ≤ next
+      → oldest ≡ next - length values → index ≡ p.position - oldest → index < length values
+      → map (shown_place next values) (set places at (received_at oldest index p))
       ≡ set (map (shown_place next values) places) at (p.number, drop 1 (keep_last (next - p.position) values))
-  shown-received at pending p places is some =
-      let fewer : next - ((next - pending) + 1) ≡ pending - 1 = omega (arith, is, some) in
-      map-set (shown_place next values) places at (received_at pending p)
+  shown-received at oldest index p places kept inside first is some =
+      let fewer : next - ((oldest + index) + 1) ≡ (length values - index) - 1 = omega (arith, kept, first, some) in
+      map-set (shown_place next values) places at (received_at oldest index p)
       ∙ ap (λ n. set (map (shown_place next values) places) at (p.number, keep_last n values)) fewer
       ∙ ap (λ xs. set (map (shown_place next values) places) at (p.number, xs))
-      (kept-fewer pending values some (omega (arith, is)) ∙ ap (drop 1) (kept-min (next - p.position) pending values is))
+      (kept-fewer (length values - index) values (omega (arith, some)) (omega arith)
+      ∙ ap (drop 1) (kept-min (next - p.position) (length values - index) values (omega (arith, kept, inside, first, is, some))))

@@ -19,7 +19,8 @@ fn place_without_gaps(places: &[Place], number: u64) -> Option<usize>
     ensures found { IfSome result (λ i. (p : _) × (slice_get places.now i ≡ Some p) × (p.number ≡ number)) }
 {
     let first = places.first()?;
-    let at = number.checked_sub(first.number)? as usize;
+    // A number before the first one wraps to an index past the last place.
+    let at = number.wrapping_sub(first.number) as usize;
     let place = places.get(at)?;
     if place.number == number {
         return Some(at);

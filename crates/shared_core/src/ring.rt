@@ -189,12 +189,11 @@ impl<T: Copy> Ring<T> {
     {
         self.recent = at;
         let place = self.places[at];
-        let kept = self.values.len();
-        let ahead = self.next_number - place.position;
-        let pending = ahead.min(kept as u64);
-        let value = *self.values.get(kept - pending as usize)?;
+        let oldest = self.next_number - self.values.len() as u64;
+        let index = place.position.saturating_sub(oldest);
+        let value = *self.values.get(index as usize)?;
         self.places[at] = Place {
-            position: self.next_number - pending + 1,
+            position: oldest + index + 1,
             ..place
         };
         Some(value)

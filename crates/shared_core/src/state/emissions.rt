@@ -158,6 +158,18 @@ impl<T: Copy> SharedState<T> {
     pub(crate) fn settle(&mut self)
         ensures { Settles self.old self.new }
     {
+        // So that a receipt beside which none waits costs no call.
+        if self.waiting.len() == 0 {
+            return;
+        }
+        self.settle_waiting();
+    }
+
+    // Not inlined, so that a receipt beside which none waits keeps its registers.
+    #[inline(never)]
+    fn settle_waiting(&mut self)
+        ensures { Settles self.old self.new }
+    {
         while self.accept_waiting() {}
     }
 

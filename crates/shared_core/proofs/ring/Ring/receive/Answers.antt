@@ -1,36 +1,49 @@
-use Rattle.std.proofs.Common.{length, map, set, Some, None, refl, ap, sym, ◌∙◌, subst, arith}
+use Rattle.std.proofs.Common.{◌≡◌, ◌-◌, length, map, set, Some, None, refl, ap, sym, ◌∙◌, subst, arith}
 use Rattle.std.proofs.lemmas.List.{length-set}
 use Rattle.std.proofs.lemmas.List.Elements.{All-set}
 use Rattle.std.specs.Option.{option_copied}
 use Rattle.shared_core.specs.Places.{IsWithin, shown_place}
 use Rattle.shared_core.specs.Ringed.{Ringed, Receives}
-use Rattle.shared_core.proofs.Rings.{inside_places, received_within, receives_some, receives_none}
+use Rattle.shared_core.proofs.Rings.{inside_places, within_there, received_within, receives_some, receives_none}
 use Rattle.shared_core.proofs.Standing.{received_at}
 use Rattle.shared_core.proofs.ring.Ring.receive.Goals as goal
 
 pub returns-in_err-value : goal.returns-in_err-value
 returns-in_err-value g c =
     let ring = c.self.inside in
+    let kept = c.self.invariant in
     let live = ap (λ (r : Ringed _). r.live) (sym c.self.view_is) in
+    let now = c.args.self.now.live in
+    let place = c.index-place.result.now in
+    let limit = ring.values.capacity in
+    let oldest = ring.next_number - c.len.result in
+    let index = c.saturating_sub-index.result in
+    let first : oldest ≡ ring.next_number - length ring.values.items = omega (arith, c.len.ensures.len) in
+    let here = within_there ring.next_number ring.values.items ring.places.items now live c.args.at place c.requires c.index-place.ensures limit kept.within in
     rw c.from_residual.ensures
     (subst (Receives c.args.self.now c.args.at None) (sym c.self.view_is)
-    (receives_none ring.next_number ring.values.items ring.places.items c.args.self.now.live live c.args.at c.index-place.result.now c.requires c.index-place.ensures
-    c.len-kept.result c.min-pending.result c.len-kept.ensures.len c.min-pending.ensures c.args.self.now refl (sym c.get.ensures ∙ ap option_copied c.in_err-value.was)))
+    (receives_none ring.next_number ring.values.items ring.places.items now live c.args.at place c.requires c.index-place.ensures
+    oldest index kept.kept.1 here.0 first c.saturating_sub-index.ensures c.args.self.now refl (sym c.get.ensures ∙ ap option_copied c.in_err-value.was)))
 
 pub invariant_of-self : goal.invariant_of-self
 invariant_of-self g c = c.self.invariant
 
 pub invariant_of-self-2 : goal.invariant_of-self-2
 invariant_of-self-2 g c =
-    let kept = c.self.invariant in
     let ring = c.self.inside in
+    let kept = c.self.invariant in
+    let live = ap (λ (r : Ringed _). r.live) (sym c.self.view_is) in
+    let now = c.args.self.now.live in
     let place = c.index-place.result.now in
     let limit = ring.values.capacity in
-    let next = received_at ring.next_number ring.values.items c.min-pending.result place in
-    let live = ap (λ (r : Ringed _). r.live) (sym c.self.view_is) in
+    let oldest = ring.next_number - c.len.result in
+    let index = c.saturating_sub-index.result in
+    let first : oldest ≡ ring.next_number - length ring.values.items = omega (arith, c.len.ensures.len) in
+    let here = within_there ring.next_number ring.values.items ring.places.items now live c.args.at place c.requires c.index-place.ensures limit kept.within in
+    let next = received_at ring.next_number ring.values.items oldest index place in
     let moved : IsWithin ring.next_number limit (length ring.values.items) next =
-    received_within ring.next_number ring.values.items ring.places.items c.args.self.now.live live c.args.at place c.requires c.index-place.ensures
-    c.len-kept.result c.min-pending.result c.len-kept.ensures.len c.min-pending.ensures limit c.in_ok-value.field-0.now (sym c.get.ensures ∙ ap option_copied c.in_ok-value.was) in
+    received_within ring.next_number ring.values.items ring.places.items now live c.args.at place c.requires c.index-place.ensures
+    oldest index kept.kept.1 here.0 first c.saturating_sub-index.ensures limit c.in_ok-value.field-0.now (sym c.get.ensures ∙ ap option_copied c.in_ok-value.was) in
     record {
       capacity = kept.capacity;
       kept = kept.kept;
@@ -43,14 +56,21 @@ invariant_of-self-2 g c =
 pub returns : goal.returns
 returns g c =
     let ring = c.self.inside in
-    let place = c.index-place.result.now in
-    let next = received_at ring.next_number ring.values.items c.min-pending.result place in
-    let old = c.args.self.now in
+    let kept = c.self.invariant in
     let live = ap (λ (r : Ringed _). r.live) (sym c.self.view_is) in
+    let now = c.args.self.now.live in
+    let place = c.index-place.result.now in
+    let limit = ring.values.capacity in
+    let oldest = ring.next_number - c.len.result in
+    let index = c.saturating_sub-index.result in
+    let first : oldest ≡ ring.next_number - length ring.values.items = omega (arith, c.len.ensures.len) in
+    let here = within_there ring.next_number ring.values.items ring.places.items now live c.args.at place c.requires c.index-place.ensures limit kept.within in
+    let next = received_at ring.next_number ring.values.items oldest index place in
+    let old = c.args.self.now in
     subst (Receives old c.args.at (Some c.in_ok-value.field-0.now))
     (ap (λ (r : Ringed _). record r { live = map (shown_place ring.next_number ring.values.items) (set ring.places.items c.args.at next) }) (sym c.self.view_is))
-    (receives_some ring.next_number ring.values.items ring.places.items old.live live c.args.at place c.requires c.index-place.ensures
-    c.len-kept.result c.min-pending.result c.len-kept.ensures.len c.min-pending.ensures old c.in_ok-value.field-0.now refl (sym c.get.ensures ∙ ap option_copied c.in_ok-value.was))
+    (receives_some ring.next_number ring.values.items ring.places.items now live c.args.at place c.requires c.index-place.ensures
+    oldest index kept.kept.1 here.0 first c.saturating_sub-index.ensures old c.in_ok-value.field-0.now refl (sym c.get.ensures ∙ ap option_copied c.in_ok-value.was))
 
 pub index-place-requires : goal.index-place-requires
 index-place-requires g c =

@@ -1,5 +1,5 @@
 use Rattle.shared_core.specs.Accepting.{Settling, waiting_in}
-use Rattle.shared_core.proofs.state.SharedState.settle.Given as goal
+use Rattle.shared_core.proofs.state.SharedState.settle_waiting.Given as goal
 
 abbrev pub invariant-loop : goal.invariant-loop
 invariant-loop g l = Settling l.fn.self l.self
