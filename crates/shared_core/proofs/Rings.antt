@@ -7,7 +7,7 @@ use Rattle.std.specs.Option.{option_map}
 use Rattle.std.specs.List.{All, list_any}
 use Rattle.circular_buffer.specs.Buffer.{Buffer, buffer, keep_last}
 use Rattle.shared_core.specs.declared.place.Place.{Place}
-use Rattle.shared_core.specs.Places.{IsWithin, shown_place}
+use Rattle.shared_core.specs.Places.{IsWithin, HasRoomUntil, shown_place}
 use Rattle.shared_core.specs.Ringed.{Ringed, with_value, without_oldest, Receives}
 use Rattle.shared_core.specs.Shown.{Seen}
 use Rattle.shared_core.specs.Accepting.{with_accepted, without_oldest_of}
@@ -92,6 +92,9 @@ module _ {T : Type 0} (next : ℕ) (values : List T) (places : List Place) (live
 
     pub within_there : (limit : ℕ) → AreWithin next values limit places → IsWithin next limit (length values) p
     within_there limit within = subst (IsWithin next limit (length values)) (sym read) (All-get_or (IsWithin next limit (length values)) places at p at_place within)
+
+    pub room_there : (limit until : ℕ) → All (HasRoomUntil limit until) places → HasRoomUntil limit until p
+    room_there limit until ahead = subst (HasRoomUntil limit until) (sym read) (All-get_or (HasRoomUntil limit until) places at p at_place ahead)
 
     module _ (oldest index : ℕ) (fits : length values ≤ next) (within : p.position ≤ next) (first : oldest ≡ next - length values) (is_index : index ≡ p.position - oldest) where
       first_there : slice_get (keep_last (next - p.position) values) 0 ≡ slice_get values index

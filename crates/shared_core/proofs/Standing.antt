@@ -1,12 +1,13 @@
 -- What contracts see of places that stand over the last values.
-use Rattle.std.proofs.Common.{◌≡◌, ℕ, suc, ◌+◌, ◌-◌, ◌<◌, ◌≤◌, min, Bool, true, false, cond, ◌&&◌, eqb, ltb, List, [], ◌∷◌, ◌++◌, length, drop, map, set, refl, sym, ap, ◌∙◌, ⊎_elim, arith}
+use Rattle.std.proofs.Common.{◌≡◌, ℕ, zero, suc, Some, slice_get, ◌+◌, ◌-◌, ◌<◌, ◌≤◌, min, Bool, true, false, cond, ◌&&◌, eqb, ltb, List, [], ◌∷◌, ◌++◌, length, drop, map, set, refl, sym, ap, ◌∙◌, ⊎_elim, arith}
 use Rattle.std.proofs.lemmas.Bool.{eq-eqb, ne_eqb, ltb-true, lt-ltb, le-ltb, cases_lt}
 use Rattle.std.proofs.lemmas.List.{map-set}
 use Rattle.std.proofs.lemmas.List.Elements.{All-cons}
+use Rattle.std.proofs.lemmas.Option.{none-some, same_Some}
 use Rattle.std.specs.List.{All, list_all}
 use Rattle.circular_buffer.specs.Buffer.{keep_last}
 use Rattle.shared_core.specs.declared.place.Place.{Place}
-use Rattle.shared_core.specs.Places.{IsWithin, shown_place}
+use Rattle.shared_core.specs.Places.{IsWithin, HasRoomUntil, shown_place}
 use Rattle.shared_core.proofs.Latest.{length-kept_min, kept-min, kept-push, kept-pushed, kept-fewer}
 
 -- fewer than `limit` values are pending
@@ -31,6 +32,10 @@ room-test limit next kept position many within fits =
 and_parts : (a b : Bool) → (a && b) ≡ true → (a ≡ true) × (b ≡ true)
 and_parts true b h = (refl, h)
 and_parts false b h = absurd (cc)
+
+and_false : (a : Bool) → (a && false) ≡ false
+and_false true = refl
+and_false false = refl
 
 module _ {T : Type 0} (next : ℕ) (values : List T) where
   -- how many values a place has pending
@@ -95,6 +100,23 @@ module _ {T : Type 0} (next : ℕ) (values : List T) where
   -- fewer values were accepted than a subscription may have pending
   pub below-few : (limit : ℕ) (places : List Place) → next < limit → All (IsBelow limit next) places
   below-few limit places few = λ k d inside. omega (arith, few)
+
+  -- while the next number is below that until which each has room
+  pub below-until : (limit until : ℕ) (places : List Place) → 0 < limit → next < until → All (HasRoomUntil limit until) places → All (IsBelow limit next) places
+  below-until limit until places some early ahead = λ k d inside. let this = ahead k d inside in omega (arith, this, some, early)
+
+  -- one place has all its values pending
+  pub full-shown : (limit at : ℕ) (p : Place) (places : List Place) → slice_get places at ≡ Some p → IsWithin next limit (length values) p → limit ≤ next - p.position
+      → list_all (λ e. ltb (length e.1) limit) (map (shown_place next values) places) ≡ false
+  full-shown limit at p [] gets within full = absurd (none-some _ gets)
+  full-shown limit zero p (q ∷ places) gets within full =
+      let same : q ≡ p = same_Some q p gets in
+      ap (λ b. b && list_all (λ e. ltb (length e.1) limit) (map (shown_place next values) places))
+      (ap (λ (r : Place). ltb (length (keep_last (next - r.position) values)) limit) same
+      ∙ le-ltb (length (keep_last (next - p.position) values)) limit (omega (arith, length-pending_of p, full, within.1)))
+  full-shown limit (suc at) p (q ∷ places) gets within full =
+      ap (λ b. ltb (length (keep_last (next - q.position) values)) limit && b) (full-shown limit at p places gets within full)
+      ∙ and_false (ltb (length (keep_last (next - q.position) values)) limit)
 
   -- ---- an acceptance
 

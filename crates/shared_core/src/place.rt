@@ -1,7 +1,8 @@
 //! The places of live subscriptions.
 
-ghost use Rattle.std.specs.Prelude.{◌≡◌, ◌+◌, ◌≤◌, ◌==◌, nat_lt, false, length, IsTrue, IfSome, IfNone, slice_get};
-ghost use Rattle.std.specs.List.{list_any, list_all};
+ghost use Rattle.std.specs.Prelude.{◌≡◌, ◌+◌, ◌<◌, ◌≤◌, ◌==◌, nat_lt, false, length, IsTrue, IfOk, IfErr, IfSome, IfNone, slice_get};
+ghost use Rattle.std.specs.List.{All, list_any, list_all};
+ghost use Rattle.shared_core.specs.Places.{IsFrom};
 ghost use Rattle.shared_core.specs.Rising.{Rises, StandsWithin};
 
 /// A live subscription: its number, and where it stands.
@@ -107,4 +108,33 @@ pub fn each_past(places: &[Place], number: u64) -> bool
         }
     }
     true
+}
+
+/// The least position of these places, where each stands past the emission with this number; else where one stands that doesn't.
+fn least_among(places: &[Place], number: u64) -> Result<u64, usize>
+    ensures least { IfOk result (λ least. All (IsFrom least) places.now) }
+    ensures inside { IfErr result (λ i. i < length places.now) }
+{
+    let mut least = u64::MAX;
+    for (i, place) in places.iter().enumerate() {
+        if place.position <= number {
+            return Err(i);
+        }
+        least = least.min(place.position);
+    }
+    Ok(least)
+}
+
+/// The same, looked for from one place on and all round. So whoever asks again about the same number, from where it was found,
+/// passes each place once.
+pub fn least_position(places: &[Place], number: u64, from: usize) -> Result<u64, usize>
+    ensures { IfOk result (λ least. All (IsFrom least) places.now) }
+{
+    let from = from.min(places.len());
+    let later = match least_among(&places[from..], number) {
+        Ok(least) => least,
+        Err(at) => return Err(from + at),
+    };
+    let earlier = least_among(&places[..from], number)?;
+    Ok(earlier.min(later))
 }

@@ -27,7 +27,7 @@ ghost use Rattle.shared_core.specs.Rising.{Rises};
 ghost use Rattle.shared_core.specs.Ringed.{empty_ring, has_space, with_value, without_oldest, Receives};
 
 use crate::config::Config;
-use crate::place::{Place, each_past, find_place, place_of};
+use crate::place::{Place, each_past, find_place, least_position, place_of};
 use circular_buffer::HeapCircularBuffer;
 use std::alloc::{AllocError, Global};
 use std::marker::Model;
@@ -47,6 +47,10 @@ pub struct Ring<T: Copy> {
     places: Vec<Place>,
     /// Where the place stood that was asked for a value last.
     recent: usize,
+    /// While the next number is below this, there is room.
+    room_until: u64,
+    /// Where a place stood that had all its values pending, when room was looked for last.
+    slow: usize,
     /// How many subscriptions may be live.
     subscribers: usize,
 }
@@ -68,7 +72,7 @@ impl<T: Copy> Model for Ring<T> {
       subscribers = r.subscribers;
     } };
 
-    ghost invariant = { λ r. IsRing r.values r.next_number r.cached r.replay r.places.items (vec_capacity r.places) r.subscribers };
+    ghost invariant = { λ r. IsRing r.values r.next_number r.cached r.replay r.places.items (vec_capacity r.places) r.subscribers r.room_until };
 }
 
 impl<T: Copy> Ring<T> {
@@ -90,6 +94,8 @@ impl<T: Copy> Ring<T> {
             replay: config.replay as usize,
             places,
             recent: 0,
+            room_until: 0,
+            slow: 0,
             subscribers,
         })
     }
@@ -110,10 +116,42 @@ impl<T: Copy> Ring<T> {
         self.values.capacity() as u64
     }
 
+    // Whether there is room, where that is known without a look at each place.
+    fn known_room(&self) -> Option<bool>
+        ensures { IfSome result (λ room. room ≡ has_space self.now) }
+    {
+        if self.next_number < self.room_until {
+            return Some(true);
+        }
+        let place = self.places.get(self.slow)?;
+        if self.next_number - place.position >= self.limit() {
+            return Some(false);
+        }
+        None
+    }
+
+    /// Looks at the places, where whether there is room isn't known without that.
+    pub fn look_for_room(&mut self)
+        ensures { self.new ≡ self.old }
+    {
+        if self.known_room().is_some() {
+            return;
+        }
+        let limit = self.limit();
+        let oldest = self.next_number.saturating_sub(limit);
+        match least_position(&self.places, oldest, self.slow) {
+            Ok(least) => self.room_until = least.saturating_add(limit),
+            Err(at) => self.slow = at,
+        }
+    }
+
     /// Whether each live subscription has fewer values pending than it may: none stands at the oldest value of a full ring.
     pub fn has_room(&self) -> bool
         ensures { result ≡ has_space self.now }
     {
+        if let Some(room) = self.known_room() {
+            return room;
+        }
         let limit = self.limit();
         if self.next_number < limit {
             return true;
@@ -223,6 +261,7 @@ impl<T: Copy> Ring<T> {
         ensures { self.new ≡ record self.old { live = self.old.live ++ (number, self.old.cache) ∷ [] } }
     {
         let position = self.next_number - self.cached as u64;
+        self.room_until = self.room_until.min(position + self.limit());
         self.places.push_reserved(Place { number, position });
     }
 

@@ -135,8 +135,30 @@ impl<T: Copy> SharedState<T> {
         Ticket(ticket)
     }
 
+    /// Whether the numbers of emissions or of tickets are used up.
+    fn is_start_refused(&self) -> bool {
+        self.is_spent() || self.config.first + self.given == NUMBER_LIMIT
+    }
+
+    /// Looks for room, where an emission that isn't refused is going to ask for it.
+    fn look_for_room(&mut self, refused: bool)
+        ensures { self.new ≡ self.old }
+    {
+        if refused || self.config.policy == Policy::DropOldest {
+            return;
+        }
+        self.ring.look_for_room();
+    }
+
     /// Accepts the emission that waits longest, where there is room. Answers whether it did.
     fn accept_waiting(&mut self) -> bool
+        ensures { SettlesOnce self.old result self.new }
+    {
+        self.look_for_room(false);
+        self.accept_oldest()
+    }
+
+    fn accept_oldest(&mut self) -> bool
         ensures { SettlesOnce self.old result self.new }
     {
         let Some(oldest) = self.waiting.first() else {
@@ -181,6 +203,13 @@ impl<T: Copy> SharedState<T> {
     pub fn try_emit(&mut self, emitter: u32, value: T) -> Result<Tried<u64>, Refusal>
         ensures { Follows (calls.try_emit emitter value) self.old result self.new }
     {
+        self.look_for_room(self.is_spent());
+        self.try_now(emitter, value)
+    }
+
+    fn try_now(&mut self, emitter: u32, value: T) -> Result<Tried<u64>, Refusal>
+        ensures { Follows (calls.try_emit emitter value) self.old result self.new }
+    {
         if self.is_spent() {
             return Err(Refusal::Spent);
         }
@@ -198,6 +227,13 @@ impl<T: Copy> SharedState<T> {
     /// takes it back. Refused as `Spent` where the numbers below 2^62 of emissions, or of tickets, are used up, and then as
     /// `EmitsFull` where a ticket is needed and `emits` of them are out; a refusal changes nothing.
     pub fn start_emit(&mut self, emitter: u32, value: T) -> Result<Begun<u64, Ticket>, Refusal>
+        ensures { Follows (calls.start_emit emitter value) self.old result self.new }
+    {
+        self.look_for_room(self.is_start_refused());
+        self.start_now(emitter, value)
+    }
+
+    fn start_now(&mut self, emitter: u32, value: T) -> Result<Begun<u64, Ticket>, Refusal>
         ensures { Follows (calls.start_emit emitter value) self.old result self.new }
     {
         if self.is_spent() || self.config.first + self.given == NUMBER_LIMIT {

@@ -1,4 +1,4 @@
-use Rattle.std.proofs.Common.{◌-◌, ◌+◌, ◌≤◌, length}
+use Rattle.std.proofs.Common.{◌+◌, ◌≤◌, length}
 use Rattle.shared_core.specs.Rising.{Rises, StandsWithin}
 use Rattle.shared_core.specs.declared.place.Place.{Place}
 use Rattle.shared_core.proofs.place.place_among.Given as goal

@@ -1,4 +1,4 @@
-use Rattle.std.proofs.Common.{◌+◌, ◌/◌, arith}
+use Rattle.std.proofs.Common.{arith}
 use Rattle.shared_core.specs.declared.tickets.OutTicket.{OutTicket}
 use Rattle.shared_core.proofs.Rising.{upper_half, lower_half, absent_but_one, absent_from_none, not_read}
 use Rattle.shared_core.proofs.tickets.out_among.Goals as goal

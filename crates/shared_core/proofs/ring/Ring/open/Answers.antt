@@ -3,7 +3,7 @@ use Rattle.std.proofs.Math.ListN.{length-map}
 use Rattle.std.proofs.lemmas.Grind.{common_steps}
 use Rattle.std.proofs.lemmas.List.Elements.{All-push, All-same}
 use Rattle.shared_core.specs.declared.place.Place.{Place}
-use Rattle.shared_core.specs.Places.{IsWithin, shown_place}
+use Rattle.shared_core.specs.Places.{IsWithin, HasRoomUntil, shown_place}
 use Rattle.shared_core.specs.Ringed.{Ringed}
 use Rattle.shared_core.proofs.ring.Ring.open.Goals as goal
 
@@ -32,6 +32,7 @@ invariant_of-self g c =
     let kept = c.self.invariant in
     let ring = c.self.inside in
     let place : Place = record { number = c.args.number; position = ring.next_number - ring.cached } in
+    let until = c.min-self-inside.result in
     let room : length ring.places.items < ring.subscribers = omega (
       arith,
       c.requires,
@@ -47,6 +48,9 @@ invariant_of-self g c =
       within =
           All-same (IsWithin ring.next_number ring.values.capacity (length ring.values.items)) c.push_reserved.new.self.items (ring.places.items ++ place ∷ []) c.push_reserved.ensures.items
           (All-push (IsWithin ring.next_number ring.values.capacity (length ring.values.items)) ring.places.items place kept.within (omega arith, omega (arith, kept.cache.2)));
+      ahead =
+          All-same (HasRoomUntil ring.values.capacity until) c.push_reserved.new.self.items (ring.places.items ++ place ∷ []) c.push_reserved.ensures.items
+          (All-push (HasRoomUntil ring.values.capacity until) ring.places.items place (λ k d inside. let this = kept.ahead k d inside in omega (arith, this, c.min-self-inside.ensures)) (omega (arith, c.min-self-inside.ensures, c.limit.ensures.limit, ap (λ (r : Ringed _). r.limit) c.self.view_is)));
       seats = (
         omega (arith, room, ap length c.push_reserved.ensures.items, length-append ring.places.items (place ∷ [])),
         omega (arith, kept.seats.1, c.push_reserved.ensures.capacity),

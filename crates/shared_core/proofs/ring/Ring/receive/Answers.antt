@@ -2,9 +2,9 @@ use Rattle.std.proofs.Common.{◌≡◌, ◌-◌, length, map, set, Some, None, 
 use Rattle.std.proofs.lemmas.List.{length-set}
 use Rattle.std.proofs.lemmas.List.Elements.{All-set}
 use Rattle.std.specs.Option.{option_copied}
-use Rattle.shared_core.specs.Places.{IsWithin, shown_place}
+use Rattle.shared_core.specs.Places.{IsWithin, HasRoomUntil, shown_place}
 use Rattle.shared_core.specs.Ringed.{Ringed, Receives}
-use Rattle.shared_core.proofs.Rings.{inside_places, within_there, received_within, receives_some, receives_none}
+use Rattle.shared_core.proofs.Rings.{inside_places, within_there, room_there, received_within, receives_some, receives_none}
 use Rattle.shared_core.proofs.Standing.{received_at}
 use Rattle.shared_core.proofs.ring.Ring.receive.Goals as goal
 
@@ -41,6 +41,7 @@ invariant_of-self-2 g c =
     let first : oldest ≡ ring.next_number - length ring.values.items = omega (arith, c.len.ensures.len) in
     let here = within_there ring.next_number ring.values.items ring.places.items now live c.args.at place c.requires c.index-place.ensures limit kept.within in
     let next = received_at ring.next_number ring.values.items oldest index place in
+    let from = room_there ring.next_number ring.values.items ring.places.items now live c.args.at place c.requires c.index-place.ensures limit ring.room_until kept.ahead in
     let moved : IsWithin ring.next_number limit (length ring.values.items) next =
     received_within ring.next_number ring.values.items ring.places.items now live c.args.at place c.requires c.index-place.ensures
     oldest index kept.kept.1 here.0 first c.saturating_sub-index.ensures limit c.in_ok-value.field-0.now (sym c.get.ensures ∙ ap option_copied c.in_ok-value.was) in
@@ -50,6 +51,7 @@ invariant_of-self-2 g c =
       numbers = kept.numbers;
       cache = kept.cache;
       within = All-set (IsWithin ring.next_number limit (length ring.values.items)) ring.places.items c.args.at next moved kept.within;
+      ahead = All-set (HasRoomUntil limit ring.room_until) ring.places.items c.args.at next (omega (arith, first, from, c.saturating_sub-index.ensures)) kept.ahead;
       seats = (omega (arith, kept.seats.0, length-set ring.places.items c.args.at next), kept.seats.1, kept.seats.2);
     }
 

@@ -1,7 +1,7 @@
 use Rattle.std.proofs.Common.{◌≡◌, ◌+◌, ◌-◌, ◌∷◌, ◌++◌, [], length, ap, sym, subst, ◌∙◌, arith, length-append, length-drop}
 use Rattle.std.specs.List.{All}
 use Rattle.circular_buffer.specs.Buffer.{Buffer}
-use Rattle.shared_core.specs.Places.{IsWithin}
+use Rattle.shared_core.specs.Places.{IsWithin, HasRoomUntil}
 use Rattle.shared_core.specs.Ringed.{Ringed, has_space, with_value, without_oldest}
 use Rattle.shared_core.proofs.Standing.{below-from_room, within-accepted}
 use Rattle.shared_core.proofs.Rings.{accepted_shown, pushed_shown}
@@ -29,6 +29,7 @@ invariant_of-self g c =
       within =
           subst (λ n. All (IsWithin (ring.next_number + 1) n (length c.push_back-overwritten.new.self.items)) ring.places.items) (sym same)
           (within-accepted ring.next_number xs limit (length c.push_back-overwritten.new.self.items) ring.places.items long kept.within);
+      ahead = subst (λ n. All (HasRoomUntil n ring.room_until) ring.places.items) (sym same) kept.ahead;
       seats = kept.seats;
     }
 

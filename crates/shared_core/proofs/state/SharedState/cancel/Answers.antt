@@ -1,6 +1,6 @@
-use Rattle.std.proofs.Common.{eqb, length, refl, ap, sym, subst, ◌∙◌, slice_get}
+use Rattle.std.proofs.Common.{length, refl, ap, sym, subst, ◌∙◌, slice_get}
 use Rattle.std.proofs.lemmas.Option.{slice_get_within}
-use Rattle.std.specs.List.{list_any, remove}
+use Rattle.std.specs.List.{remove}
 use Rattle.shared_core.specs.Kept.{AreNumbered, IsRingOf, AreTickets}
 use Rattle.shared_core.specs.Preludes.{EndsGreeting}
 use Rattle.shared_core.specs.Ringed.{Ringed}

@@ -1,7 +1,6 @@
-use Rattle.std.proofs.Common.{eqb, ◌≡◌, ℕ, List, Some, drop, set, length, refl, ap, sym, subst, ◌∙◌, slice_get}
+use Rattle.std.proofs.Common.{◌≡◌, ℕ, List, Some, drop, set, length, refl, ap, sym, subst, ◌∙◌, slice_get}
 use Rattle.std.proofs.lemmas.Option.{same_Some, slice_get_within}
 use Rattle.flow_terms.specs.declared.answers.Next.TheVariants as next
-use Rattle.std.specs.List.{list_any}
 use Rattle.shared_core.specs.Calls.{next_value}
 use Rattle.shared_core.specs.Kept.{AreNumbered, IsRingOf, AreTickets}
 use Rattle.shared_core.specs.Ringed.{Ringed}
