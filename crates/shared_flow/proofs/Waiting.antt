@@ -1,11 +1,11 @@
 -- An emission, and a value, that a thread waits for.
-use Rattle.std.proofs.Common.{◌≡◌, ◌⊎◌, ℕ, Option, Some, None, Result, Ok, Err, sym, ap, subst, ◌∙◌, ⊎_elim}
+use Rattle.std.proofs.Common.{◌≡◌, ◌⊎◌, ℕ, Option, Some, None, Result, Ok, Err, IfOk, sym, ap, subst, ◌∙◌, ⊎_elim}
 use Rattle.flow_terms.specs.declared.refusal.Refusal.{Refusal}
 use Rattle.shared_lane.specs.Views.{ReaderSeen, ReceiptSeen}
 use Rattle.shared_flow.specs.declared.round.Round.TheVariants as round
 use Rattle.shared_flow.specs.Emitters as emitters
 use Rattle.shared_flow.specs.Emitters.{IfEmitted, Waits}
-use Rattle.shared_flow.specs.Looks.{Gave, GaveIn, MissedOn, not_once, once_more, OnlyNext, by_one, Waited}
+use Rattle.shared_flow.specs.Looks.{GaveIn, Missed, MissedOn, not_once, once_more, OnlyNext, by_one, Waited}
 use Rattle.shared_flow.specs.Parties.{Emitting, IsOwnReceipt, IsSameEmitter, named, with_round}
 use Rattle.shared_flow.specs.Reach.{Party}
 use Rattle.shared_flow.specs.Rounds.{IsReceiptOfOne}
@@ -43,3 +43,17 @@ only_next p q r rounds more = ⊎_elim (λ same. subst (OnlyNext p) (sym same) r
 -- a poll gave a value, after looks that gave none
 pub waited_on : {T : Type 0} (read_as : ℕ → T) (r s t : ReaderSeen) (v : T) → MissedOn r s → GaveIn read_as s v t → Waited read_as r v t
 waited_on read_as r s t v missed gives = ⊎_elim (λ at_once. (s, missed, at_once)) (λ later. (later.0, once_more r s later.0 missed later.1, later.2)) gives
+
+-- a look that took nothing, before others
+missed_before : (r m t : ReaderSeen) → MissedOn m t → Missed r m → MissedOn r t
+missed_before r m t (not_once s) missed = once_more r r s (not_once r) missed
+missed_before r m t (once_more s n u before later) missed = once_more r n u (missed_before r s n before missed) later
+
+-- the next value was taken, after a look that took nothing and others
+waited_before : {T : Type 0} (read_as : ℕ → T) (r m t : ReaderSeen) (v : T) → Missed r m → Waited read_as m v t → Waited read_as r v t
+waited_before read_as r m t v missed waited = (waited.0, missed_before r m waited.0 waited.1 missed, waited.2)
+
+pub ok_before : {T : Type 0} (read_as : ℕ → T) (r m t : ReaderSeen) (answer : Result T Refusal) → Missed r m
+    → IfOk answer (λ v. Waited read_as m v t) → IfOk answer (λ v. Waited read_as r v t)
+ok_before read_as r m t (Ok v) missed waited = waited_before read_as r m t v missed waited
+ok_before read_as r m t (Err refusal) missed waited = tt

@@ -7,6 +7,23 @@ use futures::task::{Context, Doorbell, Queue};
 use std::alloc::AllocGlobal;
 use std::random::RandomSource;
 use std::sync::Wait;
+use std::{hint, thread};
+
+/// How often a thread looks on before it sleeps. With the pauses in between it looks for some microseconds at most; to sleep and to
+/// be woken takes more, of itself and of who wakes it.
+pub(crate) const LOOKS: u32 = 4;
+
+// How many turns a pause has before it yields. In a shorter one fewer values would come, and who emits and who receives would
+// take turns at the same cache lines for each.
+const TURNS: u32 = 32;
+
+/// Lets some time pass before the next look, in which other threads may run on this processor.
+pub(crate) fn pause() {
+    for _ in 0..TURNS {
+        hint::spin_loop();
+    }
+    thread::yield_now();
+}
 
 /// What a thread sleeps by, while it waits in [`Emitter::emit`](crate::Emitter::emit) or
 /// [`Subscription::next`](crate::Subscription::next). Make one for each thread that waits, and use it for all of the thread's calls:
@@ -14,6 +31,8 @@ use std::sync::Wait;
 #[derive(Drop)]
 pub struct Parker {
     queue: Queue,
+    // Whether a turn is set that no wait has taken yet: the next wait begins with it.
+    is_set: bool,
 }
 
 impl Parker {
@@ -25,21 +44,30 @@ impl Parker {
         ensures { IfErr result (λ refusal. refusal ≡ NoMemory) }
     {
         match Queue::new(rt, Doorbell::parking()) {
-            Ok(queue) => Ok(Parker { queue }),
+            Ok(queue) => Ok(Parker {
+                queue,
+                is_set: false,
+            }),
             Err(_) => Err(Refusal::NoMemory),
         }
     }
 
-    /// Begins to wait: its first turn comes at once. Refused as `NoMemory`, which the first wait of a parker can be.
-    pub(crate) fn begin(&self) -> Result<(), Refusal>
+    /// Begins to wait: its first turn comes at once. Refused as `NoMemory`, which the first wait of a parker can be. A wait that
+    /// ends before its first turn leaves that to the next one.
+    pub(crate) fn begin(&mut self) -> Result<(), Refusal>
         ensures { IfErr result (λ refusal. refusal ≡ NoMemory) }
     {
+        if self.is_set {
+            return Ok(());
+        }
         self.queue.add()?.schedule();
+        self.is_set = true;
         Ok(())
     }
 
     /// Sleeps until the thread has to ask again. Nothing only where it doesn't wait.
-    pub(crate) fn turn(&self, rt: &impl Wait) -> Option<Context<'_>> {
+    pub(crate) fn turn(&mut self, rt: &impl Wait) -> Option<Context<'_>> {
+        self.is_set = false;
         self.queue.next(rt)
     }
 }

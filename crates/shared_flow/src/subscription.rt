@@ -7,7 +7,7 @@ ghost use Rattle.shared_lane.specs.Readers.{IsReaderOf, IsReceiptOf, IsSameReade
 ghost use Rattle.shared_flow.specs.declared.round.Round.TheVariants as round;
 ghost use Rattle.shared_flow.specs.Reach.{party_of};
 ghost use Rattle.shared_flow.specs.Parties.{Subscribed, OfFlow, with_round};
-ghost use Rattle.shared_flow.specs.Looks.{Took, Gave, GaveIn, Missed, MissedTwice, OnlyNext, Waited};
+ghost use Rattle.shared_flow.specs.Looks.{Took, Gave, GaveIn, Missed, MissedTwice, MissedOn, OnlyNext, Waited};
 ghost use Rattle.shared_core.specs.Preludes.{prelude_values};
 ghost use Rattle.shared_flow.specs.Preludes.{IsGreeted, IsPast, GreetedOr, TookFirst};
 ghost use Rattle.flow_terms.specs.declared.refusal.Refusal.TheVariants.{NoMemory};
@@ -15,7 +15,7 @@ ghost use Rattle.shared_flow.specs.Meeting.{HasMet};
 ghost use Rattle.shared_flow.specs.Owners.{OnlyMet};
 
 use crate::access::Access;
-use crate::parker::Parker;
+use crate::parker::{LOOKS, Parker, pause};
 use crate::rest::Rest;
 use crate::round::Round;
 use crate::shared::Shared;
@@ -176,10 +176,25 @@ impl<T: Word> Subscription<T> {
         ensures value { IfOk result (λ v. Waited T.read_as self.old.reader v self.new.reader) }
         ensures nothing { IfErr result (λ refusal. (refusal ≡ NoMemory) × Missed self.old.reader self.new.reader) }
     {
-        if let Some(value) = self.look(rt) {
+        match self.look(rt) {
+            Some(value) => Ok(value),
+            None => self.wait_for_next(rt, parker),
+        }
+    }
+
+    // The same, where a look found nothing. It looks on for a little while before the thread sleeps.
+    #[inline(never)]
+    fn wait_for_next(&mut self, rt: &impl Wait, parker: &mut Parker) -> Result<T, Refusal>
+        ensures same { (self.new.number ≡ self.old.number) × (self.new.rest ≡ self.old.rest) }
+        ensures rounds { OnlyNext self.old.party self.new.party }
+        ensures value { IfOk result (λ v. Waited T.read_as self.old.reader v self.new.reader) }
+        ensures nothing { IfErr result (λ refusal. (refusal ≡ NoMemory) × (self.new ≡ self.old)) }
+    {
+        parker.begin()?;
+        if let Some(value) = self.look_on() {
+            self.help(rt);
             return Ok(value);
         }
-        parker.begin()?;
         for _ in rt.forever() {
             let Some(mut cx) = parker.turn(rt) else {
                 continue;
@@ -191,6 +206,45 @@ impl<T: Word> Subscription<T> {
             }
         }
         unreachable!()
+    }
+
+    // Looks some times more, without the lock. A value that another thread is about to accept is there sooner than a thread
+    // that sleeps has been woken for it.
+    fn look_on(&mut self) -> Option<T>
+        ensures same { (self.new.party ≡ self.old.party) × (self.new.number ≡ self.old.number) × (self.new.rest ≡ self.old.rest) }
+        ensures given { IfSome result (λ v. Waited T.read_as self.old.reader v self.new.reader) }
+        ensures missed { IfNone result (MissedOn self.old.reader self.new.reader) }
+    {
+        for _ in 0..LOOKS {
+            pause();
+            if let Some(value) = self.try_value() {
+                return Some(value);
+            }
+        }
+        None
+    }
+
+    // The next value that was accepted, if it is there, without a lock.
+    fn try_value(&mut self) -> Option<T>
+        ensures same { (self.new.party ≡ self.old.party) × (self.new.number ≡ self.old.number) × (self.new.rest ≡ self.old.rest) }
+        ensures given { IfSome result (λ v. Gave T.read_as self.old.reader v self.new.reader) }
+        ensures missed { IfNone result (Missed self.old.reader self.new.reader) }
+    {
+        match self.try_accepted() {
+            Taken::Value(value) => Some(value),
+            Taken::Nothing => None,
+            Taken::Overtaken => None,
+        }
+    }
+
+    // Lets in what waits, where an emission may, after a value was received without the lock.
+    fn help(&mut self, rt: &impl Wait)
+        ensures rounds { (self.new.party ≡ self.old.party) ⊎ (self.new.party ≡ with_round round.Next self.old.party) }
+        ensures same { (self.new.number ≡ self.old.number) × (self.new.rest ≡ self.old.rest) × (self.new.reader ≡ self.old.reader) }
+    {
+        if self.access.has_unfinished() {
+            self.make_room(rt);
+        }
     }
 
     // Looks for a value without the lock. It takes the lock where an emission waits that the receipt may help.

@@ -14,11 +14,31 @@ use std::process::Abort;
 use std::random::RandomSource;
 use std::sync::Wait;
 use std::test::Fail;
-use std::thread;
 use std::thread::Threads;
+use std::{hint, thread};
 
 /// How many values pass, from 0 on.
 const VALUES: u64 = 1000;
+
+/// How many turns each thread lets pass at most before a value, so that the other one finds none yet: it looks on, or sleeps.
+#[derive(Clone, Copy)]
+struct Pace {
+    emits: u64,
+    receives: u64,
+}
+
+/// No thread lets any pass.
+const AT_ONCE: Pace = Pace {
+    emits: 0,
+    receives: 0,
+};
+
+// Lets turns pass, up to so many, by the value that is next.
+fn dawdle(most: u64, value: u64) {
+    for _ in 0..most.min(value % 256 * 32) {
+        hint::spin_loop();
+    }
+}
 
 // Emits once more where there was no memory to wait by: the value was given up then.
 fn emitted<R: Wait>(
@@ -42,11 +62,13 @@ fn emit_all<R: Wait>(
     emitter: &mut Emitter<u64>,
     parker: &mut Parker,
     meeting: &Meeting,
+    pace: Pace,
 ) -> u64 {
     if !meeting.come() {
         return 0;
     }
     for value in 0..VALUES {
+        dawdle(pace.emits, value);
         if emitter.in_flight() {
             return value;
         }
@@ -64,11 +86,13 @@ fn receive_all<R: Wait>(
     subscription: &mut Subscription<u64>,
     parker: &mut Parker,
     meeting: &Meeting,
+    pace: Pace,
 ) -> u64 {
     if !meeting.wait() {
         return 0;
     }
     for wanted in 0..VALUES {
+        dawdle(pace.receives, wanted);
         let found = match subscription.next(rt, parker) {
             Ok(value) => Ok(value),
             Err(_) => subscription.next(rt, parker),
@@ -86,6 +110,7 @@ fn received_from<R>(
     flow: &mut SharedFlow<u64>,
     emitter: &mut Emitter<u64>,
     (first, second): (&mut Parker, &mut Parker),
+    pace: Pace,
 ) -> Result<(u64, u64), Refusal>
 where
     R: Wait + Threads + Sync,
@@ -94,8 +119,8 @@ where
     let meeting = Meeting::new();
     let passed = thread::join(
         rt,
-        || emit_all(rt, emitter, first, &meeting),
-        || receive_all(rt, &mut subscription, second, &meeting),
+        || emit_all(rt, emitter, first, &meeting, pace),
+        || receive_all(rt, &mut subscription, second, &meeting, pace),
     );
     subscription.cancel(rt);
     Ok(passed)
@@ -106,32 +131,47 @@ fn passed_over<R>(
     rt: &R,
     extra: u64,
     parkers: (&mut Parker, &mut Parker),
+    pace: Pace,
 ) -> Result<(u64, u64), Refusal>
 where
     R: Wait + Threads + AllocGlobal + Sync,
 {
     let mut flow = SharedFlow::new(rt.alloc(), config(0, extra, Policy::Suspend))?;
     let mut emitter = flow.emitter(rt, 1)?;
-    let passed = received_from(rt, &mut flow, &mut emitter, parkers);
+    let passed = received_from(rt, &mut flow, &mut emitter, parkers, pace);
     emitter.close(rt);
     passed
 }
 
 // The same, where each thread has something to wait by.
-fn passed<R>(rt: &R, extra: u64) -> Result<(u64, u64), Refusal>
+fn passed<R>(rt: &R, extra: u64, pace: Pace) -> Result<(u64, u64), Refusal>
 where
     R: Wait + Threads + RandomSource + AllocGlobal + Sync,
 {
     let mut first = Parker::new(rt)?;
     let mut second = Parker::new(rt)?;
-    passed_over(rt, extra, (&mut first, &mut second))
+    passed_over(rt, extra, (&mut first, &mut second), pace)
 }
 
 #[test]
 fn threads_that_wait_are_answered(rt: HostRuntime) -> Result<(), Fail> {
     for extra in [0, 1, 8] {
-        let found = passed(&rt, extra).map_err(|refusal| refusal.number())?;
+        let found = passed(&rt, extra, AT_ONCE).map_err(|refusal| refusal.number())?;
         assert_same(&rt, "emitted and received", found, (VALUES, VALUES));
+    }
+    Ok(())
+}
+
+// Where one is slower, the other looks on, finds its value by that, or sleeps and is woken: by turns, as the pace goes.
+#[test]
+fn threads_of_unequal_pace_are_answered(rt: HostRuntime) -> Result<(), Fail> {
+    let paces = [(8000, 0), (0, 8000), (64, 64)];
+    for (emits, receives) in paces {
+        let pace = Pace { emits, receives };
+        for extra in [0, 1, 8] {
+            let found = passed(&rt, extra, pace).map_err(|refusal| refusal.number())?;
+            assert_same(&rt, "emitted and received", found, (VALUES, VALUES));
+        }
     }
     Ok(())
 }
