@@ -6,6 +6,7 @@ ghost use Rattle.shared_flow.specs.Names.{IsNew, SharedSeen, KnowsLane};
 ghost use Rattle.shared_flow.specs.Reach.{reach_of};
 ghost use Rattle.shared_flow.specs.Rounds.{Does, Below};
 
+use crate::parker::{LOOKS, pause};
 use crate::round::Round;
 use crate::shared::{Shared, wakes_of};
 use crate::track::Track;
@@ -84,6 +85,17 @@ impl Access {
     /// Whether who has received has to take the lock, for an emission that may wait for that. Without a lock.
     pub fn has_unfinished(&self) -> bool {
         self.track.has_unfinished()
+    }
+
+    /// Looks some times whether an emission may wait still, up to where none does. Without a lock.
+    #[inline(never)]
+    pub fn watch_unfinished(&self) {
+        for _ in 0..LOOKS {
+            pause();
+            if !self.has_unfinished() {
+                return;
+            }
+        }
     }
 
     /// The lane, for which no lock is needed.

@@ -214,7 +214,7 @@ impl<T: Word> Emitter<T> {
         }
     }
 
-    // Waits until the emission in flight is finished.
+    // Waits until the emission in flight is finished. It looks on for a little while before the thread sleeps.
     fn finished(&mut self, rt: &impl Wait, parker: &mut Parker) -> Receipt
         requires in_flight { self.old.ticket ≢ None }
         ensures ends { (self.new.ticket ≡ None) × IsSameEmitter self.old self.new }
@@ -222,6 +222,7 @@ impl<T: Word> Emitter<T> {
         ensures receipt { IsOwnReceipt self.old.party self.old.id result }
         ensures rises { IsAfter self.old.last result.number }
     {
+        self.access.watch_unfinished();
         for _ in rt.forever() {
             let Some(mut cx) = parker.turn(rt) else {
                 continue;

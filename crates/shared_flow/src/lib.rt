@@ -35,8 +35,8 @@
 //! pending. These wait for the lock alone. A pending poll has left the waker of its context in a table under the lock, or asked
 //! to be polled again. A woken task polls once more; what its poll then answers, the wake doesn't say.
 //!
-//! A thread that has nothing else to do calls `Emitter::emit` and `Subscription::next`: each makes these polls, and sleeps by the
-//! thread's `Parker` between two of them.
+//! A thread that has nothing else to do calls `Emitter::emit` and `Subscription::next`: each looks on for some microseconds without
+//! the lock, makes these polls then, and sleeps by the thread's `Parker` between two of them.
 //!
 //! # Who is woken
 //! - An acceptance wakes each subscription that sleeps: the value is pending for it. Nothing else wakes one.
