@@ -119,7 +119,7 @@ impl Shared {
     fn wake_subscriptions(&mut self, before: u64)
         ensures { self.new ≡ self.old }
     {
-        if self.sequencer.next_number() <= before {
+        if self.subscriptions.is_empty() || self.sequencer.next_number() <= before {
             return;
         }
         self.subscriptions.wake_all(&mut self.wakes);
