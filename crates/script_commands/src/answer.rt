@@ -1,12 +1,15 @@
 //! What a line of a script is answered with.
 
-ghost use Rattle.std.specs.Prelude.{◌≡◌, Some};
+ghost use Rattle.std.specs.Prelude.{◌≡◌, ◌++◌, Some, OnOk};
 ghost use Rattle.script_commands.specs.Answers.{text_of, word_of};
+ghost use Rattle.script_commands.specs.declared.answer.Answer.TheVariants.{Collected};
 
 mod replies;
 
+use crate::decimals::{add_counted, add_decimal};
 use crate::listing::Listing;
 use cold_flow::Refusal;
+use std::alloc::AllocError;
 use std::fmt;
 
 /// What a command answers, and what a bad line is answered with.
@@ -84,6 +87,38 @@ impl Answer {
             Answer::TooMany => "too many",
             _ => "",
         }
+    }
+
+    /// Adds its text to another, in one go: what its `Display` writes.
+    pub fn add_to(&self, text: &mut Vec<u8>) -> Result<(), AllocError>
+        ensures { OnOk result (text.new.items ≡ text.old.items ++ text_of self.now) }
+    {
+        match self {
+            Answer::Refused(refusal) => add_counted(text, b"refused ", u64::from(refusal.number())),
+            Answer::Value(value) => add_counted(text, b"value ", *value),
+            Answer::Failed(fault) => add_counted(text, b"failed ", *fault),
+            Answer::Number(number) => add_decimal(text, *number),
+            Answer::Truth(true) => text.extend_from_slice(b"true"),
+            Answer::Truth(false) => text.extend_from_slice(b"false"),
+            Answer::Values(values) => values.add_to(text),
+            Answer::Collected { values, fault } => add_collected(text, values, *fault),
+            Answer::BadCommand(line) => {
+                add_counted(text, b"line ", *line)?;
+                text.extend_from_slice(b": bad command")
+            }
+            _ => text.extend_from_slice(self.word().as_bytes()),
+        }
+    }
+}
+
+/// Adds what a pipe gave, and how it ended.
+fn add_collected(text: &mut Vec<u8>, values: &Listing, fault: Option<u64>) -> Result<(), AllocError>
+    ensures { OnOk result (text.new.items ≡ text.old.items ++ text_of (Collected values.now fault)) }
+{
+    values.add_to(text)?;
+    match fault {
+        None => text.extend_from_slice(b" finished"),
+        Some(fault) => add_counted(text, b" failed ", fault),
     }
 }
 

@@ -6,6 +6,7 @@
 mod actions;
 mod answer;
 mod command;
+mod decimals;
 mod gathered;
 mod inner;
 mod items;

@@ -1,6 +1,6 @@
 //! Runs a script whole.
 
-ghost use Rattle.std.specs.Prelude.{◌≡◌, ◌≤◌, ◌+◌, length, IfErr, OnOk, string_bytes};
+ghost use Rattle.std.specs.Prelude.{◌≡◌, ◌≤◌, ◌+◌, length, IfErr, OnOk};
 ghost use Rattle.script_commands.specs.Answers.{line_of};
 ghost use Rattle.script_run.specs.Input.{TakesAtMost};
 ghost use Rattle.script_run.specs.declared.fault.ScriptFault.TheVariants.{NoMemory};
@@ -16,28 +16,29 @@ use crate::run::Run;
 use futures::task::{Doorbell, Solo};
 use script_commands::{Answer, ScriptObject};
 use std::alloc::{AllocError, AllocGlobal, Global};
-use std::fmt::Write as _;
 use std::io::{Read, Write};
 use std::random::RandomSource;
 
 /// Puts the line that shows an answer in the place of a text.
-fn show(text: &mut String, answer: Answer) -> Result<(), AllocError>
-    ensures { OnOk result (string_bytes text.new ≡ line_of answer) }
+fn show(text: &mut Vec<u8>, answer: Answer) -> Result<(), AllocError>
+    ensures { OnOk result (text.new.items ≡ line_of answer) }
 {
     text.clear();
-    write!(text, "{answer}\n")
+    answer.add_to(text)?;
+    text.push(b'\n')?;
+    Ok(())
 }
 
 /// Writes an answer as a line. The text is a place to put it together.
 fn write_answer<W: Write>(
     writer: &mut W,
-    text: &mut String,
+    text: &mut Vec<u8>,
     answer: Answer,
 ) -> Result<(), ScriptFault>
     ensures { WritesAnswer (W.contents writer.old) (W.contents writer.new) answer result }
 {
     show(text, answer)?;
-    write_whole(writer, text.as_bytes())
+    write_whole(writer, text.as_slice())
 }
 
 /// Writes the answers of a script, one by one.
@@ -52,7 +53,7 @@ fn write_answers<'s, W: Write, O: ScriptObject<'s>>(
     requires first { place run.old ≡ first_place script.now (standing run.old.runner) }
     ensures { Writes O.makes O.asks O.joins (W.contents writer.old) (W.contents writer.new) script.now result }
 {
-    let mut text = String::new(alloc);
+    let mut text = Vec::new(alloc);
     'answers: while let Some(answered) = run.next(alloc)? {
         write_answer(writer, &mut text, answered.answer)?;
     }
