@@ -1,4 +1,5 @@
 pub mod Commands
+pub mod Keywords
 pub mod Listings
 pub mod Answers
 pub mod Replies

@@ -4,9 +4,11 @@ ghost use Rattle.std.specs.Prelude.{◌≡◌};
 ghost use Rattle.std.specs.Option.{option_map};
 ghost use Rattle.script_words.specs.Lines.{words_of};
 ghost use Rattle.script_commands.specs.declared.request.Request.TheVariants.{Try, Set, CompareAndSet, Tick};
-ghost use Rattle.script_commands.specs.Commands.{order_of, asks, asks_with, asks_with_two, joins, joins_with, collector, emission, joining_in, subscribes, subscribing, cold_of, form_in, requests, parties, command_of};
+ghost use Rattle.script_commands.specs.Commands.{order_of, asks, asks_with, asks_with_two, joins, joins_with, collector, emission, joining_in, subscribes, subscribing, cold_of, command_of};
 
-use crate::making::{self, Making};
+mod keywords;
+
+use crate::making::Making;
 use crate::pipe::Pipe;
 use crate::request::{Party, Request};
 use script_words::{Numbers, Words};
@@ -146,72 +148,22 @@ fn cold<'a>(words: Words<'a>) -> Option<Command<'a>>
 
 impl<'a> Command<'a> {
     /// The command that the words of a line say.
-    #[tactic(auto, unfolding(crate::specs::Commands::command_of))]
     pub fn parse(first: &[u8], words: Words<'a>) -> Option<Command<'a>>
         ensures { option_map order_of result ≡ command_of first.now (words_of words.entry.rest.now) }
     {
-        if first == b"shared".as_slice() {
-            making::shared(words)
-        } else if first == b"state".as_slice() {
-            making::state(words)
-        } else if first == b"buffer".as_slice() {
-            making::buffer(words)
-        } else if first == b"share".as_slice() {
-            making::share(words)
-        } else if first == b"stated".as_slice() {
-            making::stated(words)
-        } else if first == b"cold".as_slice() {
-            cold(words)
-        } else {
-            Command::of_party(first, words)
-        }
-    }
-
-    /// The command by which a party joins, or one of those after them.
-    fn of_party(first: &[u8], words: Words<'a>) -> Option<Command<'a>>
-        ensures { option_map order_of result ≡ form_in parties first.now (words_of words.entry.rest.now) }
-    {
-        if first == b"sub".as_slice() {
-            subscribe(words)
-        } else if first == b"collect".as_slice() {
-            collect(words)
-        } else if first == b"emit".as_slice() {
-            emit(words)
-        } else {
-            Command::of_request(first, words)
-        }
-    }
-
-    /// The command that asks something.
-    fn of_request(first: &[u8], words: Words<'a>) -> Option<Command<'a>>
-        ensures { option_map order_of result ≡ form_in requests first.now (words_of words.entry.rest.now) }
-    {
-        if first == b"next".as_slice() {
-            ask(words, Request::Next)
-        } else if first == b"cancel".as_slice() {
-            ask(words, Request::Cancel)
-        } else if first == b"count".as_slice() {
-            ask(words, Request::Count)
-        } else if first == b"cache".as_slice() {
-            ask(words, Request::Cache)
-        } else if first == b"reset".as_slice() {
-            ask(words, Request::Reset)
-        } else if first == b"fill".as_slice() {
-            ask(words, Request::Fill)
-        } else if first == b"poll".as_slice() {
-            ask(words, Request::Poll)
-        } else if first == b"withdraw".as_slice() {
-            ask(words, Request::Withdraw)
-        } else if first == b"value".as_slice() {
-            ask(words, Request::Value)
-        } else if first == b"try".as_slice() {
-            try_emit(words)
-        } else if first == b"set".as_slice() {
-            set(words)
-        } else if first == b"cas".as_slice() {
-            compare_and_set(words)
-        } else if first == b"tick".as_slice() {
-            tick(words)
+        let letters = first.len();
+        if letters == 3 {
+            keywords::of_three(first, words)
+        } else if letters == 4 {
+            keywords::of_four(first, words)
+        } else if letters == 5 {
+            keywords::of_five(first, words)
+        } else if letters == 6 {
+            keywords::of_six(first, words)
+        } else if letters == 7 {
+            keywords::of_seven(first, words)
+        } else if letters == 8 {
+            keywords::of_eight(first, words)
         } else {
             None
         }
