@@ -78,6 +78,19 @@ impl Gathered {
         Gathered::whole(alloc, take(flow, MOST_VALUES + 1)?, cx)
     }
 
+    /// What a flow gives over values that a pipe holds already, and so few more than these.
+    ///
+    /// More than 10,000 values are `TooMany`. It is refused with `Refusal::NoMemory` alone.
+    pub fn after<F>(alloc: Global, flow: F, cx: &mut Context<'_>) -> Result<Gathered, Stop>
+    where
+        F: Flow<Item = u64, Fault = u64>,
+        F::Running: Finite,
+        requires { (whole : Trace ℕ ℕ) × Fixes whole (F.may flow) × IsEnded whole }
+        ensures { (whole : Trace ℕ ℕ) → Fixes whole (F.may flow) → Comes (bounded whole) result }
+    {
+        Gathered::whole(alloc, flow, cx)
+    }
+
     /// What a flow gives that ends soon by itself, where a start on its way may be refused for memory: all its values are
     /// collected before they are counted.
     ///

@@ -10,6 +10,7 @@ ghost use Rattle.script_commands.specs.Sources.{origin_in, given, origin_of, las
 use crate::gathered::{Gathered, Stop};
 use crate::items::Items;
 use crate::source_flow::SourceFlow;
+use cold_flow::range as range_flow;
 use futures::task::Context;
 use script_words::Words;
 use std::alloc::Global;
@@ -81,10 +82,16 @@ impl<'a> Source<'a> {
         }
     }
 
-    /// What the source gives, pending answers left out. It is refused with `Refusal::NoMemory` alone.
+    /// What the source gives, pending answers left out. A range is polled as itself, not as one of several sources.
+    /// It is refused with `Refusal::NoMemory` alone.
     pub(crate) fn run(self, alloc: Global, cx: &mut Context<'_>) -> Result<Gathered, Stop>
         ensures { Comes (bounded (given (origin_in self.entry))) result }
     {
-        Gathered::of(alloc, SourceFlow::new(alloc, self), cx)
+        match self {
+            Source::Range { from, to } => Gathered::of(alloc, range_flow::<u64>(from, to), cx),
+            Source::Of { .. } | Source::Fail { .. } => {
+                Gathered::of(alloc, SourceFlow::new(alloc, self), cx)
+            }
+        }
     }
 }

@@ -204,7 +204,7 @@ fn zipped(
     ensures { ComesOfBoth (⟦<Listed<u64, u64> as Flow>⟧.may sides.0) (⟦<Listed<u64, u64> as Flow>⟧.may sides.1) (zip_trace sum) result }
 {
     let (left, right) = sides;
-    Gathered::of(alloc, zip(left, right, Sum), cx)
+    Gathered::after(alloc, zip(left, right, Sum), cx)
 }
 
 /// The sums of the latest values of two lists, the first being asked first.
@@ -258,14 +258,22 @@ impl<'a> Stage<'a> {
     {
         let flow = before.into_flow();
         match self {
-            Stage::Add(amount) => Gathered::of(alloc, map(flow, Adding(amount)), cx),
-            Stage::Even => Gathered::of(alloc, filter(flow, IsEven), cx),
+            Stage::Add(amount) => Gathered::after(alloc, map(flow, Adding(amount)), cx),
+            Stage::Even => Gathered::after(alloc, filter(flow, IsEven), cx),
             Stage::Twice => Gathered::of(alloc, transform(flow, Twice), cx),
-            Stage::Take(count) => Gathered::of(alloc, cold_flow::take(flow, count)?, cx),
-            Stage::Drop(count) => Gathered::of(alloc, cold_flow::drop_first(flow, count), cx),
-            Stage::Distinct => Gathered::of(alloc, distinct(flow), cx),
-            Stage::Catch(caught) => Gathered::of(alloc, catch_with(flow, Recovering(caught)), cx),
-            Stage::Done(value) => Gathered::of(alloc, on_completion(flow, Concluding(value)), cx),
+            Stage::Take(count) => Gathered::after(alloc, cold_flow::take(flow, count)?, cx),
+            Stage::Drop(count) => Gathered::after(alloc, cold_flow::drop_first(flow, count), cx),
+            Stage::Distinct => Gathered::after(alloc, distinct(flow), cx),
+            Stage::Catch(caught) => Gathered::after(
+                alloc,
+                catch_with(flow, Recovering(caught)),
+                cx,
+            ),
+            Stage::Done(value) => Gathered::after(
+                alloc,
+                on_completion(flow, Concluding(value)),
+                cx,
+            ),
             Stage::Zip(source) => {
                 let second = source.run(alloc, cx)?;
                 zipped(alloc, (flow, second.into_flow()), cx)
