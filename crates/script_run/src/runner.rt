@@ -1,9 +1,7 @@
 //! What the names of a script stand for, and what its lines do.
 
-ghost use Rattle.std.specs.Prelude.{◌≡◌, Bool, length, IfOk};
+ghost use Rattle.std.specs.Prelude.{◌≡◌, length, IfOk};
 ghost use Rattle.script_commands.specs.Commands.{order_of, made_in, joining_in, make, join, ask};
-ghost use Rattle.script_commands.specs.Pipes.{pipe_in};
-ghost use Rattle.script_commands.specs.Piping.{pipe_answer};
 ghost use Rattle.script_words.specs.Lines.{starts_with_hash};
 ghost use Rattle.script_run.specs.Standings.{IsFresh, standing};
 ghost use Rattle.script_run.specs.Executing.{Executes};
@@ -11,8 +9,8 @@ ghost use Rattle.script_run.specs.Replying.{Replies};
 
 use crate::binding::Binding;
 use crate::names::Names;
-use futures::task::{Poll, Solo};
-use script_commands::{Answer, Command, Making, Part, Party, Pipe, Request, ScriptObject};
+use futures::task::{Context, Solo};
+use script_commands::{Answer, Command, Making, Part, Party, Request, ScriptObject};
 use script_words::Words;
 use std::alloc::{AllocError, Global};
 
@@ -36,8 +34,8 @@ pub struct Runner<'s, 't, O: ScriptObject<'s>> {
     objects: Vec<O>,
     // Who makes them.
     maker: &'t O::Maker,
-    // The task in whose name flows are polled.
-    task: &'t Solo,
+    // In whose name flows are polled. It lasts as long as the script, since nothing that a line does waits for a wake.
+    cx: Context<'t>,
 }
 
 impl<'s, 't, O: ScriptObject<'s>> Runner<'s, 't, O> {
@@ -49,7 +47,7 @@ impl<'s, 't, O: ScriptObject<'s>> Runner<'s, 't, O> {
             names: Names::new(alloc),
             objects: Vec::new(alloc),
             maker,
-            task,
+            cx: task.begin(),
         }
     }
 
@@ -121,27 +119,10 @@ impl<'s, 't, O: ScriptObject<'s>> Runner<'s, 't, O> {
         let Some(binding) = self.names.get(name) else {
             return Ok(None);
         };
-        let task = self.task;
         let Some(object) = self.objects.get_mut(binding.object_index) else {
             return Ok(None);
         };
-        let mut cx = task.begin();
-        let answer = object.ask(alloc, binding.part, request, &mut cx);
-        // A task is parked only where it waits for something or asks to be polled again.
-        let _woken: Poll<()> = cx.yield_now();
-        cx.park();
-        answer
-    }
-
-    /// What a pipe answers. It leaves the runner as it was.
-    fn collect(&self, alloc: Global, pipe: Pipe<'_>) -> Answer
-        ensures { (refused : Bool) × (result ≡ pipe_answer refused (pipe_in pipe.entry)) }
-    {
-        let mut cx = self.task.begin();
-        let answer = pipe.answer(alloc, &mut cx);
-        let _woken: Poll<()> = cx.yield_now();
-        cx.park();
-        answer
+        object.ask(alloc, binding.part, request, &mut self.cx)
     }
 
     /// What a command answers, or nothing where a name stands in its way or stands for what doesn't know it.
@@ -152,7 +133,7 @@ impl<'s, 't, O: ScriptObject<'s>> Runner<'s, 't, O> {
             Command::Make { name, making } => self.make(alloc, name, making),
             Command::Join { host, name, party } => self.join(host, name, party),
             Command::Ask { name, request } => self.ask(alloc, name, request),
-            Command::Cold { pipe } => Ok(Some(self.collect(alloc, pipe))),
+            Command::Cold { pipe } => Ok(Some(pipe.answer(alloc, &mut self.cx))),
         }
     }
 
@@ -191,7 +172,7 @@ impl<'s, 't, O: ScriptObject<'s>> Runner<'s, 't, O> {
             names: _,
             mut objects,
             maker: _,
-            task: _,
+            cx,
         } = self;
         let mut closed = 0;
         while let Some(object) = objects.pop() {
@@ -199,6 +180,7 @@ impl<'s, 't, O: ScriptObject<'s>> Runner<'s, 't, O> {
             closed += 1;
         }
         objects.destroy_empty();
+        cx.cancel();
         closed
     }
 }
