@@ -1,5 +1,5 @@
 -- The words of marks.
-use Rattle.std.specs.Prelude.{ℕ, List, [], ◌∷◌, ◌++◌, map, take, length, codes, decimal, nat_le, if◌then◌else◌}
+use Rattle.std.specs.Prelude.{ℕ, List, [], ◌++◌, map, take, length, codes, decimal, nat_le, if◌then◌else◌}
 use Rattle.marble_marks.specs.declared.mark.Kind.{Kind}
 use Rattle.marble_marks.specs.declared.mark.Kind.TheVariants as kinds
 use Rattle.marble_marks.specs.declared.mark.Row.{Row}
@@ -15,6 +15,22 @@ plain bytes = map plain_byte bytes
 -- an answer, or its front and a sign for the rest
 abbrev pub plain_answer : List ℕ → List ℕ
 plain_answer answer = if nat_le (length answer) 14 then plain answer else plain (take 14 answer) ++ codes "~"
+
+-- the sign before a mark's value in a text without pictures
+abbrev pub sign : Kind → List ℕ
+sign (kinds.Bad number) = codes "x"
+sign (kinds.Dropped value) = codes "x"
+sign (kinds.Lost value) = codes "x"
+sign (kinds.Full value) = codes "!"
+sign (kinds.Begun (rows.State value)) = codes "="
+sign (kinds.Begun (rows.Ticket value)) = codes "?"
+sign (kinds.Begun row) = codes "o"
+sign (kinds.Set value) = codes "="
+sign kinds.Waiting = codes "?"
+sign (kinds.AcceptedBefore value) = codes "<"
+sign kinds.Nothing = codes "."
+sign kinds.Cancelled = codes "|"
+sign _ = []
 
 -- what a row is for
 abbrev pub role : Row → List ℕ

@@ -1,3 +1,4 @@
 pub mod Captions
+pub mod Widths
 pub mod Symbols
 pub mod Drawings

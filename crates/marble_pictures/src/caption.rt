@@ -1,11 +1,12 @@
 //! The words of marks.
 
-ghost use Rattle.std.specs.Prelude.{◌≡◌, ◌<◌, ◌++◌, IfOk, OnOk, map, string_bytes};
-ghost use Rattle.marble_pictures.specs.Captions.{plain_byte, plain, plain_answer, role, begun_words, words_of};
+ghost use Rattle.std.specs.Prelude.{◌≡◌, ◌<◌, ◌≤◌, ◌++◌, OnOk, length, map, decimal, string_bytes};
+ghost use Rattle.marble_pictures.specs.Widths.{part_of};
+ghost use Rattle.marble_pictures.specs.Captions.{plain_byte, plain, plain_answer, sign, role, begun_words, words_of};
 
+use itoa::Buffer;
 use marble_marks::{Kind, Mark, Row};
-use std::alloc::{AllocError, Global};
-use std::fmt::Write;
+use std::alloc::AllocError;
 
 /// The most bytes of an answer that are shown where it happened.
 const MOST_ANSWER_BYTES: usize = 14;
@@ -23,7 +24,9 @@ pub(crate) enum Part {
 
 impl Part {
     /// What this mark's words are for.
-    pub(crate) fn of(mark: &Mark<'_>) -> Part {
+    pub(crate) fn of(mark: &Mark<'_>) -> Part
+        ensures { result ≡ part_of mark.now.kind }
+    {
         match mark.kind {
             Kind::Named(_) => Part::Name,
             Kind::Number(_) => Part::Number,
@@ -42,6 +45,35 @@ pub(crate) fn plain_byte(byte: u8) -> u8
     } else {
         b'?'
     }
+}
+
+/// Adds a number.
+pub(crate) fn push_number(text: &mut String, number: u64) -> Result<(), AllocError>
+    ensures { OnOk result (string_bytes text.new ≡ string_bytes text.old ++ decimal number) }
+{
+    let mut buffer = Buffer::new();
+    text.push_str(buffer.format(number))
+}
+
+/// Adds a text, and a number after it.
+pub(crate) fn push_numbered(
+    text: &mut String,
+    before: &str,
+    number: usize,
+) -> Result<(), AllocError>
+    ensures { OnOk result (string_bytes text.new ≡ string_bytes text.old ++ (before.now ++ decimal number)) }
+{
+    text.push_str(before)?;
+    push_number(text, number as u64)
+}
+
+/// How many digits a number has.
+fn digits(number: u64) -> usize
+    ensures value { result ≡ length (decimal number) }
+    ensures small { result ≤ 40 }
+{
+    let mut buffer = Buffer::new();
+    buffer.format(number).len()
 }
 
 /// Adds a text, with a question mark for each byte that is no printable character of ASCII.
@@ -67,7 +99,9 @@ fn push_answer(text: &mut String, answer: &[u8]) -> Result<(), AllocError>
 }
 
 /// The sign before a mark's value in a text without pictures.
-pub(crate) fn sign(kind: Kind) -> &'static str {
+pub(crate) fn sign(kind: Kind) -> &'static str
+    ensures { result.now ≡ sign kind }
+{
     match kind {
         Kind::Bad(_) | Kind::Dropped(_) | Kind::Lost(_) => "x",
         Kind::Full(_) => "!",
@@ -100,13 +134,13 @@ fn push_begun(text: &mut String, row: Row) -> Result<(), AllocError>
     ensures { OnOk result (string_bytes text.new ≡ string_bytes text.old ++ begun_words row) }
 {
     match row {
-        Row::State(value) | Row::Ticket(value) => write!(text, "{value}"),
+        Row::State(value) | Row::Ticket(value) => push_number(text, value),
         _ => Ok(()),
     }
 }
 
 /// Adds what a mark says without its sign.
-fn push_words(text: &mut String, mark: &Mark<'_>) -> Result<(), AllocError>
+pub(crate) fn push_words(text: &mut String, mark: &Mark<'_>) -> Result<(), AllocError>
     ensures { OnOk result (string_bytes text.new ≡ string_bytes text.old ++ words_of mark.now.kind mark.now.text.now) }
 {
     match mark.kind {
@@ -119,8 +153,11 @@ fn push_words(text: &mut String, mark: &Mark<'_>) -> Result<(), AllocError>
         | Kind::Full(value)
         | Kind::Set(value)
         | Kind::Holds(value)
-        | Kind::Received(value) => write!(text, "{value}"),
-        Kind::Number(number) => write!(text, "#{number}"),
+        | Kind::Received(value) => push_number(text, value),
+        Kind::Number(number) => {
+            text.push_str("#")?;
+            push_number(text, number)
+        }
         Kind::Named(row) => {
             text.push_str(role(row))?;
             push_plain(text, mark.text)
@@ -131,28 +168,46 @@ fn push_words(text: &mut String, mark: &Mark<'_>) -> Result<(), AllocError>
     }
 }
 
-/// What a mark says without its sign.
-pub(crate) fn caption(alloc: Global, mark: &Mark<'_>) -> Result<String, AllocError>
-    ensures { IfOk result (λ text. string_bytes text ≡ words_of mark.now.kind mark.now.text.now) }
+/// How many characters of an answer are shown.
+fn answer_len(answer: &[u8]) -> usize
+    ensures { result ≡ length (plain_answer answer.now) }
 {
-    let mut text = String::new(alloc);
-    push_words(&mut text, mark)?;
-    Ok(text)
-}
-
-/// The most characters of this part of the marks.
-pub(crate) fn longest(alloc: Global, marks: &[Mark<'_>], part: Part) -> Result<usize, AllocError> {
-    let mut most = 0;
-    for mark in marks {
-        if Part::of(mark) == part {
-            let said = caption(alloc, mark)?;
-            most = said.len().saturating_add(sign(mark.kind).len()).max(most);
-        }
+    if answer.len() <= MOST_ANSWER_BYTES {
+        answer.len()
+    } else {
+        MOST_ANSWER_BYTES + 1
     }
-    Ok(most)
 }
 
-/// The last column of these marks.
-pub(crate) fn last_column(marks: &[Mark<'_>]) -> usize {
-    marks.iter().map(|mark| mark.column).max().unwrap_or(0)
+/// How many characters the begin of a row says.
+fn begun_len(row: Row) -> usize
+    ensures { result ≡ length (begun_words row) }
+{
+    match row {
+        Row::State(value) | Row::Ticket(value) => digits(value),
+        _ => 0,
+    }
+}
+
+/// How many characters a mark says without its sign.
+pub(crate) fn words_len(mark: &Mark<'_>) -> usize
+    ensures { result ≡ length (words_of mark.now.kind mark.now.text.now) }
+{
+    match mark.kind {
+        Kind::Line(value)
+        | Kind::Bad(value)
+        | Kind::Accepted(value)
+        | Kind::AcceptedBefore(value)
+        | Kind::Lost(value)
+        | Kind::Dropped(value)
+        | Kind::Full(value)
+        | Kind::Set(value)
+        | Kind::Holds(value)
+        | Kind::Received(value) => digits(value),
+        Kind::Number(number) => digits(number) + 1,
+        Kind::Named(row) => role(row).len() + mark.text.len(),
+        Kind::Done | Kind::Removed | Kind::Left | Kind::Said => answer_len(mark.text),
+        Kind::Begun(row) => begun_len(row),
+        Kind::Nothing | Kind::Waiting | Kind::Cancelled => 0,
+    }
 }

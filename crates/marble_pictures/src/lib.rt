@@ -9,6 +9,7 @@ mod svg;
 mod symbol;
 mod text;
 mod ways;
+mod widths;
 
 pub use svg::svg_picture;
 pub use text::text_picture;

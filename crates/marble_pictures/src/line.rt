@@ -1,5 +1,8 @@
 //! The line of a row, and the span of a state's values.
 
+ghost use Rattle.std.specs.Prelude.{◌≡◌};
+ghost use Rattle.marble_pictures.specs.Widths.{state_value, wider_span, span_of};
+
 use marble_marks::{Kind, Mark, Row};
 
 /// How many steps there are from the lowest value of a state to its highest.
@@ -33,7 +36,9 @@ impl Line {
 }
 
 /// The value of a state from a mark on, where the mark says one.
-pub(crate) fn state_value(kind: Kind) -> Option<u64> {
+pub(crate) fn state_value(kind: Kind) -> Option<u64>
+    ensures { result ≡ state_value kind }
+{
     match kind {
         Kind::Begun(Row::State(value)) | Kind::Set(value) | Kind::Holds(value) => Some(value),
         _ => None,
@@ -48,19 +53,32 @@ pub(crate) struct Span {
 }
 
 impl Span {
-    /// The span of a row's values.
-    pub(crate) fn of(marks: &[Mark<'_>], row: usize) -> Span {
+    /// With one more value, if it is one.
+    fn wider(self, value: Option<u64>) -> Span
+        ensures { result ≡ wider_span self value }
+    {
+        match value {
+            Some(value) => Span {
+                low: value.min(self.low),
+                high: value.max(self.high),
+            },
+            None => self,
+        }
+    }
+
+    /// The span of a row's values, of which these marks are the first.
+    pub(crate) fn of(marks: &[Mark<'_>], row: usize) -> Span
+        ensures { result ≡ span_of row marks.now }
+    {
         let mut span = Span {
             low: u64::MAX,
             high: 0,
         };
         for mark in marks {
-            if mark.row == row
-                && let Some(value) = state_value(mark.kind)
-            {
-                span.low = span.low.min(value);
-                span.high = span.high.max(value);
+            if mark.row != row {
+                return span;
             }
+            span = span.wider(state_value(mark.kind));
         }
         span
     }

@@ -3,11 +3,9 @@
 ghost use Rattle.std.specs.Prelude.{◌≡◌};
 ghost use Rattle.marble_pictures.specs.Symbols.{x_of, y_of, place_of};
 
-use crate::caption::{Part, caption, last_column, longest};
-use crate::line::state_value;
 use crate::steps::Place;
+use crate::widths::Widths;
 use marble_marks::Mark;
-use std::alloc::{AllocError, Global};
 
 /// How wide a character is.
 pub(crate) const CHARACTER: usize = 8;
@@ -15,18 +13,6 @@ pub(crate) const CHARACTER: usize = 8;
 const SMALL_CHARACTER: usize = 6;
 /// How high a row is.
 const ROW: usize = 44;
-
-/// The most characters of a state's value, which stands to the right of its column's middle.
-fn longest_value(alloc: Global, marks: &[Mark<'_>]) -> Result<usize, AllocError> {
-    let mut most = 0;
-    for mark in marks {
-        if state_value(mark.kind).is_some() {
-            let said = caption(alloc, mark)?;
-            most = said.len().max(most);
-        }
-    }
-    Ok(most)
-}
 
 /// Where columns and rows are.
 #[derive(Clone, Copy)]
@@ -41,19 +27,20 @@ pub(crate) struct Sheet {
 
 impl Sheet {
     /// The sheet for these marks, which stand in the order of their rows.
-    pub(crate) fn of(alloc: Global, marks: &[Mark<'_>]) -> Result<Sheet, AllocError> {
-        let names = longest(alloc, marks, Part::Name)?;
-        let places = longest(alloc, marks, Part::Place)?.saturating_mul(CHARACTER);
-        let numbers = longest(alloc, marks, Part::Number)?.saturating_mul(SMALL_CHARACTER);
-        let values = longest_value(alloc, marks)?.saturating_mul(CHARACTER);
-        // Half of a frame's words stand before the middle of the next column.
+    pub(crate) fn of(marks: &[Mark<'_>]) -> Sheet {
+        let widths = Widths::of(marks);
+        let places = widths.place.saturating_mul(CHARACTER);
+        let numbers = widths.number.saturating_mul(SMALL_CHARACTER);
+        // A state's value stands to the right of its column's middle, and half of a frame's words stand before the middle
+        // of the next column.
+        let values = widths.value.saturating_mul(CHARACTER);
         let value_and_frame = values.saturating_add(places / 2);
-        Ok(Sheet {
-            names: names.saturating_mul(CHARACTER).saturating_add(16),
+        Sheet {
+            names: widths.name.saturating_mul(CHARACTER).saturating_add(16),
             column: places.max(numbers).max(value_and_frame).saturating_add(20),
-            last_column: last_column(marks),
+            last_column: widths.last_column,
             last_row: marks.last().map_or(0, |mark| mark.row),
-        })
+        }
     }
 
     /// The middle of a column.

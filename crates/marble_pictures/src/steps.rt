@@ -69,7 +69,7 @@ pub(crate) struct Pen {
 }
 
 impl Pen {
-    /// At the front of a row.
+    /// At the front of a row, of which these marks are the first.
     pub(crate) fn new(sheet: Sheet, marks: &[Mark<'_>], row: usize) -> Pen {
         let y = sheet.y(row);
         Pen {

@@ -6,13 +6,12 @@ ghost use Rattle.std.specs.List.Sorted.{IsPermutation};
 ghost use Rattle.marble_pictures.specs.Symbols.{segment_text, symbol_text};
 ghost use Rattle.marble_pictures.specs.Drawings.{head_text, is_name, name_of_row, name_text, about_text, front_text, svg_text, Draws};
 
-use crate::caption::caption;
+use crate::caption::{push_numbered, push_words};
 use crate::sheet::Sheet;
 use crate::symbol::{Placed, Segment, push_escaped, push_symbol};
 use crate::ways::{placed, ways};
 use marble_marks::{Kind, Mark};
 use std::alloc::{AllocError, Global};
-use std::fmt::Write;
 
 /// The colours, told apart by those who see few of them too, and how text is set.
 const STYLE: &str = "<style>
@@ -50,11 +49,12 @@ const SHEET: &str = "<rect class=\"sheet\" width=\"100%\" height=\"100%\"/>\n";
 fn push_head(picture: &mut String, width: usize, height: usize) -> Result<(), AllocError>
     ensures { OnOk result (string_bytes picture.new ≡ string_bytes picture.old ++ head_text width height) }
 {
-    let names = "//www.w3.org/2000/svg";
-    write!(
-        picture,
-        "<svg xmlns=\"http:{names}\" width=\"{width}\" height=\"{height}\" viewBox=\"0 0 {width} {height}\" role=\"img\" aria-labelledby=\"title about\">\n"
-    )
+    picture.push_str("<svg xmlns=\"http:")?;
+    push_numbered(picture, "//www.w3.org/2000/svg\" width=\"", width)?;
+    push_numbered(picture, "\" height=\"", height)?;
+    push_numbered(picture, "\" viewBox=\"0 0 ", width)?;
+    push_numbered(picture, " ", height)?;
+    picture.push_str("\" role=\"img\" aria-labelledby=\"title about\">\n")
 }
 
 /// Whether this is the name of a row.
@@ -77,39 +77,48 @@ fn push_name_of_row(picture: &mut String, words: &[u8]) -> Result<(), AllocError
 }
 
 /// Adds the name of a row, where this is its mark.
-fn push_name(alloc: Global, picture: &mut String, mark: &Mark<'_>) -> Result<(), AllocError>
+fn push_name(picture: &mut String, scratch: &mut String, mark: &Mark<'_>) -> Result<(), AllocError>
     ensures { OnOk result (string_bytes picture.new ≡ string_bytes picture.old ++ name_text mark.now) }
 {
     if !is_name(mark.kind) {
         return Ok(());
     }
-    let words = caption(alloc, mark)?;
-    push_name_of_row(picture, words.as_bytes())
+    scratch.clear();
+    push_words(scratch, mark)?;
+    push_name_of_row(picture, scratch.as_bytes())
 }
 
 /// Adds the names of the rows.
-fn push_names(alloc: Global, picture: &mut String, marks: &[Mark<'_>]) -> Result<(), AllocError>
+fn push_names(
+    picture: &mut String,
+    scratch: &mut String,
+    marks: &[Mark<'_>],
+) -> Result<(), AllocError>
     ensures { OnOk result (string_bytes picture.new ≡ string_bytes picture.old ++ flat_map name_text marks.now) }
 {
     for mark in marks {
-        push_name(alloc, picture, mark)?;
+        push_name(picture, scratch, mark)?;
     }
     Ok(())
 }
 
 /// Adds the description: what a picture is, and its rows.
-fn push_about(alloc: Global, picture: &mut String, marks: &[Mark<'_>]) -> Result<(), AllocError>
+fn push_about(
+    picture: &mut String,
+    scratch: &mut String,
+    marks: &[Mark<'_>],
+) -> Result<(), AllocError>
     ensures { OnOk result (string_bytes picture.new ≡ string_bytes picture.old ++ about_text marks.now) }
 {
     picture.push_str(ABOUT)?;
-    push_names(alloc, picture, marks)?;
+    push_names(picture, scratch, marks)?;
     picture.push_str("</desc>\n")
 }
 
 /// Adds all that stands before lines and marks.
 fn push_front(
-    alloc: Global,
     picture: &mut String,
+    scratch: &mut String,
     width: usize,
     height: usize,
     marks: &[Mark<'_>],
@@ -117,7 +126,7 @@ fn push_front(
     ensures { OnOk result (string_bytes picture.new ≡ string_bytes picture.old ++ front_text width height marks.now) }
 {
     push_head(picture, width, height)?;
-    push_about(alloc, picture, marks)?;
+    push_about(picture, scratch, marks)?;
     picture.push_str(STYLE)?;
     picture.push_str(SHEET)
 }
@@ -134,23 +143,23 @@ fn push_segments(picture: &mut String, segments: &[Segment]) -> Result<(), Alloc
 
 /// Adds what the marks show.
 fn push_symbols(
-    alloc: Global,
     picture: &mut String,
+    scratch: &mut String,
     sheet: Sheet,
     placed: &[Placed<'_>],
 ) -> Result<(), AllocError>
     ensures { OnOk result (string_bytes picture.new ≡ string_bytes picture.old ++ flat_map (symbol_text sheet) placed.now) }
 {
     for one in placed {
-        push_symbol(alloc, picture, sheet, one)?;
+        push_symbol(picture, scratch, sheet, one)?;
     }
     Ok(())
 }
 
 /// Adds the whole picture.
 fn push_all(
-    alloc: Global,
     picture: &mut String,
+    scratch: &mut String,
     width: usize,
     height: usize,
     marks: &[Mark<'_>],
@@ -160,9 +169,9 @@ fn push_all(
 ) -> Result<(), AllocError>
     ensures { OnOk result (string_bytes picture.new ≡ string_bytes picture.old ++ svg_text width height marks.now sheet segments.now placed.now) }
 {
-    push_front(alloc, picture, width, height, marks)?;
+    push_front(picture, scratch, width, height, marks)?;
     push_segments(picture, segments)?;
-    push_symbols(alloc, picture, sheet, placed)?;
+    push_symbols(picture, scratch, sheet, placed)?;
     picture.push_str("</svg>\n")
 }
 
@@ -170,15 +179,16 @@ fn push_all(
 fn drawn(alloc: Global, marks: &[Mark<'_>]) -> Result<String, AllocError>
     ensures { IfOk result (λ picture. Draws marks.now (string_bytes picture)) }
 {
-    let sheet = Sheet::of(alloc, marks)?;
+    let sheet = Sheet::of(marks);
     let segments = ways(alloc, sheet, marks)?;
     let placed = placed(alloc, sheet, marks)?;
     let width = sheet.width();
     let height = sheet.height();
     let mut picture = String::new(alloc);
+    let mut scratch = String::new(alloc);
     push_all(
-        alloc,
         &mut picture,
+        &mut scratch,
         width,
         height,
         marks,

@@ -5,12 +5,11 @@ ghost use Rattle.std.specs.Option.{option_map};
 ghost use Rattle.marble_pictures.specs.Captions.{words_of};
 ghost use Rattle.marble_pictures.specs.Symbols.{escaped_byte, escaped, line_text, segment_text, opening_text, said_text, half_width, falling_text, rising_text, cross_text, rect_text, look_in, begun_look, look_of, crossing, edge_text, framed_text, frame_around, frame_text, heading_text, head_at, head_text, crossed_head, bar_text, ring_text, value_text, begun_text, bare_text, symbol_by, symbol_text};
 
-use crate::caption::{caption, plain_byte};
+use crate::caption::{plain_byte, push_numbered, push_words};
 use crate::sheet::{CHARACTER, Sheet};
 use crate::steps::{LOWEST, Place};
 use marble_marks::{Kind, Mark, Row};
-use std::alloc::{AllocError, Global};
-use std::fmt::Write;
+use std::alloc::AllocError;
 
 /// A line from one place to another.
 #[derive(Clone, Copy)]
@@ -69,12 +68,13 @@ pub(crate) fn push_escaped(picture: &mut String, bytes: &[u8]) -> Result<(), All
 fn push_line(picture: &mut String, class: &str, from: Place, to: Place) -> Result<(), AllocError>
     ensures { OnOk result (string_bytes picture.new ≡ string_bytes picture.old ++ line_text class.now from to) }
 {
-    let Place { x: x1, y: y1 } = from;
-    let Place { x: x2, y: y2 } = to;
-    write!(
-        picture,
-        "<line class=\"{class}\" x1=\"{x1}\" y1=\"{y1}\" x2=\"{x2}\" y2=\"{y2}\"/>\n"
-    )
+    picture.push_str("<line class=\"")?;
+    picture.push_str(class)?;
+    push_numbered(picture, "\" x1=\"", from.x)?;
+    push_numbered(picture, "\" y1=\"", from.y)?;
+    push_numbered(picture, "\" x2=\"", to.x)?;
+    push_numbered(picture, "\" y2=\"", to.y)?;
+    picture.push_str("\"/>\n")
 }
 
 impl Segment {
@@ -91,8 +91,11 @@ impl Segment {
 fn push_opening(picture: &mut String, class: &str, at: Place) -> Result<(), AllocError>
     ensures { OnOk result (string_bytes picture.new ≡ string_bytes picture.old ++ opening_text class.now at) }
 {
-    let Place { x, y } = at;
-    write!(picture, "<text class=\"{class}\" x=\"{x}\" y=\"{y}\">")
+    picture.push_str("<text class=\"")?;
+    picture.push_str(class)?;
+    push_numbered(picture, "\" x=\"", at.x)?;
+    push_numbered(picture, "\" y=\"", at.y)?;
+    picture.push_str("\">")
 }
 
 /// Adds a text at this place.
@@ -156,11 +159,13 @@ fn push_rect(
 ) -> Result<(), AllocError>
     ensures { OnOk result (string_bytes picture.new ≡ string_bytes picture.old ++ rect_text class.now corner width round) }
 {
-    let Place { x, y } = corner;
-    write!(
-        picture,
-        "<rect class=\"{class}\" x=\"{x}\" y=\"{y}\" width=\"{width}\" height=\"22\" rx=\"{round}\"/>\n"
-    )
+    picture.push_str("<rect class=\"")?;
+    picture.push_str(class)?;
+    push_numbered(picture, "\" x=\"", corner.x)?;
+    push_numbered(picture, "\" y=\"", corner.y)?;
+    push_numbered(picture, "\" width=\"", width)?;
+    push_numbered(picture, "\" height=\"22\" rx=\"", round)?;
+    picture.push_str("\"/>\n")
 }
 
 /// Adds a cross, if there is one.
@@ -227,11 +232,11 @@ fn push_frame(picture: &mut String, frame: Frame, said: &str, at: Place) -> Resu
 fn push_heading(picture: &mut String, said: &str, at: Place) -> Result<(), AllocError>
     ensures { OnOk result (string_bytes picture.new ≡ string_bytes picture.old ++ heading_text said.now at) }
 {
-    let Place { x, y } = at;
-    write!(
-        picture,
-        "<text class=\"head\" x=\"{x}\" y=\"{y}\">{said}<title>"
-    )
+    push_numbered(picture, "<text class=\"head\" x=\"", at.x)?;
+    push_numbered(picture, "\" y=\"", at.y)?;
+    picture.push_str("\">")?;
+    picture.push_str(said)?;
+    picture.push_str("<title>")
 }
 
 /// Adds the head of a line's column, with the line's text to it, at this place.
@@ -325,8 +330,9 @@ fn push_bar(picture: &mut String, at: Place) -> Result<(), AllocError>
 fn push_ring(picture: &mut String, at: Place) -> Result<(), AllocError>
     ensures { OnOk result (string_bytes picture.new ≡ string_bytes picture.old ++ ring_text at) }
 {
-    let Place { x, y } = at;
-    write!(picture, "<circle cx=\"{x}\" cy=\"{y}\" r=\"4\"/>\n")
+    push_numbered(picture, "<circle cx=\"", at.x)?;
+    push_numbered(picture, "\" cy=\"", at.y)?;
+    picture.push_str("\" r=\"4\"/>\n")
 }
 
 /// Adds a value of a state, so many steps above its lowest.
@@ -395,15 +401,16 @@ fn push_looking(
 
 /// Adds what a mark shows.
 pub(crate) fn push_symbol(
-    alloc: Global,
     picture: &mut String,
+    scratch: &mut String,
     sheet: Sheet,
     placed: &Placed<'_>,
 ) -> Result<(), AllocError>
     ensures { OnOk result (string_bytes picture.new ≡ string_bytes picture.old ++ symbol_text sheet placed.now) }
 {
-    let said = caption(alloc, &placed.mark)?;
+    scratch.clear();
+    push_words(scratch, &placed.mark)?;
     let at = sheet.place(&placed.mark);
     let frame = frame_of(placed.mark.kind);
-    push_looking(picture, frame, placed, said.as_str(), at)
+    push_looking(picture, frame, placed, scratch.as_str(), at)
 }

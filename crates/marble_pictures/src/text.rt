@@ -1,23 +1,49 @@
 //! A picture in characters, in strips of at most 120 columns.
+//!
+//! Each row has a track: the marks that no strip has come to yet, and its line there. A strip takes up the rows whose line
+//! goes on, and those whose next mark it has, which wait in a heap by the strip of that mark. So each mark is written once.
 
+ghost use Rattle.std.specs.Prelude.{◌≤◌, length};
 ghost use Rattle.std.specs.List.Sorted.{IsPermutation};
 
-use crate::caption::{Part, caption, last_column, longest, sign};
+use crate::caption::{Part, push_words, sign};
 use crate::line::Line;
+use crate::widths::Widths;
 use marble_marks::Mark;
 use std::alloc::{AllocError, Global};
+use std::cmp::Reverse;
+use std::collections::{BinaryHeap, VecDeque};
 
 /// The most characters of a line of the picture.
 const MOST_CHARACTERS: usize = 120;
+
+/// How many characters a row's line is written by at once.
+const PIECE: usize = 32;
+
+const NO_LINE: &str = "                                ";
+
+const SOLID_LINE: &str = "--------------------------------";
+
+const DASHED_LINE: &str = "~~~~~~~~~~~~~~~~~~~~~~~~~~~~~~~~";
 
 /// A row as it is written, from its front on.
 #[derive(Drop)]
 struct Pen {
     text: String,
-    row: usize,
     line: Line,
     /// Whether there is something to be seen in this strip.
     is_seen: bool,
+}
+
+/// A row, as far as strips have come.
+#[derive(Clone, Copy)]
+struct Track<'m, 'a> {
+    /// Its marks up to its last name.
+    names: &'m [Mark<'a>],
+    /// Its marks that no strip has come to yet.
+    left: &'m [Mark<'a>],
+    /// Its line before them.
+    line: Line,
 }
 
 /// Which columns a strip has, and how wide they are.
@@ -30,12 +56,26 @@ struct Strip {
     names: usize,
 }
 
-/// Adds a character so many times.
-fn repeat(text: &mut String, letter: char, count: usize) -> Result<(), AllocError> {
-    for _ in 0..count {
-        text.push(letter)?;
+/// Rows that have more in them, each by its track's index, in the order of rows.
+#[derive(Drop)]
+struct Queue {
+    /// Those that have a line in the next strip.
+    lined: VecDeque<usize>,
+    /// The others, after the index of the strip that has their next mark.
+    later: BinaryHeap<Reverse<(usize, usize)>>,
+}
+
+/// Adds so many characters of a line, `PIECE` of which are given.
+fn push_line(text: &mut String, piece: &str, count: usize) -> Result<(), AllocError> {
+    let mut missing = count;
+    while missing > PIECE {
+        text.push_str(piece)?;
+        missing -= PIECE;
     }
-    Ok(())
+    match piece.get(..missing) {
+        Some(rest) => text.push_str(rest),
+        None => Ok(()),
+    }
 }
 
 impl Pen {
@@ -46,72 +86,254 @@ impl Pen {
             .saturating_mul(strip.width)
             .saturating_add(strip.names);
         let missing = wanted.saturating_sub(self.text.len());
-        let letter = match self.line {
-            Line::None => ' ',
-            Line::Solid => '-',
-            Line::Dashed => '~',
+        let piece = match self.line {
+            Line::None => NO_LINE,
+            Line::Solid => SOLID_LINE,
+            Line::Dashed => DASHED_LINE,
         };
         self.is_seen = self.is_seen || self.line.is_there();
-        repeat(&mut self.text, letter, missing)
+        push_line(&mut self.text, piece, missing)
     }
 
-    /// Ends the row, and begins another.
-    fn end(&mut self, strip: Strip, picture: &mut String, row: usize) -> Result<(), AllocError> {
+    /// Leaves room for the names of rows.
+    fn pass_names(&mut self, strip: Strip) -> Result<(), AllocError> {
         let names = strip.names.saturating_sub(self.text.len());
-        repeat(&mut self.text, ' ', names)?;
+        push_line(&mut self.text, NO_LINE, names)
+    }
+
+    /// Adds a mark of the row.
+    fn mark(&mut self, strip: Strip, mark: &Mark<'_>) -> Result<(), AllocError> {
+        if Part::of(mark) == Part::Name {
+            return push_words(&mut self.text, mark);
+        }
+        self.pass_names(strip)?;
+        self.fill(strip, mark.column)?;
+        self.text.push_str(sign(mark.kind))?;
+        push_words(&mut self.text, mark)?;
+        self.is_seen = true;
+        self.line = self.line.after(mark.kind);
+        Ok(())
+    }
+
+    /// Adds the names among these marks that stand before a strip, or those that stand after it.
+    fn names(
+        &mut self,
+        strip: Strip,
+        marks: &[Mark<'_>],
+        are_before: bool,
+    ) -> Result<(), AllocError> {
+        for mark in marks {
+            let stands_there = if are_before {
+                mark.column < strip.first
+            } else {
+                mark.column >= strip.end
+            };
+            if stands_there && Part::of(mark) == Part::Name {
+                push_words(&mut self.text, mark)?;
+            }
+        }
+        Ok(())
+    }
+
+    /// Adds the marks of a row that stand in a strip, which are the first of these, and gives the others.
+    fn marks<'m, 'a>(
+        &mut self,
+        strip: Strip,
+        marks: &'m [Mark<'a>],
+    ) -> Result<&'m [Mark<'a>], AllocError> {
+        let mut left = marks;
+        while let [mark, rest @ ..] = left
+            && mark.column < strip.end
+        {
+            self.mark(strip, mark)?;
+            left = rest;
+        }
+        Ok(left)
+    }
+
+    /// Adds a row to a strip of the picture, if there is something of it.
+    fn row<'m, 'a>(
+        &mut self,
+        strip: Strip,
+        picture: &mut String,
+        track: Track<'m, 'a>,
+    ) -> Result<Track<'m, 'a>, AllocError> {
+        self.text.clear();
+        self.line = track.line;
+        self.is_seen = false;
+        self.names(strip, track.names, true)?;
+        let left = self.marks(strip, track.left)?;
+        self.names(strip, track.names, false)?;
+        self.pass_names(strip)?;
         self.fill(strip, strip.end)?;
         if self.is_seen {
             picture.push_str(self.text.as_str().trim_end())?;
             picture.push('\n')?;
         }
-        self.text.clear();
-        self.row = row;
-        self.line = Line::None;
-        self.is_seen = false;
-        Ok(())
-    }
-
-    /// Adds a mark of the row.
-    fn mark(&mut self, alloc: Global, strip: Strip, mark: &Mark<'_>) -> Result<(), AllocError> {
-        if Part::of(mark) == Part::Name {
-            return self.text.push_str(caption(alloc, mark)?.as_str());
-        }
-        if mark.column >= strip.end {
-            return Ok(());
-        }
-        if mark.column >= strip.first {
-            let names = strip.names.saturating_sub(self.text.len());
-            repeat(&mut self.text, ' ', names)?;
-            self.fill(strip, mark.column)?;
-            self.text.push_str(sign(mark.kind))?;
-            self.text.push_str(caption(alloc, mark)?.as_str())?;
-            self.is_seen = true;
-        }
-        self.line = self.line.after(mark.kind);
-        Ok(())
+        Ok(Track {
+            names: track.names,
+            left,
+            line: self.line,
+        })
     }
 }
 
-/// Adds a strip of the picture. The marks stand row by row.
-fn push_strip(
-    alloc: Global,
-    picture: &mut String,
-    marks: &[Mark<'_>],
-    strip: Strip,
-) -> Result<(), AllocError> {
-    let mut pen = Pen {
-        text: String::new(alloc),
-        row: 0,
-        line: Line::None,
-        is_seen: false,
-    };
-    for mark in marks {
-        if mark.row != pen.row {
-            pen.end(strip, picture, mark.row)?;
+impl<'m, 'a> Track<'m, 'a> {
+    /// A row of these marks, before the first strip, which begins at column 1.
+    fn new(marks: &'m [Mark<'a>]) -> Track<'m, 'a> {
+        let mut left = marks;
+        let mut line = Line::None;
+        while let [mark, rest @ ..] = left
+            && mark.column == 0
+        {
+            line = line.after(mark.kind);
+            left = rest;
         }
-        pen.mark(alloc, strip, mark)?;
+        let (names, _) = marks.split_at(up_to_names(marks));
+        Track { names, left, line }
     }
-    pen.end(strip, picture, 0)
+}
+
+/// How many of these marks stand up to the last that is a name.
+fn up_to_names(marks: &[Mark<'_>]) -> usize
+    ensures { result ≤ length marks.now }
+{
+    let mut end = 0;
+    for (index, mark) in marks.iter().enumerate() {
+        if Part::of(mark) == Part::Name {
+            end = index + 1;
+        }
+    }
+    end
+}
+
+/// The rows of these marks, which stand row by row.
+fn tracks<'m, 'a>(alloc: Global, marks: &'m [Mark<'a>]) -> Result<Vec<Track<'m, 'a>>, AllocError> {
+    let mut tracks = Vec::new(alloc);
+    for row in marks.chunk_by(|mark, next| mark.row == next.row) {
+        tracks.push(Track::new(row))?;
+    }
+    Ok(tracks)
+}
+
+impl Queue {
+    /// Puts a row where the strip with this index, or a later one, finds it, if there is more of it.
+    fn put(
+        &mut self,
+        columns: usize,
+        strip: usize,
+        index: usize,
+        track: &Track<'_, '_>,
+    ) -> Result<(), AllocError> {
+        if track.line.is_there() {
+            self.lined.push_back(index)?;
+            return Ok(());
+        }
+        if let Some(mark) = track.left.first() {
+            let found = mark.column.saturating_sub(1) / columns.max(1);
+            self.later.push(Reverse((found.max(strip), index)))?;
+        }
+        Ok(())
+    }
+
+    /// The rows before the first strip.
+    fn of(alloc: Global, columns: usize, tracks: &[Track<'_, '_>]) -> Result<Queue, AllocError> {
+        let mut queue = Queue {
+            lined: VecDeque::new(alloc),
+            later: BinaryHeap::new(alloc),
+        };
+        for (index, track) in tracks.iter().enumerate() {
+            queue.put(columns, 0, index, track)?;
+        }
+        Ok(queue)
+    }
+
+    /// The next of the rows without a line that the strip with this index finds.
+    fn due(&self, strip: usize) -> Option<usize> {
+        match self.later.peek() {
+            Some(Reverse((found, index))) if *found <= strip => Some(*index),
+            _ => None,
+        }
+    }
+
+    /// Takes the next row that the strip with this index has, where so many with a line are still to come.
+    fn take(&mut self, strip: usize, lined: &mut usize) -> Option<usize> {
+        let due = self.due(strip);
+        let front = if *lined == 0 {
+            None
+        } else {
+            self.lined.front().copied()
+        };
+        match (front, due) {
+            (Some(first), Some(second)) if second < first => {
+                let _ = self.later.pop();
+                due
+            }
+            (Some(_), _) => {
+                *lined -= 1;
+                self.lined.pop_front()
+            }
+            (None, Some(_)) => {
+                let _ = self.later.pop();
+                due
+            }
+            (None, None) => None,
+        }
+    }
+}
+
+/// A picture as it is written.
+#[derive(Drop)]
+struct Rows<'m, 'a> {
+    tracks: Vec<Track<'m, 'a>>,
+    queue: Queue,
+    pen: Pen,
+    /// How many columns a strip has.
+    columns: usize,
+}
+
+impl<'m, 'a> Rows<'m, 'a> {
+    /// These marks, which stand row by row, before the first strip.
+    fn of(
+        alloc: Global,
+        columns: usize,
+        marks: &'m [Mark<'a>],
+    ) -> Result<Rows<'m, 'a>, AllocError> {
+        let tracks = tracks(alloc, marks)?;
+        let queue = Queue::of(alloc, columns, &tracks)?;
+        Ok(Rows {
+            tracks,
+            queue,
+            pen: Pen {
+                text: String::new(alloc),
+                line: Line::None,
+                is_seen: false,
+            },
+            columns,
+        })
+    }
+
+    /// Adds the strip with this index to the picture.
+    fn push_strip(
+        &mut self,
+        picture: &mut String,
+        number: usize,
+        strip: Strip,
+    ) -> Result<(), AllocError> {
+        let mut lined = self.queue.lined.len();
+        for _ in 0..self.tracks.len() {
+            let Some(index) = self.queue.take(number, &mut lined) else {
+                return Ok(());
+            };
+            let Some(track) = self.tracks.get_mut(index) else {
+                return Ok(());
+            };
+            *track = self.pen.row(strip, picture, *track)?;
+            self.queue
+                .put(self.columns, number.saturating_add(1), index, track)?;
+        }
+        Ok(())
+    }
 }
 
 /// The picture of these marks in characters, at most 120 in a line, and then broken into strips.
@@ -119,12 +341,12 @@ pub fn text_picture(alloc: Global, marks: &mut Vec<Mark<'_>>) -> Result<String, 
     ensures kept { IsPermutation marks.old.items marks.new.items }
 {
     marks.sort_by_key(|mark| (mark.row, mark.column))?;
-    let names = longest(alloc, marks, Part::Name)?.saturating_add(2);
-    let width = longest(alloc, marks, Part::Place)?
-        .saturating_add(longest(alloc, marks, Part::Number)?)
-        .saturating_add(1);
+    let widths = Widths::of(marks);
+    let names = widths.name.saturating_add(2);
+    let width = widths.place.saturating_add(widths.number).saturating_add(1);
     let columns = (MOST_CHARACTERS.saturating_sub(names) / width).max(1);
-    let last = last_column(marks);
+    let last = widths.last_column;
+    let mut rows = Rows::of(alloc, columns, marks)?;
     let mut picture = String::new(alloc);
     let mut first = 1;
     while first <= last {
@@ -138,7 +360,7 @@ pub fn text_picture(alloc: Global, marks: &mut Vec<Mark<'_>>) -> Result<String, 
         if first > 1 {
             picture.push('\n')?;
         }
-        push_strip(alloc, &mut picture, marks, strip)?;
+        rows.push_strip(&mut picture, first.saturating_sub(1) / columns, strip)?;
         let Some(next) = first.checked_add(columns) else {
             break;
         };

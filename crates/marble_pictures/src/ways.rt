@@ -73,10 +73,11 @@ pub(crate) fn ways(
     let mut segments = Vec::new(alloc);
     add_guides(&mut segments, sheet)?;
     let mut pen = Pen::new(sheet, marks, 0);
-    for mark in marks {
+    for (index, mark) in marks.iter().enumerate() {
         if mark.row != pen.row {
             add_row_line(&mut segments, pen, sheet.end())?;
-            pen = Pen::new(sheet, marks, mark.row);
+            let (_, rest) = marks.split_at(index);
+            pen = Pen::new(sheet, rest, mark.row);
         }
         if Part::of(mark) == Part::Place {
             add_way(&mut segments, sheet, &mut pen, mark)?;
@@ -96,9 +97,10 @@ pub(crate) fn placed<'a>(
 {
     let mut placed = Vec::new(alloc);
     let mut pen = Pen::new(sheet, marks, 0);
-    for mark in marks {
+    for (index, mark) in marks.iter().enumerate() {
         if mark.row != pen.row {
-            pen = Pen::new(sheet, marks, mark.row);
+            let (_, rest) = marks.split_at(index);
+            pen = Pen::new(sheet, rest, mark.row);
         }
         placed.push(Placed {
             mark: *mark,

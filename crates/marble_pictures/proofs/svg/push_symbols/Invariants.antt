@@ -1,4 +1,4 @@
-use Rattle.std.proofs.Common.{◌≡◌, ◌++◌, map, drop, string_bytes}
+use Rattle.std.proofs.Common.{◌≡◌, ◌++◌, drop, string_bytes}
 use Rattle.std.specs.List.{flat_map}
 use Rattle.marble_pictures.specs.Symbols.{symbol_text}
 use Rattle.marble_pictures.proofs.svg.push_symbols.Given as goal

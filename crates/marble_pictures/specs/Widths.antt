@@ -1,0 +1,81 @@
+-- How wide the words of marks are, and which values a state's row has.
+use Rattle.std.specs.Prelude.{ℕ, ◌+◌, ◌==◌, List, [], ◌∷◌, length, min, max, Option, Some, None, if◌then◌else◌}
+use Rattle.marble_marks.specs.declared.mark.Kind.{Kind}
+use Rattle.marble_marks.specs.declared.mark.Kind.TheVariants as kinds
+use Rattle.marble_marks.specs.declared.mark.Mark.{Mark}
+use Rattle.marble_marks.specs.declared.mark.Row.TheVariants as rows
+use Rattle.marble_pictures.specs.declared.caption.Part.{Part}
+use Rattle.marble_pictures.specs.declared.caption.Part.TheVariants as parts
+use Rattle.marble_pictures.specs.declared.line.Span.{Span}
+use Rattle.marble_pictures.specs.declared.widths.Widths.{Widths}
+use Rattle.marble_pictures.specs.Captions.{words_of, sign}
+
+-- what a mark's words are for
+abbrev pub part_of : Kind → Part
+part_of (kinds.Named row) = parts.Name
+part_of (kinds.Number number) = parts.Number
+part_of _ = parts.Place
+
+-- the value of a state from a mark on, where the mark says one
+abbrev pub state_value : Kind → Option ℕ
+state_value (kinds.Begun (rows.State value)) = Some value
+state_value (kinds.Set value) = Some value
+state_value (kinds.Holds value) = Some value
+state_value _ = None
+
+-- ---- widths
+
+abbrev pub said_length : Mark → ℕ
+said_length mark = length (words_of mark.kind mark.text.now)
+
+-- with its sign
+abbrev pub shown_length : Mark → ℕ
+shown_length mark = min (said_length mark + length (sign mark.kind)) 18446744073709551615
+
+abbrev pub for_name : Part → ℕ → ℕ → ℕ
+for_name parts.Name shown most = max shown most
+for_name _ shown most = most
+
+abbrev pub for_number : Part → ℕ → ℕ → ℕ
+for_number parts.Number shown most = max shown most
+for_number _ shown most = most
+
+abbrev pub for_place : Part → ℕ → ℕ → ℕ
+for_place parts.Place shown most = max shown most
+for_place _ shown most = most
+
+abbrev pub for_value : Option ℕ → ℕ → ℕ → ℕ
+for_value (Some value) said most = max said most
+for_value None said most = most
+
+-- with one more mark
+abbrev pub wider : Widths → Mark → Widths
+wider widths mark = record {
+  name = for_name (part_of mark.kind) (shown_length mark) widths.name;
+  number = for_number (part_of mark.kind) (shown_length mark) widths.number;
+  place = for_place (part_of mark.kind) (shown_length mark) widths.place;
+  value = for_value (state_value mark.kind) (said_length mark) widths.value;
+  last_column = max mark.column widths.last_column;
+}
+
+abbrev pub wider_by : Widths → List Mark → Widths
+wider_by widths [] = widths
+wider_by widths (mark ∷ marks) = wider_by (wider widths mark) marks
+
+-- HOW WIDE THE WORDS of these marks are
+abbrev pub widths_of : List Mark → Widths
+widths_of marks = wider_by (record { name = 0; number = 0; place = 0; value = 0; last_column = 0 }) marks
+
+-- ---- the values of a state
+
+abbrev pub wider_span : Span → Option ℕ → Span
+wider_span span (Some value) = record { low = min value span.low; high = max value span.high }
+wider_span span None = span
+
+abbrev pub span_from : ℕ → Span → List Mark → Span
+span_from row span [] = span
+span_from row span (mark ∷ marks) = if mark.row == row then span_from row (wider_span span (state_value mark.kind)) marks else span
+
+-- THE SPAN OF A ROW, of which these marks are the first
+abbrev pub span_of : ℕ → List Mark → Span
+span_of row marks = span_from row (record { low = 18446744073709551615; high = 0 }) marks

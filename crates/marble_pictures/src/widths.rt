@@ -1,0 +1,73 @@
+//! How wide the words of marks are.
+
+ghost use Rattle.std.specs.Prelude.{◌≡◌};
+ghost use Rattle.marble_pictures.specs.Widths.{wider, widths_of};
+
+use crate::caption::{Part, sign, words_len};
+use crate::line::state_value;
+use marble_marks::Mark;
+
+/// The most characters of the words of marks, and how many columns they have.
+#[derive(Clone, Copy)]
+pub(crate) struct Widths {
+    /// Of the name of a row.
+    pub(crate) name: usize,
+    /// Of a number beside an accepted value.
+    pub(crate) number: usize,
+    /// Of all else, with its sign.
+    pub(crate) place: usize,
+    /// Of a state's value.
+    pub(crate) value: usize,
+    pub(crate) last_column: usize,
+}
+
+impl Widths {
+    /// With one more mark.
+    fn wider(self, mark: &Mark<'_>) -> Widths
+        ensures { result ≡ wider self mark.now }
+    {
+        let said = words_len(mark);
+        let shown = said.saturating_add(sign(mark.kind).len());
+        let part = Part::of(mark);
+        Widths {
+            name: if part == Part::Name {
+                shown.max(self.name)
+            } else {
+                self.name
+            },
+            number: if part == Part::Number {
+                shown.max(self.number)
+            } else {
+                self.number
+            },
+            place: if part == Part::Place {
+                shown.max(self.place)
+            } else {
+                self.place
+            },
+            value: if state_value(mark.kind).is_some() {
+                said.max(self.value)
+            } else {
+                self.value
+            },
+            last_column: mark.column.max(self.last_column),
+        }
+    }
+
+    /// Of these marks.
+    pub(crate) fn of(marks: &[Mark<'_>]) -> Widths
+        ensures { result ≡ widths_of marks.now }
+    {
+        let mut widths = Widths {
+            name: 0,
+            number: 0,
+            place: 0,
+            value: 0,
+            last_column: 0,
+        };
+        for mark in marks {
+            widths = widths.wider(mark);
+        }
+        widths
+    }
+}

@@ -1,0 +1,160 @@
+//! Lists of marks that are made by numbers without an order.
+
+use marble_marks::{Kind, Mark, Row};
+use std::alloc::{AllocError, Global};
+
+/// Texts of marks. Those of names and answers are shown up to lengths on both sides of each limit.
+const TEXTS: &[&[u8]] = &[
+    b"",
+    b"a",
+    b"value 7",
+    b"thirteen more",
+    b"fourteen bytes",
+    b"fifteen of them",
+    b" spaces at both ends ",
+    b"<line> & \"more\" of it\t\xc3\xa9",
+    b"a name of thirty-one characters",
+    b"a name of thirty-two characters.",
+    b"a name of thirty-three characters",
+    b"a name that goes on and on until it is wider than all of a picture, which has a hundred and twenty characters at most, of which",
+];
+
+/// Numbers of so many digits, and their neighbours.
+const NUMBERS: &[u64] = &[
+    0,
+    1,
+    9,
+    10,
+    99,
+    100,
+    12345,
+    999999999,
+    1000000000,
+    9999999999999999999,
+    10000000000000000000,
+    u64::MAX,
+];
+
+/// Numbers without an order, by a linear congruence.
+#[derive(Clone, Copy)]
+pub(crate) struct Dice {
+    state: u64,
+}
+
+impl Dice {
+    pub(crate) fn new(seed: u64) -> Dice {
+        Dice { state: seed }
+    }
+
+    /// A number below a limit that isn't 0.
+    pub(crate) fn below(&mut self, limit: usize) -> usize {
+        self.state = self
+            .state
+            .wrapping_mul(6364136223846793005)
+            .wrapping_add(1442695040888963407);
+        (self.state >> 33) as usize % limit.max(1)
+    }
+
+    fn number(&mut self) -> u64 {
+        NUMBERS.get(self.below(NUMBERS.len())).copied().unwrap_or(0)
+    }
+
+    fn row(&mut self) -> Row {
+        match self.below(6) {
+            0 => Row::Flow,
+            1 => Row::State(self.number()),
+            2 => Row::Buffer,
+            3 => Row::Subscription,
+            4 => Row::Collector,
+            _ => Row::Ticket(self.number()),
+        }
+    }
+
+    /// What a mark shows that isn't a name.
+    fn shown(&mut self) -> Kind {
+        match self.below(20) {
+            0 => Kind::Line(self.number()),
+            1 => Kind::Bad(self.number()),
+            2 | 3 => Kind::Begun(self.row()),
+            4 => Kind::Accepted(self.number()),
+            5 => Kind::AcceptedBefore(self.number()),
+            6 => Kind::Number(self.number()),
+            7 => Kind::Lost(self.number()),
+            8 => Kind::Dropped(self.number()),
+            9 => Kind::Full(self.number()),
+            10 => Kind::Set(self.number()),
+            11 => Kind::Holds(self.number()),
+            12 => Kind::Received(self.number()),
+            13 => Kind::Nothing,
+            14 => Kind::Waiting,
+            15 => Kind::Done,
+            16 => Kind::Removed,
+            17 => Kind::Left,
+            18 => Kind::Cancelled,
+            _ => Kind::Said,
+        }
+    }
+
+    fn text(&mut self, texts: usize) -> &'static [u8] {
+        TEXTS.get(self.below(texts)).copied().unwrap_or(b"")
+    }
+}
+
+/// How a list of marks is made.
+#[derive(Clone, Copy)]
+struct Plan {
+    marks: usize,
+    columns: usize,
+    rows: usize,
+    /// How many of the texts come in it.
+    texts: usize,
+    /// Whether names stand in any column.
+    has_names_anywhere: bool,
+}
+
+impl Plan {
+    fn of(dice: &mut Dice) -> Plan {
+        Plan {
+            marks: dice.below(60),
+            columns: [1, 2, 5, 20, 50, 150]
+                .get(dice.below(6))
+                .copied()
+                .unwrap_or(1),
+            rows: dice.below(12).saturating_add(1),
+            texts: dice.below(TEXTS.len()).saturating_add(1),
+            has_names_anywhere: dice.below(3) == 0,
+        }
+    }
+
+    fn mark(self, dice: &mut Dice) -> Mark<'static> {
+        let row = dice.below(self.rows);
+        let column = dice.below(self.columns);
+        let text = dice.text(self.texts);
+        if dice.below(6) > 0 {
+            let kind = dice.shown();
+            return Mark {
+                column,
+                row,
+                kind,
+                text,
+            };
+        }
+        let kind = Kind::Named(dice.row());
+        Mark {
+            column: if self.has_names_anywhere { column } else { 0 },
+            row,
+            kind,
+            text,
+        }
+    }
+}
+
+/// Some marks.
+pub(crate) fn made(alloc: Global, dice: &mut Dice) -> Result<Vec<Mark<'static>>, AllocError> {
+    let plan = Plan::of(dice);
+    let mut marks = Vec::new(alloc);
+    for _ in 0..plan.marks {
+        marks.push(plan.mark(dice))?;
+    }
+    Ok(marks)
+}
