@@ -20,9 +20,9 @@ use Rattle.marble_marks.specs.Numbers.{finished_at, takes_place, late_marks, pla
 use Rattle.marble_marks.specs.Losses.{host_met, guest_met, value_met, lost_mark, lost_at, lost_by, loss_mark, losses_of}
 use Rattle.marble_marks.specs.Replies.{reply_of}
 use Rattle.marble_marks.specs.Turns.{Asked}
-use Rattle.marble_marks.specs.Happenings.{Event, event, happening_of, if_made, emits, joins, asks, said, next_kind, ticket_kind, value_kind, try_kind, cancel_kind, set_kind, compare_kind}
-use Rattle.marble_marks.specs.Marks.{Seen, seen, marks_at, marks_of, row_marks, label_marks, line_mark, line_kind, shown, shown_by, names_in, row_of}
-use Rattle.marble_marks.specs.Receipts.{Receipt, receipt, receipt_in, receipts_in, receipt_at, receipt_by, receipt_shown, receipts_of, value_asked, value_said}
+use Rattle.marble_marks.specs.Happenings.{Event, event, if_made, emits, joins, asks, said, next_kind, ticket_kind, value_kind, try_kind, cancel_kind, set_kind, compare_kind}
+use Rattle.marble_marks.specs.Marks.{Seen, seen, marks_at, marks_of, row_marks, line_kind, shown, shown_by, names_in, row_of}
+use Rattle.marble_marks.specs.Receipts.{Receipt, receipt, receipt_in, receipts_in, receipt_at, receipt_by, receipts_of, value_said}
 
 -- the receipts among the marks of what is shown
 abbrev received : List (List ℕ) → ℕ → List ℕ → Option Event → List Receipt

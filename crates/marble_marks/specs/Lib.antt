@@ -2,6 +2,7 @@ pub mod Replies
 pub mod Turns
 pub mod Happenings
 pub mod Marks
+pub mod Firsts
 pub mod Deeds
 pub mod Numbers
 pub mod Losses

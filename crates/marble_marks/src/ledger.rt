@@ -3,12 +3,14 @@
 //! Where more values than a flow's capacity are pending for a subscription and the oldest makes way, the subscription loses
 //! the oldest. A state is such a flow with a capacity of one, a value that is set again being no new one.
 
+use crate::firsts::Firsts;
 use crate::loss::Loss;
 use crate::reply::Reply;
 use crate::turn::Turn;
 use flow_terms::Policy;
 use script_commands::{Command, Making, Party, Request};
 use std::alloc::{AllocError, Global};
+use std::collections::HashMap;
 
 /// A value that came to a host.
 #[derive(Clone, Copy)]
@@ -20,8 +22,7 @@ struct Brought {
 
 /// A shared flow where the oldest makes way, or a state.
 #[derive(Drop)]
-struct Host<'a> {
-    name: &'a [u8],
+struct Host {
     /// How many of the latest values a newcomer begins with.
     replay: u64,
     /// How many values may be pending.
@@ -30,33 +31,46 @@ struct Host<'a> {
     values: Vec<Brought>,
     /// The number of the first value after the last reset.
     reset_at: usize,
+    /// Its guests that have not ended, in the order in which they joined.
+    live: Vec<usize>,
 }
 
 /// A subscription or a collector.
 #[derive(Clone, Copy)]
-struct Guest<'a> {
-    name: &'a [u8],
+struct Guest {
     host_index: usize,
+    /// The guest of its name that joined before it, if there is one.
+    namesake: Option<usize>,
     /// The index of the line by which it joined.
     joined: usize,
     /// How many values of its prelude it has still to take. They come first, and never make way.
     prelude: usize,
     /// The number of the value that it takes next.
     next: usize,
-    is_live: bool,
 }
 
 /// What was answered up to a line.
 #[derive(Drop)]
 struct Ledger<'a> {
-    hosts: Vec<Host<'a>>,
-    guests: Vec<Guest<'a>>,
+    hosts: Vec<Host>,
+    /// The first host of each name.
+    host_of: Firsts<'a>,
+    guests: Vec<Guest>,
+    /// The last guest of each name.
+    guest_of: HashMap<&'a [u8], usize>,
     losses: Vec<Loss>,
 }
 
-/// Which of them has a name.
-fn host_named(hosts: &[Host<'_>], name: &[u8]) -> Option<usize> {
-    hosts.iter().position(|host| host.name == name)
+impl Guest {
+    /// It is asked for its next value, where so many values came to its host.
+    fn ask(&mut self, values: usize, reply: Reply) {
+        match reply {
+            Reply::Value(_) if self.prelude > 0 => self.prelude = self.prelude.saturating_sub(1),
+            Reply::Value(_) => self.next = self.next.saturating_add(1),
+            Reply::Pending => self.next = values,
+            _ => {}
+        }
+    }
 }
 
 impl<'a> Ledger<'a> {
@@ -81,12 +95,13 @@ impl<'a> Ledger<'a> {
             }
             _ => return Ok(()),
         };
+        self.host_of.note(name, self.hosts.len())?;
         self.hosts.push(Host {
-            name,
             replay,
             limit,
             values,
             reset_at: 0,
+            live: Vec::new(alloc),
         })?;
         Ok(())
     }
@@ -99,20 +114,23 @@ impl<'a> Ledger<'a> {
         name: &'a [u8],
         prelude: usize,
     ) -> Result<(), AllocError> {
-        let Some(host_index) = host_named(&self.hosts, host) else {
+        let Some(host_index) = self.host_of.get(host) else {
             return Ok(());
         };
-        let Some(found) = self.hosts.get(host_index) else {
+        let Some(found) = self.hosts.get_mut(host_index) else {
             return Ok(());
         };
         let oldest = found.values.len().saturating_sub(found.replay as usize);
+        let next = oldest.max(found.reset_at);
+        let index = self.guests.len();
+        found.live.push(index)?;
+        let namesake = self.guest_of.insert(name, index)?;
         self.guests.push(Guest {
-            name,
             host_index,
+            namesake,
             joined: line,
             prelude,
-            next: oldest.max(found.reset_at),
-            is_live: true,
+            next,
         })?;
         Ok(())
     }
@@ -122,9 +140,12 @@ impl<'a> Ledger<'a> {
         let Some(host) = self.hosts.get(host_index) else {
             return Ok(());
         };
-        for guest in self.guests.iter_mut() {
+        for index in &host.live {
+            let Some(guest) = self.guests.get_mut(*index) else {
+                return Ok(());
+            };
             let pending = host.values.len().saturating_sub(guest.next);
-            if guest.is_live && guest.host_index == host_index && pending as u64 > host.limit {
+            if pending as u64 > host.limit {
                 if let Some(oldest) = host.values.get(guest.next) {
                     self.losses.push(Loss {
                         line,
@@ -140,7 +161,7 @@ impl<'a> Ledger<'a> {
 
     /// A flow accepts a value.
     fn accept(&mut self, line: usize, name: &[u8], value: u64) -> Result<(), AllocError> {
-        let Some(host_index) = host_named(&self.hosts, name) else {
+        let Some(host_index) = self.host_of.get(name) else {
             return Ok(());
         };
         let Some(host) = self.hosts.get_mut(host_index) else {
@@ -152,7 +173,7 @@ impl<'a> Ledger<'a> {
 
     /// A state is set.
     fn set(&mut self, line: usize, name: &[u8], value: u64) -> Result<(), AllocError> {
-        let Some(host_index) = host_named(&self.hosts, name) else {
+        let Some(host_index) = self.host_of.get(name) else {
             return Ok(());
         };
         let Some(host) = self.hosts.get_mut(host_index) else {
@@ -169,31 +190,33 @@ impl<'a> Ledger<'a> {
 
     /// A replay cache is emptied.
     fn reset(&mut self, name: &[u8]) {
-        if let Some(host_index) = host_named(&self.hosts, name)
+        if let Some(host_index) = self.host_of.get(name)
             && let Some(host) = self.hosts.get_mut(host_index)
         {
             host.reset_at = host.values.len();
         }
     }
 
-    /// A guest is asked for its next value, or ends.
-    fn ask_guest(&mut self, name: &[u8], request: Request, reply: Reply) {
-        for guest in self.guests.iter_mut() {
-            if guest.name == name {
-                match (request, reply) {
-                    (Request::Next, Reply::Value(_)) if guest.prelude > 0 => {
-                        guest.prelude = guest.prelude.saturating_sub(1);
-                    }
-                    (Request::Next, Reply::Value(_)) => guest.next = guest.next.saturating_add(1),
-                    (Request::Next, Reply::Pending) => {
-                        if let Some(host) = self.hosts.get(guest.host_index) {
-                            guest.next = host.values.len();
-                        }
-                    }
-                    (Request::Cancel, Reply::Ok) => guest.is_live = false,
-                    _ => {}
-                }
-            }
+    /// A guest is asked for its next value, or ends, and gives the one of its name that joined before it.
+    fn ask_one(&mut self, index: usize, request: Request, reply: Reply) -> Option<usize> {
+        let guest = self.guests.get_mut(index)?;
+        let host = self.hosts.get_mut(guest.host_index)?;
+        match (request, reply) {
+            (Request::Next, reply) => guest.ask(host.values.len(), reply),
+            (Request::Cancel, Reply::Ok) => host.live.retain(|live| *live != index),
+            _ => {}
+        }
+        guest.namesake
+    }
+
+    /// The guests of a name are asked for their next value, or end.
+    fn ask_guests(&mut self, name: &[u8], request: Request, reply: Reply) {
+        let mut asked = self.guest_of.get(name).copied();
+        for _ in 0..self.guests.len() {
+            let Some(index) = asked else {
+                return;
+            };
+            asked = self.ask_one(index, request, reply);
         }
     }
 
@@ -215,7 +238,7 @@ impl<'a> Ledger<'a> {
                 Ok(())
             }
             _ => {
-                self.ask_guest(name, request, reply);
+                self.ask_guests(name, request, reply);
                 Ok(())
             }
         }
@@ -259,7 +282,9 @@ impl<'a> Ledger<'a> {
 pub(crate) fn losses_in(alloc: Global, turns: &[Turn<'_>]) -> Result<Vec<Loss>, AllocError> {
     let mut ledger = Ledger {
         hosts: Vec::new(alloc),
+        host_of: Firsts::new(alloc),
         guests: Vec::new(alloc),
+        guest_of: HashMap::new(alloc),
         losses: Vec::new(alloc),
     };
     for (line, turn) in turns.iter().enumerate() {

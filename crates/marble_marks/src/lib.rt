@@ -2,6 +2,7 @@
 #![tactic(auto)]
 
 mod deed;
+mod firsts;
 mod happening;
 mod ledger;
 mod loss;
@@ -9,7 +10,9 @@ mod mark;
 mod marking;
 mod numbers;
 mod reply;
+mod rows;
 mod said;
+mod tickets;
 mod turn;
 
 pub use mark::{Kind, Mark, Row};

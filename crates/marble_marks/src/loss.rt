@@ -9,7 +9,7 @@ ghost use Rattle.marble_marks.specs.Marks.{mark_in};
 
 use crate::deed::{Act, Deed};
 use crate::mark::{Kind, Mark};
-use crate::marking::row_of;
+use crate::rows::Rows;
 use std::alloc::AllocError;
 
 /// A value that a guest of a flow or a state lost, by the indices of the lines that tell it.
@@ -59,8 +59,8 @@ impl<'a> Deed<'a> {
 
 impl Loss {
     /// Its mark.
-    fn mark<'a>(self, names: &[&[u8]], acts: &[Act<'_>]) -> Option<Mark<'a>>
-        ensures { option_map mark_in result ≡ loss_mark (map (λ known. known.now) names.now) (map done_in acts.now) self }
+    fn mark<'a>(self, rows: &Rows<'_, '_>, acts: &[Act<'_>]) -> Option<Mark<'a>>
+        ensures { option_map mark_in result ≡ loss_mark (map (λ known. known.now) rows.now.names.now) (map done_in acts.now) self }
     {
         let line = acts.get(self.line)?;
         let joined = acts.get(self.joined)?;
@@ -70,7 +70,7 @@ impl Loss {
         let value = brought.deed.value_met(host)?;
         Some(Mark {
             column: line.column,
-            row: row_of(names, guest),
+            row: rows.row(guest),
             kind: Kind::Lost(value),
             text: b"",
         })
@@ -80,14 +80,14 @@ impl Loss {
 /// Adds the marks of these losses.
 pub(crate) fn add_losses(
     marks: &mut Vec<Mark<'_>>,
-    names: &[&[u8]],
+    rows: &Rows<'_, '_>,
     acts: &[Act<'_>],
     losses: &[Loss],
 ) -> Result<(), AllocError>
-    ensures { OnOk result (map mark_in marks.new.items ≡ map mark_in marks.old.items ++ filter_map (loss_mark (map (λ known. known.now) names.now) (map done_in acts.now)) losses.now) }
+    ensures { OnOk result (map mark_in marks.new.items ≡ map mark_in marks.old.items ++ filter_map (loss_mark (map (λ known. known.now) rows.now.names.now) (map done_in acts.now)) losses.now) }
 {
     for loss in losses {
-        if let Some(mark) = loss.mark(names, acts) {
+        if let Some(mark) = loss.mark(rows, acts) {
             marks.push(mark)?;
         }
     }

@@ -5,7 +5,7 @@ ghost use Rattle.std.specs.Option.{option_map};
 ghost use Rattle.std.specs.List.{flat_map};
 ghost use Rattle.marble_marks.specs.Turns.{asked_in, asked_of, saying_in};
 ghost use Rattle.marble_marks.specs.Happenings.{happening_in};
-ghost use Rattle.marble_marks.specs.Marks.{shown, name_of, names_in, row_of, mark_in, line_mark, marks_at, marks_of};
+ghost use Rattle.marble_marks.specs.Marks.{shown, name_of, names_in, mark_in, line_mark, marks_at, marks_of};
 ghost use Rattle.marble_marks.specs.Receipts.{receipts_in, receipts_of};
 ghost use Rattle.marble_marks.specs.Showing.{Shows};
 
@@ -16,7 +16,9 @@ use crate::loss::add_losses;
 use crate::mark::{Kind, Mark};
 use crate::numbers::add_numbers;
 use crate::reply::Reply;
+use crate::rows::Rows;
 use crate::said::Said;
+use crate::tickets::Tickets;
 use crate::turn::{Turn, turns};
 use std::alloc::{AllocError, Global};
 
@@ -52,20 +54,6 @@ fn names_in<'a>(alloc: Global, turns: &[Turn<'a>]) -> Result<Vec<&'a [u8]>, Allo
     Ok(names)
 }
 
-/// The row of a name.
-pub(crate) fn row_of(names: &[&[u8]], name: &[u8]) -> usize
-    ensures { result ≡ row_of (map (λ known. known.now) names.now) name.now }
-{
-    let mut row = 1;
-    for known in names {
-        if *known == name {
-            return row;
-        }
-        row += 1;
-    }
-    row
-}
-
 /// The mark at the head of a line's column.
 fn line_mark<'a>(turn: &Turn<'a>) -> Mark<'a>
     ensures { mark_in result ≡ line_mark (asked_in turn.now) }
@@ -85,16 +73,16 @@ fn line_mark<'a>(turn: &Turn<'a>) -> Mark<'a>
 /// Adds the marks of a line.
 fn add_marks<'a>(
     marks: &mut Vec<Mark<'a>>,
-    names: &[&'a [u8]],
+    rows: &Rows<'_, 'a>,
     turn: &Turn<'a>,
 ) -> Result<(), AllocError>
-    ensures { OnOk result (map mark_in marks.new.items ≡ map mark_in marks.old.items ++ marks_at (map (λ known. known.now) names.now) (asked_in turn.now)) }
+    ensures { OnOk result (map mark_in marks.new.items ≡ map mark_in marks.old.items ++ marks_at (map (λ known. known.now) rows.now.names.now) (asked_in turn.now)) }
 {
     marks.push(line_mark(turn))?;
     let Some(Happening { name, kind }) = shown(turn) else {
         return Ok(());
     };
-    let row = row_of(names, name);
+    let row = rows.row(name);
     marks.push(Mark {
         column: turn.column,
         row,
@@ -115,14 +103,14 @@ fn add_marks<'a>(
 /// The marks of these lines, where these names have rows.
 fn marks_in<'a>(
     alloc: Global,
-    names: &[&'a [u8]],
+    rows: &Rows<'_, 'a>,
     turns: &[Turn<'a>],
 ) -> Result<Vec<Mark<'a>>, AllocError>
-    ensures { IfOk result (λ marks. map mark_in marks.items ≡ flat_map (marks_at (map (λ known. known.now) names.now)) (map asked_in turns.now)) }
+    ensures { IfOk result (λ marks. map mark_in marks.items ≡ flat_map (marks_at (map (λ known. known.now) rows.now.names.now)) (map asked_in turns.now)) }
 {
     let mut marks = Vec::new(alloc);
     for turn in turns {
-        add_marks(&mut marks, names, turn)?;
+        add_marks(&mut marks, rows, turn)?;
     }
     Ok(marks)
 }
@@ -144,8 +132,10 @@ pub fn marks<'a>(
     let names = names_in(alloc, &turns)?;
     let acts = acts(alloc, &turns)?;
     let losses = losses_in(alloc, &turns)?;
-    let mut marks = marks_in(alloc, &names, &turns)?;
-    add_numbers(&mut marks, &names, &acts)?;
-    add_losses(&mut marks, &names, &acts, &losses)?;
+    let rows = Rows::of(alloc, &names)?;
+    let tickets = Tickets::of(alloc, &acts)?;
+    let mut marks = marks_in(alloc, &rows, &turns)?;
+    add_numbers(&mut marks, &rows, &tickets)?;
+    add_losses(&mut marks, &rows, &acts, &losses)?;
     Ok(marks)
 }

@@ -6,66 +6,23 @@
 ghost use Rattle.std.specs.Prelude.{◌≡◌, ◌++◌, OnOk, map, []};
 ghost use Rattle.marble_marks.specs.Deeds.{doing_in, done_in};
 ghost use Rattle.marble_marks.specs.Marks.{mark_in, seen};
-ghost use Rattle.marble_marks.specs.Numbers.{removes, is_removed, finishes, finished_at, takes_place, late_marks, place_marks, numbered_on, numbered_in};
+ghost use Rattle.marble_marks.specs.Numbers.{takes_place, late_marks, place_marks, numbered_on, numbered_in};
 
 use crate::deed::{Act, Deed};
 use crate::mark::{Kind, Mark};
-use crate::marking::row_of;
+use crate::rows::Rows;
+use crate::tickets::Tickets;
 use std::alloc::AllocError;
 
-/// Whether this takes an emission back.
-fn removes(ticket: &[u8], deed: Deed<'_>) -> bool
-    ensures { result ≡ removes ticket.now (doing_in deed.entry) }
-{
-    match deed {
-        Deed::Removes { ticket: name } => name == ticket,
-        _ => false,
-    }
-}
-
-/// Whether an emission is taken back in one of these lines.
-fn is_removed(ticket: &[u8], acts: &[Act<'_>]) -> bool
-    ensures { result ≡ is_removed ticket.now (map done_in acts.now) }
-{
-    for act in acts {
-        if removes(ticket, act.deed) {
-            return true;
-        }
-    }
-    false
-}
-
-/// Whether this says that an emission was accepted by then.
-fn finishes(ticket: &[u8], deed: Deed<'_>) -> bool
-    ensures { result ≡ finishes ticket.now (doing_in deed.entry) }
-{
-    match deed {
-        Deed::Finishes { ticket: name } => name == ticket,
-        _ => false,
-    }
-}
-
-/// The column of the first line that says that an emission was accepted by then.
-fn finished_at(ticket: &[u8], acts: &[Act<'_>]) -> Option<usize>
-    ensures { result ≡ finished_at ticket.now (map done_in acts.now) }
-{
-    for act in acts {
-        if finishes(ticket, act.deed) {
-            return Some(act.column);
-        }
-    }
-    None
-}
-
 /// Whether this is an emission on the flow of this name that gets a number, where these are all the lines.
-fn takes_place(all: &[Act<'_>], name: &[u8], deed: Deed<'_>) -> bool
-    ensures { result ≡ takes_place (map done_in all.now) name.now (doing_in deed.entry) }
+fn takes_place(tickets: &Tickets<'_, '_>, name: &[u8], deed: Deed<'_>) -> bool
+    ensures { result ≡ takes_place (map done_in tickets.now.acts.now) name.now (doing_in deed.entry) }
 {
     match deed {
         Deed::Accepts { host, .. } => host == name,
         Deed::Waits { host, ticket, .. } => {
             if host == name {
-                !is_removed(ticket, all)
+                !tickets.is_removed(ticket)
             } else {
                 false
             }
@@ -107,12 +64,12 @@ fn add_late(
 /// Adds the marks of an emission with this number.
 fn add_place(
     marks: &mut Vec<Mark<'_>>,
-    all: &[Act<'_>],
+    tickets: &Tickets<'_, '_>,
     row: usize,
     number: u64,
     act: Act<'_>,
 ) -> Result<(), AllocError>
-    ensures { OnOk result (map mark_in marks.new.items ≡ map mark_in marks.old.items ++ place_marks (map done_in all.now) act.entry.column row number (doing_in act.entry.deed)) }
+    ensures { OnOk result (map mark_in marks.new.items ≡ map mark_in marks.old.items ++ place_marks (map done_in tickets.now.acts.now) act.entry.column row number (doing_in act.entry.deed)) }
 {
     match act.deed {
         Deed::Accepts { .. } => {
@@ -120,7 +77,7 @@ fn add_place(
             Ok(())
         }
         Deed::Waits { ticket, value, .. } => {
-            add_late(marks, finished_at(ticket, all), row, value, number)
+            add_late(marks, tickets.finished_at(ticket), row, value, number)
         }
         _ => Ok(()),
     }
@@ -129,17 +86,18 @@ fn add_place(
 /// Adds the marks of the emissions on the flow of this name.
 fn add_numbers_on(
     marks: &mut Vec<Mark<'_>>,
-    names: &[&[u8]],
-    all: &[Act<'_>],
+    rows: &Rows<'_, '_>,
+    tickets: &Tickets<'_, '_>,
     name: &[u8],
 ) -> Result<(), AllocError>
-    ensures { OnOk result (map mark_in marks.new.items ≡ map mark_in marks.old.items ++ numbered_on (map (λ known. known.now) names.now) (map done_in all.now) name.now) }
+    ensures { OnOk result (map mark_in marks.new.items ≡ map mark_in marks.old.items ++ numbered_on (map (λ known. known.now) rows.now.names.now) (map done_in tickets.now.acts.now) name.now) }
 {
-    let row = row_of(names, name);
+    let row = rows.row(name);
+    let all = tickets.acts;
     let mut number: u64 = 0;
     for act in all {
-        if takes_place(all, name, act.deed) {
-            add_place(marks, all, row, number, *act)?;
+        if takes_place(tickets, name, act.deed) {
+            add_place(marks, tickets, row, number, *act)?;
             number += 1;
         }
     }
@@ -149,13 +107,14 @@ fn add_numbers_on(
 /// Adds the marks of all emissions.
 pub(crate) fn add_numbers(
     marks: &mut Vec<Mark<'_>>,
-    names: &[&[u8]],
-    all: &[Act<'_>],
+    rows: &Rows<'_, '_>,
+    tickets: &Tickets<'_, '_>,
 ) -> Result<(), AllocError>
-    ensures { OnOk result (map mark_in marks.new.items ≡ map mark_in marks.old.items ++ numbered_in (map (λ known. known.now) names.now) (map done_in all.now)) }
+    ensures { OnOk result (map mark_in marks.new.items ≡ map mark_in marks.old.items ++ numbered_in (map (λ known. known.now) rows.now.names.now) (map done_in tickets.now.acts.now)) }
 {
+    let names = rows.names;
     for name in names {
-        add_numbers_on(marks, names, all, name)?;
+        add_numbers_on(marks, rows, tickets, name)?;
     }
     Ok(())
 }

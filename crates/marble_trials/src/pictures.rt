@@ -8,7 +8,7 @@ use std::alloc::{AllocError, Global};
 use std::test::Fail;
 
 /// How many lists there are.
-const LISTS: u64 = 300;
+const LISTS: u64 = 1000;
 
 /// Whether two lists have marks of the same places in the same order.
 fn have_same_places(ones: &[Mark<'_>], others: &[Mark<'_>]) -> bool {

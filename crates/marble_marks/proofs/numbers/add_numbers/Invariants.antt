@@ -7,5 +7,6 @@ use Rattle.marble_marks.proofs.numbers.add_numbers.Given as goal
 
 abbrev pub invariant-loop-name : goal.invariant-loop-name
 invariant-loop-name l =
-    let names = map (λ known. known.now) l.names in
-    map mark_in l.marks.items ++ flat_map (numbered_on names (map done_in l.all)) (map (λ known. known.now) (drop l.name-index l.names)) ≡ map mark_in l.fn.marks.items ++ flat_map (numbered_on names (map done_in l.all)) names
+    let names = map (λ known. known.now) l.rows.names.now in
+    let all = map done_in l.tickets.acts.now in
+    map mark_in l.marks.items ++ flat_map (numbered_on names all) (map (λ known. known.now) (drop l.name-index l.names)) ≡ map mark_in l.fn.marks.items ++ flat_map (numbered_on names all) names

@@ -1,0 +1,42 @@
+//! What is noted of names first.
+
+ghost use Rattle.std.specs.Prelude.{◌≡◌, ℕ, List, None, OnOk, bytes_eq};
+ghost use Rattle.marble_marks.specs.Firsts.{noted_of, first};
+
+use std::alloc::{AllocError, Global};
+use std::collections::HashMap;
+
+/// A number for each of some names: the first that was noted of it.
+#[derive(Drop)]
+pub(crate) struct Firsts<'a> {
+    noted: HashMap<&'a [u8], usize>,
+}
+
+impl<'a> Firsts<'a> {
+    /// Nothing is noted.
+    pub(crate) fn new(alloc: Global) -> Firsts<'a>
+        ensures { (name : List ℕ) → noted_of result name ≡ None }
+    {
+        Firsts {
+            noted: HashMap::new(alloc),
+        }
+    }
+
+    /// Notes a number of a name that has none.
+    pub(crate) fn note(&mut self, name: &'a [u8], number: usize) -> Result<(), AllocError>
+        ensures { OnOk result ((other : List ℕ) → noted_of self.new other ≡ first (noted_of self.old other) (bytes_eq name.entry.now other) number) }
+    {
+        if self.noted.contains_key(name) {
+            return Ok(());
+        }
+        self.noted.insert(name, number)?;
+        Ok(())
+    }
+
+    /// The number that was noted of a name.
+    pub(crate) fn get(&self, name: &[u8]) -> Option<usize>
+        ensures { result ≡ noted_of self.now name.now }
+    {
+        self.noted.get(name).copied()
+    }
+}

@@ -1,0 +1,143 @@
+//! What a line does to values, as far as more is told by it than by its own answer.
+
+use crate::start::reply::Reply;
+use crate::start::turn::Turn;
+use script_commands::{Command, Making, Party, Request};
+use std::alloc::{AllocError, Global};
+
+/// What a line does.
+#[derive(Clone, Copy)]
+pub(crate) enum Deed<'a> {
+    /// A flow accepts a value at once.
+    Accepts {
+        host: &'a [u8],
+        value: u64,
+    },
+    /// An emission of a value has to wait.
+    Waits {
+        host: &'a [u8],
+        ticket: &'a [u8],
+        value: u64,
+    },
+    /// An emission that had to wait was accepted by now.
+    Finishes {
+        ticket: &'a [u8],
+    },
+    /// An emission that had to wait is taken back.
+    Removes {
+        ticket: &'a [u8],
+    },
+    /// A state begins with a value.
+    Begins {
+        host: &'a [u8],
+        value: u64,
+    },
+    /// A state is set to a value.
+    Sets {
+        host: &'a [u8],
+        value: u64,
+    },
+    /// A subscription or a collector begins.
+    Joins {
+        host: &'a [u8],
+        guest: &'a [u8],
+    },
+    Nothing,
+}
+
+/// What a line does, and in which column that is shown.
+#[derive(Clone, Copy)]
+pub(crate) struct Act<'a> {
+    pub(crate) column: usize,
+    pub(crate) deed: Deed<'a>,
+}
+
+/// What an emission does.
+fn emitting<'a>(host: &'a [u8], ticket: &'a [u8], value: u64, reply: Reply) -> Deed<'a> {
+    match reply {
+        Reply::Accepted => Deed::Accepts { host, value },
+        Reply::Waiting => Deed::Waits {
+            host,
+            ticket,
+            value,
+        },
+        _ => Deed::Nothing,
+    }
+}
+
+/// What a `withdraw` does.
+fn withdrawing<'a>(ticket: &'a [u8], reply: Reply) -> Deed<'a> {
+    match reply {
+        Reply::Left => Deed::Finishes { ticket },
+        Reply::Removed => Deed::Removes { ticket },
+        _ => Deed::Nothing,
+    }
+}
+
+/// What it does to make something.
+fn making<'a>(name: &'a [u8], made: Making<'a>, reply: Reply) -> Deed<'a> {
+    match made {
+        Making::State { value } => match reply {
+            Reply::Ok => Deed::Begins { host: name, value },
+            _ => Deed::Nothing,
+        },
+        _ => Deed::Nothing,
+    }
+}
+
+/// What it does to join something.
+fn joining<'a>(host: &'a [u8], name: &'a [u8], party: Party<'a>, reply: Reply) -> Deed<'a> {
+    match party {
+        Party::Subscription(_) | Party::Collector => match reply {
+            Reply::Ok => Deed::Joins { host, guest: name },
+            _ => Deed::Nothing,
+        },
+        Party::Emission(value) => emitting(host, name, value, reply),
+    }
+}
+
+/// What a request does.
+fn asking<'a>(name: &'a [u8], request: Request, reply: Reply) -> Deed<'a> {
+    match request {
+        Request::Try(value) => match reply {
+            Reply::Accepted => Deed::Accepts { host: name, value },
+            _ => Deed::Nothing,
+        },
+        Request::Set(value) => match reply {
+            Reply::Ok => Deed::Sets { host: name, value },
+            _ => Deed::Nothing,
+        },
+        Request::CompareAndSet(_, value) => match reply {
+            Reply::True => Deed::Sets { host: name, value },
+            _ => Deed::Nothing,
+        },
+        Request::Poll => match reply {
+            Reply::Done => Deed::Finishes { ticket: name },
+            _ => Deed::Nothing,
+        },
+        Request::Withdraw => withdrawing(name, reply),
+        _ => Deed::Nothing,
+    }
+}
+
+/// What a command with this reply does.
+fn deed_of<'a>(command: Option<Command<'a>>, reply: Reply) -> Deed<'a> {
+    match command {
+        Some(Command::Make { name, making: made }) => making(name, made, reply),
+        Some(Command::Join { host, name, party }) => joining(host, name, party, reply),
+        Some(Command::Ask { name, request }) => asking(name, request, reply),
+        Some(Command::Cold { .. }) | None => Deed::Nothing,
+    }
+}
+
+/// What these lines do.
+pub(crate) fn acts<'a>(alloc: Global, turns: &[Turn<'a>]) -> Result<Vec<Act<'a>>, AllocError> {
+    let mut acts = Vec::new(alloc);
+    for turn in turns {
+        acts.push(Act {
+            column: turn.column,
+            deed: deed_of(turn.command, Reply::of(turn.answer)),
+        })?;
+    }
+    Ok(acts)
+}

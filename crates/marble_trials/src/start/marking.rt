@@ -1,0 +1,127 @@
+//! Makes the marks of a picture.
+
+ghost use Rattle.std.specs.Prelude.{◌≤◌, length};
+
+use crate::start::deed::acts;
+use crate::start::happening::{Happening, happening_of};
+use crate::start::ledger::losses_in;
+use crate::start::loss::add_losses;
+use crate::start::numbers::add_numbers;
+use crate::start::reply::Reply;
+use crate::start::said::Said;
+use crate::start::turn::{Turn, turns};
+use marble_marks::{Kind, Mark};
+use std::alloc::{AllocError, Global};
+
+/// What a line shows on a row.
+fn shown<'a>(turn: &Turn<'a>) -> Option<Happening<'a>> {
+    let command = turn.command?;
+    happening_of(command, Reply::of(turn.answer))
+}
+
+/// The name that a line binds to a row of its own.
+fn name_of<'a>(turn: &Turn<'a>) -> Option<&'a [u8]> {
+    let Happening { name, kind } = shown(turn)?;
+    match kind {
+        Kind::Begun(_) => Some(name),
+        _ => None,
+    }
+}
+
+/// The names that have rows, in the order of these.
+fn names_in<'a>(alloc: Global, turns: &[Turn<'a>]) -> Result<Vec<&'a [u8]>, AllocError> {
+    let mut names = Vec::new(alloc);
+    for turn in turns {
+        if let Some(name) = name_of(turn) {
+            names.push(name)?;
+        }
+    }
+    Ok(names)
+}
+
+/// The row of a name.
+pub(crate) fn row_of(names: &[&[u8]], name: &[u8]) -> usize {
+    let mut row = 1;
+    for known in names {
+        if *known == name {
+            return row;
+        }
+        row += 1;
+    }
+    row
+}
+
+/// The mark at the head of a line's column.
+fn line_mark<'a>(turn: &Turn<'a>) -> Mark<'a> {
+    let kind = match Reply::of(turn.answer) {
+        Reply::Bad => Kind::Bad(turn.number),
+        _ => Kind::Line(turn.number),
+    };
+    Mark {
+        column: turn.column,
+        row: 0,
+        kind,
+        text: turn.line,
+    }
+}
+
+/// Adds the marks of a line.
+fn add_marks<'a>(
+    marks: &mut Vec<Mark<'a>>,
+    names: &[&'a [u8]],
+    turn: &Turn<'a>,
+) -> Result<(), AllocError> {
+    marks.push(line_mark(turn))?;
+    let Some(Happening { name, kind }) = shown(turn) else {
+        return Ok(());
+    };
+    let row = row_of(names, name);
+    marks.push(Mark {
+        column: turn.column,
+        row,
+        kind,
+        text: turn.text,
+    })?;
+    if let Kind::Begun(begun) = kind {
+        marks.push(Mark {
+            column: 0,
+            row,
+            kind: Kind::Named(begun),
+            text: name,
+        })?;
+    }
+    Ok(())
+}
+
+/// The marks of these lines, where these names have rows.
+fn marks_in<'a>(
+    alloc: Global,
+    names: &[&'a [u8]],
+    turns: &[Turn<'a>],
+) -> Result<Vec<Mark<'a>>, AllocError> {
+    let mut marks = Vec::new(alloc);
+    for turn in turns {
+        add_marks(&mut marks, names, turn)?;
+    }
+    Ok(marks)
+}
+
+/// The marks of a script with these answers, each to the line with its number, in their order. First come the
+/// marks of what each answer shows by itself, in the order of the lines; then those of the emissions' numbers, and of the
+/// values that made way.
+pub(crate) fn marks<'a>(
+    alloc: Global,
+    script: &'a [u8],
+    answers: &'a [Said],
+) -> Result<Vec<Mark<'a>>, AllocError>
+    requires { length script.now ≤ 1048576 }
+{
+    let turns = turns(alloc, script, answers)?;
+    let names = names_in(alloc, &turns)?;
+    let acts = acts(alloc, &turns)?;
+    let losses = losses_in(alloc, &turns)?;
+    let mut marks = marks_in(alloc, &names, &turns)?;
+    add_numbers(&mut marks, &names, &acts)?;
+    add_losses(&mut marks, &names, &acts, &losses)?;
+    Ok(marks)
+}

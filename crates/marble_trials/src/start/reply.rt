@@ -1,0 +1,47 @@
+//! What an answer says, as far as a picture shows it.
+
+use script_commands::Answer;
+
+/// What an answer says, as far as a picture shows it.
+#[derive(Clone, Copy)]
+pub(crate) enum Reply {
+    /// `ok`.
+    Ok,
+    /// `true`.
+    True,
+    Accepted,
+    Dropped,
+    Full,
+    Waiting,
+    /// An emission is done.
+    Done,
+    Removed,
+    Left,
+    Pending,
+    Value(u64),
+    /// The line is a bad command.
+    Bad,
+    /// Something else.
+    Other,
+}
+
+impl Reply {
+    /// What an answer says.
+    pub(crate) fn of(answer: &Answer) -> Reply {
+        match answer {
+            Answer::Ok => Reply::Ok,
+            Answer::Truth(true) => Reply::True,
+            Answer::Accepted => Reply::Accepted,
+            Answer::Dropped => Reply::Dropped,
+            Answer::Full => Reply::Full,
+            Answer::Waiting => Reply::Waiting,
+            Answer::Done => Reply::Done,
+            Answer::Removed => Reply::Removed,
+            Answer::Left => Reply::Left,
+            Answer::Pending => Reply::Pending,
+            Answer::Value(value) => Reply::Value(*value),
+            Answer::BadCommand(_) => Reply::Bad,
+            _ => Reply::Other,
+        }
+    }
+}
