@@ -1,6 +1,6 @@
 //! What marks look like.
 
-ghost use Rattle.std.specs.Prelude.{◌≡◌, ◌++◌, OnOk, length, string_bytes};
+ghost use Rattle.std.specs.Prelude.{◌≡◌, ◌≤◌, ◌++◌, ◌∷◌, [], OnOk, IsTrue, length, take, string_bytes};
 ghost use Rattle.std.specs.Option.{option_map};
 ghost use Rattle.marble_pictures.specs.Captions.{words_of};
 ghost use Rattle.marble_pictures.specs.Symbols.{escaped_byte, escaped, line_text, segment_text, opening_text, said_text, half_width, falling_text, rising_text, cross_text, rect_text, look_in, begun_look, look_of, crossing, edge_text, framed_text, frame_around, frame_text, heading_text, head_at, head_text, crossed_head, bar_text, ring_text, value_text, begun_text, bare_text, symbol_by, symbol_text};
@@ -53,12 +53,61 @@ fn push_escaped_byte(picture: &mut String, byte: u8) -> Result<(), AllocError>
     }
 }
 
-/// Adds a text as SVG wants it.
-pub(crate) fn push_escaped(picture: &mut String, bytes: &[u8]) -> Result<(), AllocError>
+/// Whether a byte stands for itself.
+fn is_itself(byte: u8) -> bool
+    ensures { IsTrue result → escaped_byte byte ≡ byte ∷ [] }
+{
+    byte >= b' ' && byte <= b'~' && byte != b'<' && byte != b'>' && byte != b'&' && byte != b'"'
+}
+
+/// How many bytes at the front of a text stand for themselves.
+fn plain_front(bytes: &[u8]) -> usize
+    ensures within { result ≤ length bytes.now }
+    ensures themselves { escaped (take result bytes.now) ≡ take result bytes.now }
+{
+    for (index, byte) in bytes.iter().enumerate() {
+        if !is_itself(*byte) {
+            return index;
+        }
+    }
+    bytes.len()
+}
+
+/// Adds a text as SVG wants it, byte by byte.
+fn push_each(picture: &mut String, bytes: &[u8]) -> Result<(), AllocError>
     ensures { OnOk result (string_bytes picture.new ≡ string_bytes picture.old ++ escaped bytes.now) }
 {
     for byte in bytes {
         push_escaped_byte(picture, *byte)?;
+    }
+    Ok(())
+}
+
+/// Adds bytes that stand for themselves.
+fn push_front(picture: &mut String, front: &[u8]) -> Result<(), AllocError>
+    requires { escaped front.now ≡ front.now }
+    ensures { OnOk result (string_bytes picture.new ≡ string_bytes picture.old ++ escaped front.now) }
+{
+    match std::str::from_utf8(front) {
+        Ok(text) => picture.push_str(text),
+        Err(_) => push_each(picture, front),
+    }
+}
+
+/// Adds a text as SVG wants it: bytes that stand for themselves together, and the others by their names.
+pub(crate) fn push_escaped(picture: &mut String, bytes: &[u8]) -> Result<(), AllocError>
+    ensures { OnOk result (string_bytes picture.new ≡ string_bytes picture.old ++ escaped bytes.now) }
+{
+    let mut left = bytes;
+    while let [byte, rest @ ..] = left {
+        let (front, back) = left.split_at(plain_front(left));
+        if front.is_empty() {
+            push_escaped_byte(picture, *byte)?;
+            left = rest;
+        } else {
+            push_front(picture, front)?;
+            left = back;
+        }
     }
     Ok(())
 }

@@ -1,7 +1,9 @@
-use Rattle.std.proofs.Common.{◌≡◌, ◌++◌, drop, string_bytes}
-use Rattle.std.specs.List.{flat_map}
-use Rattle.marble_pictures.specs.Symbols.{escaped_byte}
+use Rattle.std.proofs.Common.{◌≡◌, ◌++◌, length, string_bytes}
+use Rattle.marble_pictures.specs.Symbols.{escaped}
 use Rattle.marble_pictures.proofs.symbol.push_escaped.Given as goal
 
-abbrev pub invariant-loop-byte : goal.invariant-loop-byte
-invariant-loop-byte l = string_bytes l.picture ++ flat_map escaped_byte (drop l.byte-index l.bytes) ≡ string_bytes l.fn.picture ++ flat_map escaped_byte l.bytes
+abbrev pub invariant-loop-left : goal.invariant-loop-left
+invariant-loop-left l = string_bytes l.picture ++ escaped l.left ≡ string_bytes l.fn.picture ++ escaped l.bytes
+
+abbrev pub decreases-loop-left : goal.decreases-loop-left
+decreases-loop-left l = length l.left
