@@ -53,7 +53,7 @@ fn draw(
     script: &[u8],
 ) -> Result<(), ScriptFault> {
     let picture = picture_for(rt, wish, script)?;
-    match rt.print(picture.as_str()) {
+    match rt.write_all(picture.as_bytes()) {
         Ok(()) => Ok(()),
         Err(_) => Err(ScriptFault::Write),
     }
