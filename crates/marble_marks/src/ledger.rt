@@ -47,6 +47,8 @@ struct Guest {
     prelude: usize,
     /// The number of the value that it takes next.
     next: usize,
+    /// It has not ended.
+    is_live: bool,
 }
 
 /// What was answered up to a line.
@@ -131,6 +133,7 @@ impl<'a> Ledger<'a> {
             joined: line,
             prelude,
             next,
+            is_live: true,
         })?;
         Ok(())
     }
@@ -203,7 +206,10 @@ impl<'a> Ledger<'a> {
         let host = self.hosts.get_mut(guest.host_index)?;
         match (request, reply) {
             (Request::Next, reply) => guest.ask(host.values.len(), reply),
-            (Request::Cancel, Reply::Ok) => host.live.retain(|live| *live != index),
+            (Request::Cancel, Reply::Ok) if guest.is_live => {
+                guest.is_live = false;
+                host.live.retain(|live| *live != index);
+            },
             _ => {}
         }
         guest.namesake
