@@ -125,8 +125,8 @@ fn least_among(places: &[Place], number: u64) -> Result<u64, usize>
     Ok(least)
 }
 
-/// The same, looked for from one place on and all round. So whoever asks again about the same number, from where it was found,
-/// passes each place once.
+/// The same, looked for from one place on and all round. So whoever asks again about the same number, each time from where the
+/// last place was found, passes each place at most twice.
 pub fn least_position(places: &[Place], number: u64, from: usize) -> Result<u64, usize>
     ensures { IfOk result (λ least. All (IsFrom least) places.now) }
 {

@@ -134,11 +134,12 @@ impl<T: Copy> Ring<T> {
     pub fn look_for_room(&mut self)
         ensures { self.new ≡ self.old }
     {
-        if self.known_room().is_some() {
+        let limit = self.limit();
+        // Before the ring is full there is room, wherever the places stand.
+        if self.known_room().is_some() || self.next_number < limit {
             return;
         }
-        let limit = self.limit();
-        let oldest = self.next_number.saturating_sub(limit);
+        let oldest = self.next_number - limit;
         match least_position(&self.places, oldest, self.slow) {
             Ok(least) => self.room_until = least.saturating_add(limit),
             Err(at) => self.slow = at,

@@ -154,6 +154,9 @@ impl<T: Copy> SharedState<T> {
     fn accept_waiting(&mut self) -> bool
         ensures { SettlesOnce self.old result self.new }
     {
+        if self.waiting.len() == 0 {
+            return false;
+        }
         self.look_for_room(false);
         self.accept_oldest()
     }
