@@ -1,19 +1,16 @@
 -- What a pipe gathers, stage by stage.
-use Rattle.std.proofs.Common.{◌≡◌, ◌⊎◌, subst, ℕ, ◌<◌, ◌≤◌, inl, inr, Bool, true, false, List, [], ◌∷◌, length, take, length-take, Option, Some, None, Result, Ok, Err, if◌then◌else◌, nat_lt, map, refl, sym, ap, ◌∙◌, arith}
+use Rattle.std.proofs.Common.{◌≡◌, subst, ℕ, ◌<◌, ◌≤◌, inl, inr, Bool, true, false, List, [], ◌∷◌, ◌++◌, length, length-append, Option, Some, None, Result, Ok, Err, if◌then◌else◌, nat_lt, map, refl, sym, ap, ◌∙◌, arith}
 use Rattle.std.proofs.Math.Dec.{leb}
-use Rattle.std.proofs.lemmas.Bool.{lt-ltb, le-ltb, ltb-true, ltb-false, lt-leb, ne_eqb}
-use Rattle.std.proofs.lemmas.List.{take_all}
+use Rattle.std.proofs.lemmas.Bool.{lt-ltb, le-ltb, ne_eqb}
 use Rattle.cold_flow.specs.declared.cause.Cause.{Cause}
 use Rattle.cold_flow.specs.declared.cause.Cause.TheVariants.{Finished, Failed, Cancelled}
 use Rattle.cold_flow.specs.declared.cause.Cause.TheVariants as causes
 use Rattle.cold_flow.specs.declared.operators.catch_with.Caught.{Caught}
 use Rattle.cold_flow.specs.declared.operators.catch_with.Caught.TheVariants.{End, Last, Fault}
 use Rattle.flow_terms.specs.declared.refusal.Refusal.{Refusal}
-use Rattle.flow_terms.specs.declared.refusal.Refusal.TheVariants.{NoMemory}
-use Rattle.cold_flow.specs.Poll.{Traces, Fixes, Beginnings}
+use Rattle.cold_flow.specs.Poll.{Fixes, Beginnings}
 use Rattle.flow_terms.specs.Few.{values_of}
-use Rattle.cold_flow.specs.Laws.{ended-begins}
-use Rattle.cold_flow.specs.Trace.{Trace, ended_by, cause_of, take_trace}
+use Rattle.cold_flow.specs.Trace.{Trace, ◌⊑◌, so_far, ended_by, cause_of, take_trace}
 use Rattle.cold_flow.specs.Finale.{changed, catching, completing}
 use Rattle.script_commands.specs.declared.gathered.Gathered.{Gathered}
 use Rattle.script_commands.specs.declared.gathered.Stop.{Stop}
@@ -25,7 +22,7 @@ use Rattle.flow_merge.specs.Combine.{with_result, after_end, rest_of_left, rest_
 use Rattle.flow_merge.specs.Concat.{followed_by, joined}
 use Rattle.script_commands.specs.Inners.{inner_flow}
 use Rattle.script_commands.specs.Sources.{Origin, of, range, fail, given}
-use Rattle.script_commands.specs.Piping.{sum, inner_of, made_by, bounded, stop_in, unless_stopped, after_stage, after_stages, trace_of, Comes, EndsAs, IsEnded}
+use Rattle.script_commands.specs.Piping.{sum, inner_of, made_by, bounded, stop_in, unless_stopped, after_stage, after_stages, trace_of, Comes, IsEnded}
 
 -- more than 10,000 values, or not
 pub over : (whole : Trace ℕ ℕ) → 10000 < length whole.0 → bounded whole ≡ Err TooMany
@@ -34,34 +31,19 @@ over whole many = rw (lt-ltb 10000 (length whole.0) many) refl
 pub under : (whole : Trace ℕ ℕ) → length whole.0 ≤ 10000 → bounded whole ≡ Ok whole
 under whole few = rw (le-ltb 10000 (length whole.0) few) refl
 
--- what is cut after 10,001 values is over the limit where the whole is
-cut_over : (whole : Trace ℕ ℕ) → 10000 < length whole.0 → bounded (take_trace 10001 whole) ≡ bounded whole
-cut_over whole many =
-    let cut : length (take 10001 whole.0) ≡ 10001 = omega (arith, length-take 10001 whole.0, many) in
-    over (take_trace 10001 whole) (omega (arith, cut)) ∙ sym (over whole many)
+-- where one value more than the limit has come, the whole is over it
+begun_over : (values : List ℕ) (value : ℕ) (whole : Trace ℕ ℕ) → so_far (values ++ value ∷ []) ⊑ whole → 10000 ≤ length values → 10000 < length whole.0
+begun_over values value whole (inl e) many =
+    let same : length (values ++ value ∷ []) ≡ length whole.0 = ap (λ (t : Trace ℕ ℕ). length t.0) e in
+    omega (arith, length-append values (value ∷ []), same, many)
+begun_over values value whole (inr h) many =
+    let same : length ((values ++ value ∷ []) ++ h.1.0) ≡ length whole.0 = ap length h.1.1 in
+    omega (arith, length-append (values ++ value ∷ []) h.1.0, length-append values (value ∷ []), same, many)
 
-cut_under : (whole : Trace ℕ ℕ) → length whole.0 ≤ 10000 → bounded (take_trace 10001 whole) ≡ bounded whole
-cut_under whole few =
-    let values : take 10001 whole.0 ≡ whole.0 = take_all 10001 whole.0 (omega (arith, few)) in
-    let end : (if leb 10001 (length whole.0) then Some Finished else whole.1) ≡ whole.1 = ap (λ b. if b then Some Finished else whole.1) (lt-leb 10001 (length whole.0) (omega (arith, few))) in
-    let same : take_trace 10001 whole ≡ whole = ap (λ xs. (xs, (if leb 10001 (length whole.0) then Some Finished else whole.1))) values ∙ ap (λ k. (whole.0, k)) end in
-    ap bounded same
+pub too_many : (values : List ℕ) (value : ℕ) (whole : Trace ℕ ℕ) → so_far (values ++ value ∷ []) ⊑ whole → 10000 ≤ length values → bounded whole ≡ Err TooMany
+too_many values value whole begins many = over whole (begun_over values value whole begins many)
 
-cut_by : (whole : Trace ℕ ℕ) (b : Bool) → nat_lt 10000 (length whole.0) ≡ b → bounded (take_trace 10001 whole) ≡ bounded whole
-cut_by whole true e = cut_over whole (ltb-true 10000 (length whole.0) e)
-cut_by whole false e = cut_under whole (ltb-false 10000 (length whole.0) e)
-
-pub cut : (whole : Trace ℕ ℕ) → bounded (take_trace 10001 whole) ≡ bounded whole
-cut whole = cut_by whole (nat_lt 10000 (length whole.0)) refl
-
--- a flow that gives beginnings of one trace alone ends as that trace does
-pub ends_fixed : (whole : Trace ℕ ℕ) (may : Traces ℕ ℕ) → Fixes whole may → EndsAs whole may
-ends_fixed whole may fixed values cause h = inr (ended-begins values cause whole (fixed (ended_by values cause) h))
-
--- the end of what was collected
-abbrev pub EndsIn : List ℕ → Cause ℕ → Trace ℕ ℕ → Type 0
-EndsIn values cause whole = (cause ≡ causes.Refused NoMemory) ⊎ (ended_by values cause ≡ whole)
-
+-- the end of what was gathered is that of the whole: no cancellation and no refusal
 ended_cause : (values : List ℕ) (cause : Cause ℕ) (whole : Trace ℕ ℕ) → ended_by values cause ≡ whole → IsEnded whole → (fault : Option ℕ) × (cause ≡ cause_of fault)
 ended_cause values cause whole e (fault, is) =
     let ends : Some cause ≡ Some (cause_of fault) = ap (λ (t : Trace ℕ ℕ). t.1) e ∙ is in
@@ -75,24 +57,15 @@ no_refused : (fault : Option ℕ) (refusal : Refusal) → cause_of fault ≡ cau
 no_refused None refusal e = cc
 no_refused (Some f) refusal e = cc
 
-pub not_cancelled : (values : List ℕ) (cause : Cause ℕ) (whole : Trace ℕ ℕ) → EndsIn values cause whole → IsEnded whole → cause ≡ Cancelled → ⊥
-not_cancelled values cause whole (inl refused) ended e = let differ : causes.Refused NoMemory ≡ Cancelled = sym refused ∙ e in absurd (cc)
-not_cancelled values cause whole (inr same) ended e = let c = ended_cause values cause whole same ended in no_cancelled c.0 (sym c.1 ∙ e)
+pub not_cancelled : (values : List ℕ) (cause : Cause ℕ) (whole : Trace ℕ ℕ) → ended_by values cause ≡ whole → IsEnded whole → cause ≡ Cancelled → ⊥
+not_cancelled values cause whole same ended e = let c = ended_cause values cause whole same ended in no_cancelled c.0 (sym c.1 ∙ e)
 
-pub memory_alone : (values : List ℕ) (cause : Cause ℕ) (whole : Trace ℕ ℕ) (refusal : Refusal) → EndsIn values cause whole → IsEnded whole → cause ≡ causes.Refused refusal → refusal ≡ NoMemory
-memory_alone values cause whole refusal (inl refused) ended e = let same : causes.Refused refusal ≡ causes.Refused NoMemory = sym e ∙ refused in cc
-memory_alone values cause whole refusal (inr same) ended e = let c = ended_cause values cause whole same ended in absurd (no_refused c.0 refusal (sym c.1 ∙ e))
+pub not_refused : (values : List ℕ) (cause : Cause ℕ) (whole : Trace ℕ ℕ) (refusal : Refusal) → ended_by values cause ≡ whole → IsEnded whole → cause ≡ causes.Refused refusal → ⊥
+not_refused values cause whole refusal same ended e = let c = ended_cause values cause whole same ended in no_refused c.0 refusal (sym c.1 ∙ e)
 
--- the whole that was collected, where no start was refused
-pub collected : (values : List ℕ) (cause : Cause ℕ) (fault : Option ℕ) (whole : Trace ℕ ℕ) → EndsIn values cause whole → cause ≡ cause_of fault → whole ≡ ended_by values (cause_of fault)
-collected values cause fault whole (inl refused) e = absurd (no_refused fault NoMemory (sym e ∙ refused))
-collected values cause fault whole (inr same) e = sym same ∙ ap (ended_by values) e
-
-pub too_many : (values : List ℕ) (cause : Cause ℕ) (fault : Option ℕ) (whole : Trace ℕ ℕ) → EndsIn values cause whole → cause ≡ cause_of fault → 10000 < length values → bounded whole ≡ Err TooMany
-too_many values cause fault whole ends e many = ap bounded (collected values cause fault whole ends e) ∙ over (ended_by values (cause_of fault)) many
-
-pub all_there : (values : List ℕ) (cause : Cause ℕ) (fault : Option ℕ) (whole : Trace ℕ ℕ) → EndsIn values cause whole → cause ≡ cause_of fault → length values ≤ 10000 → bounded whole ≡ Ok (ended_by values (cause_of fault))
-all_there values cause fault whole ends e few = ap bounded (collected values cause fault whole ends e) ∙ under (ended_by values (cause_of fault)) few
+-- the whole was gathered
+pub all_there : (values : List ℕ) (cause : Cause ℕ) (fault : Option ℕ) (whole : Trace ℕ ℕ) → ended_by values cause ≡ whole → cause ≡ cause_of fault → length values ≤ 10000 → bounded whole ≡ Ok (ended_by values (cause_of fault))
+all_there values cause fault whole same e few = ap bounded (sym same ∙ ap (ended_by values) e) ∙ under (ended_by values (cause_of fault)) few
 
 -- every stage keeps an end an end
 taken_end : (b : Bool) (k : Option (Cause ℕ)) → (fault : Option ℕ) × (k ≡ Some (cause_of fault)) → (fault : Option ℕ) × ((if b then Some Finished else k) ≡ Some (cause_of fault))

@@ -4,7 +4,6 @@ use Rattle.std.specs.Prelude.{ℕ, Bool, List, [], length, map, drop, filter, na
 use Rattle.std.specs.List.{range_with_len}
 use Rattle.cold_flow.specs.declared.cause.Cause.{Cause}
 use Rattle.cold_flow.specs.declared.cause.Cause.TheVariants.{Finished, Failed}
-use Rattle.cold_flow.specs.declared.cause.Cause.TheVariants as causes
 use Rattle.flow_terms.specs.declared.few.Few.{Few}
 use Rattle.flow_terms.specs.declared.few.Few.TheVariants.{Two}
 use Rattle.flow_terms.specs.declared.refusal.Refusal.TheVariants.{NotPositive, NoMemory}
@@ -126,8 +125,3 @@ ComesOfBoth left right together result = (t u : Trace ℕ ℕ) → Fixes t left 
 -- it ends by a fault or finishes
 abbrev pub IsEnded : Trace ℕ ℕ → Type 0
 IsEnded t = (fault : Option ℕ) × (t.1 ≡ Some (cause_of fault))
-
--- an end that may be given is that of this trace, after all its values, or it is that memory was refused
-abbrev pub EndsAs : Trace ℕ ℕ → Traces ℕ ℕ → Type 0
-EndsAs whole may = (values : List ℕ) (cause : Cause ℕ) → may (ended_by values cause)
-    → (cause ≡ causes.Refused NoMemory) ⊎ (ended_by values cause ≡ whole)

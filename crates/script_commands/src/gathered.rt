@@ -1,19 +1,21 @@
 //! What a stage of a pipe comes to.
 
-ghost use Rattle.std.specs.Prelude.{◌≡◌, ℕ, IsTrue, MatchResult};
+ghost use Rattle.std.specs.Prelude.{◌≡◌, ℕ, [], MatchResult};
 ghost use Rattle.cold_flow.specs.Poll.{Fixes};
 ghost use Rattle.cold_flow.specs.Trace.{Trace, cause_of};
 ghost use Rattle.cold_flow.specs.declared.cause.Cause.TheVariants.{Cancelled};
 ghost use Rattle.cold_flow.specs.declared.cause.Cause.TheVariants as causes;
 ghost use Rattle.script_commands.specs.declared.gathered.Stop.TheVariants.{Refused};
+ghost use Rattle.script_commands.specs.Piping.{bounded, Comes, IsEnded};
 ghost use Rattle.flow_terms.specs.declared.refusal.Refusal.TheVariants.{NoMemory};
 
-use cold_flow::{Cause, Finite, Flow, Listed, Refusal, failing, of, take, to_list};
-use futures::task::Context;
+use crate::gathered_flow::GatheredFlow;
+use cold_flow::{Cause, Event, Finite, Flow, Refusal};
+use futures::task::{Context, Poll};
 use std::alloc::{AllocError, Global};
 
 /// The most values that a stage may give.
-const MOST_VALUES: u32 = 10_000;
+const MOST_VALUES: usize = 10_000;
 
 /// The values that a stage gave, and how they end.
 #[derive(Drop)]
@@ -61,66 +63,68 @@ fn fault_of(cause: Cause<u64>) -> Result<Option<u64>, Refusal>
     }
 }
 
+/// Polls a run to its end, and adds what it gives to an empty list.
+///
+/// With the first value over the limit of 10,000 the run is cancelled, and so where memory lacks for a value. A pending answer is
+/// asked again at once.
+fn gather<R>(mut run: R, mut values: Vec<u64>, cx: &mut Context<'_>) -> Result<Gathered, Stop>
+where
+    R: Finite<Item = u64, Fault = u64>,
+    requires empty { values.items ≡ [] }
+    requires certain { (whole : Trace ℕ ℕ) × Fixes whole (R.may run) × IsEnded whole }
+    ensures { (whole : Trace ℕ ℕ) → Fixes whole (R.may run) → Comes (bounded whole) result }
+{
+    'polls: loop {
+        match run.poll_next(cx) {
+            Poll::Ready(Event::Value(value)) => {
+                if values.len() >= MOST_VALUES {
+                    run.cancel();
+                    return Err(Stop::TooMany);
+                }
+                if values.push(value).is_err() {
+                    run.cancel();
+                    return Err(Stop::Refused(Refusal::NoMemory));
+                }
+            }
+            Poll::Ready(Event::End(cause)) => {
+                let fault = fault_of(cause)?;
+                return Ok(Gathered { values, fault });
+            }
+            Poll::Pending => {}
+        }
+    }
+}
+
 impl Gathered {
-    ghost use Rattle.script_commands.specs.Piping.{trace_of, bounded, Comes, EndsAs, IsEnded};
+    ghost use Rattle.script_commands.specs.Piping.{trace_of};
 
     /// What a flow gives, of which it must be certain which values come and that they end by `Finished` or `Failed`.
     ///
-    /// One value over the limit of 10,000 stops it with `TooMany`, however many more there are. It is refused with
-    /// `Refusal::NoMemory` alone.
-    pub fn of<F>(alloc: Global, flow: F, cx: &mut Context<'_>) -> Result<Gathered, Stop>
+    /// There is room for `room` values at first, or for as many as the limit allows. One value over the limit of 10,000 stops it
+    /// with `TooMany`, however many more there are. It is refused with `Refusal::NoMemory` alone.
+    pub fn of<F>(
+        alloc: Global,
+        flow: F,
+        room: usize,
+        cx: &mut Context<'_>,
+    ) -> Result<Gathered, Stop>
     where
         F: Flow<Item = u64, Fault = u64>,
         F::Running: Finite,
         requires { (whole : Trace ℕ ℕ) × Fixes whole (F.may flow) × IsEnded whole }
         ensures { (whole : Trace ℕ ℕ) → Fixes whole (F.may flow) → Comes (bounded whole) result }
     {
-        Gathered::whole(alloc, take(flow, MOST_VALUES + 1)?, cx)
+        let run = flow.start()?;
+        gather(run, Vec::with_capacity(alloc, room.min(MOST_VALUES))?, cx)
     }
 
-    /// What a flow gives over values that a pipe holds already, and so few more than these.
-    ///
-    /// More than 10,000 values are `TooMany`. It is refused with `Refusal::NoMemory` alone.
-    pub fn after<F>(alloc: Global, flow: F, cx: &mut Context<'_>) -> Result<Gathered, Stop>
-    where
-        F: Flow<Item = u64, Fault = u64>,
-        F::Running: Finite,
-        requires { (whole : Trace ℕ ℕ) × Fixes whole (F.may flow) × IsEnded whole }
-        ensures { (whole : Trace ℕ ℕ) → Fixes whole (F.may flow) → Comes (bounded whole) result }
+    /// The flow that gives these values and ends so.
+    pub fn as_flow<'a>(&'a self) -> GatheredFlow<'a>
+        ensures { Fixes (trace_of self.now) (⟦<GatheredFlow<'a> as Flow>⟧.may result) }
     {
-        Gathered::whole(alloc, flow, cx)
-    }
-
-    /// What a flow gives that ends soon by itself, where a start on its way may be refused for memory: all its values are
-    /// collected before they are counted.
-    ///
-    /// More than 10,000 values are `TooMany`. It is refused with `Refusal::NoMemory` alone.
-    pub fn whole<F>(alloc: Global, flow: F, cx: &mut Context<'_>) -> Result<Gathered, Stop>
-    where
-        F: Flow<Item = u64, Fault = u64>,
-        F::Running: Finite,
-        requires { (whole : Trace ℕ ℕ) × EndsAs whole (F.may flow) × IsEnded whole }
-        ensures { (whole : Trace ℕ ℕ) → EndsAs whole (F.may flow) → Comes (bounded whole) result }
-    {
-        let collected = to_list(alloc, flow.start()?, cx)?;
-        let fault = fault_of(collected.cause)?;
-        if collected.values.len() > MOST_VALUES as usize {
-            return Err(Stop::TooMany);
-        }
-        Ok(Gathered {
-            values: collected.values,
-            fault,
-        })
-    }
-
-    /// The flow that gives these values and ends so. The list is moved into it.
-    pub fn into_flow(self) -> Listed<u64, u64>
-        ensures exact { Fixes (trace_of self) (⟦<Listed<u64, u64> as Flow>⟧.may result) }
-        ensures prompt { IsTrue (⟦<Listed<u64, u64> as Flow>⟧.prompt result) }
-    {
-        match self.fault {
-            Some(fault) => failing(self.values, fault),
-            None => of(self.values),
+        GatheredFlow {
+            values: self.values.as_slice(),
+            fault: self.fault,
         }
     }
 }

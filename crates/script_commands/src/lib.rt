@@ -8,6 +8,7 @@ mod answer;
 mod command;
 mod decimals;
 mod gathered;
+mod gathered_flow;
 mod inner;
 mod items;
 mod listing;

@@ -60,7 +60,7 @@ impl<'a> Pipe<'a> {
         let mut stages = self.stages;
         while let Some(words) = stages.next() {
             if let Some(stage) = Stage::parse(words) {
-                gathered = stage.run(alloc, gathered, cx)?;
+                gathered = stage.run(alloc, &gathered, cx)?;
             }
         }
         Ok(gathered)
@@ -72,10 +72,16 @@ impl<'a> Pipe<'a> {
         ensures { (refused : Bool) × (result ≡ pipe_answer refused (pipe_in self.entry)) }
     {
         match self.run(alloc, cx) {
-            Ok(Gathered { values, fault }) => Answer::Collected {
-                values: Listing::new(values),
-                fault,
-            },
+            Ok(Gathered { mut values, fault }) => {
+                // An answer may be kept, so it gives back the room that its last stage had no use for.
+                if values.len() < values.capacity() / 2 {
+                    values.shrink_to_fit();
+                }
+                Answer::Collected {
+                    values: Listing::new(values),
+                    fault,
+                }
+            }
             Err(Stop::Refused(refusal)) => Answer::Refused(refusal),
             Err(Stop::TooMany) => Answer::TooMany,
         }

@@ -88,9 +88,12 @@ impl<'a> Source<'a> {
         ensures { Comes (bounded (given (origin_in self.entry))) result }
     {
         match self {
-            Source::Range { from, to } => Gathered::of(alloc, range_flow::<u64>(from, to), cx),
+            Source::Range { from, to } => {
+                let room = to.saturating_sub(from) as usize;
+                Gathered::of(alloc, range_flow::<u64>(from, to), room, cx)
+            }
             Source::Of { .. } | Source::Fail { .. } => {
-                Gathered::of(alloc, SourceFlow::new(alloc, self), cx)
+                Gathered::of(alloc, SourceFlow::new(alloc, self), 0, cx)
             }
         }
     }

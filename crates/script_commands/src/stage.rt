@@ -16,7 +16,7 @@ use crate::gathered::{Gathered, Stop};
 use crate::inner::AtMostTwo;
 use crate::source::Source;
 use cold_flow::{
-    Caught, Flow, Listed, catch_with, distinct, filter, map, on_completion, transform,
+    Caught, Finite, Flow, catch_with, distinct, filter, map, on_completion, transform,
 };
 use flow_merge::{combine, flat_map_concat, zip};
 use futures::task::Context;
@@ -193,47 +193,67 @@ fn stage_by<'a>(first: &[u8], words: &mut Words<'a>) -> Option<Stage<'a>>
     }
 }
 
-/// The sums of two lists, pair by pair.
-fn zipped(
+/// The sums of two flows, pair by pair.
+fn zipped<A, B>(
     alloc: Global,
-    sides: (Listed<u64, u64>, Listed<u64, u64>),
+    sides: (A, B),
+    room: usize,
     cx: &mut Context<'_>,
 ) -> Result<Gathered, Stop>
-    requires left { (t : Trace ℕ ℕ) × Fixes t (⟦<Listed<u64, u64> as Flow>⟧.may sides.0) × IsEnded t }
-    requires right { (u : Trace ℕ ℕ) × Fixes u (⟦<Listed<u64, u64> as Flow>⟧.may sides.1) × IsEnded u }
-    ensures { ComesOfBoth (⟦<Listed<u64, u64> as Flow>⟧.may sides.0) (⟦<Listed<u64, u64> as Flow>⟧.may sides.1) (zip_trace sum) result }
+where
+    A: Flow<Item = u64, Fault = u64>,
+    B: Flow<Item = u64, Fault = u64>,
+    A::Running: Finite,
+    B::Running: Finite,
+    requires left { (t : Trace ℕ ℕ) × Fixes t (A.may sides.0) × IsEnded t }
+    requires right { (u : Trace ℕ ℕ) × Fixes u (B.may sides.1) × IsEnded u }
+    ensures { ComesOfBoth (A.may sides.0) (B.may sides.1) (zip_trace sum) result }
 {
     let (left, right) = sides;
-    Gathered::after(alloc, zip(left, right, Sum), cx)
+    Gathered::of(alloc, zip(left, right, Sum), room, cx)
 }
 
-/// The sums of the latest values of two lists, the first being asked first.
-fn combined(
+/// The sums of the latest values of two flows, the first being asked first.
+fn combined<A, B>(
     alloc: Global,
-    sides: (Listed<u64, u64>, Listed<u64, u64>),
+    sides: (A, B),
+    room: usize,
     cx: &mut Context<'_>,
 ) -> Result<Gathered, Stop>
-    requires left { (t : Trace ℕ ℕ) × Fixes t (⟦<Listed<u64, u64> as Flow>⟧.may sides.0) × IsEnded t }
-    requires right { (u : Trace ℕ ℕ) × Fixes u (⟦<Listed<u64, u64> as Flow>⟧.may sides.1) × IsEnded u }
-    requires prompt { IsTrue (⟦<Listed<u64, u64> as Flow>⟧.prompt sides.0) × IsTrue (⟦<Listed<u64, u64> as Flow>⟧.prompt sides.1) }
-    ensures { ComesOfBoth (⟦<Listed<u64, u64> as Flow>⟧.may sides.0) (⟦<Listed<u64, u64> as Flow>⟧.may sides.1) (combine_trace sum) result }
+where
+    A: Flow<Item = u64, Fault = u64>,
+    B: Flow<Item = u64, Fault = u64>,
+    A::Running: Finite,
+    B::Running: Finite,
+    requires left { (t : Trace ℕ ℕ) × Fixes t (A.may sides.0) × IsEnded t }
+    requires right { (u : Trace ℕ ℕ) × Fixes u (B.may sides.1) × IsEnded u }
+    requires prompt { IsTrue (A.prompt sides.0) × IsTrue (B.prompt sides.1) }
+    ensures { ComesOfBoth (A.may sides.0) (B.may sides.1) (combine_trace sum) result }
 {
     let (left, right) = sides;
-    Gathered::of(alloc, combine(left, right, Sum), cx)
+    Gathered::of(alloc, combine(left, right, Sum), room, cx)
 }
 
-/// The inner flows of what a list gives, one after the other.
-fn concatenated(
+/// The inner flows of what a flow of so many values gives, one after the other.
+fn concatenated<A>(
     alloc: Global,
-    flow: Listed<u64, u64>,
+    flow: A,
     fault: Option<u64>,
+    many: usize,
     cx: &mut Context<'_>,
 ) -> Result<Gathered, Stop>
-    requires { (t : Trace ℕ ℕ) × Fixes t (⟦<Listed<u64, u64> as Flow>⟧.may flow) × IsEnded t }
-    ensures { (t : Trace ℕ ℕ) → Fixes t (⟦<Listed<u64, u64> as Flow>⟧.may flow) → Comes (bounded (made_by (concat fault) t)) result }
+where
+    A: Flow<Item = u64, Fault = u64>,
+    A::Running: Finite,
+    requires { (t : Trace ℕ ℕ) × Fixes t (A.may flow) × IsEnded t }
+    ensures { (t : Trace ℕ ℕ) → Fixes t (A.may flow) → Comes (bounded (made_by (concat fault) t)) result }
 {
+    let room = match fault {
+        Some(_) => many.min(1),
+        None => many.saturating_mul(2),
+    };
     let joined = flat_map_concat(flow, IntoInner(fault)).within::<AtMostTwo>();
-    Gathered::whole(alloc, joined, cx)
+    Gathered::of(alloc, joined, room, cx)
 }
 
 impl<'a> Stage<'a> {
@@ -251,38 +271,45 @@ impl<'a> Stage<'a> {
     pub fn run(
         self,
         alloc: Global,
-        before: Gathered,
+        before: &Gathered,
         cx: &mut Context<'_>,
     ) -> Result<Gathered, Stop>
-        ensures { Comes (after_stage (operation_in self.entry) (Ok (trace_of before))) result }
+        ensures { Comes (after_stage (operation_in self.entry) (Ok (trace_of before.now))) result }
     {
-        let flow = before.into_flow();
+        let flow = before.as_flow();
+        let many = before.values.len();
+        // Nothing more is asked for where nothing came before.
+        let one_more = many.saturating_add(many.min(1));
         match self {
-            Stage::Add(amount) => Gathered::after(alloc, map(flow, Adding(amount)), cx),
-            Stage::Even => Gathered::after(alloc, filter(flow, IsEven), cx),
-            Stage::Twice => Gathered::of(alloc, transform(flow, Twice), cx),
-            Stage::Take(count) => Gathered::after(alloc, cold_flow::take(flow, count)?, cx),
-            Stage::Drop(count) => Gathered::after(alloc, cold_flow::drop_first(flow, count), cx),
-            Stage::Distinct => Gathered::after(alloc, distinct(flow), cx),
-            Stage::Catch(caught) => Gathered::after(
-                alloc,
-                catch_with(flow, Recovering(caught)),
-                cx,
-            ),
-            Stage::Done(value) => Gathered::after(
-                alloc,
-                on_completion(flow, Concluding(value)),
-                cx,
-            ),
+            Stage::Add(amount) => Gathered::of(alloc, map(flow, Adding(amount)), many, cx),
+            Stage::Even => Gathered::of(alloc, filter(flow, IsEven), many, cx),
+            Stage::Twice => Gathered::of(alloc, transform(flow, Twice), many.saturating_mul(2), cx),
+            Stage::Take(count) => {
+                let room = many.min(count as usize);
+                Gathered::of(alloc, cold_flow::take(flow, count)?, room, cx)
+            }
+            Stage::Drop(count) => {
+                let room = many.saturating_sub(count as usize);
+                Gathered::of(alloc, cold_flow::drop_first(flow, count), room, cx)
+            }
+            Stage::Distinct => Gathered::of(alloc, distinct(flow), many, cx),
+            Stage::Catch(caught) => {
+                Gathered::of(alloc, catch_with(flow, Recovering(caught)), one_more, cx)
+            }
+            Stage::Done(value) => {
+                Gathered::of(alloc, on_completion(flow, Concluding(value)), one_more, cx)
+            }
             Stage::Zip(source) => {
                 let second = source.run(alloc, cx)?;
-                zipped(alloc, (flow, second.into_flow()), cx)
+                let room = many.min(second.values.len());
+                zipped(alloc, (flow, second.as_flow()), room, cx)
             }
             Stage::Combine(source) => {
                 let second = source.run(alloc, cx)?;
-                combined(alloc, (flow, second.into_flow()), cx)
+                let room = many.saturating_add(second.values.len());
+                combined(alloc, (flow, second.as_flow()), room, cx)
             }
-            Stage::Concat(fault) => concatenated(alloc, flow, fault, cx),
+            Stage::Concat(fault) => concatenated(alloc, flow, fault, many, cx),
         }
     }
 }

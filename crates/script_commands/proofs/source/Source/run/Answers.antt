@@ -1,4 +1,3 @@
-use Rattle.std.proofs.Common.{rules}
 use Rattle.script_commands.specs.Sources.{origin_in, given}
 use Rattle.script_commands.proofs.Gathering.{given_ends}
 use Rattle.script_commands.proofs.source.Source.run.Goals as goal
