@@ -1,5 +1,5 @@
 -- A keyword is found among those of as many letters.
-use Rattle.std.proofs.Common.{◌≡◌, ◌≢◌, ℕ, List, [], ◌∷◌, length, Bool, true, false, if◌then◌else◌, ◌==◌, filter, bytes_eq, ap, sym, ◌∙◌, refl, inl, inr, None}
+use Rattle.std.proofs.Common.{◌≡◌, ◌≢◌, ℕ, List, [], ◌∷◌, length, true, false, if◌then◌else◌, ◌==◌, filter, bytes_eq, ap, sym, ◌∙◌, refl, inl, inr, None}
 use Rattle.std.proofs.lemmas.Slice.Eq.{bytes_eq-Decides}
 use Rattle.std.proofs.lemmas.Bool.Decides.{eqb_tells}
 use Rattle.script_commands.specs.Commands.{Form, forms, form_in, command_of}

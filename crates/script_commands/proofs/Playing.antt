@@ -1,5 +1,5 @@
 -- What a run of a list's items gives.
-use Rattle.std.proofs.Common.{◌≡◌, ℕ, List, [], ◌∷◌, ◌++◌, Option, Some, None, refl, ap}
+use Rattle.std.proofs.Common.{◌≡◌, ℕ, List, [], ◌∷◌, Option, Some, None, refl, ap}
 use Rattle.cold_flow.specs.Scripted.{played}
 use Rattle.cold_flow.specs.Trace.{ended_by, cause_of, led_by}
 use Rattle.script_commands.specs.declared.items.Item.{Item}

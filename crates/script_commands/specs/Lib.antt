@@ -10,4 +10,5 @@ pub mod Sourced
 pub mod Stages
 pub mod Pipes
 pub mod Piping
+pub mod Filling
 pub mod Inners

@@ -1,11 +1,13 @@
 //! What a stage of a pipe comes to.
 
-ghost use Rattle.std.specs.Prelude.{◌≡◌, ℕ, [], MatchResult};
-ghost use Rattle.cold_flow.specs.Poll.{Fixes};
+ghost use Rattle.std.specs.Prelude.{◌≡◌, ◌≤◌, ℕ, [], length, vec_capacity, MatchResult};
+ghost use Rattle.futures.specs.declared.task.Poll.TheVariants.{Ready};
+ghost use Rattle.cold_flow.specs.Poll.{Approaches, Fixes};
 ghost use Rattle.cold_flow.specs.Trace.{Trace, cause_of};
 ghost use Rattle.cold_flow.specs.declared.cause.Cause.TheVariants.{Cancelled};
 ghost use Rattle.cold_flow.specs.declared.cause.Cause.TheVariants as causes;
 ghost use Rattle.script_commands.specs.declared.gathered.Stop.TheVariants.{Refused};
+ghost use Rattle.script_commands.specs.Filling.{FillsTo};
 ghost use Rattle.script_commands.specs.Piping.{bounded, Comes, IsEnded};
 ghost use Rattle.flow_terms.specs.declared.refusal.Refusal.TheVariants.{NoMemory};
 
@@ -63,10 +65,35 @@ fn fault_of(cause: Cause<u64>) -> Result<Option<u64>, Refusal>
     }
 }
 
+/// Polls a run, and adds what it gives to a list while that has room for it. Answers the first value that finds none, or the end.
+///
+/// A pending answer is asked again at once. No memory is asked for, so the list stands still while the run is polled.
+fn fill<R>(run: &mut R, values: &mut Vec<u64>, room: usize, cx: &mut Context<'_>) -> Event<u64, u64>
+where
+    R: Finite<Item = u64, Fault = u64>,
+    requires room { room ≤ vec_capacity values.old }
+    requires few { room ≤ 10000 }
+    ensures fills { FillsTo values.old.items (R.may run.old) result values.new.items (R.may run.new) }
+    ensures few { length values.old.items ≤ 10000 → length values.new.items ≤ 10000 }
+    ensures approaches { Approaches (R.polls run.old) (Ready result) (R.polls run.new) }
+{
+    'polls: loop {
+        match run.poll_next(cx) {
+            Poll::Ready(Event::Value(value)) => {
+                if values.len() >= room {
+                    return Event::Value(value);
+                }
+                values.push_reserved(value);
+            }
+            Poll::Ready(Event::End(cause)) => return Event::End(cause),
+            Poll::Pending => {}
+        }
+    }
+}
+
 /// Polls a run to its end, and adds what it gives to an empty list.
 ///
-/// With the first value over the limit of 10,000 the run is cancelled, and so where memory lacks for a value. A pending answer is
-/// asked again at once.
+/// With the first value over the limit of 10,000 the run is cancelled, and so where memory lacks for a value.
 fn gather<R>(mut run: R, mut values: Vec<u64>, cx: &mut Context<'_>) -> Result<Gathered, Stop>
 where
     R: Finite<Item = u64, Fault = u64>,
@@ -74,9 +101,10 @@ where
     requires certain { (whole : Trace ℕ ℕ) × Fixes whole (R.may run) × IsEnded whole }
     ensures { (whole : Trace ℕ ℕ) → Fixes whole (R.may run) → Comes (bounded whole) result }
 {
-    'polls: loop {
-        match run.poll_next(cx) {
-            Poll::Ready(Event::Value(value)) => {
+    let mut room = values.capacity().min(MOST_VALUES);
+    'rooms: loop {
+        match fill(&mut run, &mut values, room, cx) {
+            Event::Value(value) => {
                 if values.len() >= MOST_VALUES {
                     run.cancel();
                     return Err(Stop::TooMany);
@@ -85,12 +113,12 @@ where
                     run.cancel();
                     return Err(Stop::Refused(Refusal::NoMemory));
                 }
+                room = values.capacity().min(MOST_VALUES);
             }
-            Poll::Ready(Event::End(cause)) => {
+            Event::End(cause) => {
                 let fault = fault_of(cause)?;
                 return Ok(Gathered { values, fault });
             }
-            Poll::Pending => {}
         }
     }
 }
@@ -114,8 +142,9 @@ impl Gathered {
         requires { (whole : Trace ℕ ℕ) × Fixes whole (F.may flow) × IsEnded whole }
         ensures { (whole : Trace ℕ ℕ) → Fixes whole (F.may flow) → Comes (bounded whole) result }
     {
+        let values = Vec::with_capacity(alloc, room.min(MOST_VALUES))?;
         let run = flow.start()?;
-        gather(run, Vec::with_capacity(alloc, room.min(MOST_VALUES))?, cx)
+        gather(run, values, cx)
     }
 
     /// The flow that gives these values and ends so.

@@ -73,7 +73,7 @@ impl<'a> Pipe<'a> {
     {
         match self.run(alloc, cx) {
             Ok(Gathered { mut values, fault }) => {
-                // An answer may be kept, so it gives back the room that its last stage had no use for.
+                // An answer may be kept, so it gives back room of which less than half is used.
                 if values.len() < values.capacity() / 2 {
                     values.shrink_to_fit();
                 }

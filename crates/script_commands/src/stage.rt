@@ -278,7 +278,7 @@ impl<'a> Stage<'a> {
     {
         let flow = before.as_flow();
         let many = before.values.len();
-        // Nothing more is asked for where nothing came before.
+        // Where nothing came before, no room is asked for ahead.
         let one_more = many.saturating_add(many.min(1));
         match self {
             Stage::Add(amount) => Gathered::of(alloc, map(flow, Adding(amount)), many, cx),

@@ -1,5 +1,5 @@
 use Rattle.std.proofs.Common.{◌≡◌, ◌++◌, length, flat_map}
-use Rattle.script_commands.specs.Listings.{next_item, listing}
+use Rattle.script_commands.specs.Listings.{next_item}
 use Rattle.script_commands.proofs.listing.Listing.add_to.Given as goal
 
 abbrev pub decreases-loop-left : goal.decreases-loop-left
