@@ -5,6 +5,7 @@ pub mod Marks
 pub mod Firsts
 pub mod Deeds
 pub mod Numbers
+pub mod Guests
 pub mod Losses
 pub mod Showing
 pub mod Receipts

@@ -3,6 +3,7 @@
 
 mod deed;
 mod firsts;
+mod guests;
 mod happening;
 mod ledger;
 mod loss;

@@ -7,9 +7,9 @@ ghost use Rattle.marble_marks.specs.Deeds.{doing_in, done_in};
 ghost use Rattle.marble_marks.specs.Losses.{host_met, guest_met, value_met, lost_at, lost_by, loss_mark};
 ghost use Rattle.marble_marks.specs.Marks.{mark_in};
 
-use crate::deed::{Act, Deed};
+use crate::deed::Deed;
+use crate::guests::Guests;
 use crate::mark::{Kind, Mark};
-use crate::rows::Rows;
 use std::alloc::AllocError;
 
 /// A value that a guest of a flow or a state lost, by the indices of the lines that tell it.
@@ -59,18 +59,20 @@ impl<'a> Deed<'a> {
 
 impl Loss {
     /// Its mark.
-    fn mark<'a>(self, rows: &Rows<'_, '_>, acts: &[Act<'_>]) -> Option<Mark<'a>>
-        ensures { option_map mark_in result ≡ loss_mark (map (λ known. known.now) rows.now.names.now) (map done_in acts.now) self }
+    fn mark<'a>(self, guests: &Guests<'_, '_, '_>) -> Option<Mark<'a>>
+        ensures { option_map mark_in result ≡ loss_mark (map (λ known. known.now) guests.now.names.now) (map done_in guests.now.acts.now) self }
     {
+        let acts = guests.acts;
         let line = acts.get(self.line)?;
         let joined = acts.get(self.joined)?;
+        let row = guests.row(self.joined)?;
         let brought = acts.get(self.brought)?;
         let host = line.deed.host_met()?;
-        let guest = joined.deed.guest_met(host)?;
+        let _ = joined.deed.guest_met(host)?;
         let value = brought.deed.value_met(host)?;
         Some(Mark {
             column: line.column,
-            row: rows.row(guest),
+            row,
             kind: Kind::Lost(value),
             text: b"",
         })
@@ -80,14 +82,13 @@ impl Loss {
 /// Adds the marks of these losses.
 pub(crate) fn add_losses(
     marks: &mut Vec<Mark<'_>>,
-    rows: &Rows<'_, '_>,
-    acts: &[Act<'_>],
+    guests: &Guests<'_, '_, '_>,
     losses: &[Loss],
 ) -> Result<(), AllocError>
-    ensures { OnOk result (map mark_in marks.new.items ≡ map mark_in marks.old.items ++ filter_map (loss_mark (map (λ known. known.now) rows.now.names.now) (map done_in acts.now)) losses.now) }
+    ensures { OnOk result (map mark_in marks.new.items ≡ map mark_in marks.old.items ++ filter_map (loss_mark (map (λ known. known.now) guests.now.names.now) (map done_in guests.now.acts.now)) losses.now) }
 {
     for loss in losses {
-        if let Some(mark) = loss.mark(rows, acts) {
+        if let Some(mark) = loss.mark(guests) {
             marks.push(mark)?;
         }
     }

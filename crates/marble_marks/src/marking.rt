@@ -10,6 +10,7 @@ ghost use Rattle.marble_marks.specs.Receipts.{receipts_in, receipts_of};
 ghost use Rattle.marble_marks.specs.Showing.{Shows};
 
 use crate::deed::acts;
+use crate::guests::Guests;
 use crate::happening::{Happening, happening_of};
 use crate::ledger::losses_in;
 use crate::loss::add_losses;
@@ -134,8 +135,9 @@ pub fn marks<'a>(
     let losses = losses_in(alloc, &turns)?;
     let rows = Rows::of(alloc, &names)?;
     let tickets = Tickets::of(alloc, &acts)?;
+    let guests = Guests::of(alloc, &rows, &acts)?;
     let mut marks = marks_in(alloc, &rows, &turns)?;
     add_numbers(&mut marks, &rows, &tickets)?;
-    add_losses(&mut marks, &rows, &acts, &losses)?;
+    add_losses(&mut marks, &guests, &losses)?;
     Ok(marks)
 }

@@ -7,5 +7,5 @@ use Rattle.marble_marks.proofs.loss.add_losses.Given as goal
 
 abbrev pub invariant-loop-loss : goal.invariant-loop-loss
 invariant-loop-loss l =
-    let mark_of = loss_mark (map (λ known. known.now) l.rows.names.now) (map done_in l.acts) in
+    let mark_of = loss_mark (map (λ known. known.now) l.guests.names.now) (map done_in l.guests.acts.now) in
     map mark_in l.marks.items ++ filter_map mark_of (drop l.loss-index l.losses) ≡ map mark_in l.fn.marks.items ++ filter_map mark_of l.losses
