@@ -1,2 +1,3 @@
 pub mod Receiving
 pub mod Noting
+pub mod Placing

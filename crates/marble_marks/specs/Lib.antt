@@ -5,6 +5,8 @@ pub mod Marks
 pub mod Firsts
 pub mod Deeds
 pub mod Numbers
+pub mod Waiting
+pub mod Places
 pub mod Guests
 pub mod Losses
 pub mod Showing

@@ -1,6 +1,6 @@
 //! What is noted of names first.
 
-ghost use Rattle.std.specs.Prelude.{◌≡◌, ℕ, List, None, OnOk, bytes_eq};
+ghost use Rattle.std.specs.Prelude.{◌≡◌, ℕ, List, None, OnOk, bytes_eq, is_some, true, false};
 ghost use Rattle.marble_marks.specs.Firsts.{noted_of, first};
 
 use std::alloc::{AllocError, Global};
@@ -31,6 +31,22 @@ impl<'a> Firsts<'a> {
         }
         self.noted.insert(name, number)?;
         Ok(())
+    }
+
+    /// Notes a number of a name that has none here, if it has one there.
+    pub(crate) fn note_known(
+        &mut self,
+        known: &Firsts<'_>,
+        name: &'a [u8],
+        number: usize,
+    ) -> Result<(), AllocError>
+        ensures noted { OnOk result ((other : List ℕ) → is_some (noted_of known.now other) ≡ true → noted_of self.new other ≡ first (noted_of self.old other) (bytes_eq name.entry.now other) number) }
+        ensures unknown { OnOk result (is_some (noted_of known.now name.entry.now) ≡ false → (other : List ℕ) → noted_of self.new other ≡ noted_of self.old other) }
+    {
+        if known.get(name).is_none() {
+            return Ok(());
+        }
+        self.note(name, number)
     }
 
     /// The number that was noted of a name.

@@ -10,6 +10,7 @@ mod loss;
 mod mark;
 mod marking;
 mod numbers;
+mod places;
 mod reply;
 mod rows;
 mod said;

@@ -137,7 +137,7 @@ pub fn marks<'a>(
     let tickets = Tickets::of(alloc, &acts)?;
     let guests = Guests::of(alloc, &rows, &acts)?;
     let mut marks = marks_in(alloc, &rows, &turns)?;
-    add_numbers(&mut marks, &rows, &tickets)?;
+    add_numbers(alloc, &mut marks, &rows, &tickets)?;
     add_losses(&mut marks, &guests, &losses)?;
     Ok(marks)
 }

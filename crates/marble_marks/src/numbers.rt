@@ -4,32 +4,16 @@
 //! is how many of the earlier ones of its flow were accepted at once, or waited and weren't taken back.
 
 ghost use Rattle.std.specs.Prelude.{◌≡◌, ◌++◌, OnOk, map, []};
-ghost use Rattle.marble_marks.specs.Deeds.{doing_in, done_in};
-ghost use Rattle.marble_marks.specs.Marks.{mark_in, seen};
-ghost use Rattle.marble_marks.specs.Numbers.{takes_place, late_marks, place_marks, numbered_on, numbered_in};
+ghost use Rattle.marble_marks.specs.Deeds.{done_in};
+ghost use Rattle.marble_marks.specs.Marks.{mark_in, seen, row_of};
+ghost use Rattle.marble_marks.specs.Numbers.{late_marks, numbered_in};
+ghost use Rattle.marble_marks.specs.Places.{on_row, place_seen, seen_from};
 
-use crate::deed::{Act, Deed};
 use crate::mark::{Kind, Mark};
+use crate::places::{Place, places_by_row, places_of};
 use crate::rows::Rows;
 use crate::tickets::Tickets;
-use std::alloc::AllocError;
-
-/// Whether this is an emission on the flow of this name that gets a number, where these are all the lines.
-fn takes_place(tickets: &Tickets<'_, '_>, name: &[u8], deed: Deed<'_>) -> bool
-    ensures { result ≡ takes_place (map done_in tickets.now.acts.now) name.now (doing_in deed.entry) }
-{
-    match deed {
-        Deed::Accepts { host, .. } => host == name,
-        Deed::Waits { host, ticket, .. } => {
-            if host == name {
-                !tickets.is_removed(ticket)
-            } else {
-                false
-            }
-        }
-        _ => false,
-    }
-}
+use std::alloc::{AllocError, Global};
 
 /// A mark without a text.
 fn plain<'a>(column: usize, row: usize, kind: Kind) -> Mark<'a>
@@ -64,57 +48,59 @@ fn add_late(
 /// Adds the marks of an emission with this number.
 fn add_place(
     marks: &mut Vec<Mark<'_>>,
-    tickets: &Tickets<'_, '_>,
     row: usize,
     number: u64,
-    act: Act<'_>,
+    place: Place,
 ) -> Result<(), AllocError>
-    ensures { OnOk result (map mark_in marks.new.items ≡ map mark_in marks.old.items ++ place_marks (map done_in tickets.now.acts.now) act.entry.column row number (doing_in act.entry.deed)) }
+    ensures { OnOk result (map mark_in marks.new.items ≡ map mark_in marks.old.items ++ place_seen row number place) }
 {
-    match act.deed {
-        Deed::Accepts { .. } => {
-            marks.push(plain(act.column, row, Kind::Number(number)))?;
+    match place {
+        Place::Accepted { column } => {
+            marks.push(plain(column, row, Kind::Number(number)))?;
             Ok(())
         }
-        Deed::Waits { ticket, value, .. } => {
-            add_late(marks, tickets.finished_at(ticket), row, value, number)
-        }
-        _ => Ok(()),
+        Place::Waited { column, value } => add_late(marks, column, row, value, number),
     }
 }
 
-/// Adds the marks of the emissions on the flow of this name.
-fn add_numbers_on(
-    marks: &mut Vec<Mark<'_>>,
-    rows: &Rows<'_, '_>,
-    tickets: &Tickets<'_, '_>,
-    name: &[u8],
-) -> Result<(), AllocError>
-    ensures { OnOk result (map mark_in marks.new.items ≡ map mark_in marks.old.items ++ numbered_on (map (λ known. known.now) rows.now.names.now) (map done_in tickets.now.acts.now) name.now) }
+/// Adds the marks of the emissions on a row.
+fn add_numbers_on(marks: &mut Vec<Mark<'_>>, row: usize, places: &[Place]) -> Result<(), AllocError>
+    ensures { OnOk result (map mark_in marks.new.items ≡ map mark_in marks.old.items ++ seen_from row 0 places.now) }
 {
-    let row = rows.row(name);
-    let all = tickets.acts;
     let mut number: u64 = 0;
-    for act in all {
-        if takes_place(tickets, name, act.deed) {
-            add_place(marks, tickets, row, number, *act)?;
-            number += 1;
-        }
+    for place in places {
+        add_place(marks, row, number, *place)?;
+        number += 1;
     }
     Ok(())
 }
 
+/// Adds the marks of the emissions on the flow of this name.
+fn add_numbers_of(
+    marks: &mut Vec<Mark<'_>>,
+    rows: &Rows<'_, '_>,
+    by_row: &[Vec<Place>],
+    name: &[u8],
+) -> Result<(), AllocError>
+    ensures { OnOk result (map mark_in marks.new.items ≡ map mark_in marks.old.items ++ seen_from (row_of (map (λ known. known.now) rows.now.names.now) name.now) 0 (on_row by_row.now (row_of (map (λ known. known.now) rows.now.names.now) name.now))) }
+{
+    let row = rows.row(name);
+    add_numbers_on(marks, row, places_of(by_row, row))
+}
+
 /// Adds the marks of all emissions.
 pub(crate) fn add_numbers(
+    alloc: Global,
     marks: &mut Vec<Mark<'_>>,
     rows: &Rows<'_, '_>,
     tickets: &Tickets<'_, '_>,
 ) -> Result<(), AllocError>
     ensures { OnOk result (map mark_in marks.new.items ≡ map mark_in marks.old.items ++ numbered_in (map (λ known. known.now) rows.now.names.now) (map done_in tickets.now.acts.now)) }
 {
+    let by_row = places_by_row(alloc, rows, tickets)?;
     let names = rows.names;
     for name in names {
-        add_numbers_on(marks, rows, tickets, name)?;
+        add_numbers_of(marks, rows, &by_row, name)?;
     }
     Ok(())
 }

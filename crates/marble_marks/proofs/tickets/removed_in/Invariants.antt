@@ -6,4 +6,4 @@ use Rattle.marble_marks.specs.Firsts.{noted_of}
 use Rattle.marble_marks.proofs.tickets.removed_in.Given as goal
 
 abbrev pub invariant-loop-act : goal.invariant-loop-act
-invariant-loop-act l = (ticket : List ℕ) → (if is_some (noted_of l.removed ticket) then true else is_removed ticket (map done_in (drop l.act-index l.acts))) ≡ is_removed ticket (map done_in l.acts)
+invariant-loop-act l = (ticket : List ℕ) → is_some (noted_of l.waiting ticket) ≡ true → (if is_some (noted_of l.removed ticket) then true else is_removed ticket (map done_in (drop l.act-index l.acts))) ≡ is_removed ticket (map done_in l.acts)
