@@ -35,6 +35,9 @@ const NUMBERS: &[u64] = &[
     u64::MAX,
 ];
 
+/// How high a row of an SVG is: rows so far down that their place is no number any more stand at the last one.
+const ROW: usize = 44;
+
 /// Numbers without an order, by a linear congruence.
 #[derive(Clone, Copy)]
 pub(crate) struct Dice {
@@ -106,6 +109,8 @@ struct Plan {
     marks: usize,
     columns: usize,
     rows: usize,
+    /// The number of the first row.
+    first_row: usize,
     /// How many of the texts come in it.
     texts: usize,
     /// Whether names stand in any column.
@@ -121,13 +126,31 @@ impl Plan {
                 .copied()
                 .unwrap_or(1),
             rows: dice.below(12).saturating_add(1),
+            first_row: 0,
+            texts: dice.below(TEXTS.len()).saturating_add(1),
+            has_names_anywhere: dice.below(3) == 0,
+        }
+    }
+
+    /// Few marks in many rows, the last there can be among them, or in so many columns that most strips have none.
+    fn sparse(dice: &mut Dice) -> Plan {
+        let rows = dice.below(600).saturating_add(1);
+        Plan {
+            marks: dice.below(24),
+            columns: [3, 60, 300].get(dice.below(3)).copied().unwrap_or(1),
+            rows,
+            first_row: match dice.below(3) {
+                0 => usize::MAX.saturating_sub(rows.saturating_sub(1)),
+                1 => usize::MAX / ROW,
+                _ => 0,
+            },
             texts: dice.below(TEXTS.len()).saturating_add(1),
             has_names_anywhere: dice.below(3) == 0,
         }
     }
 
     fn mark(self, dice: &mut Dice) -> Mark<'static> {
-        let row = dice.below(self.rows);
+        let row = self.first_row.saturating_add(dice.below(self.rows));
         let column = dice.below(self.columns);
         let text = dice.text(self.texts);
         if dice.below(6) > 0 {
@@ -149,12 +172,23 @@ impl Plan {
     }
 }
 
+impl Plan {
+    /// Marks by this plan.
+    fn marks(self, alloc: Global, dice: &mut Dice) -> Result<Vec<Mark<'static>>, AllocError> {
+        let mut marks = Vec::new(alloc);
+        for _ in 0..self.marks {
+            marks.push(self.mark(dice))?;
+        }
+        Ok(marks)
+    }
+}
+
 /// Some marks.
 pub(crate) fn made(alloc: Global, dice: &mut Dice) -> Result<Vec<Mark<'static>>, AllocError> {
-    let plan = Plan::of(dice);
-    let mut marks = Vec::new(alloc);
-    for _ in 0..plan.marks {
-        marks.push(plan.mark(dice))?;
-    }
-    Ok(marks)
+    Plan::of(dice).marks(alloc, dice)
+}
+
+/// A few marks, far apart.
+pub(crate) fn sparse(alloc: Global, dice: &mut Dice) -> Result<Vec<Mark<'static>>, AllocError> {
+    Plan::sparse(dice).marks(alloc, dice)
 }

@@ -12,8 +12,23 @@ use std::test::Fail;
 /// How many scripts there are.
 const SCRIPTS: u64 = 300;
 
+/// How many scripts of many names there are.
+const LONG_SCRIPTS: u64 = 12;
+
 /// So few that names are bound again and again, which no run of a script answers so.
 const NAMES: &[&str] = &["a", "b", "c", "d", "e", "f", "g", "h"];
+
+/// Many names are parts of this.
+const LETTERS: &str = "abcdefghijklmnopqrstuvwxyzABCDEFGHIJKLMNOPQRSTUVWXYZ";
+
+/// Which names and how many lines a script has.
+#[derive(Clone, Copy)]
+enum Size {
+    /// Few names that are bound again and again.
+    Short,
+    /// Hundreds of names, each bound now and then.
+    Long,
+}
 
 /// An answer that is made twice.
 #[derive(Clone, Copy)]
@@ -51,8 +66,15 @@ struct Answered {
 }
 
 /// One of the names.
-fn name(dice: &mut Dice) -> &'static str {
-    NAMES.get(dice.below(NAMES.len())).copied().unwrap_or("a")
+fn name(dice: &mut Dice, size: Size) -> &'static str {
+    match size {
+        Size::Short => NAMES.get(dice.below(NAMES.len())).copied().unwrap_or("a"),
+        Size::Long => {
+            let first = dice.below(46);
+            let end = first.saturating_add(dice.below(6)).saturating_add(1);
+            LETTERS.get(first..end).unwrap_or("a")
+        }
+    }
 }
 
 /// The codes of answers that a line of this kind has in most lines.
@@ -70,9 +92,14 @@ fn codes(kind: usize) -> &'static [usize] {
 }
 
 /// Adds a line of this kind.
-fn push_line(script: &mut String, dice: &mut Dice, kind: usize) -> Result<(), AllocError> {
-    let host = name(dice);
-    let other = name(dice);
+fn push_line(
+    script: &mut String,
+    dice: &mut Dice,
+    size: Size,
+    kind: usize,
+) -> Result<(), AllocError> {
+    let host = name(dice, size);
+    let other = name(dice, size);
     let few = dice.below(3);
     let number = dice.below(4);
     match kind {
@@ -96,13 +123,16 @@ fn push_line(script: &mut String, dice: &mut Dice, kind: usize) -> Result<(), Al
 }
 
 /// A script with answers.
-fn make_answered(alloc: Global, dice: &mut Dice) -> Result<Answered, AllocError> {
+fn make_answered(alloc: Global, dice: &mut Dice, size: Size) -> Result<Answered, AllocError> {
     let mut script = String::new(alloc);
     let mut answers = Vec::new(alloc);
-    let count = dice.below(80);
+    let count = match size {
+        Size::Short => dice.below(80),
+        Size::Long => dice.below(200).saturating_add(400),
+    };
     for line in 0..count {
         let kind = dice.below(18);
-        push_line(&mut script, dice, kind)?;
+        push_line(&mut script, dice, size, kind)?;
         let usual = codes(kind);
         let code = if dice.below(8) == 0 {
             dice.below(16)
@@ -167,7 +197,18 @@ fn have_same_marks(alloc: Global, made: &Answered) -> Result<bool, AllocError> {
 #[test]
 fn marks_are_what_they_were(rt: HostRuntime) -> Result<(), Fail> {
     for seed in 0..SCRIPTS {
-        let made = make_answered(rt.alloc(), &mut Dice::new(seed))?;
+        let made = make_answered(rt.alloc(), &mut Dice::new(seed), Size::Short)?;
+        let same = have_same_marks(rt.alloc(), &made)?;
+        assert!(rt; same, "script {seed}");
+    }
+    Ok(())
+}
+
+/// Marks of long scripts with many names are what they were.
+#[test]
+fn marks_of_many_names_are_what_they_were(rt: HostRuntime) -> Result<(), Fail> {
+    for seed in 0..LONG_SCRIPTS {
+        let made = make_answered(rt.alloc(), &mut Dice::new(seed), Size::Long)?;
         let same = have_same_marks(rt.alloc(), &made)?;
         assert!(rt; same, "script {seed}");
     }
