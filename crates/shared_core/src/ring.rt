@@ -135,7 +135,7 @@ impl<T: Copy> Ring<T> {
         ensures { self.new ≡ self.old }
     {
         let limit = self.limit();
-        // Before the ring is full there is room, wherever the places stand.
+        // Below this number too few values were accepted for anybody to have no room.
         if self.known_room().is_some() || self.next_number < limit {
             return;
         }
