@@ -1,8 +1,8 @@
 //! The subscriptions of a shared flow on one thread, who come and go.
 
 use crate::fault::Fault;
-use crate::tally::given;
-use shared_core::{SharedState, SubId};
+use crate::tally::{Rest, cancelled, rested, subscribed};
+use shared_core::{Next, SharedState, SubId};
 use std::alloc::Global;
 use workload_inputs::{Digest, Random};
 
@@ -17,11 +17,14 @@ impl Crowd {
     pub(crate) fn of(
         alloc: Global,
         flow: &mut SharedState<u64>,
+        digest: &mut Digest,
         count: u32,
     ) -> Result<Crowd, Fault> {
         let mut ids = Vec::new(alloc);
         for _ in 0..count {
-            ids.push(flow.subscribe()?)?;
+            let id = flow.subscribe()?;
+            subscribed(digest, id);
+            ids.push(id)?;
         }
         Ok(Crowd { ids })
     }
@@ -58,14 +61,17 @@ impl Crowd {
         &mut self,
         flow: &mut SharedState<u64>,
         random: &mut Random,
+        digest: &mut Digest,
     ) -> Result<(), Fault> {
         let count = self.ids.len() as u64;
         if count == 0 {
             return Ok(());
         }
         let place = random.below(count) as usize;
-        let _was_live = flow.cancel(self.ids[place]);
-        self.ids[place] = flow.subscribe()?;
+        cancelled(digest, flow.cancel(self.ids[place]));
+        let id = flow.subscribe()?;
+        subscribed(digest, id);
+        self.ids[place] = id;
         Ok(())
     }
 
@@ -74,11 +80,12 @@ impl Crowd {
         &mut self,
         alloc: Global,
         flow: &mut SharedState<u64>,
+        digest: &mut Digest,
     ) -> Result<(), Fault> {
         let mut left = Vec::new(alloc);
         for (place, id) in self.ids.iter().enumerate() {
             if place % 2 == 0 {
-                let _was_live = flow.cancel(*id);
+                cancelled(digest, flow.cancel(*id));
             } else {
                 left.push(*id)?;
             }
@@ -91,9 +98,21 @@ impl Crowd {
 /// A subscription takes what is there, at most so many values.
 #[inline(never)]
 fn take(flow: &mut SharedState<u64>, id: SubId, digest: &mut Digest, most: u64) {
+    let mut taken: u64 = 0;
+    let mut rest = Rest::Enough;
     for _ in 0..most {
-        if !given(digest, flow.next(id)) {
-            break;
+        match flow.next(id) {
+            Next::Value(value) => digest.number(value),
+            Next::Nothing => {
+                rest = Rest::Nothing;
+                break;
+            }
+            Next::Closed => {
+                rest = Rest::Closed;
+                break;
+            }
         }
+        taken = taken.wrapping_add(1);
     }
+    rested(digest, rest, taken);
 }

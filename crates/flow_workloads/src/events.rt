@@ -94,7 +94,7 @@ fn rounds(
         burst(flow, random, digest)?;
         crowd.take_all(flow, random, digest, 64);
         match random.below(64) {
-            0..=3 => crowd.change(flow, random)?,
+            0..=3 => crowd.change(flow, random, digest)?,
             4 => digest.number(flow.replay_len()),
             5 => digest.number(u64::from(flow.subscription_count())),
             6 => flow.reset_replay(),
@@ -114,7 +114,7 @@ fn run_loop(
 ) -> Result<(), Fault> {
     let config = config_of(each.subscriptions, 1, each.policy);
     let mut flow = SharedState::new(alloc, config)?;
-    let mut crowd = Crowd::of(alloc, &mut flow, each.subscriptions)?;
+    let mut crowd = Crowd::of(alloc, &mut flow, digest, each.subscriptions)?;
     rounds(&mut flow, &mut crowd, random, digest, scale.of(each.rounds))
 }
 
@@ -127,8 +127,8 @@ fn run_crowded(
 ) -> Result<(), Fault> {
     let config = config_of(1024, 1, Policy::DropOldest);
     let mut flow = SharedState::new(alloc, config)?;
-    let mut crowd = Crowd::of(alloc, &mut flow, 1024)?;
-    crowd.thin_out(alloc, &mut flow)?;
+    let mut crowd = Crowd::of(alloc, &mut flow, digest, 1024)?;
+    crowd.thin_out(alloc, &mut flow, digest)?;
     rounds(
         &mut flow,
         &mut crowd,

@@ -2,8 +2,10 @@
 
 ghost use Rattle.std.specs.Prelude.{◌≡◌, None};
 
+use crate::course::{Course, Emitters};
 use crate::fault::Fault;
-use crate::listeners::{Listener, cancel_all, listen, sum_received, take_all};
+use crate::listeners::{Listener, cancel_all, listen, take_all, take_in};
+use crate::tally::closed;
 use shared_core::{Config, Policy, Refusal};
 use shared_flow::{Emitter, Parker, SharedFlow};
 use std::alloc::AllocGlobal;
@@ -12,13 +14,6 @@ use std::sync::Wait;
 use std::thread;
 use std::thread::Threads;
 use workload_inputs::{Digest, Random};
-
-/// How many emit.
-#[derive(Clone, Copy)]
-pub(crate) enum Emitters {
-    One,
-    Two,
-}
 
 /// Who takes part: how many places there are, who emits, how many values each of them, and how many listen.
 #[derive(Clone, Copy)]
@@ -36,22 +31,25 @@ struct Speech {
     values: u64,
 }
 
-/// Emits what is to be said, and sleeps where there is no room.
+/// Emits what is to be said, and sleeps where there is no room. It gives the numbers of what was accepted.
 #[inline(never)]
 fn speak(
     rt: &impl Wait,
     emitter: &mut Emitter<u64>,
     parker: &mut Parker,
     speech: Speech,
-) -> Result<(), Refusal>
+) -> Result<Course, Refusal>
     requires { emitter.old.ticket ≡ None }
     ensures { emitter.new.ticket ≡ None }
 {
     let mut random = Random::new(speech.seed);
+    let mut numbers = Course::new();
     for _ in 0..speech.values {
-        emitter.emit(rt, parker, random.next())?;
+        if let Some(receipt) = emitter.emit(rt, parker, random.next())? {
+            numbers.number(receipt.number());
+        }
     }
-    Ok(())
+    Ok(numbers)
 }
 
 /// One emitter speaks, and the listeners take all that it says.
@@ -61,7 +59,7 @@ fn one_speaks<R>(
     parker: &mut Parker,
     listeners: &mut Vec<Listener>,
     speech: Speech,
-) -> Result<(), Refusal>
+) -> Result<Course, Refusal>
 where
     R: Threads + Wait + Sync,
     requires { emitter.old.ticket ≡ None }
@@ -80,7 +78,7 @@ fn both_speak<R>(
     one: &mut Emitter<u64>,
     other: &mut Emitter<u64>,
     speech: Speech,
-) -> Result<(), Fault>
+) -> Result<(Course, Course), Fault>
 where
     R: AllocGlobal + RandomSource + Threads + Wait + Sync,
     requires { (one.old.ticket ≡ None) × (other.old.ticket ≡ None) }
@@ -96,9 +94,7 @@ where
         || speak(rt, one, &mut parker, speech),
         || speak(rt, other, &mut second, also),
     );
-    spoke?;
-    also_spoke?;
-    Ok(())
+    Ok((spoke?, also_spoke?))
 }
 
 /// Two emitters speak, and the listeners take all that they say.
@@ -108,7 +104,7 @@ fn two_speak<R>(
     other: &mut Emitter<u64>,
     listeners: &mut Vec<Listener>,
     speech: Speech,
-) -> Result<(), Fault>
+) -> Result<(Course, Course), Fault>
 where
     R: AllocGlobal + RandomSource + Threads + Wait + Sync,
     requires { (one.old.ticket ≡ None) × (other.old.ticket ≡ None) }
@@ -116,7 +112,7 @@ where
     let all = speech.values.saturating_mul(2);
     let (spoke, ()) = thread::join(
         rt,
-        || -> Result<(), Fault>
+        || -> Result<(Course, Course), Fault>
             requires { (one.now.ticket ≡ None) × (other.now.ticket ≡ None) }
         { both_speak(rt, one, other, speech) },
         || take_all(rt, listeners, all),
@@ -124,12 +120,13 @@ where
     spoke
 }
 
-/// One emitter of a flow speaks.
+/// One emitter of a flow speaks, and the numbers that it was given are taken in, in their order.
 fn speak_alone<R>(
     rt: &R,
     flow: &mut SharedFlow<u64>,
     listeners: &mut Vec<Listener>,
     speech: Speech,
+    digest: &mut Digest,
 ) -> Result<(), Fault>
 where
     R: AllocGlobal + RandomSource + Threads + Wait + Sync,
@@ -137,17 +134,19 @@ where
     let mut parker = Parker::new(rt)?;
     let mut emitter = flow.emitter(rt, 0)?;
     let spoke = one_speaks(rt, &mut emitter, &mut parker, listeners, speech);
-    let _idle = emitter.close(rt);
-    spoke?;
+    closed(digest, emitter.close(rt));
+    let numbers = spoke?;
+    numbers.told(digest, Emitters::One);
     Ok(())
 }
 
-/// Two emitters of a flow speak.
+/// Two emitters of a flow speak, and of the numbers that they were given what no schedule changes is taken in.
 fn speak_together<R>(
     rt: &R,
     flow: &mut SharedFlow<u64>,
     listeners: &mut Vec<Listener>,
     speech: Speech,
+    digest: &mut Digest,
 ) -> Result<(), Fault>
 where
     R: AllocGlobal + RandomSource + Threads + Wait + Sync,
@@ -157,13 +156,15 @@ where
     let spoke = match also {
         Ok(mut other) => {
             let spoke = two_speak(rt, &mut one, &mut other, listeners, speech);
-            let _idle = other.close(rt);
+            closed(digest, other.close(rt));
             spoke
         }
         Err(refusal) => Err(Fault::from(refusal)),
     };
-    let _idle = one.close(rt);
-    spoke
+    closed(digest, one.close(rt));
+    let (numbers, also_numbers) = spoke?;
+    numbers.told_with(&also_numbers, digest);
+    Ok(())
 }
 
 /// What a flow is made with.
@@ -178,7 +179,7 @@ fn config_of(cast: Cast) -> Config {
     }
 }
 
-/// The values of a cast go through a flow that has no listener yet, and what came to its listeners is taken in.
+/// The values of a cast go through a flow that has no listener yet, and what came to each listener is taken in.
 fn run_over<R>(
     rt: &R,
     flow: &mut SharedFlow<u64>,
@@ -196,12 +197,10 @@ where
     let places = Vec::with_capacity(rt.alloc(), cast.listeners as usize)?;
     let mut listeners = listen(rt, flow, places, cast.listeners);
     let spoke = match cast.emitters {
-        Emitters::One => speak_alone(rt, flow, &mut listeners, speech),
-        Emitters::Two => speak_together(rt, flow, &mut listeners, speech),
+        Emitters::One => speak_alone(rt, flow, &mut listeners, speech, digest),
+        Emitters::Two => speak_together(rt, flow, &mut listeners, speech, digest),
     };
-    let (count, sum) = sum_received(listeners.as_slice());
-    digest.number(count);
-    digest.number(sum);
+    take_in(listeners.as_slice(), cast.emitters, digest);
     cancel_all(rt, listeners);
     spoke
 }

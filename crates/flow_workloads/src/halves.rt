@@ -2,6 +2,7 @@
 
 use crate::actions::Adds;
 use crate::fault::Fault;
+use crate::tally::ended;
 use cold_flow::{Event, Policy, Run, map, range};
 use flow_buffer::{Drain, Feed, Fill, split};
 use futures::task::{Doorbell, Solo};
@@ -27,14 +28,17 @@ fn feed_all<U: Run>(rt: &impl Wait, task: &Solo, feed: &mut Feed<U>) {
     cx.cancel();
 }
 
-/// Takes until the end, and gives the digest of all.
+/// Takes until the end, and gives the digest of all, and of why it ended.
 #[inline(never)]
 fn drain_all(rt: &impl Wait, mut drain: Drain<u64, u64>) -> Digest {
     let mut digest = Digest::new();
     for _ in rt.forever() {
         match drain.next(rt) {
             Event::Value(value) => digest.number(value),
-            Event::End(_) => break,
+            Event::End(cause) => {
+                ended(&mut digest, cause);
+                break;
+            }
         }
     }
     digest

@@ -1,27 +1,21 @@
 //! Subscriptions of a shared flow on threads of their own.
 
+use crate::course::{Course, Emitters};
 use crate::fault::Fault;
 use shared_flow::{Parker, SharedFlow, Subscription};
 use std::alloc::AllocGlobal;
 use std::random::RandomSource;
 use std::sync::Wait;
 use std::thread::{Threads, for_each_mut};
+use workload_inputs::Digest;
 
 /// A subscription with what its thread sleeps by. It must be cancelled.
 pub(crate) struct Listener {
     subscription: Subscription<u64>,
     parker: Parker,
-    received: Received,
+    received: Course,
     // Between two listeners in a list, so that those of two threads share no cache line.
     _apart: [u64; 16],
-}
-
-/// What a listener received.
-#[derive(Clone, Copy)]
-struct Received {
-    count: u64,
-    /// The sum of its values, modulo 2^64, which no order changes.
-    sum: u64,
 }
 
 impl Listener {
@@ -34,7 +28,7 @@ impl Listener {
         Ok(Listener {
             subscription,
             parker,
-            received: Received { count: 0, sum: 0 },
+            received: Course::new(),
             _apart: [0; 16],
         })
     }
@@ -46,8 +40,7 @@ impl Listener {
             let Ok(value) = self.subscription.next(rt, &mut self.parker) else {
                 break;
             };
-            self.received.count = self.received.count.wrapping_add(1);
-            self.received.sum = self.received.sum.wrapping_add(value);
+            self.received.number(value);
         }
     }
 
@@ -97,14 +90,11 @@ where
     );
 }
 
-/// How many values came to all listeners, and the sum of them.
-pub(crate) fn sum_received(listeners: &[Listener]) -> (u64, u64) {
-    let mut all = (0u64, 0u64);
+/// What came to each listener is taken in, as far as so many emitters fix it.
+pub(crate) fn take_in(listeners: &[Listener], emitters: Emitters, digest: &mut Digest) {
     for listener in listeners {
-        all.0 = all.0.wrapping_add(listener.received.count);
-        all.1 = all.1.wrapping_add(listener.received.sum);
+        listener.received.told(digest, emitters);
     }
-    all
 }
 
 /// Each listener is cancelled.

@@ -7,6 +7,7 @@
 
 mod actions;
 mod chains;
+mod course;
 mod crowd;
 mod events;
 mod fan_out;

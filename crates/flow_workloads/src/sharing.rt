@@ -1,8 +1,9 @@
 //! A cold flow that is shared among visitors who come and go, poll by poll at rising moments.
 
 use crate::fault::Fault;
+use crate::tally::{Rest, closed, given, overtaken, rested};
 use cold_flow::{Flow, Policy, Refusal, Step, Stepped, scripted};
-use flow_sharing::{Sharing, Started, share_in};
+use flow_sharing::{Polled, Sharing, Started, share_in};
 use futures::task::{Context, Solo};
 use shared_core::Config;
 use shared_flow::{SharedFlow, Subscription, Taken};
@@ -41,13 +42,28 @@ fn source(alloc: Global, random: &mut Random, steps: u64) -> Result<Stepped<u64,
 
 /// What a subscription has received is taken in.
 fn take(subscription: &mut Subscription<u64>, digest: &mut Digest) {
+    let mut taken: u64 = 0;
+    let mut rest = Rest::Enough;
     for _ in 0..64 {
         match subscription.try_next() {
-            Taken::Value(value) => digest.number(value),
-            Taken::Nothing => break,
-            Taken::Overtaken => {}
+            Taken::Value(value) => given(digest, Some(value)),
+            Taken::Nothing => {
+                rest = Rest::Nothing;
+                break;
+            }
+            Taken::Overtaken => overtaken(digest),
         }
+        taken = taken.wrapping_add(1);
     }
+    rested(digest, rest, taken);
+}
+
+/// What a poll found, and what it came to, is taken in.
+fn polled(digest: &mut Digest, poll: Polled) {
+    digest.number(poll.now);
+    digest.number(u64::from(poll.count));
+    digest.number(u64::from(poll.on));
+    digest.number(u64::from(poll.reset));
 }
 
 /// A visitor comes, receives for some polls, and goes. Some polls later the next may come.
@@ -59,22 +75,21 @@ fn visit<F: Flow<Item = u64, Fault = u64>>(
     (now, digest): (&mut u64, &mut Digest),
 ) -> Result<(), Refusal> {
     let mut subscription = flow.subscribe(rt)?;
-    let mut polled = Ok(());
+    let mut refused = Ok(());
     for _ in 0..STAY {
         *now = now.wrapping_add(7);
         match sharing.poll(rt, *now, cx) {
-            Ok(poll) => digest.number(u64::from(poll.on)),
-            Err(refusal) => polled = Err(refusal),
+            Ok(poll) => polled(digest, poll),
+            Err(refusal) => refused = Err(refusal),
         }
         take(&mut subscription, digest);
     }
     subscription.cancel(rt);
     for _ in 0..3 {
         *now = now.wrapping_add(9);
-        let poll = sharing.poll(rt, *now, cx)?;
-        digest.number(u64::from(poll.on));
+        polled(digest, sharing.poll(rt, *now, cx)?);
     }
-    polled
+    refused
 }
 
 /// So many visits of one sharing.
@@ -110,7 +125,7 @@ where
     let mut cx = task.begin();
     let visited = visits(rt, &mut flow, &mut sharing, &mut cx, (count, digest));
     cx.cancel();
-    sharing.close(rt);
+    closed(digest, sharing.close(rt));
     visited?;
     Ok(())
 }

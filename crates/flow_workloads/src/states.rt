@@ -1,6 +1,7 @@
 //! States: bursts of sets that collectors ask for now and then, and two threads that count up one state.
 
 use crate::fault::Fault;
+use crate::tally::given;
 use state_flow::{Collector, StateFlow, StateSeat};
 use std::alloc::AllocGlobal;
 use std::sync::Wait;
@@ -48,9 +49,7 @@ fn ask_all(collectors: &mut Vec<Collector<u64>>, random: &mut Random, digest: &m
         if random.is_one_of(1, 4) {
             continue;
         }
-        if let Some(value) = collector.try_next() {
-            digest.number(value);
-        }
+        given(digest, collector.try_next());
     }
 }
 
@@ -89,12 +88,12 @@ fn count_up(rt: &impl Wait, mut seat: StateSeat<u64>, counts: u64) -> StateSeat<
     seat
 }
 
-/// Two threads count up one state.
-fn counted<R>(rt: &R, counts: u64) -> Result<u64, Fault>
+/// Two threads count up one state that begins at a number.
+fn counted<R>(rt: &R, from: u64, counts: u64) -> Result<u64, Fault>
 where
     R: AllocGlobal + Threads + Wait + Sync,
 {
-    let mut one = StateFlow::new(rt.alloc(), 0u64, 2)?;
+    let mut one = StateFlow::new(rt.alloc(), from, 2)?;
     let other = one.take_seat(0)?;
     let (mut seat, _other) = thread::join(
         rt,
@@ -119,6 +118,8 @@ where
     let mut collectors = collect_all(&mut seat, places, COLLECTORS);
     bursts(&mut seat, &mut collectors, random, digest, scale.of(BURSTS));
     cancel_all(collectors);
-    digest.number(counted(rt, scale.of(COUNTS))?);
+    // A copy, so that what comes after has the same numbers whether or not this takes one.
+    let mut ahead = *random;
+    digest.number(counted(rt, ahead.next(), scale.of(COUNTS))?);
     Ok(())
 }

@@ -1,6 +1,7 @@
 //! Events, states and buffers between threads.
 
-use crate::fan_out::{Cast, Emitters};
+use crate::course::Emitters;
+use crate::fan_out::Cast;
 use crate::fault::Fault;
 use crate::{fan_out, halves, states};
 use std::alloc::AllocGlobal;

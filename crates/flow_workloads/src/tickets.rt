@@ -3,7 +3,7 @@
 use crate::crowd::Crowd;
 use crate::events::config_of;
 use crate::fault::Fault;
-use crate::tally::{begun, polled};
+use crate::tally::{begun, polled, withdrawn};
 use shared_core::{Begun, Emit, Policy, SharedState, Ticket};
 use std::alloc::Global;
 use workload_inputs::{Digest, Random, Scale};
@@ -48,7 +48,7 @@ fn poll_all(
     let mut left = Vec::with_capacity(alloc, tickets.len())?;
     for ticket in tickets.iter() {
         if random.is_one_of(1, 64) {
-            let _withdrawn = flow.cancel_emit(*ticket);
+            withdrawn(digest, flow.cancel_emit(*ticket));
             continue;
         }
         let emit = flow.poll_emit(*ticket);
@@ -70,7 +70,7 @@ pub(crate) fn run(
 ) -> Result<(), Fault> {
     let config = config_of(SUBSCRIPTIONS, TICKETS, Policy::Suspend);
     let mut flow = SharedState::new(alloc, config)?;
-    let crowd = Crowd::of(alloc, &mut flow, SUBSCRIPTIONS)?;
+    let crowd = Crowd::of(alloc, &mut flow, digest, SUBSCRIPTIONS)?;
     let mut tickets = Vec::with_capacity(alloc, TICKETS as usize)?;
     for _ in 0..scale.of(ROUNDS) {
         fill_up(&mut flow, &mut tickets, random, digest)?;

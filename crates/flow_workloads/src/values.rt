@@ -2,6 +2,7 @@
 
 use crate::actions::Mixes;
 use crate::fault::Fault;
+use crate::tally;
 use cold_flow::{Cause, Finite, Flow, Folding, Run, fold, to_list};
 use futures::task::{Poll, Solo};
 use std::alloc::Global;
@@ -27,12 +28,11 @@ fn folded<U: Run<Item = u64, Fault = u64>>(
 
 /// Takes in how a flow ended.
 fn ended(digest: &mut Digest, cause: Cause<u64>) -> Result<(), Fault> {
+    tally::ended(digest, cause);
     match cause {
-        Cause::Finished => digest.number(6),
-        Cause::Failed(fault) => digest.number(fault),
-        Cause::Cancelled | Cause::Refused(_) => return Err(Fault::Ended),
+        Cause::Finished | Cause::Failed(_) => Ok(()),
+        Cause::Cancelled | Cause::Refused(_) => Err(Fault::Ended),
     }
-    Ok(())
 }
 
 /// Starts a flow, folds its values, and takes in what that came to.
