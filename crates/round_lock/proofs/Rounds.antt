@@ -1,15 +1,14 @@
--- A first send, a receive, a send after a call and another pass keep the rule.
-use Rattle.std.proofs.Common.{◌≡◌, ◌≢◌, ◌⊎◌, ◌==◌, ℕ, Bool, true, false, cond, zero, suc, Option, Some, None, List, [], ◌∷◌, ◌++◌, ◌<◌, length, sym, refl, ap, ◌∙◌, subst, ⊎_elim, inl, inr, eq-eqb, ne_eqb, arith}
+-- The first owner, an owner that takes the state, one that gives it back after a call and another owner keep the one history.
+use Rattle.std.proofs.Common.{◌≡◌, ◌≢◌, ◌⊎◌, ◌==◌, ℕ, Bool, true, false, cond, zero, suc, Option, Some, None, List, [], ◌∷◌, ◌++◌, ◌<◌, length, set, sym, refl, ap, ◌∙◌, subst, ⊎_elim, inl, inr, eq-eqb, ne_eqb, arith}
 use Rattle.std.proofs.lemmas.List.{append-nil, length-set}
 use Rattle.std.proofs.lemmas.Option.{none-some}
 use mathlib.Core.Option.{some, some-injective, some-ne-none}
 use mathlib.Core.Logic.{dite}
 use native.Mathlib.Decide.{ℕ_discrete}
 use lib.ListN.{get_elem?}
-use Rattle.crossbeam_channel.specs.Fifo.{Pushes, Pops, Forks}
 use Rattle.atomic_table.proofs.Lists.{at_set, set_again}
 use Rattle.round_lock.specs.declared.log.Log.{Log}
-use Rattle.round_lock.specs.History.{own_of, opening, newcomer, another, called, held_by, items_in, view_of, After, Begun, OneHistory, Found}
+use Rattle.round_lock.specs.History.{own_of, opening, newcomer, another, called, held_by, items_in, view_of, After, Begun, Found, OneHistory}
 use Rattle.round_lock.specs.History.After.{more, new}
 
 module _ {A : Type 0} where
@@ -85,89 +84,69 @@ module _ {S E : Type 0} where
   view_with made held own = record { made = made; held = held; own = own }
 
 module _ {S E : Type 0} (first : S → Type 0) (step : S → E → S → Type 0) where
-  pub begins : (n pass : ℕ) (v : Log S E) (x : S) → v ≡ opening → first x → Pushes (OneHistory first step) n pass v x (λ w. w ≡ newcomer x)
-  begins n pass v x fresh is items views room h at = (
-    newcomer x,
-    ⊎_elim
-        (λ (e : (items ≡ []) × (views ≡ opening ∷ [])). inr (record {
-          made = x;
-          state = x;
-          log = [];
-          holder = None;
-          lies = ap (λ (l : List S). l ++ x ∷ []) e.0;
-          after = new x is;
-          each = λ j u here. ⊎_elim (λ (t : (j ≡ pass) × (newcomer x ≡ u)). sym t.1)
-              (λ (t : (j ≢ pass) × (get_elem? views j ≡ some u)). absurd (t.0 (alone opening pass j v u (subst (λ (l : List (Log S E)). get_elem? l pass ≡ some v) e.1 at) (subst (λ (l : List (Log S E)). get_elem? l j ≡ some u) e.1 t.1)).0)) (at_set views pass j (newcomer x) u here);
-          beyond = λ j far. refl;
-        }))
-        (λ (r : Begun first step items views). absurd (none-some r.made (sym (ap (λ (l : Log S E). l.made) fresh) ∙ ap (λ (l : Log S E). l.made) (r.each pass v at))))
-        h,
-    refl,
+  pub opens : (x : S) → first x → Begun first step (x ∷ []) (newcomer x ∷ [])
+  opens x is = record {
+    made = x;
+    state = x;
+    log = [];
+    holder = None;
+    lies = refl;
+    after = new x is;
+    each = λ pass v at. sym (alone (newcomer x) pass pass v v at at).1;
+    beyond = λ pass far. refl;
+  }
+
+  pub takes : (x : S) (items : List S) (views : List (Log S E)) (pass : ℕ) (v : Log S E) → Begun first step (x ∷ items) views → get_elem? views pass ≡ some v
+      → (items ≡ []) × (v.held ≡ None) × Begun first step [] (set views pass (record v { held = Some x })) × Found first step v x
+  takes x items views pass v r at = let lay = lay_there r.holder r.state x items r.lies in let mine = r.each pass v at in (
+    lay.2,
+    ap (λ (l : Log S E). l.held) mine ∙ ap (λ o. held_by o r.state pass) lay.0,
+    record {
+      made = r.made;
+      state = r.state;
+      log = r.log;
+      holder = Some pass;
+      lies = refl;
+      after = r.after;
+      each = λ j u here. ⊎_elim
+          (λ (t : (j ≡ pass) × (record v { held = Some x } ≡ u)). sym t.1 ∙ subst (λ k. record v { held = Some x } ≡ view_of r.made (Some pass) r.state r.log k) (sym t.0)
+          (ap (λ (l : Log S E). record l { held = Some x }) mine ∙ ap (λ (held : Option S). view_with (Some r.made) held (own_of pass r.log)) (ap Some lay.1 ∙ sym (holds_mine pass r.state))))
+          (λ (t : (j ≢ pass) × (get_elem? views j ≡ some u)). r.each j u t.1 ∙ ap (λ (held : Option S). view_with (Some r.made) held (own_of j r.log)) (ap (λ o. held_by o r.state j) lay.0 ∙ sym (holds_other pass r.state j t.0)))
+          (at_set views pass j (record v { held = Some x }) u here);
+      beyond = λ j far. let here = at_below views pass v at in let same = length-set views pass (record v { held = Some x }) in
+          ap (λ (held : Option S). view_with (Some r.made) held (own_of j r.log)) (holds_other pass r.state j (λ is. omega arith) ∙ ap (λ o. held_by o r.state j) (sym lay.0)) ∙ r.beyond j (omega arith);
+    },
+    record {
+      made = r.made;
+      made_is = ap (λ (l : Log S E). l.made) mine;
+      log = r.log;
+      pass = pass;
+      after = subst (After first step r.made r.log) (sym lay.1) r.after;
+      own_is = ap (λ (l : Log S E). l.own) mine;
+    },
   )
 
-  pub takes : (pass : ℕ) (v : Log S E) → v.made ≢ None → Pops (OneHistory first step) pass v (λ x w. (w ≡ record v { held = Some x }) × Found first step v x)
-  takes pass v begun x items views h at = ⊎_elim
-      (λ (e : (x ∷ items ≡ []) × (views ≡ opening ∷ [])). absurd (cons-ne-nil e.0))
-      (λ (r : Begun first step (x ∷ items) views). let lay = lay_there r.holder r.state x items r.lies in let mine = r.each pass v at in (
-        record v { held = Some x },
-        inr (record {
-          made = r.made;
-          state = r.state;
-          log = r.log;
-          holder = Some pass;
-          lies = lay.2;
-          after = r.after;
-          each = λ j u here. ⊎_elim
-              (λ (t : (j ≡ pass) × (record v { held = Some x } ≡ u)). sym t.1 ∙ subst (λ k. record v { held = Some x } ≡ view_of r.made (Some pass) r.state r.log k) (sym t.0)
-              (ap (λ (l : Log S E). record l { held = Some x }) mine ∙ ap (λ (held : Option S). view_with (Some r.made) held (own_of pass r.log)) (ap Some lay.1 ∙ sym (holds_mine pass r.state))))
-              (λ (t : (j ≢ pass) × (get_elem? views j ≡ some u)). r.each j u t.1 ∙ ap (λ (held : Option S). view_with (Some r.made) held (own_of j r.log)) (ap (λ o. held_by o r.state j) lay.0 ∙ sym (holds_other pass r.state j t.0)))
-              (at_set views pass j (record v { held = Some x }) u here);
-          beyond = λ j far. let here = at_below views pass v at in let same = length-set views pass (record v { held = Some x }) in
-              ap (λ (held : Option S). view_with (Some r.made) held (own_of j r.log)) (holds_other pass r.state j (λ is. omega arith) ∙ ap (λ o. held_by o r.state j) (sym lay.0)) ∙ r.beyond j (omega arith);
-        }),
-        (
-          refl,
-          record {
-            made = r.made;
-            made_is = ap (λ (l : Log S E). l.made) mine;
-            log = r.log;
-            pass = pass;
-            after = subst (After first step r.made r.log) (sym lay.1) r.after;
-            own_is = ap (λ (l : Log S E). l.own) mine;
-          },
-        ),
-      ))
-      h
+  pub gives : (items : List S) (views : List (Log S E)) (pass : ℕ) (v : Log S E) (x s : S) (e : E) → v.held ≡ Some s → step s e x → Begun first step items views → get_elem? views pass ≡ some v
+      → Begun first step (x ∷ []) (set views pass (called v (Some e)))
+  gives items views pass v x s e has does r at = let mine = r.each pass v at in let held = holder_is r.holder r.state s pass (sym (ap (λ (l : Log S E). l.held) mine) ∙ has) in record {
+    made = r.made;
+    state = x;
+    log = r.log ++ (pass, e) ∷ [];
+    holder = None;
+    lies = refl;
+    after = more r.made r.log r.state pass e x r.after (subst (λ (t : S). step t e x) (sym held.1) does);
+    each = λ j u here. ⊎_elim
+        (λ (t : (j ≡ pass) × (called v (Some e) ≡ u)). sym t.1 ∙ subst (λ k. called v (Some e) ≡ view_of r.made None x (r.log ++ (pass, e) ∷ []) k) (sym t.0)
+        (ap (λ (l : Log S E). called l (Some e)) mine ∙ ap (view_with (Some r.made) None) (sym (own_mine r.log pass e))))
+        (λ (t : (j ≢ pass) × (get_elem? views j ≡ some u)). r.each j u t.1 ∙ ap (λ (held : Option S). view_with (Some r.made) held (own_of j r.log)) (ap (λ o. held_by o r.state j) held.0 ∙ holds_other pass r.state j t.0) ∙ ap (view_with (Some r.made) None) (sym (own_other r.log pass e j t.0)))
+        (at_set views pass j (called v (Some e)) u here);
+    beyond = λ j far. let here = at_below views pass v at in let same = length-set views pass (called v (Some e)) in
+        ap (view_with (Some r.made) None) (own_other r.log pass e j (λ is. omega arith) ∙ ap (λ (l : Log S E). l.own) (r.beyond j (omega arith)));
+  }
 
-  pub gives : (n pass : ℕ) (v : Log S E) (x s : S) (e : E) → v.held ≡ Some s → step s e x → Pushes (OneHistory first step) n pass v x (λ w. w ≡ called v (Some e))
-  gives n pass v x s e has does items views room h at = (
-    called v (Some e),
-    ⊎_elim
-        (λ (o : (items ≡ []) × (views ≡ opening ∷ [])). absurd (none-some _ (ap (λ (l : Log S E). l.held) (alone opening pass pass v v (subst (λ (l : List (Log S E)). get_elem? l pass ≡ some v) o.1 at) (subst (λ (l : List (Log S E)). get_elem? l pass ≡ some v) o.1 at)).1 ∙ has)))
-        (λ (r : Begun first step items views). inr (let mine = r.each pass v at in let held = holder_is r.holder r.state s pass (sym (ap (λ (l : Log S E). l.held) mine) ∙ has) in record {
-          made = r.made;
-          state = x;
-          log = r.log ++ (pass, e) ∷ [];
-          holder = None;
-          lies = ap (λ (l : List S). l ++ x ∷ []) (r.lies ∙ ap (λ o. items_in o r.state) held.0);
-          after = more r.made r.log r.state pass e x r.after (subst (λ (t : S). step t e x) (sym held.1) does);
-          each = λ j u here. ⊎_elim
-              (λ (t : (j ≡ pass) × (called v (Some e) ≡ u)). sym t.1 ∙ subst (λ k. called v (Some e) ≡ view_of r.made None x (r.log ++ (pass, e) ∷ []) k) (sym t.0)
-              (ap (λ (l : Log S E). called l (Some e)) mine ∙ ap (view_with (Some r.made) None) (sym (own_mine r.log pass e))))
-              (λ (t : (j ≢ pass) × (get_elem? views j ≡ some u)). r.each j u t.1 ∙ ap (λ (held : Option S). view_with (Some r.made) held (own_of j r.log)) (ap (λ o. held_by o r.state j) held.0 ∙ holds_other pass r.state j t.0) ∙ ap (view_with (Some r.made) None) (sym (own_other r.log pass e j t.0)))
-              (at_set views pass j (called v (Some e)) u here);
-          beyond = λ j far. let here = at_below views pass v at in let same = length-set views pass (called v (Some e)) in
-              ap (view_with (Some r.made) None) (own_other r.log pass e j (λ is. omega arith) ∙ ap (λ (l : Log S E). l.own) (r.beyond j (omega arith)));
-        }))
-        h,
-    refl,
-  )
-
-  pub forks : (pass : ℕ) (v : Log S E) → v.made ≢ None → Forks (OneHistory first step) pass v v (another v)
-  forks pass v begun items views h at = ⊎_elim
-      (λ (o : (items ≡ []) × (views ≡ opening ∷ [])). absurd (begun (sym (ap (λ (l : Log S E). l.made) (alone opening pass pass v v (subst (λ (l : List (Log S E)). get_elem? l pass ≡ some v) o.1 at) (subst (λ (l : List (Log S E)). get_elem? l pass ≡ some v) o.1 at)).1))))
-      (λ (r : Begun first step items views). let same : another v ≡ newcomer r.made = ap (λ (l : Log S E). another l) (r.each pass v at) in
-      subst (λ (l : List (Log S E)). OneHistory first step items (l ++ another v ∷ [])) (sym (set_again views pass v at)) (inr (record {
+  pub forks : (items : List S) (views : List (Log S E)) (pass : ℕ) (v : Log S E) → Begun first step items views → get_elem? views pass ≡ some v → Begun first step items (set views pass v ++ another v ∷ [])
+  forks items views pass v r at = let same : another v ≡ newcomer r.made = ap (λ (l : Log S E). another l) (r.each pass v at) in
+      subst (λ (l : List (Log S E)). Begun first step items (l ++ another v ∷ [])) (sym (set_again views pass v at)) (record {
         made = r.made;
         state = r.state;
         log = r.log;
@@ -177,5 +156,11 @@ module _ {S E : Type 0} (first : S → Type 0) (step : S → E → S → Type 0)
         each = λ j u here. ⊎_elim (λ (was : get_elem? views j ≡ some u). r.each j u was)
             (λ (end : (j ≡ length views) × (another v ≡ u)). sym end.1 ∙ same ∙ sym (r.beyond j (let is = end.0 in omega arith))) (at_end views (another v) u j here);
         beyond = λ j far. let more = length-snoc views (another v) in r.beyond j (omega arith);
-      })))
+      })
+
+  -- who knows how the state was made knows that there is a history
+  pub has_begun : (items : List S) (views : List (Log S E)) (pass : ℕ) (v : Log S E) → v.made ≢ None → OneHistory first step items views → get_elem? views pass ≡ some v → Begun first step items views
+  has_begun items views pass v begun h at = ⊎_elim
+      (λ (o : (items ≡ []) × (views ≡ opening ∷ [])). let here = subst (λ (l : List (Log S E)). get_elem? l pass ≡ some v) o.1 at in absurd (begun (sym (ap (λ (l : Log S E). l.made) (alone opening pass pass v v here here).1))))
+      (λ (r : Begun first step items views). r)
       h

@@ -5,16 +5,20 @@
 //! each owner's own are its part of that list, in its order, and what lies under the lock is what exactly that list leaves
 //! of the state as it was made. `one_history` says so as a law.
 //!
-//! The lock is a channel of one place. To take it is to receive the state, to give it up is to send it. Entries are for the
-//! proofs: nothing keeps them when the program runs.
+//! The lock is a word, which says whether it is free, and a place for the state. To take the lock is to exchange the word
+//! and to take the state out of its place, to give it up is to put a state there and to exchange the word again. Entries
+//! are for the proofs: nothing keeps them when the program runs.
 #![tactic(auto)]
 
 mod laws;
 mod lock;
 mod log;
 mod rule;
+mod steps;
+#[cfg(test)]
+mod tests;
 
-pub use laws::one_history;
+pub use laws::{each_lock_has_one_history, one_history};
 pub use lock::{Guarded, Lock};
 pub use log::Log;
 pub use rule::{Called, Made};

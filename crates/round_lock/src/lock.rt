@@ -1,34 +1,39 @@
-//! A lock: a channel of one place. Who has received the state has the lock, and gives it up by sending the state again.
-ghost use Rattle.std.specs.Prelude.{◌≡◌, ◌≢◌, ◌++◌, [], ◌∷◌, Option, Some, None, IfOk};
-ghost use Rattle.crossbeam_channel.specs.Claims.{view as knows, IsSeatAt};
-ghost use Rattle.crossbeam_channel.specs.Ends.{sends_on, receives_on};
+//! A lock: a word that says whether it is free, and a place for the state.
+ghost use Rattle.std.specs.Prelude.{◌≡◌, ◌≢◌, ◌++◌, [], ◌∷◌, Option, Some, None, IfOk, IsTrue, IsFalse};
+ghost use Rattle.std.specs.Arc.{arc_value};
 ghost use Rattle.round_lock.specs.declared.log.Log.{Log};
-ghost use Rattle.round_lock.specs.History.{Found, opening, newcomer, called, another};
-ghost use Rattle.round_lock.specs.Locking.{Locking, IsOwner, log_of};
+ghost use Rattle.round_lock.specs.History.{Found, newcomer, called, another};
+ghost use Rattle.round_lock.specs.Law.{HasTaken, IsAt, carried};
+ghost use Rattle.round_lock.specs.Locking.{Locking};
 
 use crate::log::Log;
-use crate::rule::{Another, Begins, Called, Gives, Made, Rounds, Takes};
-use crossbeam_channel::{Pass, RuledReceiver, RuledSender, bounded_with};
+use crate::rule::{Another, Called, Made};
+use crate::steps::{FREE, Place, give, give_as, lift, take};
+use atomic_table::{Refused, Seat, Table};
 use std::alloc::{AllocError, Global};
 use std::marker::{Brand, Model};
-use std::sync::Wait;
+use std::snapshot::Snapshot;
+use std::sync::{Arc, Wait};
 
 /// An owner of the state under a lock. Contracts see which lock it is, how the state was made, and the owner's own calls.
 #[derive(Drop)]
 pub struct Lock<S: Called<E> + Drop, E> {
-    sender: RuledSender<S, Log<S, E>, Rounds>,
-    receiver: RuledReceiver<S, Log<S, E>, Rounds>,
-    pass: Pass<S, Log<S, E>>,
-    // The first owner keeps the state until its first call, since to send it may wait.
-    unsent: Option<S>,
+    place: Arc<Place<S, E>>,
+    // A token of no bytes, with what the proofs know of the owner.
+    seat: Seat<Option<S>, Log<S, E>>,
 }
 
 impl<S: Called<E> + Drop, E> Model for Lock<S, E> {
+    ghost use Rattle.std.specs.Prelude.{◌≡◌};
+    ghost use Rattle.std.specs.Arc.{arc_value};
+    ghost use Rattle.round_lock.specs.Law.{IsAt};
+    ghost use Rattle.round_lock.specs.Locking.{Locking};
+
     ghost Value = { Locking S E };
 
-    ghost view = { λ l. record { place = l.pass.table_id; log = log_of l.unsent (knows l.pass) } };
+    ghost view = { λ l. record { place = l.seat.table_id; log = l.seat.me.0 } };
 
-    ghost invariant = { λ l. (receives_on l.receiver ≡ sends_on l.sender) × IsSeatAt (sends_on l.sender) l.pass × IsOwner S.first l.unsent (knows l.pass) };
+    ghost invariant = { λ l. IsAt (arc_value l.place).shared.table_id l.seat.table_id l.seat.me };
 }
 
 /// The state, taken from under its lock. It has no `Drop`, so that it is given back.
@@ -42,13 +47,16 @@ impl<S: Called<E> + Drop, E: Drop> Lock<S, E> {
         requires first { S.first state }
         ensures { IfOk result (λ lock. lock.log ≡ newcomer state) }
     {
-        let (sender, receiver, pass) = bounded_with::<S, Log<S, E>, Rounds, Global>(alloc, 1)?;
-        Ok(Lock {
-            sender,
-            receiver,
-            pass,
-            unsent: Some(state),
-        })
+        let made = Snapshot::of(&state);
+        let mut slots = Vec::with_capacity(alloc, 1)?;
+        slots.push_reserved(Some(state));
+        match Table::new(alloc, &[FREE], slots, &made) {
+            Ok((table, seat)) => Ok(Lock {
+                place: Arc::new(alloc, table)?,
+                seat,
+            }),
+            Err(Refused { slots: _ }) => Err(AllocError),
+        }
     }
 
     /// Takes the lock. What lay under it is what one history left, of which this owner's calls are its part.
@@ -56,8 +64,8 @@ impl<S: Called<E> + Drop, E: Drop> Lock<S, E> {
         ensures taken { self.new ≡ record self.old { log = record self.old.log { held = Some result.state } } }
         ensures found { Found S.first S.step self.old.log result.state }
     {
-        settle(rt, &self.sender, &mut self.pass, &mut self.unsent);
-        let state = receive(rt, &self.receiver, &mut self.pass);
+        take(rt, &self.place, &mut self.seat);
+        let state = lift(&self.place, &mut self.seat);
         Guarded { state }
     }
 
@@ -67,8 +75,7 @@ impl<S: Called<E> + Drop, E: Drop> Lock<S, E> {
         ensures given { self.new ≡ record self.old { log = record self.old.log { held = None; own = self.old.log.own ++ entry ∷ [] } } }
     {
         let Guarded { state } = guarded;
-        settle(rt, &self.sender, &mut self.pass, &mut self.unsent);
-        send::<S, E, Brand>(rt, &self.sender, &mut self.pass, state, entry);
+        give::<S, E, Brand>(&self.place, &mut self.seat, state, entry);
     }
 
     /// Gives the lock up as `put` does, where the proof picks the entry: for a call whose answer isn't at hand as one value.
@@ -77,8 +84,7 @@ impl<S: Called<E> + Drop, E: Drop> Lock<S, E> {
         ensures given { self.new ≡ record self.old { log = called self.old.log M.entry } }
     {
         let Guarded { state } = guarded;
-        settle(rt, &self.sender, &mut self.pass, &mut self.unsent);
-        sent::<S, E, M, _>(rt, &self.sender, &mut self.pass, state);
+        give_as::<S, E, M>(&self.place, &mut self.seat, state);
     }
 
     /// Another owner of the same state, which has made no call.
@@ -86,114 +92,8 @@ impl<S: Called<E> + Drop, E: Drop> Lock<S, E> {
         ensures other { IfOk result (λ other. (other.log ≡ another self.old.log) × (other.place ≡ self.old.place)) }
         ensures same { self.new ≡ self.old }
     {
-        settle(rt, &self.sender, &mut self.pass, &mut self.unsent);
-        let sender = self.sender.try_clone()?;
-        let receiver = self.receiver.try_clone()?;
-        let pass = self.sender.another::<Another>(&mut self.pass);
-        Ok(Lock {
-            sender,
-            receiver,
-            pass,
-            unsent: None,
-        })
+        let place = Arc::try_clone(&self.place)?;
+        let seat = self.place.shared.split_seat::<Another>(&mut self.seat);
+        Ok(Lock { place, seat })
     }
-}
-
-// Puts the state under the lock, where that wasn't done.
-fn settle<S: Called<E> + Drop, E, R: Wait>(
-    rt: &R,
-    sender: &RuledSender<S, Log<S, E>, Rounds>,
-    pass: &mut Pass<S, Log<S, E>>,
-    unsent: &mut Option<S>,
-)
-    requires channel { IsSeatAt (sends_on sender.now) pass.old }
-    requires owner { IsOwner S.first unsent.old (knows pass.old) }
-    ensures channel { IsSeatAt (sends_on sender.now) pass.new }
-    ensures owner { (knows pass.new).made ≢ None }
-    ensures sent { (unsent.new ≡ None) × (knows pass.new ≡ log_of unsent.old (knows pass.old)) }
-{
-    if let Some(state) = unsent.take() {
-        begin(rt, sender, pass, state);
-    }
-}
-
-// Puts the new state under the lock.
-fn begin<S: Called<E> + Drop, E, R: Wait>(
-    rt: &R,
-    sender: &RuledSender<S, Log<S, E>, Rounds>,
-    pass: &mut Pass<S, Log<S, E>>,
-    state: S,
-)
-    requires channel { IsSeatAt (sends_on sender.now) pass.old }
-    requires new { knows pass.old ≡ opening }
-    requires first { S.first state }
-    ensures channel { IsSeatAt (sends_on sender.now) pass.new }
-    ensures begun { knows pass.new ≡ newcomer state }
-{
-    let mut unsent = state;
-    for _ in rt.forever() {
-        match sender.send_as::<Begins, R>(rt, pass, unsent) {
-            Ok(()) => return,
-            Err(refused) => unsent = refused.into_inner(),
-        }
-    }
-    unreachable!()
-}
-
-// A send that finds no receiver is made again.
-fn send<S: Called<E> + Drop, E: Drop, M: Made<E>>(
-    rt: &impl Wait,
-    sender: &RuledSender<S, Log<S, E>, Rounds>,
-    pass: &mut Pass<S, Log<S, E>>,
-    state: S,
-    entry: E,
-)
-    requires channel { IsSeatAt (sends_on sender.now) pass.old }
-    requires entry { M.entry ≡ Some entry }
-    requires call { (old : S) × ((knows pass.old).held ≡ Some old) × S.step old entry state }
-    ensures channel { IsSeatAt (sends_on sender.now) pass.new }
-    ensures given { knows pass.new ≡ called (knows pass.old) (Some entry) }
-{
-    sent::<S, E, M, _>(rt, sender, pass, state);
-}
-
-fn sent<S: Called<E> + Drop, E, M: Made<E>, R: Wait>(
-    rt: &R,
-    sender: &RuledSender<S, Log<S, E>, Rounds>,
-    pass: &mut Pass<S, Log<S, E>>,
-    state: S,
-)
-    requires channel { IsSeatAt (sends_on sender.now) pass.old }
-    requires call { (old : S) × (e : E) × (M.entry ≡ Some e) × ((knows pass.old).held ≡ Some old) × S.step old e state }
-    ensures channel { IsSeatAt (sends_on sender.now) pass.new }
-    ensures given { knows pass.new ≡ called (knows pass.old) M.entry }
-{
-    let mut unsent = state;
-    for _ in rt.forever() {
-        match sender.send_as::<Gives<M>, R>(rt, pass, unsent) {
-            Ok(()) => return,
-            Err(refused) => unsent = refused.into_inner(),
-        }
-    }
-    unreachable!()
-}
-
-// A receive that finds no sender is made again.
-fn receive<S: Called<E> + Drop, E, R: Wait>(
-    rt: &R,
-    receiver: &RuledReceiver<S, Log<S, E>, Rounds>,
-    pass: &mut Pass<S, Log<S, E>>,
-) -> S
-    requires channel { IsSeatAt (receives_on receiver.now) pass.old }
-    requires begun { (knows pass.old).made ≢ None }
-    ensures channel { IsSeatAt (receives_on receiver.now) pass.new }
-    ensures taken { knows pass.new ≡ record (knows pass.old) { held = Some result } }
-    ensures found { Found S.first S.step (knows pass.old) result }
-{
-    for _ in rt.forever() {
-        if let Ok(state) = receiver.recv_as::<Takes, R>(rt, pass) {
-            return state;
-        }
-    }
-    unreachable!()
 }

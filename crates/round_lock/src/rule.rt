@@ -1,10 +1,12 @@
-//! The rule of a lock's channel: there is one history of the calls made on the state, and each owner's calls are its part.
-ghost use Rattle.std.specs.Prelude.{◌≡◌, Option, Some, None, ⊤};
-ghost use Rattle.round_lock.specs.History.{OneHistory, Found, opening, newcomer, called, another};
+//! The law of a lock: there is one history of the calls made on the state, and each owner's calls are its part.
+ghost use Rattle.std.specs.Prelude.{◌≡◌, Option, Some, None};
+ghost use Rattle.round_lock.specs.History.{newcomer, another};
+ghost use Rattle.round_lock.specs.Law.{OneLock, Took, Gave};
 
 use crate::log::Log;
-use crossbeam_channel::protocol::{Lesson, Outcome, Protocol, Split};
+use atomic_table::{Play, Split, TableRule};
 use std::marker::{Brand, PhantomData};
+use std::snapshot::Snapshot;
 
 /// A state that calls are made on: what it is when it is new, and what each call, with its answer, does to it.
 pub trait Called<E> {
@@ -13,38 +15,24 @@ pub trait Called<E> {
     ghost step: { Self → E → Self → Type 0 };
 }
 
-/// The rule of the lock.
+/// The law. Its key is the state as it was made.
 pub struct Rounds;
 
-impl<S: Called<E>, E> Protocol<S, Log<S, E>> for Rounds {
-    ghost holds = { OneHistory S.first S.step };
+impl<S: Called<E>, E> TableRule<Option<S>, Log<S, E>, Snapshot<S>> for Rounds {
+    ghost holds = { λ key. OneLock S.first S.step };
 
-    ghost first = { opening };
+    ghost first = { λ key. newcomer key.value };
 }
 
-/// The first send.
-pub struct Begins;
-
-impl<S, E> Outcome<S, Log<S, E>> for Begins {
-    ghost then = { λ v state w. w ≡ newcomer state };
-}
-
-impl<S, E> Lesson<S, Log<S, E>> for Begins {
-    ghost fact = { λ v items. ⊤ };
-}
-
-/// A receive: from now on the owner has the state, which is what some history left, with the owner's calls as its part.
+/// A step by which an owner takes the lock where it is free: then it has the state, which is what some history left, with the
+/// owner's calls as its part.
 pub struct Takes;
 
-impl<S: Called<E>, E> Outcome<S, Log<S, E>> for Takes {
-    ghost then = { λ v state w. (w ≡ record v { held = Some state }) × Found S.first S.step v state };
+impl<S: Called<E>, E> Play<Option<S>, Log<S, E>> for Takes {
+    ghost then = { Took S.first S.step };
 }
 
-impl<S, E> Lesson<S, Log<S, E>> for Takes {
-    ghost fact = { λ v items. ⊤ };
-}
-
-/// Which call was made: each send picks it, since a send has no operand that carries it.
+/// Which call was made: each step that gives the lock up picks it, since it has no operand that carries it.
 pub trait Made<E> {
     ghost entry: { Option E };
 }
@@ -53,17 +41,13 @@ impl<E> Made<E> for Brand {
     ghost entry = { None };
 }
 
-/// A send after a call: the call joins the history.
+/// The step that gives the lock up after a call: the call joins the history.
 pub struct Gives<M> {
     of: PhantomData<M>,
 }
 
-impl<S, E, M: Made<E>> Outcome<S, Log<S, E>> for Gives<M> {
-    ghost then = { λ v state w. w ≡ called v M.entry };
-}
-
-impl<S, E, M: Made<E>> Lesson<S, Log<S, E>> for Gives<M> {
-    ghost fact = { λ v items. ⊤ };
+impl<S, E, M: Made<E>> Play<Option<S>, Log<S, E>> for Gives<M> {
+    ghost then = { Gave M.entry };
 }
 
 /// Another owner, which has made no call.

@@ -1,5 +1,6 @@
-use Rattle.round_lock.proofs.Rounds.{forks}
+use Rattle.std.proofs.Common.{rules}
+use Rattle.round_lock.proofs.Locks.{splits}
 use Rattle.round_lock.proofs.lock.Lock.dup.Goals as goal
 
-pub another-pass-requires-clause-rule : goal.another-pass-requires-clause-rule
-another-pass-requires-clause-rule g c = forks g.S.Called.first g.S.Called.step _ _ c.settle.ensures.owner
+pub split_seat-seat-requires : goal.split_seat-seat-requires
+split_seat-seat-requires g c = (search rules, search rules, splits g.S.Called.first g.S.Called.step _ _ c.self.invariant.begun)

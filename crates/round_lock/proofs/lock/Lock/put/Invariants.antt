@@ -1,5 +1,5 @@
 use Rattle.std.specs.Prelude.{Some}
 use Rattle.round_lock.proofs.lock.Lock.put.Given as goal
 
-abbrev pub ghosts-send : goal.ghosts-send
-ghosts-send g a = record { entry = Some a.entry }
+abbrev pub ghosts-give : goal.ghosts-give
+ghosts-give g a = record { entry = Some a.entry }

@@ -1,0 +1,144 @@
+//! How an owner takes a lock and gives it up: by a word that says whether it is free, and on which others may sleep.
+ghost use Rattle.std.specs.Prelude.{◌≡◌, ◌<◌, [], ◌∷◌, Some, None, IsTrue, IsFalse};
+ghost use Rattle.round_lock.specs.History.{called};
+ghost use Rattle.round_lock.specs.Law.{HasTaken, IsAt, carried};
+
+use crate::log::Log;
+use crate::rule::{Called, Gives, Made, Rounds, Takes};
+use atomic_table::{Seat, Table};
+use std::alloc::Global;
+use std::hint::spin_loop;
+use std::snapshot::Snapshot;
+use std::sync::Wait;
+
+/// The word of a lock that somebody has, and for which nobody sleeps but such as others are about to note as `WANTED`.
+const TAKEN: u64 = 0;
+
+/// The word of a lock that is free.
+pub(crate) const FREE: u64 = 1;
+
+/// The word of a lock that somebody has, and for which others may sleep.
+const WANTED: u64 = 2;
+
+/// How often an owner looks whether the lock is free before it sleeps.
+const LOOKS: u32 = 100;
+
+/// What all owners of a lock share: the word, and the place for the state.
+pub(crate) type Place<S, E> = Table<Option<S>, Log<S, E>, Snapshot<S>, Rounds, Global>;
+
+/// Takes the lock where it is free.
+fn try_take<S: Called<E> + Drop, E>(
+    place: &Place<S, E>,
+    seat: &mut Seat<Option<S>, Log<S, E>>,
+) -> bool
+    requires at { IsAt place.now.shared.table_id seat.old.table_id seat.old.me }
+    ensures seat { seat.new.table_id ≡ seat.old.table_id }
+    ensures taken { IsTrue result → HasTaken S.first S.step seat.old.me seat.new.me }
+    ensures missed { IsFalse result → seat.new.me ≡ seat.old.me }
+{
+    place.shared.compare_exchange::<Takes>(seat, 0, FREE, TAKEN) == FREE
+}
+
+/// Looks some times whether the lock is free, until it is.
+fn look<S: Called<E> + Drop, E>(place: &Place<S, E>)
+    requires { 0 < place.now.shared.table_id.words }
+{
+    for _ in 0..LOOKS {
+        if place.shared.peek(0) == FREE {
+            break;
+        }
+        spin_loop();
+    }
+}
+
+/// Takes the lock where it is free at one of some looks.
+fn look_and_take<S: Called<E> + Drop, E>(
+    place: &Place<S, E>,
+    seat: &mut Seat<Option<S>, Log<S, E>>,
+) -> bool
+    requires at { IsAt place.now.shared.table_id seat.old.table_id seat.old.me }
+    ensures seat { seat.new.table_id ≡ seat.old.table_id }
+    ensures taken { IsTrue result → HasTaken S.first S.step seat.old.me seat.new.me }
+    ensures missed { IsFalse result → seat.new.me ≡ seat.old.me }
+{
+    for _ in 0..LOOKS {
+        if place.shared.peek(0) == FREE && try_take(place, seat) {
+            return true;
+        }
+        spin_loop();
+    }
+    false
+}
+
+/// Takes the lock, and sleeps while others have it. Who slept takes it as wanted, since others may sleep still.
+pub(crate) fn take<S: Called<E> + Drop, E, R: Wait>(
+    rt: &R,
+    place: &Place<S, E>,
+    seat: &mut Seat<Option<S>, Log<S, E>>,
+)
+    requires at { IsAt place.now.shared.table_id seat.old.table_id seat.old.me }
+    ensures seat { seat.new.table_id ≡ seat.old.table_id }
+    ensures taken { HasTaken S.first S.step seat.old.me seat.new.me }
+{
+    if try_take(place, seat) {
+        return;
+    }
+    if look_and_take(place, seat) {
+        return;
+    }
+    for _ in rt.forever() {
+        if place.shared.swap::<Takes>(seat, 0, WANTED) == FREE {
+            return;
+        }
+        place.shared.park(rt, 0, WANTED as u32);
+        look(place);
+    }
+    unreachable!()
+}
+
+/// The state, out of its place.
+pub(crate) fn lift<S: Called<E> + Drop, E>(
+    place: &Place<S, E>,
+    seat: &mut Seat<Option<S>, Log<S, E>>,
+) -> S
+    requires seat { seat.old.table_id ≡ place.now.shared.table_id }
+    requires there { (state : S) × (seat.old.me.1 ≡ (0, Some state) ∷ []) }
+    ensures seat { seat.new.table_id ≡ seat.old.table_id }
+    ensures out { seat.old.me.1 ≡ (0, Some result) ∷ [] }
+    ensures empty { seat.new.me ≡ (seat.old.me.0, (0, None) ∷ []) }
+{
+    place.shared.exchange(seat, 0, None).unwrap()
+}
+
+/// Gives the lock up, with the state as a call left it, where the proof picks the entry; and wakes one that may sleep.
+pub(crate) fn give_as<S: Called<E> + Drop, E, M: Made<E>>(
+    place: &Place<S, E>,
+    seat: &mut Seat<Option<S>, Log<S, E>>,
+    state: S,
+)
+    requires at { IsAt place.now.shared.table_id seat.old.table_id seat.old.me }
+    requires call { (old : S) × (e : E) × (M.entry ≡ Some e) × (seat.old.me.0.held ≡ Some old) × S.step old e state }
+    ensures seat { seat.new.table_id ≡ seat.old.table_id }
+    ensures given { seat.new.me ≡ (called seat.old.me.0 M.entry, []) }
+{
+    drop(place.shared.exchange(seat, 0, Some(state)));
+    if place.shared.swap::<Gives<M>>(seat, 0, FREE) == WANTED {
+        place.shared.wake_one(0);
+    }
+}
+
+/// Gives the lock up, with the state as a call left it.
+pub(crate) fn give<S: Called<E> + Drop, E: Drop, M: Made<E>>(
+    place: &Place<S, E>,
+    seat: &mut Seat<Option<S>, Log<S, E>>,
+    state: S,
+    entry: E,
+)
+    requires at { IsAt place.now.shared.table_id seat.old.table_id seat.old.me }
+    requires entry { M.entry ≡ Some entry }
+    requires call { (old : S) × (seat.old.me.0.held ≡ Some old) × S.step old entry state }
+    ensures seat { seat.new.table_id ≡ seat.old.table_id }
+    ensures given { seat.new.me ≡ (called seat.old.me.0 (Some entry), []) }
+{
+    give_as::<S, E, M>(place, seat, state);
+}
