@@ -33,4 +33,6 @@ mod tools;
 #[cfg(test)]
 mod waiting_rows;
 #[cfg(test)]
+mod waiting_together;
+#[cfg(test)]
 mod when;

@@ -17,31 +17,31 @@ use std::test::Fail;
 use std::thread::Threads;
 use std::{hint, thread};
 
-/// How many values pass, from 0 on.
-const VALUES: u64 = 1000;
-
-/// How many turns each thread lets pass at most before a value, so that the other one finds none yet: it looks on, or sleeps.
+/// How many values pass, from 0 on, and how many turns each thread lets pass at most before one, so that the other one finds none
+/// yet: it looks on, or sleeps.
 #[derive(Clone, Copy)]
 struct Pace {
+    values: u64,
     emits: u64,
     receives: u64,
 }
 
 /// No thread lets any pass.
 const AT_ONCE: Pace = Pace {
+    values: 1000,
     emits: 0,
     receives: 0,
 };
 
-// Lets turns pass, up to so many, by the value that is next.
-fn dawdle(most: u64, value: u64) {
+/// Lets turns pass, up to so many, by the value that is next.
+pub(crate) fn dawdle(most: u64, value: u64) {
     for _ in 0..most.min(value % 256 * 32) {
         hint::spin_loop();
     }
 }
 
-// Emits once more where there was no memory to wait by: the value was given up then.
-fn emitted<R: Wait>(
+/// Emits once more where there was no memory to wait by: the value was given up then.
+pub(crate) fn emitted<R: Wait>(
     rt: &R,
     emitter: &mut Emitter<u64>,
     parker: &mut Parker,
@@ -67,7 +67,7 @@ fn emit_all<R: Wait>(
     if !meeting.come() {
         return 0;
     }
-    for value in 0..VALUES {
+    for value in 0..pace.values {
         dawdle(pace.emits, value);
         if emitter.in_flight() {
             return value;
@@ -77,10 +77,22 @@ fn emit_all<R: Wait>(
             _ => return value,
         }
     }
-    VALUES
+    pace.values
 }
 
-// Receives the values, and says how many came in order. It asks once more where there was no memory to wait by.
+/// Receives, and asks once more where there was no memory to wait by.
+pub(crate) fn received<R: Wait>(
+    rt: &R,
+    subscription: &mut Subscription<u64>,
+    parker: &mut Parker,
+) -> Result<u64, Refusal> {
+    match subscription.next(rt, parker) {
+        Ok(value) => Ok(value),
+        Err(_) => subscription.next(rt, parker),
+    }
+}
+
+// Receives the values, and says how many came in order.
 fn receive_all<R: Wait>(
     rt: &R,
     subscription: &mut Subscription<u64>,
@@ -91,17 +103,13 @@ fn receive_all<R: Wait>(
     if !meeting.wait() {
         return 0;
     }
-    for wanted in 0..VALUES {
+    for wanted in 0..pace.values {
         dawdle(pace.receives, wanted);
-        let found = match subscription.next(rt, parker) {
-            Ok(value) => Ok(value),
-            Err(_) => subscription.next(rt, parker),
-        };
-        if found != Ok(wanted) {
+        if received(rt, subscription, parker) != Ok(wanted) {
             return wanted;
         }
     }
-    VALUES
+    pace.values
 }
 
 // What passed from a thread that emits to one that receives.
@@ -157,7 +165,8 @@ where
 fn threads_that_wait_are_answered(rt: HostRuntime) -> Result<(), Fail> {
     for extra in [0, 1, 8] {
         let found = passed(&rt, extra, AT_ONCE).map_err(|refusal| refusal.number())?;
-        assert_same(&rt, "emitted and received", found, (VALUES, VALUES));
+        let all = AT_ONCE.values;
+        assert_same(&rt, "emitted and received", found, (all, all));
     }
     Ok(())
 }
@@ -167,10 +176,15 @@ fn threads_that_wait_are_answered(rt: HostRuntime) -> Result<(), Fail> {
 fn threads_of_unequal_pace_are_answered(rt: HostRuntime) -> Result<(), Fail> {
     let paces = [(8000, 0), (0, 8000), (64, 64)];
     for (emits, receives) in paces {
-        let pace = Pace { emits, receives };
+        let values = 250;
+        let pace = Pace {
+            values,
+            emits,
+            receives,
+        };
         for extra in [0, 1, 8] {
             let found = passed(&rt, extra, pace).map_err(|refusal| refusal.number())?;
-            assert_same(&rt, "emitted and received", found, (VALUES, VALUES));
+            assert_same(&rt, "emitted and received", found, (values, values));
         }
     }
     Ok(())
