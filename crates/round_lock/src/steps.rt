@@ -11,7 +11,7 @@ use std::hint::spin_loop;
 use std::snapshot::Snapshot;
 use std::sync::Wait;
 
-/// The word of a lock that somebody has, and for which nobody sleeps but such as others are about to note as `WANTED`.
+/// The word of a lock that somebody has, and for which nobody sleeps, or one is about to be woken or to write `WANTED`.
 const TAKEN: u64 = 0;
 
 /// The word of a lock that is free.
@@ -20,8 +20,8 @@ pub(crate) const FREE: u64 = 1;
 /// The word of a lock that somebody has, and for which others may sleep.
 const WANTED: u64 = 2;
 
-/// How often an owner looks whether the lock is free before it sleeps.
-const LOOKS: u32 = 100;
+/// How often an owner looks whether the lock is free before it sleeps. It pauses after each look, each time twice as long.
+const LOOKS: u32 = 11;
 
 /// What all owners of a lock share: the word, and the place for the state.
 pub(crate) type Place<S, E> = Table<Option<S>, Log<S, E>, Snapshot<S>, Rounds, Global>;
@@ -39,19 +39,14 @@ fn try_take<S: Called<E> + Drop, E>(
     place.shared.compare_exchange::<Takes>(seat, 0, FREE, TAKEN) == FREE
 }
 
-/// Looks some times whether the lock is free, until it is.
-fn look<S: Called<E> + Drop, E>(place: &Place<S, E>)
-    requires { 0 < place.now.shared.table_id.words }
-{
-    for _ in 0..LOOKS {
-        if place.shared.peek(0) == FREE {
-            break;
-        }
+/// Pauses so many times. Meanwhile this owner leaves the word's memory to the one that has the lock.
+fn pause(turns: u32) {
+    for _ in 0..turns {
         spin_loop();
     }
 }
 
-/// Takes the lock where it is free at one of some looks.
+/// Takes the lock where it is free at one of a few looks.
 fn look_and_take<S: Called<E> + Drop, E>(
     place: &Place<S, E>,
     seat: &mut Seat<Option<S>, Log<S, E>>,
@@ -61,16 +56,16 @@ fn look_and_take<S: Called<E> + Drop, E>(
     ensures taken { IsTrue result → HasTaken S.first S.step seat.old.me seat.new.me }
     ensures missed { IsFalse result → seat.new.me ≡ seat.old.me }
 {
-    for _ in 0..LOOKS {
+    for look in 0..LOOKS {
         if place.shared.peek(0) == FREE && try_take(place, seat) {
             return true;
         }
-        spin_loop();
+        pause(1 << look);
     }
     false
 }
 
-/// Takes the lock, and sleeps while others have it. Who slept takes it as wanted, since others may sleep still.
+/// Takes the lock, and sleeps while others have it. An owner that was about to sleep takes it as wanted, since others may sleep.
 pub(crate) fn take<S: Called<E> + Drop, E, R: Wait>(
     rt: &R,
     place: &Place<S, E>,
@@ -91,7 +86,6 @@ pub(crate) fn take<S: Called<E> + Drop, E, R: Wait>(
             return;
         }
         place.shared.park(rt, 0, WANTED as u32);
-        look(place);
     }
     unreachable!()
 }

@@ -85,7 +85,7 @@ fn each_count_counts_and_all_come_to_their_end(rt: HostRuntime) -> Result<(), Fa
         },
         Course {
             takes: 1_000,
-            turns: 2_000,
+            turns: 10_000,
         },
     ];
     for course in COURSES {
@@ -95,13 +95,13 @@ fn each_count_counts_and_all_come_to_their_end(rt: HostRuntime) -> Result<(), Fa
     Ok(())
 }
 
-/// Of four owners that take the lock once, three sleep while the first has it, and nobody comes later who could wake them: each has
-/// to be woken by the one before.
+/// Four owners take the lock once each, and keep it for far longer than others look before they sleep. Once all have come, nobody
+/// comes who could wake a sleeper but the one before it.
 #[test]
 fn who_is_woken_wakes_the_next(rt: HostRuntime) -> Result<(), Fail> {
     const ONCE: Course = Course {
         takes: 1,
-        turns: 20_000,
+        turns: 50_000,
     };
     for _ in 0..200 {
         let number = counted(&rt, ONCE)?;
@@ -124,7 +124,7 @@ fn count_by_others(rt: &impl Wait, owner: &mut Owner, course: Course) -> Result<
 fn owners_come_and_go_while_others_wait(rt: HostRuntime) -> Result<(), Fail> {
     const COURSE: Course = Course {
         takes: 1_000,
-        turns: 1_000,
+        turns: 10_000,
     };
     let mut first = Lock::new(rt.alloc(), Count { number: 0 })?;
     let mut second = first.dup(&rt)?;
