@@ -7,7 +7,7 @@ const BROWSERS = "Chrome and Edge have it from version 133 on, Firefox from 134 
 
 const OWN = {
   name: "own",
-  look: "A script of your own, or one that was sent to you. It stands in the address of this page, so a copied link holds it.",
+  look: "A script of your own, or one that was sent to you. It stands in the address of this page, and a copied link holds it, unless that would take more than 100,000 characters.",
 };
 
 const byId = (id) => document.getElementById(id);
