@@ -25,6 +25,9 @@ use Rattle.shared_core.proofs.Accepted.{seen-accept, seen-lose_oldest, has_room-
 pub within_limit : (n : ℕ) → eqb n number_limit ≡ false → n ≤ number_limit → n < number_limit
 within_limit n unspent bound = let apart = eqb-false n number_limit unspent in omega arith
 
+pub below_limit : (n : ℕ) → n < number_limit → eqb n number_limit ≡ false
+below_limit n below = ne_eqb n number_limit (λ is. omega (arith, below, is))
+
 -- the fates beside a live subscription in a flow without places
 pub is_held_up : (live all waiting : ℕ) (room : Bool) (overflow : Overflow) → live ≢ 0 → all ≡ 0 → (waiting ≢ 0) ⊎ (room ≡ false) → fate_by live all waiting room overflow ≡ held_up
 is_held_up live all waiting true overflow some none held =

@@ -22,6 +22,7 @@ pub mod Telling
 pub mod Entries
 pub mod Latest
 pub mod Standing
+pub mod Behind
 pub mod Rings
 pub mod Accepted
 pub mod Emitting

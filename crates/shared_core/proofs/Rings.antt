@@ -87,8 +87,11 @@ module _ {T : Type 0} (next : ℕ) (values : List T) (places : List Place) (live
     at_place : at < length places
     at_place = omega (arith, inside, ap length is, length-map places (shown_place next values))
 
+    pub read_there : slice_get places at ≡ Some p
+    read_there = slice_get-get_or places at p at_place ∙ ap Some (sym read)
+
     pub entry_there : slice_get live at ≡ Some (shown_place next values p)
-    entry_there = entry_shown at p (slice_get-get_or places at p at_place ∙ ap Some (sym read))
+    entry_there = entry_shown at p read_there
 
     pub within_there : (limit : ℕ) → AreWithin next values limit places → IsWithin next limit (length values) p
     within_there limit within = subst (IsWithin next limit (length values)) (sym read) (All-get_or (IsWithin next limit (length values)) places at p at_place within)

@@ -1,11 +1,11 @@
 -- Where a number stands in a list whose numbers rise.
-use Rattle.std.proofs.Common.{◌≡◌, ◌≢◌, ℕ, suc, ◌+◌, ◌-◌, ◌/◌, ◌<◌, ◌≤◌, Bool, false, ◌||◌, eqb, List, [], ◌∷◌, ◌++◌, length, length-take, map, take, Some, slice_get, refl, sym, ap, ◌∙◌, subst, ⊎_elim, arith}
+use Rattle.std.proofs.Common.{◌≡◌, ◌≢◌, ℕ, zero, suc, ◌+◌, ◌-◌, ◌/◌, ◌<◌, ◌≤◌, min, Bool, false, ◌||◌, eqb, List, [], ◌∷◌, ◌++◌, length, length-take, map, take, Option, Some, None, IfNone, slice_get, refl, sym, ap, ◌∙◌, subst, ⊎_elim, arith, zero-add, add-zero}
 use Rattle.std.proofs.lemmas.Bool.{ne_eqb, cases_lt}
 use Rattle.std.proofs.lemmas.Option.{same_Some, slice_get-map, slice_get_within}
 use Rattle.std.specs.Option.{option_map}
 use Rattle.std.specs.List.{list_any}
 use Rattle.shared_core.specs.Rising.{Rises, StandsWithin}
-use Rattle.circular_buffer.proofs.Places.{slice_get-take, slice_get-append_left}
+use Rattle.circular_buffer.proofs.Places.{slice_get-some, slice_get-take, slice_get-append_left}
 use Rattle.shared_core.specs.declared.tickets.OutTicket.{OutTicket}
 use Rattle.shared_core.specs.declared.tickets.Accepted.{Accepted}
 use Rattle.shared_core.specs.declared.tickets.Waiting.{Waiting}
@@ -13,6 +13,9 @@ use Rattle.shared_core.specs.Kept.{shown_accepted, shown_waiting}
 use Rattle.shared_core.specs.Flow.{State, Subscription, Standing, is_out, pending_values}
 use Rattle.shared_core.specs.Shown.{Seen, seen_of, Shows, numbered}
 use Rattle.shared_core.proofs.Numbered.{entry_of}
+
+to_end : (k end : ℕ) → k ≤ end → k + (end - k) ≡ end
+to_end k end inside = omega (arith, inside)
 
 module _ {X : Type 0} (number : X → ℕ) (n : ℕ) where
   -- it stands nowhere before one that isn't above it
@@ -55,6 +58,26 @@ module _ {X : Type 0} (number : X → ℕ) (n : ℕ) where
       let this = until_middle xs base (base + size) (base + size / 2) x rises gets high within k y there same in
       (omega (arith, this.0, is), omega (arith, this.1, is))
 
+  -- as many steps on at least as there are places between
+  rises_by : (xs : List X) (i d : ℕ) (x y : X) → Rises number xs → slice_get xs i ≡ Some x → slice_get xs (i + d) ≡ Some y → number x + d ≤ number y
+  rises_by xs i zero x y rises first second =
+      let same : x ≡ y = same_Some x y (sym first ∙ ap (slice_get xs) (sym (add-zero i)) ∙ second) in omega (arith, ap number same)
+  rises_by xs i (suc d) x y rises first second =
+      let before : i + d < length xs = omega (arith, slice_get_within xs (i + suc d) y second) in
+      let between = slice_get-some xs (i + d) before in
+      let this = rises_by xs i d x between.0 rises first between.1 in
+      let last = rises (i + d) (i + suc d) between.0 y (omega arith) between.1 second in
+      omega (arith, this, last)
+
+  -- so it stands within bounds that the first one and the last one tell
+  pub within_bounds : (xs : List X) (first last : X) (end low high : ℕ) → slice_get xs 0 ≡ Some first → slice_get xs end ≡ Some last → length xs ≡ end + 1
+      → low ≡ end - (number last - n) → high ≡ min end (n - number first) → Rises number xs → StandsWithin number n xs low (low + ((high + 1) - low))
+  within_bounds xs first last end low high at_first at_last long is_low is_high rises k x there is =
+      let inside : k < length xs = slice_get_within xs k x there in
+      let after = rises_by xs 0 k first x rises at_first (ap (slice_get xs) (zero-add k) ∙ there) in
+      let before = rises_by xs k (end - k) x last rises there (ap (slice_get xs) (to_end k end (omega (arith, inside, long))) ∙ at_last) in
+      (omega (arith, inside, long, is_low, before, is), omega (arith, inside, long, is_low, is_high, before, after, is))
+
   -- where it stands nowhere, no one has it
   pub absent : (xs : List X) → ((k : ℕ) (x : X) → slice_get xs k ≡ Some x → number x ≢ n) → list_any (λ x. eqb (number x) n) xs ≡ false
   absent [] nowhere = refl
@@ -80,6 +103,11 @@ module _ {X : Type 0} (number : X → ℕ) (n : ℕ) where
   -- what is read at an index is what stands there
   pub not_read : (xs : List X) (at : ℕ) (read : X) → slice_get xs at ≡ Some read → number read ≢ n → (x : X) → slice_get xs at ≡ Some x → number x ≢ n
   not_read xs at read gets apart x there is = apart (ap number (same_Some read x (sym gets ∙ there)) ∙ is)
+
+-- a search that wants to know within which bounds, where these are known
+pub searched : {A B : Type 0} (C : Type 0) (r : Option ℕ) → (A → B) → IfNone r (A → B → C) → IfNone r (A → C)
+searched C None within none = λ rises. none rises (within rises)
+searched C (Some i) within none = none
 
 -- ---- lists that rise
 

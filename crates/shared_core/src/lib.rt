@@ -14,6 +14,7 @@ mod place;
 mod prelude;
 mod queue;
 mod ring;
+mod slowest;
 mod state;
 mod tickets;
 

@@ -1,9 +1,11 @@
 //! The places of live subscriptions.
 
-ghost use Rattle.std.specs.Prelude.{◌≡◌, ◌+◌, ◌<◌, ◌≤◌, ◌==◌, nat_lt, false, length, IsTrue, IfOk, IfErr, IfSome, IfNone, slice_get};
-ghost use Rattle.std.specs.List.{All, list_any, list_all};
-ghost use Rattle.shared_core.specs.Places.{IsFrom};
+ghost use Rattle.std.specs.Prelude.{◌≡◌, ◌+◌, ◌≤◌, ◌==◌, nat_lt, false, length, IsTrue, IfSome, IfNone, slice_get};
+ghost use Rattle.std.specs.List.{list_any, list_all};
 ghost use Rattle.shared_core.specs.Rising.{Rises, StandsWithin};
+
+/// So few places, or tickets, are all looked at: that takes no longer than to look for one by its number, or at those noted.
+pub const FEW: usize = 8;
 
 /// A live subscription: its number, and where it stands.
 #[derive(Clone, Copy)]
@@ -16,6 +18,7 @@ pub struct Place {
 
 /// Where the subscription with this number has its place, if none from the first live one on was cancelled before it. Places
 /// stand by rising numbers, so it is as many places after the first one as its number is after that one's.
+#[inline]
 fn place_without_gaps(places: &[Place], number: u64) -> Option<usize>
     ensures found { IfSome result (λ i. (p : _) × (slice_get places.now i ≡ Some p) × (p.number ≡ number)) }
 {
@@ -63,15 +66,45 @@ fn is_place(places: &[Place], number: u64, at: usize) -> bool
     place.number == number
 }
 
-/// Where the subscription with this number has its place. Where there are gaps, it is often the one that received last, at
-/// `recent`, or the one after that.
-pub fn find_place(places: &[Place], number: u64, recent: usize) -> Option<usize>
+/// Where the subscription with this number may have its place: numbers rise, so it is at most as many places after the first one as
+/// its number is after that one's, and at most as many before the last one as its number is before that one's. Where none was
+/// cancelled from it on, the lower bound is its place.
+fn place_between(places: &[Place], number: u64) -> Option<usize>
     ensures found { IfSome result (λ i. (p : _) × (slice_get places.now i ≡ Some p) × (p.number ≡ number)) }
     ensures none { IfNone result (Rises (λ p. p.number) places.now → list_any (λ p. p.number == number) places.now ≡ false) }
 {
-    if let Some(at) = place_without_gaps(places, number) {
-        return Some(at);
+    let end = places.len().checked_sub(1)?;
+    let low = end.saturating_sub(places[end].number.saturating_sub(number) as usize);
+    if places[low].number == number {
+        return Some(low);
     }
+    let high = end.min(number.saturating_sub(places[0].number) as usize);
+    place_among(places, number, low, (high + 1).saturating_sub(low))
+}
+
+/// Where the subscription with this number has its place, looked for at each place.
+#[inline]
+fn place_listed(places: &[Place], number: u64) -> Option<usize>
+    ensures found { IfSome result (λ i. (p : _) × (slice_get places.now i ≡ Some p) × (p.number ≡ number)) }
+    ensures none { IfNone result (list_any (λ p. p.number == number) places.now ≡ false) }
+{
+    for (i, place) in places.iter().enumerate() {
+        if place.number == number {
+            return Some(i);
+        }
+    }
+    None
+}
+
+/// Where the subscription with this number has its place among many, where others between the first one and it may have gone: often
+/// the one that received last, at `recent`, or the one after that.
+//
+// Not inlined, so that a receipt without gaps keeps its registers.
+#[inline(never)]
+fn place_with_gaps(places: &[Place], number: u64, recent: usize) -> Option<usize>
+    ensures found { IfSome result (λ i. (p : _) × (slice_get places.now i ≡ Some p) × (p.number ≡ number)) }
+    ensures none { IfNone result (Rises (λ p. p.number) places.now → list_any (λ p. p.number == number) places.now ≡ false) }
+{
     if is_place(places, number, recent) {
         return Some(recent);
     }
@@ -79,10 +112,25 @@ pub fn find_place(places: &[Place], number: u64, recent: usize) -> Option<usize>
     if is_place(places, number, after) {
         return Some(after);
     }
-    place_among(places, number, 0, places.len())
+    place_between(places, number)
 }
 
-/// Where the subscription with this number has its place, looked for at each place where a search by its number finds none.
+/// Where the subscription with this number has its place. Few places are all looked at.
+#[inline]
+pub fn find_place(places: &[Place], number: u64, recent: usize) -> Option<usize>
+    ensures found { IfSome result (λ i. (p : _) × (slice_get places.now i ≡ Some p) × (p.number ≡ number)) }
+    ensures none { IfNone result (Rises (λ p. p.number) places.now → list_any (λ p. p.number == number) places.now ≡ false) }
+{
+    if let Some(at) = place_without_gaps(places, number) {
+        return Some(at);
+    }
+    if places.len() <= FEW {
+        return place_listed(places, number);
+    }
+    place_with_gaps(places, number, recent)
+}
+
+/// The same, looked for at each place where a search by its number finds none.
 pub fn place_of(places: &[Place], number: u64, recent: usize) -> Option<usize>
     ensures found { IfSome result (λ i. (p : _) × (slice_get places.now i ≡ Some p) × (p.number ≡ number)) }
     ensures none { IfNone result (list_any (λ p. p.number == number) places.now ≡ false) }
@@ -90,12 +138,7 @@ pub fn place_of(places: &[Place], number: u64, recent: usize) -> Option<usize>
     if let Some(at) = find_place(places, number, recent) {
         return Some(at);
     }
-    for (i, place) in places.iter().enumerate() {
-        if place.number == number {
-            return Some(i);
-        }
-    }
-    None
+    place_listed(places, number)
 }
 
 /// Whether each place stands past the emission with this number.
@@ -108,33 +151,4 @@ pub fn each_past(places: &[Place], number: u64) -> bool
         }
     }
     true
-}
-
-/// The least position of these places, where each stands past the emission with this number; else where one stands that doesn't.
-fn least_among(places: &[Place], number: u64) -> Result<u64, usize>
-    ensures least { IfOk result (λ least. All (IsFrom least) places.now) }
-    ensures inside { IfErr result (λ i. i < length places.now) }
-{
-    let mut least = u64::MAX;
-    for (i, place) in places.iter().enumerate() {
-        if place.position <= number {
-            return Err(i);
-        }
-        least = least.min(place.position);
-    }
-    Ok(least)
-}
-
-/// The same, looked for from one place on and all round. So whoever asks again about the same number, each time from where the
-/// last place was found, passes each place at most twice.
-pub fn least_position(places: &[Place], number: u64, from: usize) -> Result<u64, usize>
-    ensures { IfOk result (λ least. All (IsFrom least) places.now) }
-{
-    let from = from.min(places.len());
-    let later = match least_among(&places[from..], number) {
-        Ok(least) => least,
-        Err(at) => return Err(from + at),
-    };
-    let earlier = least_among(&places[..from], number)?;
-    Ok(earlier.min(later))
 }

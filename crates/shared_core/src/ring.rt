@@ -27,7 +27,8 @@ ghost use Rattle.shared_core.specs.Rising.{Rises};
 ghost use Rattle.shared_core.specs.Ringed.{empty_ring, has_space, with_value, without_oldest, Receives};
 
 use crate::config::Config;
-use crate::place::{Place, each_past, find_place, least_position, place_of};
+use crate::place::{FEW, Place, each_past, find_place, place_of};
+use crate::slowest::Slowest;
 use circular_buffer::HeapCircularBuffer;
 use std::alloc::{AllocError, Global};
 use std::marker::Model;
@@ -49,8 +50,8 @@ pub struct Ring<T: Copy> {
     recent: usize,
     /// While the next number is below this, there is room.
     room_until: u64,
-    /// Where a place stood that had all its values pending, when room was looked for last.
-    slow: usize,
+    /// Who was furthest behind when all places were looked at last.
+    slowest: Slowest,
     /// How many subscriptions may be live.
     subscribers: usize,
 }
@@ -72,7 +73,7 @@ impl<T: Copy> Model for Ring<T> {
       subscribers = r.subscribers;
     } };
 
-    ghost invariant = { λ r. IsRing r.values r.next_number r.cached r.replay r.places.items (vec_capacity r.places) r.subscribers r.room_until };
+    ghost invariant = { λ r. IsRing r.values r.next_number r.cached r.replay r.places.items (vec_capacity r.places) r.subscribers r.room_until r.slowest };
 }
 
 impl<T: Copy> Ring<T> {
@@ -94,8 +95,8 @@ impl<T: Copy> Ring<T> {
             replay: config.replay as usize,
             places,
             recent: 0,
-            room_until: 0,
-            slow: 0,
+            room_until: u64::MAX,
+            slowest: Slowest::unknown(),
             subscribers,
         })
     }
@@ -116,48 +117,39 @@ impl<T: Copy> Ring<T> {
         self.values.capacity() as u64
     }
 
-    // Whether there is room, where that is known without a look at each place.
-    fn known_room(&self) -> Option<bool>
-        ensures { IfSome result (λ room. room ≡ has_space self.now) }
-    {
-        if self.next_number < self.room_until {
-            return Some(true);
-        }
-        let place = self.places.get(self.slow)?;
-        if self.next_number - place.position >= self.limit() {
-            return Some(false);
-        }
-        None
-    }
-
-    /// Looks at the places, where whether there is room isn't known without that.
-    pub fn look_for_room(&mut self)
-        ensures { self.new ≡ self.old }
-    {
-        let limit = self.limit();
-        // Below this number too few values were accepted for anybody to have no room.
-        if self.known_room().is_some() || self.next_number < limit {
-            return;
-        }
-        let oldest = self.next_number - limit;
-        match least_position(&self.places, oldest, self.slow) {
-            Ok(least) => self.room_until = least.saturating_add(limit),
-            Err(at) => self.slow = at,
-        }
-    }
-
     /// Whether each live subscription has fewer values pending than it may: none stands at the oldest value of a full ring.
-    pub fn has_room(&self) -> bool
-        ensures { result ≡ has_space self.now }
+    #[inline]
+    pub fn has_room(&mut self) -> bool
+        ensures room { result ≡ has_space self.old }
+        ensures same { self.new ≡ self.old }
     {
-        if let Some(room) = self.known_room() {
-            return room;
-        }
         let limit = self.limit();
         if self.next_number < limit {
             return true;
         }
-        each_past(&self.places, self.next_number - limit)
+        if self.places.len() <= FEW {
+            return each_past(&self.places, self.next_number - limit);
+        }
+        self.has_room_for_many()
+    }
+
+    /// The same of many places in a full ring: it is known while the next number is below `room_until`.
+    //
+    // Not inlined, so that an emission beside few subscriptions keeps its registers.
+    #[inline(never)]
+    fn has_room_for_many(&mut self) -> bool
+        requires { self.old.limit ≤ self.old.next_number }
+        ensures room { result ≡ has_space self.old }
+        ensures same { self.new ≡ self.old }
+    {
+        if self.next_number < self.room_until {
+            return true;
+        }
+        let limit = self.limit();
+        let oldest = self.next_number - limit;
+        let least = self.slowest.least_position(&self.places, oldest);
+        self.room_until = least.saturating_add(limit);
+        least > oldest
     }
 
     /// Whether each live subscription has received or lost the emission with this number.
@@ -206,6 +198,7 @@ impl<T: Copy> Ring<T> {
     }
 
     /// Where the live subscription with this number stands in their list, by whose order it is looked for.
+    #[inline]
     pub fn find(&self, number: u64) -> Option<usize>
         ensures found { IfSome result (λ i. (e : _) × (slice_get self.now.live i ≡ Some e) × (e.0 ≡ number)) }
         ensures none { IfNone result (Rises (λ e. e.0) self.now.live → list_any (λ e. e.0 == number) self.now.live ≡ false) }
@@ -263,6 +256,7 @@ impl<T: Copy> Ring<T> {
     {
         let position = self.next_number - self.cached as u64;
         self.room_until = self.room_until.min(position + self.limit());
+        self.slowest.others = self.slowest.others.min(position);
         self.places.push_reserved(Place { number, position });
     }
 
@@ -272,6 +266,7 @@ impl<T: Copy> Ring<T> {
         ensures { self.new ≡ record self.old { live = remove self.old.live at } }
     {
         let _place = self.places.remove(at);
+        self.slowest = Slowest::unknown();
     }
 
     /// Empties the replay cache. What is pending stays.

@@ -4,6 +4,7 @@ ghost use Rattle.std.specs.Prelude.{◌≡◌, ◌==◌, ◌+◌, ◌<◌, ◌�
 ghost use Rattle.std.specs.List.{list_any};
 ghost use Rattle.shared_core.specs.Rising.{Rises, StandsWithin};
 
+use crate::place::FEW;
 use crate::queue::Queue;
 
 /// A ticket that is out, and what became of its emission.
@@ -58,26 +59,58 @@ fn out_among<E: Copy>(
     None
 }
 
-/// Where the ticket with this number stands among those that are out.
-///
-/// Tickets rise, so it is at most as many tickets after the first one as its number is after that one's, and just so many if
-/// all between them are out.
+/// Where the ticket with this number may stand: tickets rise, so it is at most as many after the first one as its number is after that
+/// one's, and at most as many before the last one as its number is before that one's. Where all tickets between are out, one of
+/// these bounds is its place.
+//
+// Not inlined, so that a poll of one of the oldest keeps its registers.
+#[inline(never)]
+fn out_between<E: Copy>(out: &Queue<OutTicket<E>>, ticket: u64) -> Option<usize>
+    ensures found { IfSome result (λ i. (h : _) × (slice_get out.now.values i ≡ Some h) × (h.ticket ≡ ticket)) }
+    ensures none { IfNone result (Rises (λ h. h.ticket) out.now.values → list_any (λ h. h.ticket == ticket) out.now.values ≡ false) }
+{
+    let first = out.first()?.ticket;
+    let end = out.len() - 1;
+    let high = end.min(ticket.saturating_sub(first) as usize);
+    if out.get(high).ticket == ticket {
+        return Some(high);
+    }
+    let low = end.saturating_sub(out.get(end).ticket.saturating_sub(ticket) as usize);
+    if out.get(low).ticket == ticket {
+        return Some(low);
+    }
+    out_among(out, ticket, low, (high + 1).saturating_sub(low))
+}
+
+/// Where the ticket with this number stands, looked for at each one.
+#[inline]
+fn out_listed<E: Copy>(out: &Queue<OutTicket<E>>, ticket: u64) -> Option<usize>
+    ensures found { IfSome result (λ i. (h : _) × (slice_get out.now.values i ≡ Some h) × (h.ticket ≡ ticket)) }
+    ensures none { IfNone result (list_any (λ h. h.ticket == ticket) out.now.values ≡ false) }
+{
+    for i in 0..out.len() {
+        if out.get(i).ticket == ticket {
+            return Some(i);
+        }
+    }
+    None
+}
+
+/// Where the ticket with this number stands among those that are out. Few are all looked at, and of many the two oldest first: their
+/// emissions are accepted next.
+#[inline]
 pub fn out_at<E: Copy>(out: &Queue<OutTicket<E>>, ticket: u64) -> Option<usize>
     ensures found { IfSome result (λ i. (h : _) × (slice_get out.now.values i ≡ Some h) × (h.ticket ≡ ticket)) }
     ensures none { IfNone result (Rises (λ h. h.ticket) out.now.values → list_any (λ h. h.ticket == ticket) out.now.values ≡ false) }
 {
-    let len = out.len();
-    if len == 0 {
-        return None;
+    if out.len() <= FEW {
+        return out_listed(out, ticket);
     }
-    let after_first = ticket.saturating_sub(out.get(0).ticket);
-    let guess = after_first.min(len as u64 - 1) as usize;
-    let guessed = out.get(guess).ticket;
-    if guessed == ticket {
-        return Some(guess);
+    if out.get(0).ticket == ticket {
+        return Some(0);
     }
-    if guessed < ticket {
-        return out_among(out, ticket, guess, len - guess);
+    if out.get(1).ticket == ticket {
+        return Some(1);
     }
-    out_among(out, ticket, 0, guess)
+    out_between(out, ticket)
 }

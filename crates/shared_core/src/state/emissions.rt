@@ -28,8 +28,10 @@ enum Fate {
 
 impl<T: Copy> SharedState<T> {
     /// Whether each live subscription has a place left.
-    fn has_room(&self) -> bool
-        ensures { result ≡ room_in self.now }
+    #[inline]
+    fn has_room(&mut self) -> bool
+        ensures room { result ≡ room_in self.old }
+        ensures same { self.new ≡ self.old }
     {
         self.ring.has_room()
     }
@@ -43,8 +45,12 @@ impl<T: Copy> SharedState<T> {
     }
 
     /// What an emission comes to that begins now.
-    fn fate(&self) -> Fate
-        ensures { HasFate self.now result }
+    //
+    // Inlined, so that an emission is one function, and what follows each fate stands where it is known.
+    #[inline(always)]
+    fn fate(&mut self) -> Fate
+        ensures fate { HasFate self.old result }
+        ensures same { self.new ≡ self.old }
     {
         if self.ring.live_len() == 0 {
             return Fate::Enters;
@@ -64,8 +70,9 @@ impl<T: Copy> SharedState<T> {
     }
 
     /// What an emission comes to where room decides.
-    fn enters_or(&self, without_room: Fate) -> Fate
-        ensures { result ≡ (if room_in self.now then Fate.Enters else without_room) }
+    fn enters_or(&mut self, without_room: Fate) -> Fate
+        ensures fate { result ≡ (if room_in self.old then Fate.Enters else without_room) }
+        ensures same { self.new ≡ self.old }
     {
         if self.has_room() {
             Fate::Enters
@@ -135,21 +142,6 @@ impl<T: Copy> SharedState<T> {
         Ticket(ticket)
     }
 
-    /// Whether the numbers of emissions or of tickets are used up.
-    fn is_start_refused(&self) -> bool {
-        self.is_spent() || self.config.first + self.given == NUMBER_LIMIT
-    }
-
-    /// Looks for room, where an emission that isn't refused is going to ask for it.
-    fn look_for_room(&mut self, refused: bool)
-        ensures { self.new ≡ self.old }
-    {
-        if refused || self.config.policy == Policy::DropOldest {
-            return;
-        }
-        self.ring.look_for_room();
-    }
-
     /// Accepts the emission that waits longest, where there is room. Answers whether it did.
     fn accept_waiting(&mut self) -> bool
         ensures { SettlesOnce self.old result self.new }
@@ -157,19 +149,19 @@ impl<T: Copy> SharedState<T> {
         if self.waiting.len() == 0 {
             return false;
         }
-        self.look_for_room(false);
+        if !self.has_room() {
+            return false;
+        }
         self.accept_oldest()
     }
 
     fn accept_oldest(&mut self) -> bool
+        requires { room_in self.old ≡ true }
         ensures { SettlesOnce self.old result self.new }
     {
         let Some(oldest) = self.waiting.first() else {
             return false;
         };
-        if !self.has_room() {
-            return false;
-        }
         let _oldest = self.waiting.pop();
         let index = self.accept(oldest.emission.value) - self.config.first;
         self.accepted.push(OutTicket {
@@ -206,21 +198,25 @@ impl<T: Copy> SharedState<T> {
     pub fn try_emit(&mut self, emitter: u32, value: T) -> Result<Tried<u64>, Refusal>
         ensures { Follows (calls.try_emit emitter value) self.old result self.new }
     {
-        self.look_for_room(self.is_spent());
-        self.try_now(emitter, value)
-    }
-
-    fn try_now(&mut self, emitter: u32, value: T) -> Result<Tried<u64>, Refusal>
-        ensures { Follows (calls.try_emit emitter value) self.old result self.new }
-    {
         if self.is_spent() {
             return Err(Refusal::Spent);
         }
-        match self.fate() {
-            Fate::Enters => Ok(Tried::Accepted(self.accept(value))),
-            Fate::PushesIn => Ok(Tried::Accepted(self.push_in(value))),
-            Fate::Dropped => Ok(Tried::Dropped),
-            Fate::HandedOver | Fate::HeldUp => Ok(Tried::Full),
+        let fate = self.fate();
+        Ok(self.try_with(fate, emitter, value))
+    }
+
+    /// Does what an emission comes to that can't wait.
+    #[inline(always)]
+    fn try_with(&mut self, fate: Fate, emitter: u32, value: T) -> Tried<u64>
+        requires fate { HasFate self.old fate }
+        requires numbers { self.old.next_number + waiting_in self.old < number_limit }
+        ensures { Follows (calls.try_emit emitter value) self.old (Ok result) self.new }
+    {
+        match fate {
+            Fate::Enters => Tried::Accepted(self.accept(value)),
+            Fate::PushesIn => Tried::Accepted(self.push_in(value)),
+            Fate::Dropped => Tried::Dropped,
+            Fate::HandedOver | Fate::HeldUp => Tried::Full,
         }
     }
 
@@ -232,17 +228,27 @@ impl<T: Copy> SharedState<T> {
     pub fn start_emit(&mut self, emitter: u32, value: T) -> Result<Begun<u64, Ticket>, Refusal>
         ensures { Follows (calls.start_emit emitter value) self.old result self.new }
     {
-        self.look_for_room(self.is_start_refused());
-        self.start_now(emitter, value)
-    }
-
-    fn start_now(&mut self, emitter: u32, value: T) -> Result<Begun<u64, Ticket>, Refusal>
-        ensures { Follows (calls.start_emit emitter value) self.old result self.new }
-    {
         if self.is_spent() || self.config.first + self.given == NUMBER_LIMIT {
             return Err(Refusal::Spent);
         }
-        match self.fate() {
+        let fate = self.fate();
+        self.start_with(fate, emitter, value)
+    }
+
+    /// Does what an emission comes to that may wait.
+    #[inline(always)]
+    fn start_with(
+        &mut self,
+        fate: Fate,
+        emitter: u32,
+        value: T,
+    ) -> Result<Begun<u64, Ticket>, Refusal>
+        requires fate { HasFate self.old fate }
+        requires numbers { self.old.next_number + waiting_in self.old < number_limit }
+        requires tickets { self.old.parameters.first + self.old.tickets < number_limit }
+        ensures { Follows (calls.start_emit emitter value) self.old result self.new }
+    {
+        match fate {
             Fate::Enters => Ok(Begun::Accepted(self.accept(value))),
             Fate::PushesIn => Ok(Begun::Accepted(self.push_in(value))),
             Fate::Dropped => Ok(Begun::Dropped),
@@ -250,7 +256,8 @@ impl<T: Copy> SharedState<T> {
                 if self.is_full() {
                     return Err(Refusal::EmitsFull);
                 }
-                let index = self.accept(value) - self.config.first;
+                let first = self.config.first;
+                let index = self.accept(value) - first;
                 Ok(Begun::Waiting(self.keep_accepted(index)))
             }
             Fate::HeldUp => {

@@ -1,10 +1,11 @@
-use Rattle.std.proofs.Common.{◌-◌, ◌<◌, [], ◌∷◌, ◌++◌, length, ap, arith, length-append}
+use Rattle.std.proofs.Common.{◌-◌, ◌<◌, List, [], ◌∷◌, ◌++◌, length, ap, sym, subst, arith, length-append}
 use Rattle.std.proofs.Math.ListN.{length-map}
 use Rattle.std.proofs.lemmas.Grind.{common_steps}
 use Rattle.std.proofs.lemmas.List.Elements.{All-push, All-same}
 use Rattle.shared_core.specs.declared.place.Place.{Place}
-use Rattle.shared_core.specs.Places.{IsWithin, HasRoomUntil, shown_place}
+use Rattle.shared_core.specs.Places.{IsWithin, HasRoomUntil, OthersFrom, shown_place}
 use Rattle.shared_core.specs.Ringed.{Ringed}
+use Rattle.shared_core.proofs.Behind.{others-push}
 use Rattle.shared_core.proofs.ring.Ring.open.Goals as goal
 
 -- A wrong body makes this false: so answered, it is refused at once.
@@ -51,6 +52,11 @@ invariant_of-self g c =
       ahead =
           All-same (HasRoomUntil ring.values.capacity until) c.push_reserved.new.self.items (ring.places.items ++ place ∷ []) c.push_reserved.ensures.items
           (All-push (HasRoomUntil ring.values.capacity until) ring.places.items place (λ k d inside. let this = kept.ahead k d inside in omega (arith, this, c.min-self-inside.ensures)) (omega (arith, c.min-self-inside.ensures, c.limit.ensures.limit, ap (λ (r : Ringed _). r.limit) c.self.view_is)));
+      behind =
+          subst (λ (ps : List Place). OthersFrom (length ps) ring.slowest.noted c.min-self-inside-2.result ps) (sym c.push_reserved.ensures.items)
+          (subst (λ n. OthersFrom n ring.slowest.noted c.min-self-inside-2.result (ring.places.items ++ place ∷ [])) (sym (length-append ring.places.items (place ∷ [])))
+          (others-push ring.places.items ring.slowest.noted ring.slowest.others c.min-self-inside-2.result place
+          (omega (arith, c.min-self-inside-2.ensures)) (omega (arith, c.min-self-inside-2.ensures)) kept.behind));
       seats = (
         omega (arith, room, ap length c.push_reserved.ensures.items, length-append ring.places.items (place ∷ [])),
         omega (arith, kept.seats.1, c.push_reserved.ensures.capacity),

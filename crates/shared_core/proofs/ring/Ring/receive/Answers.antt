@@ -2,9 +2,10 @@ use Rattle.std.proofs.Common.{◌≡◌, ◌-◌, length, map, set, Some, None, 
 use Rattle.std.proofs.lemmas.List.{length-set}
 use Rattle.std.proofs.lemmas.List.Elements.{All-set}
 use Rattle.std.specs.Option.{option_copied}
-use Rattle.shared_core.specs.Places.{IsWithin, HasRoomUntil, shown_place}
+use Rattle.shared_core.specs.Places.{IsWithin, HasRoomUntil, OthersFrom, shown_place}
 use Rattle.shared_core.specs.Ringed.{Ringed, Receives}
-use Rattle.shared_core.proofs.Rings.{inside_places, within_there, room_there, received_within, receives_some, receives_none}
+use Rattle.shared_core.proofs.Rings.{inside_places, read_there, within_there, room_there, received_within, receives_some, receives_none}
+use Rattle.shared_core.proofs.Behind.{others-set}
 use Rattle.shared_core.proofs.Standing.{received_at}
 use Rattle.shared_core.proofs.ring.Ring.receive.Goals as goal
 
@@ -52,6 +53,11 @@ invariant_of-self-2 g c =
       cache = kept.cache;
       within = All-set (IsWithin ring.next_number limit (length ring.values.items)) ring.places.items c.args.at next moved kept.within;
       ahead = All-set (HasRoomUntil limit ring.room_until) ring.places.items c.args.at next (omega (arith, first, from, c.saturating_sub-index.ensures)) kept.ahead;
+      behind =
+          subst (λ n. OthersFrom n ring.slowest.noted ring.slowest.others (set ring.places.items c.args.at next)) (sym (length-set ring.places.items c.args.at next))
+          (others-set ring.places.items ring.slowest.noted ring.slowest.others c.args.at place next
+          (read_there ring.next_number ring.values.items ring.places.items now live c.args.at place c.requires c.index-place.ensures)
+          (omega (arith, first, c.saturating_sub-index.ensures)) kept.behind);
       seats = (omega (arith, kept.seats.0, length-set ring.places.items c.args.at next), kept.seats.1, kept.seats.2);
     }
 

@@ -30,6 +30,7 @@ invariant_of-self g c =
           subst (λ n. All (IsWithin (ring.next_number + 1) n (length c.push_back-overwritten.new.self.items)) ring.places.items) (sym same)
           (within-accepted ring.next_number xs limit (length c.push_back-overwritten.new.self.items) ring.places.items long kept.within);
       ahead = subst (λ n. All (HasRoomUntil n ring.room_until) ring.places.items) (sym same) kept.ahead;
+      behind = kept.behind;
       seats = kept.seats;
     }
 

@@ -7,11 +7,8 @@ use Rattle.shared_core.specs.Queues.{Queued}
 use Rattle.shared_core.specs.Shown.{Seen}
 use Rattle.shared_core.specs.Accepting.{with_accepted}
 use Rattle.shared_core.proofs.Entries.{none_first, some_first}
-use Rattle.shared_core.proofs.Ticketing.{shown_out, count_waiting, length-out, landed, one_more_accepted, settles_full, settles_none, settles_once}
+use Rattle.shared_core.proofs.Ticketing.{shown_out, count_waiting, length-out, landed, one_more_accepted, settles_none, settles_once}
 use Rattle.shared_core.proofs.state.SharedState.accept_oldest.Goals as goal
-
-pub returns-then-not-has_room : goal.returns-then-not-has_room
-returns-then-not-has_room g c = settles_full c.args.self.now (sym c.has_room.ensures ∙ c.if-not-has_room.true)
 
 pub returns-in_default : goal.returns-in_default
 returns-in_default g c =
@@ -109,7 +106,7 @@ returns g c =
     ap (λ vs. shown_out vs ws_after) (ap (λ (q : Queued _). q.values) c.push.ensures) ∙ one_more_accepted us_after us ws_after rest (landed i oldest) (ap (λ (s : Seen _). s.out) seen) in
     settles_once now _ us oldest rest i index_is
     (ap (λ (s : Seen _). s.out) (sym c.self.view_is) ∙ ap (shown_out us) before)
-    (sym c.has_room.ensures ∙ c.if-not-has_room.false)
+    c.requires
     (ap (λ (s : Seen _). record s { out = shown_out c.push.new.self.values ws_after }) c.self-2.view_is
     ∙ ap (λ xs. record c.accept.new.self { out = xs }) shown
     ∙ ap (λ (s : Seen _). record s { out = shown_out (us ++ landed i oldest ∷ []) rest }) c.accept.ensures.accepted

@@ -15,21 +15,21 @@ use Rattle.shared_core.proofs.state.SharedState.fate.Goals.{then-len-gt0-via-the
 some_live : {X : Type 0} (live : List X) (n : ℕ) → n ≡ length live → n ≢ 0 → length live ≢ 0
 some_live live n count some none = some (count ∙ none)
 
-pub returns-then-len-gt0 : goal.returns-then-len-gt0
-returns-then-len-gt0 g c =
+pub returns-then-len-gt0-clause-fate : goal.returns-then-len-gt0-clause-fate
+returns-then-len-gt0-clause-fate g c =
     let behind = count_waiting c.self.inside.accepted.values c.self.inside.waiting.values in
     let held : (waiting_in c.args.self.now ≢ 0) ⊎ (room_in c.args.self.now ≡ false) =
     elim c.then-len-gt0.branch [
       | then-len-gt0-via-then-len-gt0 w ↦ rw (← c.self.view_is) (inl (λ none. omega (arith, behind, none, c.len.ensures.count, w.if-len-gt0.true)))
-      | then-len-gt0-via-else-len-gt0+then-not-has_room w ↦ inr (sym w.has_room.ensures ∙ w.if-not-has_room.true)
+      | then-len-gt0-via-else-len-gt0+then-not-has_room w ↦ inr (sym w.has_room.ensures.room ∙ w.if-not-has_room.true)
     ] in
     rw (← c.self.view_is)
     (sym (is_held_up _ _ _ _ (overflow_of c.self.inside.config.policy) (some_live c.self.inside.ring.live c.live_len.result c.live_len.ensures.count c.if-live_len-eq0.false) c.if-self-eq0.true
     (rw (← c.self.view_is) at held)))
 
-pub returns-then-self-eq0 : goal.returns-then-self-eq0
-returns-then-self-eq0 g c =
-    let room = rw (← c.self.view_is) at (sym c.has_room.ensures ∙ c.if-not-has_room.false) in
+pub returns-then-self-eq0-clause-fate : goal.returns-then-self-eq0-clause-fate
+returns-then-self-eq0-clause-fate g c =
+    let room = rw (← c.self.view_is) at (sym c.has_room.ensures.room ∙ c.if-not-has_room.false) in
     rw (← c.self.view_is, room)
     (sym (is_handed _ _ _ (overflow_of c.self.inside.config.policy) (some_live c.self.inside.ring.live c.live_len.result c.live_len.ensures.count c.if-live_len-eq0.false) c.if-self-eq0.true
     (omega (arith, count_waiting c.self.inside.accepted.values c.self.inside.waiting.values, c.len.ensures.count, c.if-len-gt0.false))))
@@ -58,24 +58,24 @@ decided view now is some places =
     ap fate_in (sym is) ∙ by_room (length view.live) (capacity view.parameters) (waiting_in view) (room_in view) view.parameters.overflow some places
     ∙ ap (λ (seen : Seen _). cond (room_in seen) enters (without_room seen.parameters.overflow)) is
 
-pub returns-in-Suspend : goal.returns-in-Suspend
-returns-in-Suspend g c =
+pub returns-in-Suspend-clause-fate : goal.returns-in-Suspend-clause-fate
+returns-in-Suspend-clause-fate g c =
     let now = c.args.self.now in
     let overflow : now.parameters.overflow ≡ suspend = ap (λ (seen : Seen _). seen.parameters.overflow) (sym c.self.view_is) ∙ ap overflow_of c.in-Suspend.is in
-    subst (HasFate now) (sym c.enters_or.ensures)
+    subst (HasFate now) (sym c.enters_or.ensures.fate)
     (room_decides now HeldUp (decided _ now c.self.view_is (some_live c.self.inside.ring.live c.live_len.result c.live_len.ensures.count c.if-live_len-eq0.false) c.if-self-eq0.false)
     (λ is. ap without_room (sym overflow) ∙ is))
 
-pub returns-in-DropLatest : goal.returns-in-DropLatest
-returns-in-DropLatest g c =
+pub returns-in-DropLatest-clause-fate : goal.returns-in-DropLatest-clause-fate
+returns-in-DropLatest-clause-fate g c =
     let now = c.args.self.now in
     let overflow : now.parameters.overflow ≡ drop_latest = ap (λ (seen : Seen _). seen.parameters.overflow) (sym c.self.view_is) ∙ ap overflow_of c.in-DropLatest.is in
-    subst (HasFate now) (sym c.enters_or-in-DropLatest.ensures)
+    subst (HasFate now) (sym c.enters_or-in-DropLatest.ensures.fate)
     (room_decides now Dropped (decided _ now c.self.view_is (some_live c.self.inside.ring.live c.live_len.result c.live_len.ensures.count c.if-live_len-eq0.false) c.if-self-eq0.false)
     (λ is. ap without_room (sym overflow) ∙ is))
 
-pub returns-in-DropOldest : goal.returns-in-DropOldest
-returns-in-DropOldest g c =
+pub returns-in-DropOldest-clause-fate : goal.returns-in-DropOldest-clause-fate
+returns-in-DropOldest-clause-fate g c =
     let now = c.args.self.now in
     let overflow : now.parameters.overflow ≡ drop_oldest = ap (λ (seen : Seen _). seen.parameters.overflow) (sym c.self.view_is) ∙ ap overflow_of c.in-DropOldest.is in
     pushes_anyway now (decided _ now c.self.view_is (some_live c.self.inside.ring.live c.live_len.result c.live_len.ensures.count c.if-live_len-eq0.false) c.if-self-eq0.false) overflow

@@ -1,13 +1,13 @@
 use Rattle.std.proofs.Common.{length, sym, subst}
 use Rattle.shared_core.specs.Kept.{AreNumbered, IsRingOf, AreTickets}
 use Rattle.shared_core.specs.Ringed.{Ringed}
-use Rattle.shared_core.proofs.state.SharedState.look_for_room.Goals as goal
+use Rattle.shared_core.proofs.state.SharedState.has_room.Goals as goal
 
 pub invariant_of-self : goal.invariant_of-self
 invariant_of-self g c =
     let kept = c.self.invariant in
     let here = c.self.inside in
-    let same = sym c.look_for_room.ensures in
+    let same = sym c.has_room.ensures.same in
     record {
       numbers = subst (λ (r : Ringed _). AreNumbered here.config r.next_number here.subscribed here.given (length here.waiting.values)) same kept.numbers;
       ring = subst (IsRingOf here.config) same kept.ring;
