@@ -156,7 +156,9 @@ impl<T: Word> Emitter<T> {
             unreachable!()
         };
         let mut guarded = self.access.take(rt);
-        let Polled { emit, receipt } = guarded.state.poll_emit(ticket, self.id, self.last);
+        let Polled { emit, receipt } = guarded
+            .state
+            .poll_emit(ticket, self.id, self.last, &self.bed);
         let Some(receipt) = receipt else {
             guarded
                 .state

@@ -43,7 +43,8 @@
 //! - A call that takes the lock wakes the emissions that sleep and are finished by then. A `try_next` takes no lock and wakes
 //!   nobody.
 //! - A withdrawal helps nobody: an emission that waited had taken no room, and an accepted value stays pending.
-//! - A waker can't be thrown away, so who stops waiting by `cancel`, `cancel_emit` or `close` wakes its own task.
+//! - A waker can't be thrown away, so who stops waiting by `cancel`, `cancel_emit` or `close` wakes its own task; and so does one
+//!   that slept and is polled again without having been woken, where that poll ends its wait.
 #![tactic(auto)]
 
 mod access;

@@ -1,14 +1,15 @@
 //! Tasks that wait for something under the lock.
 
-ghost use Rattle.std.specs.Prelude.{◌≡◌, ◌≤◌, ◌<◌, ◌↔◌, true, false, None, IfOk};
+ghost use Rattle.std.specs.Prelude.{◌≡◌, ◌≢◌, ◌≤◌, ◌<◌, ◌↔◌, true, false, None, IfOk};
 ghost use Rattle.slab.specs.Slab.{slab_len};
+ghost use Rattle.flow_terms.specs.declared.answers.Emit.TheVariants as emit;
 ghost use Rattle.futures.specs.Task.{IsArmed, Keeps};
 ghost use Rattle.shared_lane.specs.Polls.{stands_below};
 ghost use Rattle.shared_flow.specs.Sleeping.{SleepsAt, OnlyDoneRise};
 
 use crate::wakes::Wakes;
 use futures::task::{Context, Poll, Source, Waker};
-use shared_core::Ticket;
+use shared_core::{Emit, Ticket};
 use shared_lane::Sequencer;
 use slab::Slab;
 use std::alloc::{AllocError, Global};
@@ -113,6 +114,25 @@ impl Sleepers {
         };
         if let Some(sleeper) = self.sleeping.try_remove(key) {
             wakes.add(sleeper.waker);
+        }
+    }
+
+    /// After a poll of the emission with this ticket, which sleeps no more unless it waits.
+    pub fn rise_unless_waiting(
+        &mut self,
+        ticket: Ticket,
+        answer: Emit,
+        bed: &Bed,
+        wakes: &mut Wakes,
+    )
+        ensures up { answer ≢ emit.Waiting → SleepsAt self.new.sleeping bed.now.key ticket.0 → ⊥ }
+        ensures waits { answer ≡ emit.Waiting → self.new ≡ self.old }
+        ensures room { self.new.sleeping.capacity ≡ self.old.sleeping.capacity }
+    {
+        match answer {
+            Emit::Waiting => {}
+            Emit::Done(_) => self.rise(ticket.0, bed, wakes),
+            Emit::Gone => self.rise(ticket.0, bed, wakes),
         }
     }
 

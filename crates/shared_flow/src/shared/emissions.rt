@@ -154,13 +154,22 @@ impl Shared {
         }
     }
 
-    /// Asks whether an emission of this emitter is finished, and makes a receipt for one that is, with a number above the last.
-    pub(crate) fn poll_emit(&mut self, ticket: Ticket, emitter: u32, last: Option<u64>) -> Polled
+    /// Asks whether an emission of this emitter is finished, and makes a receipt for one that is, with a number above the last. It
+    /// sleeps no more then: this poll may have let it in, and its ticket is out no more, by which a round's help would find it.
+    pub(crate) fn poll_emit(
+        &mut self,
+        ticket: Ticket,
+        emitter: u32,
+        last: Option<u64>,
+        bed: &Bed,
+    ) -> Polled
         ensures does { Does self.old (poll_round ticket emitter last result.emit result.receipt) self.new }
         ensures receipt { IfSome result.receipt (λ r. (result.emit ≡ emit.Done r.number) × IsReceiptAfter self.old.name.lane emitter last r) }
     {
         let before = self.sequencer.next_number();
         let polled = self.polled(ticket, emitter, last);
+        self.emissions
+            .rise_unless_waiting(ticket, polled.emit, bed, &mut self.wakes);
         self.help(before);
         polled
     }
