@@ -191,8 +191,7 @@ impl<T: Word> Subscription<T> {
         ensures nothing { IfErr result (λ refusal. (refusal ≡ NoMemory) × (self.new ≡ self.old)) }
     {
         parker.begin()?;
-        if let Some(value) = self.look_on() {
-            self.help(rt);
+        if let Some(value) = self.look_on(rt) {
             return Ok(value);
         }
         for _ in rt.forever() {
@@ -208,46 +207,25 @@ impl<T: Word> Subscription<T> {
         unreachable!()
     }
 
-    // Looks some times more, without the lock. A value that another thread is about to accept is there sooner than a thread
+    // Looks some times more before the thread sleeps. A value that another thread is about to accept is there sooner than a thread
     // that sleeps has been woken for it.
-    fn look_on(&mut self) -> Option<T>
-        ensures same { (self.new.party ≡ self.old.party) × (self.new.number ≡ self.old.number) × (self.new.rest ≡ self.old.rest) }
+    fn look_on(&mut self, rt: &impl Wait) -> Option<T>
+        ensures rounds { (self.new.party ≡ self.old.party) ⊎ (self.new.party ≡ with_round round.Next self.old.party) }
+        ensures same { (self.new.number ≡ self.old.number) × (self.new.rest ≡ self.old.rest) }
         ensures given { IfSome result (λ v. Waited T.read_as self.old.reader v self.new.reader) }
-        ensures missed { IfNone result (MissedOn self.old.reader self.new.reader) }
+        ensures missed { IfNone result ((self.new.party ≡ self.old.party) × MissedOn self.old.reader self.new.reader) }
     {
         for _ in 0..LOOKS {
             pause();
-            if let Some(value) = self.try_value() {
+            if let Some(value) = self.look(rt) {
                 return Some(value);
             }
         }
         None
     }
 
-    // The next value that was accepted, if it is there, without a lock.
-    fn try_value(&mut self) -> Option<T>
-        ensures same { (self.new.party ≡ self.old.party) × (self.new.number ≡ self.old.number) × (self.new.rest ≡ self.old.rest) }
-        ensures given { IfSome result (λ v. Gave T.read_as self.old.reader v self.new.reader) }
-        ensures missed { IfNone result (Missed self.old.reader self.new.reader) }
-    {
-        match self.try_accepted() {
-            Taken::Value(value) => Some(value),
-            Taken::Nothing => None,
-            Taken::Overtaken => None,
-        }
-    }
-
-    // Lets in what waits, where an emission may, after a value was received without the lock.
-    fn help(&mut self, rt: &impl Wait)
-        ensures rounds { (self.new.party ≡ self.old.party) ⊎ (self.new.party ≡ with_round round.Next self.old.party) }
-        ensures same { (self.new.number ≡ self.old.number) × (self.new.rest ≡ self.old.rest) × (self.new.reader ≡ self.old.reader) }
-    {
-        if self.access.has_unfinished() {
-            self.make_room(rt);
-        }
-    }
-
-    // Looks for a value without the lock. It takes the lock where an emission waits that the receipt may help.
+    // Looks for a value without the lock: each look that comes before a subscription sleeps is made here. It takes the lock where
+    // an emission waits that the receipt may help, which nobody else may ever do.
     fn look(&mut self, rt: &impl Wait) -> Option<T>
         ensures rounds { (self.new.party ≡ self.old.party) ⊎ (self.new.party ≡ with_round round.Next self.old.party) }
         ensures same { (self.new.number ≡ self.old.number) × (self.new.rest ≡ self.old.rest) }

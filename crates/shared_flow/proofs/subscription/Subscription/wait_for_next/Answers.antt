@@ -8,19 +8,16 @@ use Rattle.shared_flow.proofs.subscription.Subscription.wait_for_next.Goals as g
 pub returns-in_err-begin-clause-rounds : goal.returns-in_err-begin-clause-rounds
 returns-in_err-begin-clause-rounds g c = by_none c.args.self.now.party
 
--- the looks make no round
 pub returns-in-Some-clause-rounds : goal.returns-in-Some-clause-rounds
-returns-in-Some-clause-rounds g c =
-    let before = c.args.self.now.party in
-    only_next _ _ _ (subst (OnlyNext before) (sym c.look_on.ensures.same.0) (by_none before)) c.help.ensures.rounds
+returns-in-Some-clause-rounds g c = only_next _ _ _ (by_none c.args.self.now.party) c.look_on.ensures.rounds
 
 pub loop-init : goal.loop-init
 loop-init g c =
     let before = c.args.self.now.party in (
+      c.look_on.ensures.same.0,
       c.look_on.ensures.same.1,
-      c.look_on.ensures.same.2,
-      subst (OnlyNext before) (sym c.look_on.ensures.same.0) (by_none before),
-      c.in_default.ensures.missed,
+      subst (OnlyNext before) (sym c.in_default.ensures.missed.0) (by_none before),
+      c.in_default.ensures.missed.1,
     )
 
 pub returns-in-Ready-clause-rounds : goal.returns-in-Ready-clause-rounds
