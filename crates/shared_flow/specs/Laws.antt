@@ -5,6 +5,8 @@ use lib.ListN.{get_elem?}
 use Rattle.std.specs.Global.{Box}
 use Rattle.round_lock.specs.declared.log.Log.{Log}
 use Rattle.round_lock.specs.History.{After, OneHistory, own_of}
+use Rattle.round_lock.specs.Law.{Lies, OneLock}
+use Rattle.atomic_table.specs.Table.{State}
 use Rattle.lane_steps.specs.Law.{Begins}
 use Rattle.shared_lane.specs.Headline.{WasLetIn}
 use Rattle.shared_lane.specs.Readers.{at}
@@ -39,11 +41,21 @@ module _ {S : Type 0} (value : S → SharedSeen) where
     pub under : (now : S) → items ≡ now ∷ [] → (made : SharedSeen) × IsLeftBy made log (value now)
     pub taken : (pass : ℕ) (v : Log S Round) (now : S) → get_elem? views pass ≡ some v → v.held ≡ Some now → (made : SharedSeen) × IsLeftBy made log (value now)
 
-  -- the rule of the lock
+  -- One history of rounds left what lies under the lock, and each owner's rounds are its part of it. The rule of the lock keeps that
+  -- of what lies in its place (`EachLockLaw`).
   abbrev pub IsRuled : List S → List (Log S Round) → Type 0
   IsRuled = OneHistory (λ (s : S). IsNew (value s)) (λ (s : S) (r : Round) (t : S). Does (value s) r (value t))
 
--- between any two calls of a flow there is one list of its rounds
+-- the rule that each step of each owner of a flow's lock keeps, of the lock's word and its place
+abbrev pub IsLocked : State (Option (Box SharedSeen)) (Log (Box SharedSeen) Round) → Type 0
+IsLocked = OneLock (λ (s : Box SharedSeen). IsNew s.value) (λ (s : Box SharedSeen) (r : Round) (t : Box SharedSeen). Does s.value r t.value)
+
+-- by that rule one history left what lies in the place, and so there is one list of the flow's rounds
+abbrev pub EachLockLaw : Type 0
+EachLockLaw = (table : State (Option (Box SharedSeen)) (Log (Box SharedSeen) Round)) → IsLocked table
+    → (items : List (Box SharedSeen)) × Lies table.words table.homes items × IsRuled (λ s. s.value) items table.views × HasOneList (λ s. s.value) items table.views
+
+-- where one history is kept, there is one list of a flow's rounds between any two of its calls
 abbrev pub OneListLaw : Type 0
 OneListLaw = (items : List (Box SharedSeen)) (views : List (Log (Box SharedSeen) Round))
     → IsRuled (λ s. s.value) items views → HasOneList (λ s. s.value) items views

@@ -1,7 +1,13 @@
 //! What holds of a shared flow for every order of calls by any of its owners, emitters and subscriptions on threads.
-ghost use Rattle.shared_flow.specs.Laws.{OneListLaw, OneFlowLaw, EachSubscriptionLaw};
+ghost use Rattle.shared_flow.specs.Laws.{EachLockLaw, OneListLaw, OneFlowLaw, EachSubscriptionLaw};
 
 use flow_terms::Word;
+
+/// A law, with nothing to run. The rule that the owners of a flow's lock share, of its word and its place, keeps one history of
+/// rounds of what lies in the place; so there is one list of rounds, as [`one_list_of_rounds`] says.
+pub fn each_lock_has_one_list()
+    ensures { EachLockLaw }
+{}
 
 /// A law, with nothing to run. Between any two calls there is one list of rounds. Each owner's rounds are its part of that list,
 /// in its own order, and the flow is what exactly that list left of a new one.

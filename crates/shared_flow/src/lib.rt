@@ -8,7 +8,7 @@
 //! A *round* is a call that took the lock, with its answer. Each party keeps, for contracts alone, the rounds that it made; each
 //! call's clause says that they grew by exactly this call with this answer. The rule of the lock says that between any two
 //! calls there is one list of rounds of which each party's are its part, in its order, and that the flow is what exactly that list
-//! left of a new one (`one_list_of_rounds`). So the emissions that were accepted are those of that list, each emitter's in its
+//! left of a new one (`each_lock_has_one_list`). So the emissions that were accepted are those of that list, each emitter's in its
 //! own order, and what a subscription received, then what is pending for it, is its prelude, the replay cache at its start and they,
 //! less what its policy dropped (`each_subscription_receives_prelude_cache_then_later`).
 //!
@@ -64,8 +64,8 @@ pub use emitter::Emitter;
 pub use flow::{Held, Kept, SharedFlow};
 pub use flow_terms::{Refusal, Word};
 pub use laws::{
-    each_emitter_in_its_own_order, each_subscription_receives_prelude_cache_then_later,
-    one_list_of_rounds,
+    each_emitter_in_its_own_order, each_lock_has_one_list,
+    each_subscription_receives_prelude_cache_then_later, one_list_of_rounds,
 };
 pub use parker::Parker;
 pub use round::{Emission, Round};
