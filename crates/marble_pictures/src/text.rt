@@ -1,7 +1,8 @@
 //! A picture in characters, in strips of at most 120 columns.
 //!
 //! Each row has a track: the marks that no strip has come to yet, and its line there. A strip takes up the rows whose line
-//! goes on, and those whose next mark it has, which wait in a heap by the strip of that mark. So each mark is written once.
+//! goes on, and those whose next mark it has. A row without a line whose next mark stands beyond the next strip waits in a
+//! heap by the strip of that mark. So each mark is written once.
 
 ghost use Rattle.std.specs.Prelude.{◌≤◌, length};
 ghost use Rattle.std.specs.List.Sorted.{IsPermutation};
@@ -59,8 +60,8 @@ struct Strip {
 /// Rows that have more in them, each by its track's index, in the order of rows.
 #[derive(Drop)]
 struct Queue {
-    /// Those that have a line in the next strip.
-    lined: VecDeque<usize>,
+    /// Those that the next strip has: with a line there, or their next mark.
+    next: VecDeque<usize>,
     /// The others, after the index of the strip that has their next mark.
     later: BinaryHeap<Reverse<(usize, usize)>>,
 }
@@ -217,7 +218,7 @@ fn tracks<'m, 'a>(alloc: Global, marks: &'m [Mark<'a>]) -> Result<Vec<Track<'m, 
 }
 
 impl Queue {
-    /// Puts a row where the strip with this index, or a later one, finds it, if there is more of it.
+    /// Puts a row where the strip with this index, which is the next, or a later one finds it, if there is more of it.
     fn put(
         &mut self,
         columns: usize,
@@ -225,13 +226,15 @@ impl Queue {
         index: usize,
         track: &Track<'_, '_>,
     ) -> Result<(), AllocError> {
-        if track.line.is_there() {
-            self.lined.push_back(index)?;
-            return Ok(());
-        }
-        if let Some(mark) = track.left.first() {
-            let found = mark.column.saturating_sub(1) / columns.max(1);
-            self.later.push(Reverse((found.max(strip), index)))?;
+        let found = match track.left.first() {
+            _ if track.line.is_there() => strip,
+            Some(mark) => mark.column.saturating_sub(1) / columns.max(1),
+            None => return Ok(()),
+        };
+        if found <= strip {
+            self.next.push_back(index)?;
+        } else {
+            self.later.push(Reverse((found, index)))?;
         }
         Ok(())
     }
@@ -239,7 +242,7 @@ impl Queue {
     /// The rows before the first strip.
     fn of(alloc: Global, columns: usize, tracks: &[Track<'_, '_>]) -> Result<Queue, AllocError> {
         let mut queue = Queue {
-            lined: VecDeque::new(alloc),
+            next: VecDeque::new(alloc),
             later: BinaryHeap::new(alloc),
         };
         for (index, track) in tracks.iter().enumerate() {
@@ -248,7 +251,7 @@ impl Queue {
         Ok(queue)
     }
 
-    /// The next of the rows without a line that the strip with this index finds.
+    /// The next of the rows that waited for the strip with this index.
     fn due(&self, strip: usize) -> Option<usize> {
         match self.later.peek() {
             Some(Reverse((found, index))) if *found <= strip => Some(*index),
@@ -256,13 +259,13 @@ impl Queue {
         }
     }
 
-    /// Takes the next row that the strip with this index has, where so many with a line are still to come.
-    fn take(&mut self, strip: usize, lined: &mut usize) -> Option<usize> {
+    /// Takes the next row that the strip with this index has, where so many that didn't wait for it are still to come.
+    fn take(&mut self, strip: usize, left: &mut usize) -> Option<usize> {
         let due = self.due(strip);
-        let front = if *lined == 0 {
+        let front = if *left == 0 {
             None
         } else {
-            self.lined.front().copied()
+            self.next.front().copied()
         };
         match (front, due) {
             (Some(first), Some(second)) if second < first => {
@@ -270,8 +273,8 @@ impl Queue {
                 due
             }
             (Some(_), _) => {
-                *lined -= 1;
-                self.lined.pop_front()
+                *left -= 1;
+                self.next.pop_front()
             }
             (None, Some(_)) => {
                 let _ = self.later.pop();
@@ -320,9 +323,9 @@ impl<'m, 'a> Rows<'m, 'a> {
         number: usize,
         strip: Strip,
     ) -> Result<(), AllocError> {
-        let mut lined = self.queue.lined.len();
+        let mut left = self.queue.next.len();
         for _ in 0..self.tracks.len() {
-            let Some(index) = self.queue.take(number, &mut lined) else {
+            let Some(index) = self.queue.take(number, &mut left) else {
                 return Ok(());
             };
             let Some(track) = self.tracks.get_mut(index) else {
