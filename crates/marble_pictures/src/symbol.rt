@@ -1,6 +1,6 @@
 //! What marks look like.
 
-ghost use Rattle.std.specs.Prelude.{◌≡◌, ◌≤◌, ◌++◌, ◌∷◌, [], OnOk, IsTrue, length, take, string_bytes};
+ghost use Rattle.std.specs.Prelude.{◌≡◌, ◌<◌, ◌≤◌, ◌++◌, ◌∷◌, [], IfOk, OnOk, IsTrue, length, take, string_bytes};
 ghost use Rattle.std.specs.Option.{option_map};
 ghost use Rattle.marble_pictures.specs.Captions.{words_of};
 ghost use Rattle.marble_pictures.specs.Symbols.{escaped_byte, escaped, line_text, segment_text, opening_text, said_text, half_width, falling_text, rising_text, cross_text, rect_text, look_in, begun_look, look_of, crossing, edge_text, framed_text, frame_around, frame_text, heading_text, head_at, head_text, crossed_head, bar_text, ring_text, value_text, begun_text, bare_text, symbol_by, symbol_text};
@@ -10,6 +10,9 @@ use crate::sheet::{CHARACTER, Sheet};
 use crate::steps::{LOWEST, Place};
 use marble_marks::{Kind, Mark, Row};
 use std::alloc::AllocError;
+
+/// How many bytes of a run that stand for themselves are added one by one. For fewer, adding them together costs more.
+const FRONT_OF_RUN: usize = 16;
 
 /// A line from one place to another.
 #[derive(Clone, Copy)]
@@ -36,20 +39,26 @@ struct Frame {
 }
 
 /// Adds a character as SVG wants it: what has a meaning there by its name, and a question mark for a byte that is no
-/// printable character of ASCII.
-fn push_escaped_byte(picture: &mut String, byte: u8) -> Result<(), AllocError>
+/// printable character of ASCII. It says whether the byte stands for itself.
+fn push_escaped_byte(picture: &mut String, byte: u8) -> Result<bool, AllocError>
     ensures { OnOk result (string_bytes picture.new ≡ string_bytes picture.old ++ escaped_byte byte) }
 {
     if byte == b'<' {
-        picture.push_str("&lt;")
+        picture.push_str("&lt;")?;
+        Ok(false)
     } else if byte == b'>' {
-        picture.push_str("&gt;")
+        picture.push_str("&gt;")?;
+        Ok(false)
     } else if byte == b'&' {
-        picture.push_str("&amp;")
+        picture.push_str("&amp;")?;
+        Ok(false)
     } else if byte == b'"' {
-        picture.push_str("&quot;")
+        picture.push_str("&quot;")?;
+        Ok(false)
     } else {
-        picture.push(plain_byte(byte) as char)
+        let plain = plain_byte(byte);
+        picture.push(plain as char)?;
+        Ok(plain == byte)
     }
 }
 
@@ -78,7 +87,7 @@ fn push_each(picture: &mut String, bytes: &[u8]) -> Result<(), AllocError>
     ensures { OnOk result (string_bytes picture.new ≡ string_bytes picture.old ++ escaped bytes.now) }
 {
     for byte in bytes {
-        push_escaped_byte(picture, *byte)?;
+        let _ = push_escaped_byte(picture, *byte)?;
     }
     Ok(())
 }
@@ -94,20 +103,37 @@ fn push_front(picture: &mut String, front: &[u8]) -> Result<(), AllocError>
     }
 }
 
-/// Adds a text as SVG wants it: bytes that stand for themselves together, and the others by their names.
+/// Adds the front of a text as SVG wants it, byte by byte, through so many in a row that stand for themselves, and gives
+/// what is left.
+fn push_up_to_run<'a>(picture: &mut String, bytes: &'a [u8]) -> Result<&'a [u8], AllocError>
+    ensures front { IfOk result (λ left. string_bytes picture.new ++ escaped left.now ≡ string_bytes picture.old ++ escaped bytes.now) }
+    ensures shorter { IfOk result (λ left. 0 < length bytes.now → length left.now < length bytes.now) }
+{
+    let mut left = bytes;
+    let mut run = 0;
+    while let [byte, rest @ ..] = left
+        && run < FRONT_OF_RUN
+    {
+        run = if push_escaped_byte(picture, *byte)? {
+            run + 1
+        } else {
+            0
+        };
+        left = rest;
+    }
+    Ok(left)
+}
+
+/// Adds a text as SVG wants it: byte by byte, but what is left of a long run of bytes that stand for themselves together.
 pub(crate) fn push_escaped(picture: &mut String, bytes: &[u8]) -> Result<(), AllocError>
     ensures { OnOk result (string_bytes picture.new ≡ string_bytes picture.old ++ escaped bytes.now) }
 {
     let mut left = bytes;
-    while let [byte, rest @ ..] = left {
-        let (front, back) = left.split_at(plain_front(left));
-        if front.is_empty() {
-            push_escaped_byte(picture, *byte)?;
-            left = rest;
-        } else {
-            push_front(picture, front)?;
-            left = back;
-        }
+    while !left.is_empty() {
+        let run = push_up_to_run(picture, left)?;
+        let (front, back) = run.split_at(plain_front(run));
+        push_front(picture, front)?;
+        left = back;
     }
     Ok(())
 }
