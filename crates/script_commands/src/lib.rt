@@ -11,6 +11,7 @@ mod gathered;
 mod gathered_flow;
 mod inner;
 mod items;
+mod list_run;
 mod listing;
 mod making;
 mod object;
