@@ -1,3 +1,4 @@
 pub mod Gathering
 pub mod Keywords
 pub mod Playing
+pub mod Hashing

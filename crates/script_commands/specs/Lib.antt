@@ -12,3 +12,4 @@ pub mod Pipes
 pub mod Piping
 pub mod Filling
 pub mod Inners
+pub mod Hashes
