@@ -4,22 +4,23 @@ ghost use Rattle.std.specs.Prelude.{◌≡◌, ◌<◌, None, Some, OnOk, bytes_
 ghost use Rattle.script_run.specs.Names.{bound_to, room};
 
 use crate::binding::Binding;
+use script_commands::NameHash;
 use std::alloc::{AllocError, Global};
 use std::collections::HashMap;
 
 /// The names that are bound, each for good.
 #[derive(Drop)]
 pub struct Names<'a> {
-    bindings: HashMap<&'a [u8], Binding>,
+    bindings: HashMap<&'a [u8], Binding, NameHash>,
 }
 
 impl<'a> Names<'a> {
-    /// No names.
-    pub fn new(alloc: Global) -> Names<'a>
+    /// No names, which will be hashed so.
+    pub fn new(alloc: Global, hash: NameHash) -> Names<'a>
         ensures { (name : List ℕ) → bound_to result name ≡ None }
     {
         Names {
-            bindings: HashMap::new(alloc),
+            bindings: HashMap::with_hasher(alloc, hash),
         }
     }
 

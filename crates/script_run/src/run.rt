@@ -7,7 +7,7 @@ ghost use Rattle.script_run.specs.Replying.{GoesOn, place, first_place};
 use crate::line_answer::LineAnswer;
 use crate::runner::Runner;
 use futures::task::Solo;
-use script_commands::ScriptObject;
+use script_commands::{NameHash, ScriptObject};
 use script_words::Lines;
 use std::alloc::{AllocError, Global};
 
@@ -22,9 +22,10 @@ pub struct Run<'s, 't, O: ScriptObject<'s>> {
 }
 
 impl<'s, 't, O: ScriptObject<'s>> Run<'s, 't, O> {
-    /// Before the first line of a script.
+    /// Before the first line of a script, whose names will be hashed so.
     pub fn new(
         alloc: Global,
+        hash: NameHash,
         task: &'t Solo,
         maker: &'t O::Maker,
         script: &'s [u8],
@@ -33,7 +34,7 @@ impl<'s, 't, O: ScriptObject<'s>> Run<'s, 't, O> {
         ensures first { place result ≡ first_place script.now (standing result.runner) }
     {
         Run {
-            runner: Runner::new(alloc, task, maker),
+            runner: Runner::new(alloc, hash, task, maker),
             lines: Lines::new(script),
             number: 0,
         }

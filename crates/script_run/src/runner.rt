@@ -10,7 +10,7 @@ ghost use Rattle.script_run.specs.Replying.{Replies};
 use crate::binding::Binding;
 use crate::names::Names;
 use futures::task::{Context, Solo};
-use script_commands::{Answer, Command, Making, Part, Party, Request, ScriptObject};
+use script_commands::{Answer, Command, Making, NameHash, Part, Party, Request, ScriptObject};
 use script_words::Words;
 use std::alloc::{AllocError, Global};
 
@@ -39,12 +39,17 @@ pub struct Runner<'s, 't, O: ScriptObject<'s>> {
 }
 
 impl<'s, 't, O: ScriptObject<'s>> Runner<'s, 't, O> {
-    /// Nothing is made yet.
-    pub fn new(alloc: Global, task: &'t Solo, maker: &'t O::Maker) -> Runner<'s, 't, O>
+    /// Nothing is made yet. Names will be hashed so.
+    pub fn new(
+        alloc: Global,
+        hash: NameHash,
+        task: &'t Solo,
+        maker: &'t O::Maker,
+    ) -> Runner<'s, 't, O>
         ensures { IsFresh (standing result) }
     {
         Runner {
-            names: Names::new(alloc),
+            names: Names::new(alloc, hash),
             objects: Vec::new(alloc),
             maker,
             cx: task.begin(),

@@ -14,7 +14,7 @@ use crate::line_answer::LineAnswer;
 use crate::output::write_whole;
 use crate::run::Run;
 use futures::task::{Doorbell, Solo};
-use script_commands::{Answer, ScriptObject};
+use script_commands::{Answer, NameHash, ScriptObject};
 use std::alloc::{AllocError, AllocGlobal, Global};
 use std::io::{Read, Write};
 use std::random::RandomSource;
@@ -63,9 +63,10 @@ fn write_answers<'s, W: Write, O: ScriptObject<'s>>(
     }
 }
 
-/// Runs a script that was read.
+/// Runs a script that was read. Its names are hashed so.
 fn write_script<'s, W: Write, O: ScriptObject<'s>>(
     alloc: Global,
+    hash: NameHash,
     task: &Solo,
     maker: &O::Maker,
     script: &'s [u8],
@@ -74,7 +75,7 @@ fn write_script<'s, W: Write, O: ScriptObject<'s>>(
     requires { length script.now ≤ 1048576 }
     ensures { Writes O.makes O.asks O.joins (W.contents writer.old) (W.contents writer.new) script.now result }
 {
-    let mut run = Run::<O>::new(alloc, task, maker, script);
+    let mut run = Run::<O>::new(alloc, hash, task, maker, script);
     let written = write_answers(alloc, &mut run, writer, script);
     // What must be spent is spent whatever ended the script.
     let _closed = run.close();
@@ -125,7 +126,8 @@ pub fn answers_of<'s, O: ScriptObject<'s>>(
     }
     let alloc = rt.alloc();
     let task = own_task(rt)?;
-    let mut run = Run::<O>::new(alloc, &task, maker, script);
+    let hash = NameHash::new(rt);
+    let mut run = Run::<O>::new(alloc, hash, &task, maker, script);
     let answers = keep_answers(alloc, &mut run, script);
     // What must be spent is spent whatever ended the script.
     let _closed = run.close();
@@ -153,5 +155,6 @@ pub fn run_script<'s, R: Read, W: Write, O: ScriptObject<'s>>(
     let alloc = rt.alloc();
     *script = read_script(alloc, reader)?;
     let task = own_task(rt)?;
-    write_script::<W, O>(alloc, &task, maker, script.as_slice(), writer)
+    let hash = NameHash::new(rt);
+    write_script::<W, O>(alloc, hash, &task, maker, script.as_slice(), writer)
 }
