@@ -3,7 +3,7 @@
 //! A [`Lock`] is one owner of a state. Who takes it has the state, makes a call on it, and gives it back together with an
 //! entry that says which call that was and what it answered. The rule of the lock hides one list of all those entries:
 //! each owner's own are its part of that list, in its order, and what lies under the lock is what exactly that list leaves
-//! of the state as it was made. `one_history` says so as a law.
+//! of the state as it was made. `each_lock_has_one_history` says so as a law.
 //!
 //! The lock is a word, which says whether it is free, and a place for the state. To take the lock is to exchange the word
 //! and to take the state out of its place, to give it up is to put a state there and to exchange the word again. Entries
