@@ -102,9 +102,13 @@ class Tab:
             time.sleep(0.01)
 
     def press(self, key, modifiers=0):
-        codes = {"Tab": 9, "Enter": 13, "End": 35, "Home": 36, "ArrowLeft": 37, "ArrowUp": 38, "ArrowRight": 39, "ArrowDown": 40}
-        wish = {"key": key, "code": key, "windowsVirtualKeyCode": codes[key], "modifiers": modifiers}
+        codes = {"Tab": 9, "Enter": 13, "Escape": 27, "End": 35, "Home": 36, "ArrowLeft": 37, "ArrowUp": 38, "ArrowRight": 39, "ArrowDown": 40}
+        code = codes.get(key) or ord(key.upper())
+        wish = {"key": key, "code": key, "windowsVirtualKeyCode": code, "modifiers": modifiers}
         more = {"text": "\r"} if key == "Enter" else {}
+        # Without a window of its own the browser takes no keys for editing: the command goes with the key.
+        undoing = {(2, "z"): ["undo"], (10, "z"): ["redo"]}.get((modifiers, key))
+        more |= {"commands": undoing} if undoing else {}
         self.call("Input.dispatchKeyEvent", type="keyDown", **wish, **more)
         self.call("Input.dispatchKeyEvent", type="keyUp", **wish)
 

@@ -18,40 +18,107 @@ function hasMoved({ screenX, screenY }) {
   return isElsewhere;
 }
 
+/** So many rows are made at once, where there are more of them. */
+const ROWS_AT_ONCE = 60;
+/** Up to so many are all made. */
+const MOST_ROWS_WHOLE = 120;
+/** A row is about so high before one was measured, and all rows together are laid out no higher than the most. */
+const ROW_PIXELS = 32;
+const MOST_TABLE_PIXELS = 12000000;
+
 class AnswersView {
   constructor(table, onPoint, onChoose) {
+    this.table = table;
     this.head = table.tHead.rows[0];
     this.body = table.tBodies[0];
     this.frame = table.parentElement;
-    this.rows = new Map();
+    Object.assign(this, { turns: [], columns: [], first: 0, last: 0, stop: 0, pointed: 0, typed: 0 });
     table.addEventListener("pointermove", (event) => hasMoved(event) && this.pointAt(event.target, onPoint));
     table.addEventListener("focusin", ({ target }) => this.pointAt(target, onPoint));
     table.addEventListener("click", ({ target }) => this.pointAt(target, target.matches("button") ? onChoose : onPoint));
-    table.addEventListener("keydown", (event) => this.pressKey(event));
+    this.frame.addEventListener("keydown", (event) => this.pressKey(event));
+    this.frame.addEventListener("scroll", () => this.follow());
   }
 
-  /** Shows these turns. Each column has a title, and a function from a turn's place in the list to its text. */
+  /** Shows these turns. Each column has a title, and a function from a turn to its text. */
   show(turns, columns) {
-    this.rows.clear();
     const heads = [{ title: "Line", look: "line" }, { title: "Script", look: "script" }, ...columns];
     this.head.replaceChildren(...heads.map(({ title, look }) => textElement("th", title, { scope: "col", class: look })));
-    this.body.replaceChildren(...turns.map((turn) => this.rowOf(turn, columns)));
-    this.body.querySelector("button")?.setAttribute("tabindex", "0");
+    Object.assign(this, { turns, columns, stop: clamp(this.stop, 0, Math.max(0, turns.length - 1)) });
+    this.table.setAttribute("aria-rowcount", turns.length + 1);
+    this.table.style.setProperty("--digits", String(turns.at(-1)?.number ?? "").length);
+    this.make(this.isWhole ? 0 : clamp(this.first, 0, turns.length - ROWS_AT_ONCE));
   }
 
-  rowOf(turn, columns) {
-    const row = document.createElement("tr");
+  get isWhole() {
+    return this.turns.length <= MOST_ROWS_WHOLE;
+  }
+
+  /** How high a row is taken to be, where it isn't made. */
+  get rowPixels() {
+    return Math.min(ROW_PIXELS, MOST_TABLE_PIXELS / Math.max(1, this.turns.length));
+  }
+
+  /** Makes the rows from a place in the list on, and leaves room for the others. */
+  make(first) {
+    const hadFocus = this.body.contains(document.activeElement);
+    this.first = first;
+    this.last = this.isWhole ? this.turns.length : Math.min(first + ROWS_AT_ONCE, this.turns.length);
+    this.table.style.marginTop = `${first * this.rowPixels}px`;
+    this.table.style.marginBottom = `${(this.turns.length - this.last) * this.rowPixels}px`;
+    this.body.replaceChildren(...this.turns.slice(first, this.last).map((turn, index) => this.rowOf(turn, first + index)));
+    if (!hadFocus) return;
+    const button = this.rowAt(this.stop)?.querySelector("button") ?? this.frame;
+    button.focus({ preventScroll: true });
+  }
+
+  rowOf(turn, index) {
+    const row = textElement("tr", "", { "aria-rowindex": index + 2 });
     const heading = textElement("th", "", { scope: "row" });
-    const attributes = { type: "button", tabindex: "-1", "aria-label": `Line ${turn.number}`, title: "Go to this line of the script" };
+    const tabindex = index === this.stop ? "0" : "-1";
+    const attributes = { type: "button", tabindex, "aria-label": `Line ${turn.number}`, title: "Go to this line of the script" };
     heading.append(textElement("button", turn.number, attributes));
     const script = document.createElement("td");
     script.append(textElement("code", turn.text));
-    const cells = columns.map(({ textOf, look }) => textElement("td", textOf(turn), { class: look }));
+    const cells = this.columns.map(({ textOf, look }) => textElement("td", textOf(turn), { class: look }));
     row.append(heading, script, ...cells);
-    row.classList.toggle("bad", isBad(turn.answer));
     row.turn = turn;
-    this.rows.set(turn.number, row);
+    this.dress(row);
     return row;
+  }
+
+  dress(row) {
+    row.classList.toggle("bad", isBad(row.turn.answer) && row.turn.number !== this.typed);
+    row.classList.toggle("pointed", row.turn.number === this.pointed);
+  }
+
+  /** The row of a place in the list, where it is made. */
+  rowAt(index) {
+    return this.body.rows[index - this.first];
+  }
+
+  /** Makes other rows where those in sight aren't made. The row that is at the top stays there. */
+  follow() {
+    if (this.isWhole || this.turns.length === 0) return;
+    const { scrollTop, clientHeight } = this.frame;
+    const [top, bottom] = [this.table.offsetTop, this.table.offsetTop + this.table.offsetHeight];
+    const isMade = (this.first === 0 || scrollTop >= top) && (this.last === this.turns.length || scrollTop + clientHeight <= bottom);
+    if (isMade) return;
+    const kept = [...this.body.rows].findIndex((row) => this.placeOf(row) + row.offsetHeight > scrollTop);
+    const isKept = kept >= 0 && scrollTop + clientHeight > top;
+    const index = isKept ? this.first + kept : Math.floor(scrollTop / this.rowPixels);
+    const shift = isKept ? this.placeOf(this.body.rows[kept]) - scrollTop : 0;
+    this.makeAround(index);
+    this.frame.scrollTop = this.placeOf(this.rowAt(clamp(index, this.first, this.last - 1))) - shift;
+  }
+
+  makeAround(index) {
+    this.make(clamp(Math.floor(index - ROWS_AT_ONCE / 3), 0, this.turns.length - ROWS_AT_ONCE));
+  }
+
+  /** How far down in the frame a row begins. */
+  placeOf(row) {
+    return this.table.offsetTop + row.offsetTop;
   }
 
   pointAt(target, tell) {
@@ -61,27 +128,42 @@ class AnswersView {
 
   /** One button of all is in the order of the tab key; the arrow keys lead to the others. */
   pressKey(event) {
-    const row = event.target.closest("tr");
-    const next = { ArrowDown: row?.nextElementSibling, ArrowUp: row?.previousElementSibling }[event.key];
+    const step = { ArrowDown: 1, ArrowUp: -1 }[event.key];
+    const next = this.turns[this.stop + step];
     if (!next) return;
     event.preventDefault();
-    this.setStop(next);
-    next.querySelector("button").focus({ preventScroll: true });
+    this.setStop(next.column - 1);
+    this.reveal(this.stop);
+    this.rowAt(this.stop).querySelector("button").focus({ preventScroll: true });
   }
 
   /** Lets the tab key lead to the button of this row of all. */
-  setStop(row) {
-    for (const other of this.body.rows) other.querySelector("button").tabIndex = other === row ? 0 : -1;
+  setStop(index) {
+    this.stop = index;
+    for (const row of this.body.rows) row.querySelector("button").tabIndex = row.turn.column - 1 === index ? 0 : -1;
   }
 
-  /** Marks the row of a line, and scrolls the table, and nothing else, until it is in sight. */
-  mark(line) {
-    for (const row of this.body.rows) row.classList.toggle("pointed", row.turn.number === line);
-    const row = this.rows.get(line);
-    if (!row) return;
-    if (!this.body.contains(document.activeElement)) this.setStop(row);
-    const above = row.offsetTop - this.head.offsetHeight;
-    const below = row.offsetTop + row.offsetHeight;
+  /** Marks the row of a line, and shows it. */
+  mark(line, turn) {
+    this.pointed = line;
+    for (const row of this.body.rows) this.dress(row);
+    if (!turn) return;
+    if (!this.body.contains(document.activeElement)) this.setStop(turn.column - 1);
+    this.reveal(turn.column - 1);
+  }
+
+  /** A bad line that is still being typed looks like any other. */
+  markTyped(line) {
+    this.typed = line;
+    for (const row of this.body.rows) this.dress(row);
+  }
+
+  /** Scrolls the table, and nothing else, until a row is in sight. */
+  reveal(index) {
+    if (!this.rowAt(index)) this.makeAround(index);
+    const row = this.rowAt(index);
+    const above = this.placeOf(row) - this.head.offsetHeight;
+    const below = this.placeOf(row) + row.offsetHeight;
     if (above < this.frame.scrollTop) this.frame.scrollTop = above;
     else if (below > this.frame.scrollTop + this.frame.clientHeight) this.frame.scrollTop = below - this.frame.clientHeight;
   }

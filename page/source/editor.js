@@ -1,18 +1,28 @@
 // The script: a plain text field, with the numbers of its lines beside it and marked lines behind it.
 
+/** What typing does to a text, of all that may change it. */
+const TYPING = /^(insertText|insertCompositionText|deleteContent\w+)$/;
+
 class Editor {
-  /** Tells `onInput` a change, and `onPoint` the number of a line that the pointer or the caret is on. */
-  constructor(field, gutter, backdrop, onInput, onPoint) {
-    Object.assign(this, { field, gutter, backdrop, onInput, onPoint });
+  /**
+   * Tells `onInput` a change, `onPoint` the number of a line that the pointer or the caret is on, and `onTyped` that the
+   * line that is being typed is another.
+   */
+  constructor(field, gutter, backdrop, { onInput, onPoint, onTyped }) {
+    Object.assign(this, { field, gutter, backdrop, onInput, onPoint, onTyped });
     this.bad = new Set();
     this.pointed = 0;
+    /** The line that is being typed: it was edited, and the caret is in it. 0 where there is none. */
+    this.typed = 0;
     this.lineStarts = [0];
-    field.addEventListener("input", () => this.change());
+    field.addEventListener("input", (event) => this.change(event));
     field.addEventListener("scroll", () => this.draw());
     field.addEventListener("keydown", (event) => this.pressKey(event));
+    field.addEventListener("blur", () => this.setTyped(0));
     for (const part of [field, gutter]) part.addEventListener("pointermove", (event) => hasMoved(event) && this.pointAt(event));
     document.addEventListener("selectionchange", () => this.followCaret());
-    new ResizeObserver(() => this.draw()).observe(field);
+    new ResizeObserver(() => this.measure()).observe(field);
+    this.measure();
   }
 
   get script() {
@@ -21,9 +31,42 @@ class Editor {
 
   set script(script) {
     this.field.value = script;
+    this.showFront();
+  }
+
+  /** Puts another script in place of this one, by an edit that can be undone. The focus stays where it is. */
+  replace(script) {
+    const focused = document.activeElement;
+    this.isQuiet = true;
+    this.field.focus({ preventScroll: true });
+    this.field.select();
+    const isDone = document.execCommand(script === "" ? "delete" : "insertText", false, script);
+    if (!isDone || this.script !== script) this.field.value = script;
+    this.showFront();
+    this.handBack(focused);
+    this.isQuiet = false;
+  }
+
+  /** Undoes or redoes the last edit, also where the focus is elsewhere. */
+  undo(isRedo) {
+    const focused = document.activeElement;
+    this.field.focus({ preventScroll: true });
+    document.execCommand(isRedo ? "redo" : "undo");
+    this.handBack(focused);
+  }
+
+  /** Gives the focus back to what had it. */
+  handBack(focused) {
+    if (focused === this.field) return;
+    this.field.blur();
+    focused?.focus({ preventScroll: true });
+  }
+
+  showFront() {
     this.field.scrollTop = 0;
     this.field.setSelectionRange(0, 0);
     this.readLines();
+    this.setTyped(0);
   }
 
   readLines() {
@@ -33,9 +76,19 @@ class Editor {
     this.draw();
   }
 
-  change() {
+  change({ inputType }) {
+    if (this.isQuiet) return;
     this.readLines();
+    const isTyping = document.activeElement === this.field && TYPING.test(inputType);
+    this.setTyped(isTyping ? this.lineOf(this.field.selectionStart) : 0);
     this.onInput();
+  }
+
+  setTyped(line) {
+    if (line === this.typed) return;
+    this.typed = line;
+    this.onTyped(line);
+    this.draw();
   }
 
   /** The number of the line in which a character stands. */
@@ -52,18 +105,21 @@ class Editor {
 
   measure() {
     const style = getComputedStyle(this.field);
-    return { lineHeight: parseFloat(style.lineHeight), padding: parseFloat(style.paddingTop) };
+    Object.assign(this, { lineHeight: parseFloat(style.lineHeight), padding: parseFloat(style.paddingTop) });
+    this.draw();
   }
 
   pointAt({ clientY }) {
-    const { lineHeight, padding } = this.measure();
-    const y = clientY - this.field.getBoundingClientRect().top - padding + this.field.scrollTop;
-    const line = Math.floor(y / lineHeight) + 1;
+    const y = clientY - this.field.getBoundingClientRect().top - this.padding + this.field.scrollTop;
+    const line = Math.floor(y / this.lineHeight) + 1;
     if (line >= 1 && line <= this.lineStarts.length) this.onPoint(line);
   }
 
   followCaret() {
-    if (document.activeElement === this.field) this.onPoint(this.lineOf(this.field.selectionStart));
+    if (document.activeElement !== this.field || this.isQuiet) return;
+    const line = this.lineOf(this.field.selectionStart);
+    if (line !== this.typed) this.setTyped(0);
+    this.onPoint(line);
   }
 
   /** Alt with an arrow moves the caret's line up or down: its command comes earlier or later. */
@@ -87,6 +143,7 @@ class Editor {
     document.execCommand("insertText", false, `${second}\n${first}`);
     const caret = (followsDown ? from + second.length + 1 : from) + inLine;
     this.field.setSelectionRange(caret, caret);
+    this.setTyped(0);
   }
 
   /** Puts the caret on a line. */
@@ -100,11 +157,10 @@ class Editor {
 
   /** Scrolls the field, and nothing else, until a line is in sight. */
   reveal(line) {
-    const { lineHeight, padding } = this.measure();
-    const top = padding + (line - 1) * lineHeight;
+    const top = this.padding + (line - 1) * this.lineHeight;
     const { scrollTop, clientHeight } = this.field;
-    if (top < scrollTop) this.field.scrollTop = top - padding;
-    else if (top + lineHeight > scrollTop + clientHeight) this.field.scrollTop = top + lineHeight - clientHeight;
+    if (top < scrollTop) this.field.scrollTop = top - this.padding;
+    else if (top + this.lineHeight > scrollTop + clientHeight) this.field.scrollTop = top + this.lineHeight - clientHeight;
   }
 
   mark(line) {
@@ -121,7 +177,7 @@ class Editor {
 
   /** Draws the numbers and the bands of the lines that are in sight. */
   draw() {
-    const { lineHeight, padding } = this.measure();
+    const { lineHeight, padding } = this;
     const { scrollTop, clientHeight } = this.field;
     const first = Math.max(1, Math.floor((scrollTop - padding) / lineHeight) + 1);
     const last = Math.min(this.lineStarts.length, Math.ceil((scrollTop + clientHeight - padding) / lineHeight));
@@ -129,7 +185,8 @@ class Editor {
     const bands = [];
     for (let line = first; line <= last; line++) {
       const top = padding + (line - 1) * lineHeight - scrollTop;
-      const looks = [this.bad.has(line) ? "bad" : "", line === this.pointed ? "pointed" : ""].join(" ").trim();
+      const isBad = this.bad.has(line) && line !== this.typed;
+      const looks = [isBad ? "bad" : "", line === this.pointed ? "pointed" : ""].join(" ").trim();
       numbers.push(this.strip(line, looks, top));
       if (looks) bands.push(this.strip("", looks, top));
     }

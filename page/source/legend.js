@@ -7,17 +7,16 @@ function sampleOf(picture, { line, row }) {
   const rowIndex = row === "" ? 0 : picture.names.findIndex((name) => name?.words === row);
   const heads = picture.cells.filter((cell) => cell.row === 0);
   const column = 1 + heads.findIndex(({ elements }) => elements.some(({ words }) => words === String(line)));
-  const cell = picture.cells.find((one) => one.column === column && one.row === rowIndex);
+  const cell = cellAt(picture, column, rowIndex);
   const middle = picture.columnsFrom + (column - 1) * picture.columnWidth + Math.floor(picture.columnWidth / 2);
-  const ways = picture.ways.map(({ markup }) => markup);
-  return { left: middle - SAMPLE_WIDTH / 2, top: rowIndex * ROW_HEIGHT, elements: [...ways, groupOf("mark", cell)] };
+  const [left, top] = [middle - SAMPLE_WIDTH / 2, rowIndex * ROW_HEIGHT];
+  const ways = [picture.guides[column - 1], ...waysBetween(picture, rowIndex, left, left + SAMPLE_WIDTH)].map(({ markup }) => markup);
+  return { box: { left, top, width: SAMPLE_WIDTH, height: ROW_HEIGHT }, elements: [...ways, groupOf("mark", cell)] };
 }
 
 function sampleSvg(picture, entry) {
-  const { left, top, elements } = sampleOf(picture, entry);
-  const svg = makeSvg(picture, left, SAMPLE_WIDTH, elements);
-  svg.setAttribute("viewBox", `${left} ${top} ${SAMPLE_WIDTH} ${ROW_HEIGHT}`);
-  svg.setAttribute("height", ROW_HEIGHT);
+  const { box, elements } = sampleOf(picture, entry);
+  const svg = makeSvg(box, 1, elements);
   for (const title of svg.querySelectorAll("title")) title.remove();
   return svg;
 }
@@ -28,8 +27,8 @@ function showLegend(list) {
   for (const entry of JSON.parse(blockOfData("legend-list"))) {
     const item = document.createElement("li");
     const sample = textElement("span", "", { class: "sample", "aria-hidden": "true" });
-    const style = textElement("style", blockOfData("picture-style"));
-    sample.attachShadow({ mode: "open" }).replaceChildren(sampleSvg(picture, entry), style);
+    const style = textElement("style", `${picture.style}\n${blockOfData("picture-style")}`);
+    sample.attachShadow({ mode: "open" }).replaceChildren(style, sampleSvg(picture, entry));
     item.append(sample, textElement("span", entry.says));
     list.append(item);
   }

@@ -15,20 +15,19 @@ function wishInAddress() {
   return { script: asked.get("script"), engine: asked.get("engine") };
 }
 
-/** The address with this script, or null where it would be too long. */
-function addressWith(script, engine) {
+/** The part of an address with this script, from the # on, or null where it would be too long. */
+function partWith(script, engine) {
   if (script.length > MOST_LINK_CHARACTERS) return null;
-  const address = `${location.href.split("#")[0]}#${partBehindHash(script, engine)}`;
-  return address.length > MOST_LINK_CHARACTERS ? null : address;
+  const part = `#${partBehindHash(script, engine)}`;
+  return part.length > MOST_LINK_CHARACTERS ? null : part;
 }
 
 /**
  * Keeps the script in the address, and in the browser's own memory of this page, which takes a long one too. A browser may
  * refuse many changes in a short time: then the next change keeps it.
  */
-function keepInAddress(script, engine, isNewStep) {
-  const address = addressWith(script, engine) ?? location.href.split("#")[0];
-  const kept = { script, engine };
+function keepInAddress(kept, isNewStep) {
+  const address = location.href.split("#")[0] + (partWith(kept.script, kept.engine) ?? "");
   try {
     if (isNewStep) history.pushState(kept, "", address);
     else history.replaceState(kept, "", address);
@@ -37,23 +36,25 @@ function keepInAddress(script, engine, isNewStep) {
   }
 }
 
-/** What to say of the link that was copied. */
-function linkNote(address) {
-  const notes = [`The link is copied: ${address.length} characters.`];
-  if (address.length > LONG_LINK_CHARACTERS) notes.push("Some programs cut so long a link off.");
-  if (location.protocol === "file:") {
-    notes.push("It leads to this file on this machine; on another, put what begins with # behind the address of the page there.");
+/** What to say of the link that was copied, or of the part of it. */
+function linkNote(link) {
+  const notes = [`The link is copied: ${link.length.toLocaleString("en")} characters.`];
+  if (link.startsWith("#")) {
+    notes[0] = `The part of the link from # on is copied: ${link.length.toLocaleString("en")} characters.`;
+    notes.push("This page is a file: send that part with it, and whoever gets both opens the file and puts the part behind its address.");
   }
+  if (link.length > LONG_LINK_CHARACTERS) notes.push("Some programs cut so long a link off.");
   return notes.join(" ");
 }
 
-/** Copies the link. Where the browser doesn't allow that, it has to be taken from the address bar. */
+/** Copies the link: of a page that is a file, only what leads to the script in it. */
 async function copyLink(script, engine) {
-  const address = addressWith(script, engine);
-  if (!address) return "The script is too long for a link. Send it as a text.";
+  const part = partWith(script, engine);
+  if (!part) return "The script is too long for a link. Send it as a text.";
+  const link = location.protocol === "file:" ? part : location.href.split("#")[0] + part;
   try {
-    await navigator.clipboard.writeText(address);
-    return linkNote(address);
+    await navigator.clipboard.writeText(link);
+    return linkNote(link);
   } catch {
     return "This browser doesn't let the page copy. The link is what the address bar shows.";
   }

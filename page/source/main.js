@@ -1,22 +1,32 @@
 // The page: a script is typed, run and shown. What is pointed at in one view is marked in all.
 
-/** Typing is answered after so short a rest. */
-const REST_MILLISECONDS = 60;
+/** The address follows the script after so short a rest: a browser takes its time over it. */
+const ADDRESS_MILLISECONDS = 300;
 const ENGINES = { core: ["core"], lane: ["lane"], both: ["core", "lane"] };
 const BROWSERS = "Chrome and Edge have it from version 133 on, Firefox from 134 on.";
 
 const OWN = {
   name: "own",
-  look: "A script of your own, or one that was sent to you. It stands in the address of this page, and a copied link holds it, unless that would take more than 100,000 characters.",
+  title: "Your own script",
+  script: "",
+  look: `A script of your own, or one that was sent to you. It stands in the address of this page, so a copied link holds it, up
+    to ${MOST_LINK_CHARACTERS.toLocaleString("en")} characters of an address.`.replace(/\s+/g, " "),
 };
 
 const byId = (id) => document.getElementById(id);
 const examples = JSON.parse(blockOfData("examples")).flatMap(({ examples }) => examples);
 
-/** What is shown: the script's runs by the engines asked for, the lines that have an answer, and views of the pictures. */
-const page = { example: examples[0], runs: [], turns: [], tellings: new Map(), views: [], part: 0, timer: 0 };
+/**
+ * What is shown: the example whose hint stands there, the hints of scripts that were left, the script's runs by the engines
+ * asked for, the lines that have an answer, also by their numbers, and views of the pictures.
+ */
+const page = { example: examples[0], left: new Map(), runs: [], turns: [], byLine: new Map(), views: [], timer: 0 };
 
-const editor = new Editor(byId("script"), byId("gutter"), byId("backdrop"), changeScript, pointAtLine);
+const editor = new Editor(byId("script"), byId("gutter"), byId("backdrop"), {
+  onInput: changeScript,
+  onPoint: pointAtLine,
+  onTyped: markBadLines,
+});
 const answers = new AnswersView(byId("answers"), (turn) => pointAt(turn), ({ number }) => editor.goTo(number));
 const programs = new Programs(showLoadTrouble, showLongRun);
 
@@ -32,42 +42,63 @@ function setEngine(engine) {
 }
 
 function changeScript() {
-  setBusy(true);
   say("note", "");
-  clearTimeout(page.timer);
-  page.timer = setTimeout(() => {
-    showExample();
-    keepInAddress(editor.script, engineWish(), false);
-    runScript();
-  }, REST_MILLISECONDS);
-}
-
-/** Shows an example as a new step, so that the script that was there comes back with the browser's Back. */
-function chooseExample(example) {
-  const leaves = page.example === OWN && editor.script !== "";
-  say("note", leaves ? "Your script comes back with the browser's Back." : "");
-  keepInAddress(editor.script, engineWish(), false);
-  editor.script = example.script;
   showExample();
-  keepInAddress(example.script, engineWish(), true);
+  clearTimeout(page.timer);
+  page.timer = setTimeout(keepNow, ADDRESS_MILLISECONDS);
   runScript();
 }
 
-/** Shows which example the script is, and what to look at in it. */
+/** Lets address and browser hold the script that is there. */
+function keepNow(isNewStep = false) {
+  clearTimeout(page.timer);
+  keepInAddress({ script: editor.script, engine: engineWish(), example: page.example.name }, isNewStep);
+}
+
+/** Shows an example as a new step, so that the script that was there comes back with the browser's Back, and by undoing. */
+function chooseExample(example) {
+  const { script } = editor;
+  const leaves = script !== "" && !examples.some((it) => it.script === script);
+  keepNow();
+  page.left.set(script, page.example);
+  page.example = example;
+  editor.replace(example.script);
+  say("note", leaves ? "Your script comes back with Ctrl+Z, or with the browser's Back." : "");
+  showExample();
+  keepNow(true);
+  runScript();
+}
+
+/** Shows which example the script is. The hint of one that was changed stays until another is chosen. */
 function showExample() {
-  page.example = examples.find(({ script }) => script === editor.script) ?? OWN;
-  byId("example").value = page.example.name;
+  const { script } = editor;
+  const example = examples.find((it) => it.script === script);
+  page.example = example ?? page.left.get(script) ?? page.example;
+  byId("example").value = example ? example.name : OWN.name;
+  const title = example || page.example === OWN ? OWN.title : `${page.example.title}, changed`;
+  byId("example").options[0].textContent = title;
   say("look", page.example.look);
 }
 
 /** Takes the script from the address, or from the browser's memory of a step; without either, the first example. */
 function takeFromAddress() {
   const asked = wishInAddress();
-  const script = asked.script ?? history.state?.script ?? examples[0].script;
-  setEngine(asked.engine ?? history.state?.engine ?? "core");
+  const kept = history.state;
+  const script = asked.script ?? kept?.script ?? examples[0].script;
+  setEngine(asked.engine ?? kept?.engine ?? "core");
+  page.example = (kept?.script === script && examples.find(({ name }) => name === kept.example)) || OWN;
   if (script !== editor.script) editor.script = script;
   showExample();
   runScript();
+}
+
+/** Undoes and redoes by the keys of the field, where the focus is elsewhere on the page. */
+function pressKey(event) {
+  const isCommand = (event.ctrlKey || event.metaKey) && !event.altKey;
+  const key = event.key.toLowerCase();
+  if (!isCommand || (key !== "z" && key !== "y") || event.target === editor.field) return;
+  event.preventDefault();
+  editor.undo(key === "y" || event.shiftKey);
 }
 
 // ---- Running it ----
@@ -125,16 +156,15 @@ function showResults(script, results) {
   byId("stop").hidden = true;
   const trouble = results.map((result) => troubleIn(result, script)).find(Boolean);
   if (trouble) return showTrouble(trouble);
-  byId("trouble").textContent = "";
-  page.runs = results.map((result) => readRun(script, result));
-  const [first] = page.runs;
-  page.turns = first.turns;
-  page.tellings = tellingsIn(first.picture);
-  const bad = first.turns.filter(({ answer }) => isBad(answer)).map(({ number }) => number);
-  editor.markBad(bad);
-  showBadLines(bad);
-  showStatus(bad);
-  showPictures();
+  say("trouble", "");
+  page.runs = [];
+  for (const result of results) page.runs.push(readRun(script, result));
+  page.turns = page.runs[0].turns;
+  page.byLine = new Map(page.turns.map((turn) => [turn.number, turn]));
+  markBadLines();
+  showStatus();
+  showPictures(script);
+  answers.show(page.turns, answerColumns());
   pointAtLine(editor.pointed);
   setBusy(false);
 }
@@ -142,18 +172,10 @@ function showResults(script, results) {
 /** What the programs wrote for one engine: its lines with their answers, and its picture with its marks told. */
 function readRun(script, { engine, picture, answers: said }) {
   const turns = turnsOf(script, said.output);
-  const drawn = readPicture(picture.output);
-  tellCells(drawn, turns);
+  const same = page.runs.find(({ svg, output }) => svg === picture.output && output === said.output);
+  const drawn = same?.picture ?? readPicture(picture.output);
+  if (!same) tellCells(drawn, turns);
   return { engine, turns, svg: picture.output, output: said.output, picture: drawn };
-}
-
-/** The sentences on each line's marks. */
-function tellingsIn({ cells }) {
-  const tellings = new Map();
-  for (const { row, line, sentence } of cells) {
-    if (row > 0) tellings.set(line, [...(tellings.get(line) ?? []), sentence]);
-  }
-  return tellings;
 }
 
 /** Whether all engines that were asked drew and answered the same. */
@@ -173,26 +195,36 @@ function fillExamples() {
     byId("example").append(list);
   }
   byId("example").addEventListener("change", ({ target }) => {
-    chooseExample(examples.find(({ name }) => name === target.value) ?? { script: "" });
+    chooseExample(examples.find(({ name }) => name === target.value) ?? OWN);
   });
 }
 
 function listen() {
   for (const choice of document.querySelectorAll("input[name=engine]")) {
     choice.addEventListener("change", () => {
-      keepInAddress(editor.script, engineWish(), false);
+      keepNow();
       runScript();
     });
   }
-  byId("copy").addEventListener("click", async () => say("note", await copyLink(editor.script, engineWish())));
+  byId("copy").addEventListener("click", async () => {
+    keepNow();
+    say("note", await copyLink(editor.script, engineWish()));
+  });
   byId("stop").addEventListener("click", stopRun);
   byId("to-commands").addEventListener("click", () => byId("commands-title").focus());
-  byId("earlier").addEventListener("click", () => showPart(page.part - 1));
-  byId("later").addEventListener("click", () => showPart(page.part + 1));
+  byId("to-engines").addEventListener("click", () => byId("engines-title").focus());
+  document.addEventListener("keydown", pressKey);
   addEventListener("popstate", takeFromAddress);
+  addEventListener("beforeunload", () => keepNow());
+}
+
+/** Leaves room for the longest hint, so that no other moves the script. */
+function makeRoomForHints() {
+  byId("look-room").append(...[OWN, ...examples].map(({ look }) => textElement("p", look, { "aria-hidden": "true" })));
 }
 
 fillExamples();
+makeRoomForHints();
 showLegend(byId("legend"));
 listen();
 takeFromAddress();

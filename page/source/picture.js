@@ -3,75 +3,104 @@
 // Nothing in the SVG ties a mark to its line but where it stands. Each element is a line of text. Each line of the script
 // that has an answer has a column, whose head has the line's number; the columns are equally wide, in the order of the
 // lines. The rows are 44 high, the first of them for the heads. So a mark's column follows from the middle of its elements,
-// and its row from any of them.
+// and its row from any of them. Lines come first, row by row from left to right, then marks in the same order.
 
 const ROW_HEIGHT = 44;
 /** A value of a state stands so much to the right of its column's middle. */
 const VALUE_SHIFT = 4;
+const WAYS = new Set(["guide", "row", "dashed", "step"]);
 
-/** The attributes of the first tag of an element that the program wrote. */
-function attributesOf(markup) {
-  const attributes = {};
-  const tag = markup.slice(0, markup.indexOf(">"));
-  for (const [, name, value] of tag.matchAll(/ ([a-z0-9]+)="([^"]*)"/g)) attributes[name] = value;
-  return attributes;
+const QUOTE = '"';
+
+/** The number that an attribute of the first tag of an element has. */
+function numberOf(markup, attribute) {
+  const from = markup.indexOf(` ${attribute}="`) + attribute.length + 3;
+  let number = 0;
+  for (let at = from; at < markup.length && markup[at] !== QUOTE; at++) number = number * 10 + (markup.charCodeAt(at) - 48);
+  return number;
 }
 
-/** The words of a text element, without the line that stands in its title. */
+/** The class of an element, which is its first attribute where it has one. */
+function lookOf(markup, tag) {
+  const from = tag.length + 9;
+  return markup.startsWith(' class="', tag.length + 1) ? markup.slice(from, markup.indexOf(QUOTE, from)) : "";
+}
+
+/** An element of a picture: its markup, its tag and its class. Where it stands is read once it is asked for. */
+class Shape {
+  constructor(markup) {
+    this.markup = markup;
+    this.tag = markup.slice(1, markup.indexOf(" "));
+    this.look = lookOf(markup, this.tag);
+  }
+
+  get isWay() {
+    return this.tag === "line" && WAYS.has(this.look);
+  }
+
+  get middle() {
+    const { markup, tag, look } = this;
+    if (tag === "line") return (this.left + this.right) / 2;
+    if (tag === "rect") return numberOf(markup, "x") + numberOf(markup, "width") / 2;
+    if (tag === "circle") return numberOf(markup, "cx");
+    return numberOf(markup, "x") - (look === "value" ? VALUE_SHIFT : 0);
+  }
+
+  get row() {
+    const { markup, tag } = this;
+    if (tag === "line") return rowAt((numberOf(markup, "y1") + numberOf(markup, "y2")) / 2);
+    return rowAt(numberOf(markup, tag === "circle" ? "cy" : "y"));
+  }
+
+  /** How far a line reaches to both sides. */
+  get left() {
+    return numberOf(this.markup, "x1");
+  }
+
+  get right() {
+    return numberOf(this.markup, "x2");
+  }
+
+  /** The words of a text, without the line that stands in its title. */
+  get words() {
+    return this.tag === "text" ? wordsIn(this.markup) : undefined;
+  }
+}
+
 function wordsIn(markup) {
   return markup.slice(markup.indexOf(">") + 1, markup.indexOf("<", 1));
 }
 
-/** One element: its tag, its class, the middle of it, and how far it reaches to both sides. */
-function readElement(markup) {
-  const tag = markup.slice(1, markup.indexOf(" "));
-  const { class: look = "", ...at } = attributesOf(markup);
-  const numbers = (...names) => names.map((name) => Number(at[name]));
-  const element = { markup, tag, look };
-  if (tag === "line") {
-    const [left, y1, right, y2] = numbers("x1", "y1", "x2", "y2");
-    return { ...element, left, right, middle: (left + right) / 2, y: (y1 + y2) / 2 };
-  }
-  if (tag === "rect") {
-    const [left, y, width] = numbers("x", "y", "width");
-    return { ...element, left, right: left + width, middle: left + width / 2, y };
-  }
-  if (tag === "circle") {
-    const [middle, y] = numbers("cx", "cy");
-    return { ...element, middle, y };
-  }
-  const [x, y] = numbers("x", "y");
-  return { ...element, middle: look === "value" ? x - VALUE_SHIFT : x, y, words: wordsIn(markup) };
-}
-
-/** Whether an element is part of the lines under the marks. */
-function isWay({ tag, look }) {
-  return tag === "line" && ["guide", "row", "dashed", "step"].includes(look);
-}
-
 /**
  * A picture: its width and height, where its columns begin and how wide each is, what stands before its marks, the lines
- * under them, the names of its rows, and its cells: what stands in one column on one row.
+ * down its columns (`guides`) and along its rows (`ways`, by row), the names of its rows, and its cells: what stands in one
+ * column on one row. `columns` has the cells of each column, `cells` those of all columns one after the other.
  */
 function readPicture(svg) {
   const lines = svg.split("\n");
   const sheetAt = lines.findIndex((line) => line.startsWith('<rect class="sheet"'));
   const styleAt = lines.indexOf("<style>");
-  const { width, height } = attributesOf(lines[0]);
-  const elements = lines.slice(sheetAt + 1, lines.lastIndexOf("</svg>")).map(readElement);
-  const picture = { width: Number(width), height: Number(height), names: [] };
+  const elements = lines.slice(sheetAt + 1, lines.lastIndexOf("</svg>")).map((markup) => new Shape(markup));
+  const [width, height] = [numberOf(lines[0], "width"), numberOf(lines[0], "height")];
+  const picture = { width, height, names: [], guides: [], ways: [] };
   [picture.title, picture.about] = lines.slice(1, styleAt).map(wordsIn);
-  picture.style = lines.slice(styleAt, sheetAt).join("\n");
-  picture.ways = elements.filter(isWay);
-  const marks = elements.filter((element) => !isWay(element));
+  picture.style = lines.slice(styleAt + 1, sheetAt).join("\n").replace("</style>", "");
+  const marks = elements.filter((element) => !element.isWay);
+  for (const element of elements) if (element.isWay) addWay(picture, element);
   measureColumns(picture, marks.filter(({ look }) => look === "head"));
   fillCells(picture, marks);
   return picture;
 }
 
+function addWay(picture, element) {
+  if (element.look === "guide") picture.guides.push(element);
+  else (picture.ways[element.row] ??= []).push(element);
+}
+
 /** A picture ends 8 behind the column that follows its last one. */
 function measureColumns(picture, heads) {
   picture.columnCount = heads.length;
+  picture.rowCount = Math.round(picture.height / ROW_HEIGHT);
   if (heads.length === 0) return Object.assign(picture, { columnWidth: 0, columnsFrom: picture.width });
   picture.columnWidth = picture.width - 8 - heads.at(-1).middle;
   picture.columnsFrom = heads[0].middle - Math.floor(picture.columnWidth / 2);
@@ -86,17 +115,41 @@ function rowAt(y) {
 }
 
 function fillCells(picture, marks) {
-  const cells = new Map();
+  picture.columns = Array.from({ length: picture.columnCount + 1 }, () => []);
   for (const element of marks) {
-    const row = rowAt(element.y);
+    const { row } = element;
     if (element.look === "name") {
       picture.names[row] = { row, words: element.words, markup: element.markup };
       continue;
     }
     const column = columnAt(picture, element.middle);
-    const key = `${column} ${row}`;
-    if (!cells.has(key)) cells.set(key, { column, row, elements: [] });
-    cells.get(key).elements.push(element);
+    const cells = picture.columns[column];
+    if (cells.at(-1)?.row !== row) cells.push({ column, row, elements: [] });
+    cells.at(-1).elements.push(element);
   }
-  picture.cells = [...cells.values()].sort((one, other) => one.column - other.column || one.row - other.row);
+  picture.cells = picture.columns.flat();
+}
+
+/** The cell in a column on a row, where something stands there. */
+function cellAt(picture, column, row) {
+  return picture.columns[column]?.find((cell) => cell.row === row);
+}
+
+/** The lines along a row that are seen between two places. They stand one behind the other, so the first is searched for. */
+function waysBetween(picture, row, left, right) {
+  const ways = picture.ways[row] ?? [];
+  let [low, high] = [0, ways.length];
+  while (low < high) {
+    const middle = Math.floor((low + high) / 2);
+    if (ways[middle].right < left) low = middle + 1;
+    else high = middle;
+  }
+  const seen = [];
+  for (let at = low; at < ways.length && ways[at].left <= right; at++) seen.push(ways[at]);
+  return seen;
+}
+
+/** Whether a picture has nothing but the numbers of lines. */
+function isEmpty(picture) {
+  return !picture.cells.some(({ row }) => row > 0);
 }

@@ -16,29 +16,34 @@ function plural(count, one, many) {
 }
 
 function showTrouble(text) {
-  page.runs = [];
-  page.turns = [];
-  page.views = [];
-  editor.markBad([]);
+  Object.assign(page, { runs: [], turns: [], byLine: new Map() });
+  for (const { figure } of page.views.splice(0)) figure.remove();
   say("trouble", text);
   say("status", "");
   say("agreement", "");
-  showBadLines([]);
+  markBadLines();
   byId("pointed").replaceChildren();
-  byId("pictures").replaceChildren();
-  byId("parts").hidden = true;
   answers.show([], answerColumns());
   setBusy(false);
 }
 
-function showBadLines(bad) {
+/** Marks the lines that are bad. One that is still being typed isn't, and is told apart. */
+function markBadLines() {
+  const all = page.turns.filter(({ answer }) => isBad(answer)).map(({ number }) => number);
+  const bad = all.filter((number) => number !== editor.typed);
+  editor.markBad(bad);
+  answers.markTyped(editor.typed);
+  for (const { view } of page.views) view.markTyped(editor.typed);
   const named = bad.slice(0, MOST_NAMED_LINES).join(", ");
   const more = bad.length > MOST_NAMED_LINES ? ` and ${bad.length - MOST_NAMED_LINES} more` : "";
+  const typed = all.length > bad.length ? `Line ${editor.typed}, which you are typing, is no command yet.` : "";
   say("bad-lines", bad.length === 0 ? "" : `${bad.length === 1 ? "Bad line" : "Bad lines"}: ${named}${more}.`);
+  say("typed-line", typed);
   byId("script").setAttribute("aria-invalid", String(bad.length > 0));
 }
 
-function showStatus(bad) {
+function showStatus() {
+  const bad = page.turns.filter(({ answer }) => isBad(answer));
   const count = plural(page.turns.length, "line is answered", "lines are answered");
   say("status", `${count}${bad.length ? `, ${plural(bad.length, "of them is bad", "of them are bad")}` : ""}.`);
   say("agreement", page.runs.length > 1 ? agreementNote() : "");
@@ -55,42 +60,65 @@ function agreementNote() {
 }
 
 /** One picture, or one for each engine where they aren't the same. */
-function showPictures() {
-  const isOne = agree();
-  const scrolled = page.views[0]?.view.host.scrollLeft ?? 0;
-  byId("pictures").replaceChildren();
+function showPictures(script) {
   const engines = page.runs.map(({ engine }) => engine);
-  page.views = isOne ? [addPicture(page.runs[0], engines.join(" and "))] : page.runs.map((run) => addPicture(run, run.engine));
-  showPart(0);
-  for (const { view } of page.views) view.host.scrollLeft = scrolled;
+  const runs = agree() ? page.runs.slice(0, 1) : page.runs;
+  for (const { figure } of page.views.splice(runs.length)) figure.remove();
+  while (page.views.length < runs.length) page.views.push(makeFigure());
+  page.views.forEach((shown, index) => {
+    const { figure, view } = shown;
+    shown.run = runs[index];
+    figure.querySelector(".engines").textContent = agree() ? engines.join(" and ") : engines[index];
+    figure.querySelector(".empty").textContent = whyEmpty(shown.run.picture, page.turns, script);
+    view.show(shown.run.picture, shown.run.turns);
+    view.markTyped(editor.typed);
+  });
 }
 
-function addPicture(run, engines) {
+/** A figure with the tools of its picture. */
+function makeFigure() {
   const figure = byId("figure").content.firstElementChild.cloneNode(true);
-  figure.querySelector(".engines").textContent = engines;
-  figure.querySelector("button").addEventListener("click", () => savePicture(run));
   byId("pictures").append(figure);
-  const view = new PictureView(figure.querySelector(".picture"), PICTURE_STYLE, pointAt, (turn) => editor.goTo(turn.number));
-  return { view, run };
+  const onSight = (view) => showSight(figure, view);
+  const view = new PictureView(figure, PICTURE_STYLE, { onPoint: pointAt, onChoose: ({ number }) => editor.goTo(number), onSight });
+  const shown = { figure, view };
+  const tools = {
+    save: () => savePicture(shown.run),
+    earlier: () => view.scrollBy(-1),
+    later: () => view.scrollBy(1),
+    smaller: () => view.zoomBy(-1),
+    larger: () => view.zoomBy(1),
+    "as-drawn": () => view.zoomBy(),
+  };
+  for (const [name, use] of Object.entries(tools)) figure.querySelector(`.${name}`).addEventListener("click", use);
+  figure.addEventListener("keydown", (event) => zoomByKey(event, view));
+  return shown;
+}
+
+function zoomByKey(event, view) {
+  const steps = { "+": 1, "=": 1, "-": -1, 0: 0 }[event.key];
+  if (steps === undefined || event.ctrlKey || event.metaKey || event.altKey) return;
+  event.preventDefault();
+  view.zoomBy(steps || undefined);
+}
+
+/** Says which lines are in sight, and how large they are. A button that leads nowhere is none. */
+function showSight(figure, view) {
+  const { first, last } = view.inSight(0);
+  const count = view.turns.length;
+  const tool = (name) => figure.querySelector(`.${name}`);
+  const number = (column) => view.turns[column - 1]?.number.toLocaleString("en");
+  tool("sight").textContent = count === 0 ? "" : `Lines ${number(first)}–${number(last)} of ${number(count)}`;
+  tool("as-drawn").textContent = `${Math.round(view.zoom * 100)} %`;
+  tool("earlier").disabled = first <= 1 && view.frame.left === 0;
+  tool("later").disabled = last >= count && view.isAtEnd;
+  tool("smaller").disabled = view.zoom === ZOOMS[0];
+  tool("larger").disabled = view.zoom === ZOOMS.at(-1);
 }
 
 function savePicture({ svg, engine }) {
   saveFile(`${page.example.name}_${engine}.svg`, "image/svg+xml", svg);
   say("note", "The picture is saved, as the program wrote it.");
-}
-
-/** Shows one part of the lines, where there are too many to be shown at once. */
-function showPart(part) {
-  page.part = part;
-  for (const { view, run } of page.views) view.show(run.picture, run.turns, part);
-  const { first, last } = columnsOfPart(part, page.turns.length);
-  answers.show(page.turns.slice(first - 1, last), answerColumns());
-  byId("parts").hidden = partCount(page.turns.length) === 1;
-  if (byId("parts").hidden) return;
-  byId("earlier").disabled = part === 0;
-  byId("later").disabled = part === partCount(page.turns.length) - 1;
-  const [from, to] = [page.turns[first - 1].number, page.turns[last - 1].number];
-  say("part", `Shown are lines ${from.toLocaleString("en")} to ${to.toLocaleString("en")}; a saved picture has all.`);
 }
 
 /** The columns of the table: one of answers, or one for each engine where they differ; and what the picture shows. */
@@ -107,26 +135,22 @@ function answerTo(run, { column }) {
   return run.turns[column - 1].answer ?? "none";
 }
 
-/** The sentences on all marks of a line. */
-function tellTurn({ number }) {
-  return (page.tellings.get(number) ?? []).join("; ");
-}
-
 // ---- Pointing ----
 
-/** Points at a line by its number, which may be one without an answer. */
+/** Points at a line by its number. One without an answer has no column, and the picture follows to the one before it. */
 function pointAtLine(line) {
-  const turn = page.turns.find(({ number }) => number === line);
+  const turn = page.byLine.get(line);
   if (turn) return pointAt(turn);
-  markAll(line, 0);
+  markAll(line);
   byId("pointed").replaceChildren();
+  const before = page.turns.findLast(({ number }) => number < line);
+  if (before) for (const { view } of page.views) view.reveal(before.column);
 }
 
 /** Points at a line with an answer, and maybe at one mark of it: all views mark it, and a sentence tells it. */
 function pointAt(turn, cell) {
-  if (partOf(turn.column) !== page.part) showPart(partOf(turn.column));
-  markAll(turn.number, turn.column, cell);
-  const told = cell ? cell.sentence : tellTurn(turn);
+  markAll(turn.number, turn, cell);
+  const told = cell ? sentenceOf(cell) : tellTurn(turn);
   byId("pointed").replaceChildren(
     `Line ${turn.number} `,
     textElement("code", turn.text),
@@ -136,8 +160,8 @@ function pointAt(turn, cell) {
   );
 }
 
-function markAll(line, column, cell) {
+function markAll(line, turn, cell) {
   editor.mark(line);
-  answers.mark(line);
-  for (const { view } of page.views) view.mark(column, cell);
+  answers.mark(line, turn);
+  for (const { view } of page.views) view.mark(turn?.column ?? 0, cell);
 }

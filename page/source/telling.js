@@ -1,8 +1,12 @@
 // What the marks of a picture say, in words.
 
 const ROLE_VERBS = { flow: "is made", state: "is made", buffer: "is made", sub: "subscribes", collector: "collects" };
+/** Why a column has nothing in it. */
+const COLD_LINE = "nothing: pictures of cold flows come later";
+const REFUSED_LINE = "nothing: the line was refused";
+const BAD_LINE = "its number is crossed out";
 
-/** Tells each cell of a picture: its line, a sentence on it, and the emission that it shows, where it shows one. */
+/** Tells each cell of a picture its line, the name of its row, and whether it is the first there. */
 function tellCells(picture, turns) {
   const numbers = emissionNumbers(turns);
   const begun = new Set();
@@ -11,19 +15,32 @@ function tellCells(picture, turns) {
     cell.line = cell.turn?.number;
     if (cell.row === 0) continue;
     cell.name = picture.names[cell.row]?.words ?? "";
+    cell.numbers = numbers;
     cell.isFirst = !begun.has(cell.row);
     begun.add(cell.row);
-    cell.emission = emissionIn(cell, numbers);
-    cell.sentence = `${cell.name} ${sentenceOn(cell)}`;
   }
 }
 
-/** The emission that a cell shows: { flow, emission }. On a flow's row its number stands above it. */
-function emissionIn(cell, numbers) {
-  const [role, name] = cell.name.split(" ");
+/** The sentence on a told cell. */
+function sentenceOf(cell) {
+  cell.sentence ??= `${cell.name} ${sentenceOn(cell)}`;
+  return cell.sentence;
+}
+
+/** The sentences on all marks of a line; where it has none, why. */
+function tellTurn({ column, words, answer }) {
+  const cells = page.runs[0]?.picture.columns[column]?.filter(({ row }) => row > 0) ?? [];
+  if (cells.length > 0) return cells.map(sentenceOf).join("; ");
+  if (isBad(answer)) return BAD_LINE;
+  return words[0] === "cold" ? COLD_LINE : REFUSED_LINE;
+}
+
+/** The emission that a cell shows, if it shows one: { flow, emission }. On a flow's row its number stands above it. */
+function emissionOf(cell) {
   const number = cell.elements.find(({ look }) => look === "number");
+  const [role, name] = cell.name.split(" ");
   if (number) return { flow: name, emission: Number(number.words.slice(1)) };
-  return role === "sub" ? numbers.get(cell.line)?.get(name) : undefined;
+  return role === "sub" ? cell.numbers.get(cell.line)?.get(name) : undefined;
 }
 
 /** What a cell shows, as the rest of a sentence that begins with the name of its row. */
@@ -31,7 +48,8 @@ function sentenceOn(cell) {
   const [role] = cell.name.split(" ");
   const looks = cell.elements.map(({ look, tag }) => look || tag);
   const value = cell.elements.find(({ tag, look }) => tag === "text" && look !== "number")?.words;
-  const number = cell.emission ? `, emission ${cell.emission.emission}` : "";
+  const emission = emissionOf(cell);
+  const number = emission ? `, emission ${emission.emission}` : "";
   if (looks.includes("bar")) return cell.isFirst ? ROLE_VERBS[role] : "is cancelled";
   if (looks.includes("circle")) return { ticket: "waits still", buffer: "has nothing to give" }[role] ?? "finds nothing to receive";
   if (looks.includes("value")) return stateSentence(cell, value);
@@ -51,4 +69,20 @@ function stateSentence(cell, value) {
 function lossSentence(cell, role, value, number) {
   if (role !== "flow") return `lost ${value}${number}`;
   return cell.turn?.answer === "full" ? `was full: ${value} isn't emitted` : `dropped ${value}`;
+}
+
+/** Why a picture is empty; nothing where it isn't. */
+function whyEmpty(picture, turns, script) {
+  if (!isEmpty(picture)) return "";
+  if (turns.length === 0) {
+    return `Nothing is drawn: ${script.trim() === "" ? "the script is empty" : "no line asks for anything"}.`;
+  }
+  const bad = turns.filter(({ answer }) => isBad(answer)).length;
+  const cold = turns.filter(({ words, answer }) => words[0] === "cold" && !isBad(answer)).length;
+  const refused = turns.length - bad - cold;
+  const reasons = ["Nothing is drawn but the numbers of lines."];
+  if (cold > 0) reasons.push("Cold flows have no row yet: pictures of them come later, and their values stand in the answers.");
+  if (bad > 0) reasons.push(`${plural(bad, "line is bad", "lines are bad")}.`);
+  if (refused > 0) reasons.push(`${plural(refused, "line was refused", "lines were refused")}.`);
+  return reasons.join(" ");
 }

@@ -1,31 +1,19 @@
 // Shows one picture: the names of its rows, which stay in sight, beside its columns, which scroll. The program's SVG brings
-// its own style, so a picture stands in a shadow tree. A long picture is shown in parts.
+// its own style, so a picture stands in a shadow tree. Only what is in sight, and a little around it, is made.
 
 const SVG_NAMESPACE = "http://www.w3.org/2000/svg";
-/** So many columns are shown at once. */
-const COLUMNS_OF_PART = 400;
+/** A browser lays nothing out that is much longer. A longer picture is shown in parts. */
+const MOST_PIXELS = 12000000;
+const ZOOMS = [0.5, 0.65, 0.8, 1, 1.25, 1.5, 2, 3];
 
-function partCount(columnCount) {
-  return Math.max(1, Math.ceil(columnCount / COLUMNS_OF_PART));
-}
-
-/** The part in which a column stands. */
-function partOf(column) {
-  return Math.floor((column - 1) / COLUMNS_OF_PART);
-}
-
-/** The first and the last column of a part. */
-function columnsOfPart(part, columnCount) {
-  return { first: part * COLUMNS_OF_PART + 1, last: Math.min((part + 1) * COLUMNS_OF_PART, columnCount) };
-}
-
-/** An SVG of these elements, which shows what of a picture stands from `left` on. */
-function makeSvg(picture, left, width, elements) {
-  const { height, style } = picture;
-  const head = `<svg xmlns="${SVG_NAMESPACE}" width="${width}" height="${height}" viewBox="${left} 0 ${width} ${height}">`;
-  const sheet = `<rect class="sheet" x="${left}" width="${width}" height="100%"/>`;
-  const markup = [head, style, sheet, ...elements, "</svg>"].join("\n");
-  return new DOMParser().parseFromString(markup, "image/svg+xml").documentElement;
+/** An SVG of these elements, which shows a box of a picture, so many times as large. Its style is the picture's. */
+function makeSvg({ left, top, width, height }, zoom, elements) {
+  const svg = document.createElementNS(SVG_NAMESPACE, "svg");
+  svg.setAttribute("width", width * zoom);
+  svg.setAttribute("height", height * zoom);
+  svg.setAttribute("viewBox", `${left} ${top} ${width} ${height}`);
+  svg.innerHTML = [`<rect class="sheet" x="${left}" y="${top}" width="${width}" height="${height}"/>`, ...elements].join("");
+  return svg;
 }
 
 /** What stands in one place of a picture, as a group. */
@@ -33,157 +21,379 @@ function groupOf(look, { elements }) {
   return [`<g class="${look}">`, ...elements.map(({ markup }) => markup), "</g>"].join("");
 }
 
+function clamp(number, least, most) {
+  return Math.max(least, Math.min(number, most));
+}
+
 class PictureView {
-  /** A view in `host`. It tells `onPoint` the turn and the cell that are pointed at, and `onChoose` a turn that is chosen. */
-  constructor(host, style, onPoint, onChoose) {
-    this.host = host;
-    this.onPoint = onPoint;
-    this.onChoose = onChoose;
-    this.root = host.attachShadow({ mode: "open" });
+  /**
+   * A view in a figure. It tells `onPoint` the turn and the cell that are pointed at, `onChoose` a turn that is chosen, and
+   * `onSight` when other columns come in sight.
+   */
+  constructor(figure, style, { onPoint, onChoose, onSight }) {
+    Object.assign(this, { figure, onPoint, onChoose, onSight, zoom: 1, typed: 0, marks: [], heads: [] });
+    this.host = figure.querySelector(".picture");
+    this.tip = new Tip(figure.querySelector(".tip"), figure);
+    this.root = this.host.attachShadow({ mode: "open" });
+    this.sheet = textElement("div", "", { class: "whole" });
+    this.names = textElement("div", "", { class: "names", "aria-hidden": "true" });
+    this.sheet.append(this.names);
     this.style = document.createElement("style");
-    this.style.textContent = style;
-    this.sheet = document.createElement("div");
-    this.sheet.className = "whole";
-    this.root.replaceChildren(this.sheet, this.style);
+    this.root.append(this.style, textElement("style", style), this.sheet);
     this.root.addEventListener("keydown", (event) => this.pressKey(event));
     this.root.addEventListener("focusin", ({ target }) => this.focus(target));
+    this.root.addEventListener("focusout", () => this.tip.hide());
     this.root.addEventListener("pointermove", (event) => hasMoved(event) && this.pointAt(event));
+    this.host.addEventListener("pointerleave", () => this.tip.hide());
     this.root.addEventListener("click", (event) => this.chooseAt(event));
+    this.host.addEventListener("scroll", () => this.measure());
+    new ResizeObserver(() => this.measure()).observe(this.host);
+    this.measure();
   }
 
-  /** Shows a part of a picture whose cells have been told. */
-  show(picture, turns, part) {
-    const { first, last } = columnsOfPart(part, picture.columnCount);
-    Object.assign(this, { picture, turns, part, first });
-    const isInPart = ({ column }) => column >= first && column <= last;
-    this.cells = picture.cells.filter((cell) => cell.row > 0 && isInPart(cell));
-    this.headings = picture.cells.filter((cell) => cell.row === 0 && isInPart(cell));
-    this.left = picture.columnsFrom + (first - 1) * picture.columnWidth;
-    this.right = last === picture.columnCount ? picture.width : picture.columnsFrom + last * picture.columnWidth;
+  /** Shows a picture whose cells have been told. What was in sight stays. */
+  show(picture, turns) {
+    Object.assign(this, { picture, turns, marked: 0, aimed: undefined, part: 0 });
+    this.stop = picture.cells.find(({ row }) => row > 0);
+    if (this.style.textContent !== picture.style) this.style.textContent = picture.style;
+    this.tip.hide();
+    this.layOut();
+  }
+
+  // ---- What is in sight ----
+
+  /** So many columns are laid out at once. */
+  get columnsOfPart() {
+    return Math.max(1, Math.floor(MOST_PIXELS / (this.picture.columnWidth * this.zoom || 1)));
+  }
+
+  /** The first and the last column that are laid out. */
+  get span() {
+    const first = this.part * this.columnsOfPart + 1;
+    return { first, last: Math.min(first + this.columnsOfPart - 1, this.picture.columnCount) };
+  }
+
+  /** Where a column begins in the part that is laid out, before it is enlarged. */
+  placeOfColumn(column) {
+    return this.picture.columnsFrom + (column - this.span.first) * this.picture.columnWidth;
+  }
+
+  /** Keeps how large the frame is, and how far it is scrolled: a browser that is asked lays the page out first. */
+  measure() {
+    const { clientWidth, clientHeight, scrollLeft, scrollTop } = this.host;
+    this.frame = { width: clientWidth, height: clientHeight, left: scrollLeft, top: scrollTop };
+    this.follow();
+  }
+
+  scrollTo(left, top) {
+    const { frame } = this;
+    if (left !== frame.left) this.host.scrollLeft = left;
+    if (top !== frame.top) this.host.scrollTop = top;
+    if (left !== frame.left || top !== frame.top) this.measure();
+  }
+
+  layOut() {
+    const { picture, zoom } = this;
+    const { last } = this.span;
+    const end = last === picture.columnCount && picture.columnCount > 0 ? picture.width - picture.columnsFrom
+      - picture.columnCount * picture.columnWidth : 0;
+    const width = (picture.columnCount ? this.placeOfColumn(last + 1) + end : picture.width) * zoom;
+    const { size: old } = this;
+    this.size = { width, height: picture.height * zoom };
+    this.sheet.style.width = `${this.size.width}px`;
+    this.sheet.style.height = `${this.size.height}px`;
+    this.made = undefined;
+    // The frame is as high as the picture, up to its most, and has a bar to scroll where it is less wide.
+    const isLike = old && old.height === this.size.height && old.width > this.frame.width === this.size.width > this.frame.width;
+    if (isLike) this.follow();
+    else this.measure();
+  }
+
+  /** The columns and rows that are in sight, with so many times as many around them. */
+  inSight(around) {
+    const { frame, picture, zoom, span } = this;
+    const wide = Math.max(picture.columnWidth, 1) * zoom;
+    const high = ROW_HEIGHT * zoom;
+    const [from, sight] = [frame.left / wide, (frame.width - picture.columnsFrom * zoom) / wide];
+    const [above, rows] = [frame.top / high, frame.height / high];
+    return {
+      first: clamp(span.first + Math.floor(from - around * sight), span.first, span.last),
+      last: clamp(span.first + Math.floor(from + (1 + around) * sight), span.first, span.last),
+      top: clamp(Math.floor(above - around * rows), 0, picture.rowCount - 1),
+      bottom: clamp(Math.floor(above + (1 + around) * rows), 0, picture.rowCount - 1),
+    };
+  }
+
+  /** Makes what came in sight. */
+  follow() {
+    if (!this.picture) return;
+    const { made } = this;
+    const seen = this.inSight(0);
+    const isMade = made && made.first <= seen.first && made.last >= seen.last && made.top <= seen.top && made.bottom >= seen.bottom;
+    if (!isMade) this.make(this.inSight(0.6));
+    this.tip.hideUnlessNear();
+    this.onSight(this);
+  }
+
+  make(box) {
+    const hadFocus = this.root.activeElement !== null;
+    this.made = box;
+    this.isMaking = true;
+    this.columns?.remove();
+    this.names.replaceChildren(this.namesSvg());
     this.columns = this.columnsSvg();
-    this.sheet.replaceChildren(this.namesSvg(), this.columns);
-    this.marks = [...this.columns.querySelectorAll(".mark")];
-    this.marks.forEach((mark, index) => this.labelMark(mark, this.cells[index], index === 0));
+    this.sheet.append(this.columns);
+    if (hadFocus) this.elementOf(this.stop)?.focus({ preventScroll: true });
+    this.isMaking = false;
+    this.drawMarked();
   }
 
   /** The names. Each mark's label begins with its row's name, so they need no reading here. */
   namesSvg() {
-    const { picture } = this;
-    const names = makeSvg(picture, 0, picture.columnsFrom, picture.names.filter(Boolean).map(({ markup }) => markup));
-    names.setAttribute("class", "names");
-    names.setAttribute("aria-hidden", "true");
-    return names;
+    const { picture, made, zoom } = this;
+    const box = { left: 0, top: made.top * ROW_HEIGHT, width: picture.columnsFrom, height: (made.bottom - made.top + 1) * ROW_HEIGHT };
+    const names = picture.names.slice(made.top, made.bottom + 1).filter(Boolean);
+    const svg = makeSvg(box, zoom, names.map(({ markup }) => markup));
+    svg.style.top = `${box.top * zoom}px`;
+    this.names.style.width = `${box.width * zoom}px`;
+    this.names.style.height = `${picture.height * zoom}px`;
+    return svg;
   }
 
   columnsSvg() {
-    const { picture, left, right, cells, headings } = this;
-    const ways = picture.ways.filter((way) => way.left <= right && way.right >= left).map(({ markup }) => markup);
-    const groups = [...headings.map((cell) => groupOf("heading", cell)), ...cells.map((cell) => groupOf("mark", cell))];
-    const band = `<rect class="band" y="0" width="${picture.columnWidth}" height="100%" display="none"/>`;
-    const svg = makeSvg(picture, left, right - left, [band, ...ways, ...groups]);
+    const { picture, made, zoom } = this;
+    const { columnWidth, columnsFrom } = picture;
+    const left = columnsFrom + (made.first - 1) * columnWidth;
+    const end = made.last === picture.columnCount ? picture.width : columnsFrom + made.last * columnWidth;
+    this.box = { left, top: made.top * ROW_HEIGHT, width: end - left, height: (made.bottom - made.top + 1) * ROW_HEIGHT };
+    const isMade = ({ row, column }) => row >= made.top && row <= made.bottom && column >= made.first && column <= made.last;
+    const cells = picture.columns.slice(made.first, made.last + 1).flat().filter(isMade);
+    if (this.stop && !isMade(this.stop)) cells.push(this.stop);
+    const [heads, marked] = [cells.filter(({ row }) => row === 0), cells.filter(({ row }) => row > 0)];
+    const groups = [...heads.map((cell) => groupOf("heading", cell)), ...marked.map((cell) => groupOf("mark", cell))];
+    const band = `<rect class="band" y="0" width="${columnWidth}" height="100%" display="none"/>`;
+    const svg = makeSvg(this.box, zoom, [band, ...this.waysIn(end), ...groups]);
+    this.marks = [...svg.querySelectorAll(".mark")].map((element, index) => ({ element, cell: marked[index] }));
+    this.heads = [...svg.querySelectorAll(".heading")].map((element, index) => ({ element, cell: heads[index] }));
+    this.nameSvg(svg);
+    svg.style.left = `${this.placeOfColumn(made.first) * zoom}px`;
+    svg.style.top = `${this.box.top * zoom}px`;
+    return svg;
+  }
+
+  /** The lines under the marks that are made. */
+  waysIn(end) {
+    const { picture, made, box } = this;
+    const ways = picture.guides.slice(made.first - 1, made.last);
+    for (let row = made.top; row <= made.bottom; row++) ways.push(...waysBetween(picture, row, box.left, end));
+    return ways.map(({ markup }) => markup);
+  }
+
+  /** One mark of all is in the order of the tab key; the arrow keys lead to the others. */
+  nameSvg(svg) {
+    const { picture } = this;
     svg.setAttribute("class", "columns");
     svg.setAttribute("role", "group");
     svg.setAttribute("aria-roledescription", "marble diagram");
     svg.setAttribute("aria-label", `${picture.title}. ${picture.about}`);
-    return svg;
+    for (const { element, cell } of this.marks) {
+      element.setAttribute("role", "img");
+      element.setAttribute("tabindex", cell === this.stop ? "0" : "-1");
+      element.setAttribute("aria-label", `Line ${cell.line}: ${sentenceOf(cell)}`);
+    }
+    for (const { element } of this.heads) element.setAttribute("aria-hidden", "true");
   }
 
-  /** One mark of all is in the order of the tab key; the arrow keys lead to the others. */
-  labelMark(mark, cell, isFirst) {
-    mark.setAttribute("role", "img");
-    mark.setAttribute("tabindex", isFirst ? "0" : "-1");
-    mark.setAttribute("aria-label", `Line ${cell.line}: ${cell.sentence}`);
+  elementOf(cell) {
+    return this.marks.find((mark) => mark.cell === cell)?.element;
   }
+
+  // ---- Pointing ----
 
   /** What is at a place of the window: a turn, and a cell where a mark is there. */
   placeOf({ clientX, clientY }) {
-    const box = this.columns.getBoundingClientRect();
-    const column = columnAt(this.picture, clientX - box.left + this.left);
-    const row = rowAt(clientY - box.top);
-    return { turn: this.turns[column - 1], cell: this.cells.find((cell) => cell.column === column && cell.row === row) };
+    const frame = this.columns.getBoundingClientRect();
+    const column = columnAt(this.picture, (clientX - frame.left) / this.zoom + this.box.left);
+    const row = rowAt((clientY - frame.top) / this.zoom + this.box.top);
+    return { turn: this.turns[column - 1], cell: row > 0 ? cellAt(this.picture, column, row) : undefined };
   }
 
+  /** Where a cell stands in the window. */
+  frameOf({ column, row }) {
+    const { columnsFrom, columnWidth } = this.picture;
+    const frame = this.columns.getBoundingClientRect();
+    const left = frame.left + (columnsFrom + (column - 1) * columnWidth - this.box.left) * this.zoom;
+    const top = frame.top + (row * ROW_HEIGHT - this.box.top) * this.zoom;
+    return { left, top, right: left + columnWidth * this.zoom, bottom: top + ROW_HEIGHT * this.zoom };
+  }
+
+  /** What the pointer is on is in sight, and stays where it is. */
   pointAt(event) {
-    if (event.target.closest(".names")) return;
+    if (event.target.closest(".names") || !this.columns) return this.tip.hide();
     const { turn, cell } = this.placeOf(event);
-    if (turn) this.onPoint(turn, cell);
+    if (!turn) return this.tip.hide();
+    this.isStill = true;
+    this.onPoint(turn, cell);
+    this.isStill = false;
+    if (cell) this.showTip(cell);
+    else this.tip.hide();
+  }
+
+  showTip(cell) {
+    this.tip.show(`Line ${cell.line}: ${sentenceOf(cell)}`, () => this.frameOf(cell));
   }
 
   /** A finger only points: the script's field would bring up a keyboard. */
   chooseAt(event) {
     if (event.target.closest(".names")) return;
     const { turn, cell } = this.placeOf(event);
-    if (turn && event.pointerType === "touch") this.onPoint(turn, cell);
-    else if (turn) this.onChoose(turn);
+    if (!turn) return;
+    if (event.pointerType !== "touch") return this.onChoose(turn);
+    this.onPoint(turn, cell);
+    if (cell) this.showTip(cell);
   }
 
-  /** Lets the tab key lead to this mark of all. */
-  setStop(index) {
-    this.marks.forEach((mark, other) => mark.setAttribute("tabindex", other === index ? "0" : "-1"));
+  /** Lets the tab key lead to this cell of all. */
+  setStop(cell) {
+    this.elementOf(this.stop)?.setAttribute("tabindex", "-1");
+    this.stop = cell;
+    this.elementOf(cell)?.setAttribute("tabindex", "0");
   }
 
   focus(target) {
-    const index = this.marks.indexOf(target.closest(".mark"));
-    if (index < 0) return;
-    this.setStop(index);
-    this.onPoint(this.turns[this.cells[index].column - 1], this.cells[index]);
+    const mark = this.marks.find(({ element }) => element === target.closest(".mark"));
+    if (!mark || this.isMaking) return;
+    this.setStop(mark.cell);
+    this.onPoint(mark.cell.turn, mark.cell);
+    this.showTip(mark.cell);
   }
 
   pressKey(event) {
-    const index = this.marks.indexOf(this.root.activeElement);
-    if (index < 0 || event.altKey || event.ctrlKey || event.metaKey) return;
-    const next = this.indexAfter(index, event.key);
-    if (event.key === "Enter") this.onChoose(this.turns[this.cells[index].column - 1]);
-    else if (next === undefined) return;
-    else this.marks[next]?.focus({ preventScroll: true });
+    if (!this.stop || event.altKey || event.ctrlKey || event.metaKey) return;
+    if (event.key === "Escape") return this.tip.hide();
+    const next = this.cellAfter(this.stop, event.key);
+    if (event.key === "Enter") this.onChoose(this.stop.turn);
+    else if (next) this.goTo(next);
+    else return;
     event.preventDefault();
   }
 
-  /** Which mark a key leads to: left and right in the order of the lines, up and down to the nearest of the next row. */
-  indexAfter(index, key) {
-    if (key === "ArrowRight") return Math.min(index + 1, this.marks.length - 1);
-    if (key === "ArrowLeft") return Math.max(index - 1, 0);
-    if (key === "Home") return 0;
-    if (key === "End") return this.marks.length - 1;
-    if (key === "ArrowDown") return this.indexOnRow(index, 1);
-    if (key === "ArrowUp") return this.indexOnRow(index, -1);
+  /** Leads the focus to a cell, once it is made. */
+  goTo(cell) {
+    this.reveal(cell.column, cell.row);
+    this.setStop(cell);
+    if (!this.elementOf(cell)) this.make(this.inSight(0.6));
+    this.elementOf(cell)?.focus({ preventScroll: true });
+  }
+
+  /** Which cell a key leads to: left and right in the order of the lines, up and down to the nearest of the next row. */
+  cellAfter(cell, key) {
+    const isMark = ({ row }) => row > 0;
+    const { cells } = this.picture;
+    if (key === "ArrowRight") return cells.slice(cells.indexOf(cell) + 1).find(isMark) ?? cell;
+    if (key === "ArrowLeft") return cells.slice(0, cells.indexOf(cell)).findLast(isMark) ?? cell;
+    if (key === "Home") return cells.find(isMark);
+    if (key === "End") return cells.findLast(isMark);
+    if (key === "ArrowDown") return this.cellOnRow(cell, 1);
+    if (key === "ArrowUp") return this.cellOnRow(cell, -1);
+    if (key === "PageDown") return this.cellAway(cell, 1);
+    if (key === "PageUp") return this.cellAway(cell, -1);
     return undefined;
   }
 
-  indexOnRow(index, step) {
-    const { column, row } = this.cells[index];
-    const beyond = this.cells.filter((cell) => (cell.row - row) * step > 0);
-    if (beyond.length === 0) return index;
-    const isNearer = (one, other) =>
-      (one.row - other.row) * step || Math.abs(one.column - column) - Math.abs(other.column - column);
-    return this.cells.indexOf(beyond.sort(isNearer)[0]);
+  cellOnRow(cell, step) {
+    const distance = (other) => (other.row - cell.row) * step * 1e9 + Math.abs(other.column - cell.column);
+    const beyond = this.picture.cells.filter((other) => other.row > 0 && (other.row - cell.row) * step > 0);
+    return beyond.reduce((best, other) => (distance(other) < distance(best) ? other : best), beyond[0] ?? cell);
+  }
+
+  /** The cell that stands as many columns away as are in sight. */
+  cellAway(cell, step) {
+    const { first, last } = this.inSight(0);
+    const column = cell.column + step * Math.max(1, last - first);
+    const marks = this.picture.cells.filter(({ row }) => row > 0);
+    return step > 0 ? marks.find((one) => one.column >= column) ?? marks.at(-1) : marks.findLast((one) => one.column <= column) ?? marks[0];
   }
 
   /** Marks a column, the cell that is pointed at, and every mark of the same emission. The tab key leads to the column. */
   mark(column, aimed) {
-    const isHere = column >= this.first && column < this.first + this.headings.length;
-    const band = this.columns.querySelector(".band");
-    band.setAttribute("x", this.left + (column - this.first) * this.picture.columnWidth);
-    band.setAttribute("display", isHere ? "inline" : "none");
-    this.marks.forEach((mark, index) => {
-      const cell = this.cells[index];
-      mark.classList.toggle("pointed", cell.column === column);
-      const isAimed = cell.column === aimed?.column && cell.row === aimed.row;
-      mark.classList.toggle("aimed", isAimed);
-      mark.classList.toggle("same", !isAimed && isSameEmission(cell.emission, aimed?.emission));
-    });
-    const stop = this.cells.findIndex((cell) => cell.column === column);
-    if (stop >= 0 && !this.root.activeElement) this.setStop(stop);
-    if (isHere) this.reveal(column);
+    Object.assign(this, { marked: column, aimed });
+    const first = this.picture?.columns[column]?.find(({ row }) => row > 0);
+    if (first && !this.root.activeElement && this.stop?.column !== column) this.setStop(first);
+    if (column > 0 && !this.isStill) this.reveal(column, aimed?.row);
+    if (!this.root.activeElement && aimed === undefined && !this.isStill) this.tip.hide();
+    this.drawMarked();
   }
 
-  /** Scrolls the picture, and nothing else, until a column is in sight. */
-  reveal(column) {
+  /** The number of a bad line that is still being typed isn't crossed out. */
+  markTyped(line) {
+    this.typed = line;
+    this.drawMarked();
+  }
+
+  drawMarked() {
+    if (!this.columns) return;
+    const { picture, marked, aimed } = this;
+    const aimedAt = aimed && emissionOf(aimed);
+    const band = this.columns.querySelector(".band");
+    band.setAttribute("x", picture.columnsFrom + (marked - 1) * picture.columnWidth);
+    band.setAttribute("display", marked > 0 ? "inline" : "none");
+    for (const { element, cell } of this.heads) element.classList.toggle("typed", cell.line === this.typed);
+    for (const { element, cell } of this.marks) {
+      element.classList.toggle("pointed", cell.column === marked);
+      element.classList.toggle("aimed", cell === aimed);
+      element.classList.toggle("same", aimedAt !== undefined && cell !== aimed && isSameEmission(emissionOf(cell), aimedAt));
+    }
+  }
+
+  // ---- Scrolling and zooming ----
+
+  /** Scrolls the picture, and nothing else, until a column is in sight, and a row, if one is wished or none of the column is. */
+  reveal(column, wished) {
+    const part = Math.floor((column - 1) / this.columnsOfPart);
+    if (part !== this.part) this.showPart(part);
     const { columnsFrom, columnWidth } = this.picture;
-    const from = (column - this.first) * columnWidth;
-    const inSight = this.host.clientWidth - columnsFrom;
-    if (from < this.host.scrollLeft) this.host.scrollLeft = from;
-    else if (from + columnWidth > this.host.scrollLeft + inSight) this.host.scrollLeft = from + columnWidth - inSight;
+    const { frame, zoom } = this;
+    const from = (this.placeOfColumn(column) - columnsFrom) * zoom;
+    const inSight = frame.width - columnsFrom * zoom;
+    const row = wished ?? this.hiddenRow(column);
+    const above = row === undefined ? frame.top : clamp(frame.top, (row + 1) * ROW_HEIGHT * zoom - frame.height, row * ROW_HEIGHT * zoom);
+    this.scrollTo(clamp(frame.left, from + columnWidth * zoom - inSight, from), above);
+  }
+
+  /** The first row on which a column has a mark, where none of its marks is in sight. */
+  hiddenRow(column) {
+    const { top, bottom } = this.inSight(0);
+    const marks = this.picture.columns[column]?.filter(({ row }) => row > 0) ?? [];
+    return marks.some(({ row }) => row >= top && row <= bottom) ? undefined : marks[0]?.row;
+  }
+
+  /** Whether there is nothing behind what is in sight. */
+  get isAtEnd() {
+    const { frame, picture, zoom, span } = this;
+    return span.last === picture.columnCount && frame.left + frame.width >= this.placeOfColumn(picture.columnCount + 1) * zoom - 1;
+  }
+
+  showPart(part) {
+    this.part = part;
+    this.layOut();
+  }
+
+  /** Scrolls by what is in sight, to earlier or later columns. */
+  scrollBy(step) {
+    const { first, last } = this.inSight(0);
+    const column = clamp(step < 0 ? first - Math.max(1, last - first) : last + Math.max(1, last - first), 1, this.picture.columnCount);
+    this.reveal(column);
+  }
+
+  /** Zooms by so many steps, or back where none are named. The column in the middle stays there. */
+  zoomBy(steps) {
+    const { first, last } = this.inSight(0);
+    const at = steps === undefined ? ZOOMS.indexOf(1) : clamp(ZOOMS.indexOf(this.zoom) + steps, 0, ZOOMS.length - 1);
+    this.zoom = ZOOMS[at];
+    this.part = Math.floor((first - 1) / this.columnsOfPart);
+    this.layOut();
+    this.reveal(this.marked >= first && this.marked <= last ? this.marked : first);
   }
 }
 
