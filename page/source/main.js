@@ -92,8 +92,9 @@ function takeFromAddress() {
   runScript();
 }
 
-/** Undoes and redoes by the keys of the field, where the focus is elsewhere on the page. */
+/** Undoes and redoes by the keys of the field, where the focus is elsewhere on the page. The key to leave lets a note go. */
 function pressKey(event) {
+  if (event.key === "Escape") say("note", "");
   const isCommand = (event.ctrlKey || event.metaKey) && !event.altKey;
   const key = event.key.toLowerCase();
   if (!isCommand || (key !== "z" && key !== "y") || event.target === editor.field) return;
@@ -210,6 +211,7 @@ function listen() {
     keepNow();
     say("note", await copyLink(editor.script, engineWish()));
   });
+  byId("note").addEventListener("click", () => say("note", ""));
   byId("stop").addEventListener("click", stopRun);
   byId("to-commands").addEventListener("click", () => byId("commands-title").focus());
   byId("to-engines").addEventListener("click", () => byId("engines-title").focus());
