@@ -87,6 +87,12 @@ class AnswersView {
     return row;
   }
 
+  /** Writes the row of a turn anew, of which more is known. */
+  retell(turn) {
+    const row = this.rowAt(turn.column - 1);
+    this.columns.forEach(({ textOf }, index) => row && (row.cells[index + 2].textContent = textOf(turn)));
+  }
+
   dress(row) {
     row.classList.toggle("bad", isBad(row.turn.answer) && row.turn.number !== this.typed);
     row.classList.toggle("pointed", row.turn.number === this.pointed);

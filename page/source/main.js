@@ -29,6 +29,12 @@ const editor = new Editor(byId("script"), byId("gutter"), byId("backdrop"), {
 });
 const answers = new AnswersView(byId("answers"), (turn) => pointAt(turn), ({ number }) => editor.goTo(number));
 const programs = new Programs(showLoadTrouble, showLongRun);
+const prober = new Prober();
+const reasons = new Reasons(
+  JSON.parse(blockOfData("command-forms")),
+  async (script) => endsBad(await prober.answer(script)),
+  showReason,
+);
 
 // ---- What the reader does ----
 
@@ -166,6 +172,7 @@ function showResults(script, results) {
   showStatus();
   showPictures(script);
   answers.show(page.turns, answerColumns());
+  reasons.explain(script, page.turns.filter(({ answer }) => isBad(answer)).slice(0, MOST_NAMED_LINES));
   pointAtLine(editor.pointed);
   setBusy(false);
 }

@@ -25,6 +25,37 @@ async function moduleBytes(id) {
   return new Uint8Array(await new Response(whole).arrayBuffer());
 }
 
+function newWorker() {
+  const source = new Blob([blockOfData("worker")], { type: "text/javascript" });
+  return new Worker(URL.createObjectURL(source));
+}
+
+/** Answers scripts beside the programs that draw, in a thread of its own, which begins with the first of them. */
+class Prober {
+  constructor() {
+    Object.assign(this, { worker: null, waiting: new Map(), number: 0 });
+  }
+
+  /** What `flow_runner` answers a script with, on the engine `core`. Where it can't be run there is no answer. */
+  async answer(script) {
+    this.worker ??= this.start();
+    const worker = await this.worker;
+    this.number += 1;
+    worker.postMessage({ number: this.number, script, isProbe: true });
+    return new Promise((settle) => this.waiting.set(this.number, settle));
+  }
+
+  async start() {
+    const worker = newWorker();
+    worker.onmessage = ({ data: { number, results } }) => {
+      this.waiting.get(number)?.(results[0]);
+      this.waiting.delete(number);
+    };
+    worker.postMessage({ modules: [["flow_runner", await moduleBytes("module-flow-runner")]] });
+    return worker;
+  }
+}
+
 class Programs {
   /** Tells `onTrouble` why the modules don't load, and `onLong` that a run takes long. */
   constructor(onTrouble, onLong) {
@@ -52,9 +83,7 @@ class Programs {
   }
 
   start() {
-    const source = new Blob([blockOfData("worker")], { type: "text/javascript" });
-    const address = URL.createObjectURL(source);
-    this.worker = new Worker(address);
+    this.worker = newWorker();
     this.worker.onmessage = ({ data }) => this.hear(data);
     this.worker.onerror = (error) => this.giveUp(error.message);
     this.worker.postMessage({ modules: this.modules });

@@ -17,6 +17,7 @@ function plural(count, one, many) {
 
 function showTrouble(text) {
   Object.assign(page, { runs: [], turns: [], byLine: new Map() });
+  reasons.explain("", []);
   for (const { figure } of page.views.splice(0)) figure.remove();
   say("trouble", text);
   say("status", "");
@@ -36,10 +37,24 @@ function markBadLines() {
   for (const { view } of page.views) view.markTyped(editor.typed);
   const named = bad.slice(0, MOST_NAMED_LINES).join(", ");
   const more = bad.length > MOST_NAMED_LINES ? ` and ${bad.length - MOST_NAMED_LINES} more` : "";
-  const typed = all.length > bad.length ? `Line ${editor.typed}, which you are typing, is no command yet.` : "";
+  const typed = all.length > bad.length ? `Line ${editor.typed}, which you are typing, is no command yet${reasonAt(editor.typed, ": ")}.` : "";
   say("bad-lines", bad.length === 0 ? "" : `${bad.length === 1 ? "Bad line" : "Bad lines"}: ${named}${more}.`);
   say("typed-line", typed);
+  say("bad-reason", bad.length > 0 && reasonAt(bad[0]) ? `Of line ${bad[0]}: ${reasonAt(bad[0])}.` : "");
   byId("script").setAttribute("aria-invalid", String(bad.length > 0));
+}
+
+/** Why a line is bad, where that is known, with these words before it. */
+function reasonAt(number, before = "") {
+  const reason = page.byLine.get(number)?.reason;
+  return reason ? `${before}${reason}` : "";
+}
+
+/** Shows why a line is bad in all places that tell of it. */
+function showReason(turn) {
+  markBadLines();
+  answers.retell(turn);
+  if (editor.pointed === turn.number) pointAt(turn);
 }
 
 function showStatus() {
@@ -150,6 +165,7 @@ function pointAtLine(line) {
 /** Points at a line with an answer, and maybe at one mark of it: all views mark it, and a sentence tells it. */
 function pointAt(turn, cell) {
   markAll(turn.number, turn, cell);
+  if (isBad(turn.answer)) reasons.explainFirst(turn);
   const told = cell ? sentenceOf(cell) : tellTurn(turn);
   byId("pointed").replaceChildren(
     `Line ${turn.number} `,

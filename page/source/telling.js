@@ -28,10 +28,10 @@ function sentenceOf(cell) {
 }
 
 /** The sentences on all marks of a line; where it has none, why. */
-function tellTurn({ column, words, answer }) {
+function tellTurn({ column, number, words, answer }) {
   const cells = page.runs[0]?.picture.columns[column]?.filter(({ row }) => row > 0) ?? [];
   if (cells.length > 0) return cells.map(sentenceOf).join("; ");
-  if (isBad(answer)) return BAD_LINE;
+  if (isBad(answer)) return `${BAD_LINE}${reasonAt(number, ": ")}`;
   return words[0] === "cold" ? COLD_LINE : REFUSED_LINE;
 }
 

@@ -1,7 +1,7 @@
 // Runs the programs in a thread of their own, so that a long script never holds up the page.
 //
-// Messages in: { modules } once, then { number, script, engines }.
-// Messages out: { loaded } or { failed }, then { number, results }.
+// Messages in: { modules } once, then { number, script, engines }, or { number, script, isProbe } where answers are all that is
+// asked for. Messages out: { loaded } or { failed }, then { number, results }.
 "use strict";
 
 /** What a browser gives in one call. */
@@ -26,9 +26,10 @@ async function load(modules) {
   }
 }
 
-async function answer({ number, script, engines }) {
+async function answer({ number, script, engines, isProbe }) {
   const input = new TextEncoder().encode(script);
   const results = [];
+  if (isProbe) return self.postMessage({ number, results: [await run("flow_runner", "core", input)] });
   for (const engine of engines) {
     const picture = await run("flow_marbles", engine, input);
     const answers = await run("flow_runner", engine, input);
