@@ -1,6 +1,6 @@
 // The page: a script is typed, run and shown. What is pointed at in one view is marked in all.
 
-/** The address follows the script after so short a rest: a browser takes its time over it. */
+/** The address follows the script no more often than this: a browser refuses many changes in a short time. */
 const ADDRESS_MILLISECONDS = 300;
 const ENGINES = { core: ["core"], lane: ["lane"], both: ["core", "lane"] };
 const BROWSERS = "Chrome and Edge have it from version 133 on, Firefox from 134 on.";
@@ -20,7 +20,7 @@ const examples = JSON.parse(blockOfData("examples")).flatMap(({ examples }) => e
  * What is shown: the example whose hint stands there, the hints of scripts that were left, the script's runs by the engines
  * asked for, the lines that have an answer, also by their numbers, and views of the pictures.
  */
-const page = { example: examples[0], left: new Map(), runs: [], turns: [], byLine: new Map(), views: [], timer: 0 };
+const page = { example: examples[0], left: new Map(), runs: [], turns: [], byLine: new Map(), views: [], timer: 0, keptAt: -Infinity };
 
 const editor = new Editor(byId("script"), byId("gutter"), byId("backdrop"), {
   onInput: changeScript,
@@ -50,14 +50,21 @@ function setEngine(engine) {
 function changeScript() {
   say("note", "");
   showExample();
-  clearTimeout(page.timer);
-  page.timer = setTimeout(keepNow, ADDRESS_MILLISECONDS);
   runScript();
+  keepSoon();
 }
 
-/** Lets address and browser hold the script that is there. */
+/** Lets address and browser hold the script that is there, at once or after a rest. */
+function keepSoon() {
+  clearTimeout(page.timer);
+  const left = ADDRESS_MILLISECONDS - (performance.now() - page.keptAt);
+  if (left <= 0) keepNow();
+  else page.timer = setTimeout(() => keepNow(), left);
+}
+
 function keepNow(isNewStep = false) {
   clearTimeout(page.timer);
+  page.keptAt = performance.now();
   keepInAddress({ script: editor.script, engine: engineWish(), example: page.example.name }, isNewStep);
 }
 
@@ -224,7 +231,6 @@ function listen() {
   byId("to-engines").addEventListener("click", () => byId("engines-title").focus());
   document.addEventListener("keydown", pressKey);
   addEventListener("popstate", takeFromAddress);
-  addEventListener("beforeunload", () => keepNow());
 }
 
 /** Leaves room for the longest hint, so that no other moves the script. */

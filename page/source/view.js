@@ -92,14 +92,17 @@ class PictureView {
     if (left !== frame.left || top !== frame.top) this.measure();
   }
 
+  /** How wide the part that is laid out is. Behind the last column the lines of rows go on a little. */
+  get width() {
+    const { picture, span } = this;
+    if (picture.columnCount === 0) return picture.width;
+    const behind = picture.width - picture.columnsFrom - picture.columnCount * picture.columnWidth;
+    return this.placeOfColumn(span.last + 1) + (span.last === picture.columnCount ? behind : 0);
+  }
+
   layOut() {
-    const { picture, zoom } = this;
-    const { last } = this.span;
-    const end = last === picture.columnCount && picture.columnCount > 0 ? picture.width - picture.columnsFrom
-      - picture.columnCount * picture.columnWidth : 0;
-    const width = (picture.columnCount ? this.placeOfColumn(last + 1) + end : picture.width) * zoom;
-    const { size: old } = this;
-    this.size = { width, height: picture.height * zoom };
+    const { picture, zoom, size: old } = this;
+    this.size = { width: this.width * zoom, height: picture.height * zoom };
     this.sheet.style.width = `${this.size.width}px`;
     this.sheet.style.height = `${this.size.height}px`;
     this.made = undefined;
@@ -386,7 +389,7 @@ class PictureView {
     this.reveal(column);
   }
 
-  /** Zooms by so many steps, or back where none are named. The column in the middle stays there. */
+  /** Zooms by so many steps, or back where none are named. The marked column, or else the first in sight, stays in sight. */
   zoomBy(steps) {
     const { first, last } = this.inSight(0);
     const at = steps === undefined ? ZOOMS.indexOf(1) : clamp(ZOOMS.indexOf(this.zoom) + steps, 0, ZOOMS.length - 1);
