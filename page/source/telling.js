@@ -56,7 +56,9 @@ function sentenceOn(cell) {
   if (looks.includes("accepted before")) return `accepted ${value} here or before${number}`;
   if (looks.includes("accepted")) return `accepted ${value}${number}`;
   if (looks.includes("received")) return `${role === "buffer" ? "gave" : "received"} ${value}${number}`;
-  if (looks.includes("lost")) return lossSentence(cell, role, value, number);
+  if (looks.includes("lost")) return `lost ${value}${number}`;
+  if (looks.includes("dropped")) return `dropped ${value}`;
+  if (looks.includes("full")) return `was full: ${value} isn't emitted`;
   if (looks.includes("before")) return `begins to wait with ${value}`;
   return `answers ${cell.turn?.answer ?? value}`;
 }
@@ -64,11 +66,6 @@ function sentenceOn(cell) {
 function stateSentence(cell, value) {
   if (cell.isFirst) return `is made with ${value}`;
   return cell.turn?.words[0] === "value" ? `has ${value}` : `is set to ${value}`;
-}
-
-function lossSentence(cell, role, value, number) {
-  if (role !== "flow") return `lost ${value}${number}`;
-  return cell.turn?.answer === "full" ? `was full: ${value} isn't emitted` : `dropped ${value}`;
 }
 
 /** Why a picture is empty; nothing where it isn't. */

@@ -19,8 +19,8 @@ plain_answer answer = if nat_le (length answer) 14 then plain answer else plain 
 -- the sign before a mark's value in a text without pictures
 abbrev pub sign : Kind → List ℕ
 sign (kinds.Bad number) = codes "x"
-sign (kinds.Dropped value) = codes "x"
 sign (kinds.Lost value) = codes "x"
+sign (kinds.Dropped value) = codes "/"
 sign (kinds.Full value) = codes "!"
 sign (kinds.Begun (rows.State value)) = codes "="
 sign (kinds.Begun (rows.Ticket value)) = codes "?"

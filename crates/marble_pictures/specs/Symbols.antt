@@ -1,5 +1,5 @@
 -- What marks look like in SVG.
-use Rattle.std.specs.Prelude.{ℕ, ◌+◌, ◌-◌, ◌*◌, ◌/◌, Bool, true, false, List, [], ◌∷◌, ◌++◌, length, min, Option, Some, None, codes, decimal, ◌==◌, if◌then◌else◌}
+use Rattle.std.specs.Prelude.{ℕ, ◌+◌, ◌-◌, ◌*◌, ◌/◌, List, [], ◌∷◌, ◌++◌, length, min, Option, Some, None, codes, decimal, ◌==◌, if◌then◌else◌}
 use Rattle.std.specs.List.{flat_map}
 use Rattle.marble_marks.specs.declared.mark.Kind.{Kind}
 use Rattle.marble_marks.specs.declared.mark.Kind.TheVariants as kinds
@@ -11,6 +11,8 @@ use Rattle.marble_pictures.specs.declared.steps.Place.{Place}
 use Rattle.marble_pictures.specs.declared.symbol.Frame.{Frame}
 use Rattle.marble_pictures.specs.declared.symbol.Placed.{Placed}
 use Rattle.marble_pictures.specs.declared.symbol.Segment.{Segment}
+use Rattle.marble_pictures.specs.declared.symbol.Strike.{Strike}
+use Rattle.marble_pictures.specs.declared.symbol.Strike.TheVariants as strikes
 use Rattle.marble_pictures.specs.Captions.{plain_byte, words_of}
 
 -- ---- places
@@ -88,6 +90,16 @@ rising_text at half = line_text (codes "cross") (left (half - 2) (down 9 at)) (r
 abbrev pub cross_text : Place → ℕ → List ℕ
 cross_text at half = falling_text at half ++ rising_text at half
 
+-- a wall at each side of a frame, which is higher than that
+abbrev pub left_wall : Place → ℕ → List ℕ
+left_wall at half = line_text (codes "wall") (left half (up 14 at)) (left half (down 14 at))
+
+abbrev pub right_wall : Place → ℕ → List ℕ
+right_wall at half = line_text (codes "wall") (right half (up 14 at)) (right half (down 14 at))
+
+abbrev pub walls_text : Place → ℕ → List ℕ
+walls_text at half = left_wall at half ++ right_wall at half
+
 unfoldable pub rect_text : List ℕ → Place → ℕ → ℕ → List ℕ
 rect_text class corner width round =
     codes "<rect class=\"" ++ (class ++ (codes "\" x=\"" ++ (decimal corner.x ++ (codes "\" y=\"" ++ (decimal corner.y
@@ -98,36 +110,40 @@ rect_text class corner width round =
 pub record Look : Type 0 where
   pub class : List ℕ
   pub round : ℕ
-  pub is_crossed : Bool
+  pub strike : Strike
 
-abbrev pub look : List ℕ → ℕ → Bool → Look
-look class round is_crossed = record { class = class; round = round; is_crossed = is_crossed }
+abbrev pub look : List ℕ → ℕ → Strike → Look
+look class round strike = record { class = class; round = round; strike = strike }
 
 abbrev pub look_in : Frame → Look
-look_in frame = look frame.class.now frame.round frame.is_crossed
+look_in frame = look frame.class.now frame.round frame.strike
 
 abbrev pub begun_look : Row → Option Look
-begun_look (rows.Ticket value) = Some (look (codes "before") 11 false)
+begun_look (rows.Ticket value) = Some (look (codes "before") 11 strikes.None)
 begun_look _ = None
 
 -- the frame of a mark that has one
 abbrev pub look_of : Kind → Option Look
-look_of (kinds.Accepted value) = Some (look (codes "accepted") 11 false)
-look_of (kinds.AcceptedBefore value) = Some (look (codes "accepted before") 11 false)
-look_of (kinds.Received value) = Some (look (codes "received") 11 false)
-look_of (kinds.Dropped value) = Some (look (codes "lost") 11 true)
-look_of (kinds.Full value) = Some (look (codes "lost") 11 true)
-look_of (kinds.Lost value) = Some (look (codes "lost") 11 true)
+look_of (kinds.Accepted value) = Some (look (codes "accepted") 11 strikes.None)
+look_of (kinds.AcceptedBefore value) = Some (look (codes "accepted before") 11 strikes.None)
+look_of (kinds.Received value) = Some (look (codes "received") 11 strikes.None)
+-- a value that is lost, one that is dropped and one that found no room differ in shape: a cross, one line, two walls
+look_of (kinds.Lost value) = Some (look (codes "lost") 11 strikes.Cross)
+look_of (kinds.Dropped value) = Some (look (codes "dropped") 11 strikes.Stroke)
+look_of (kinds.Full value) = Some (look (codes "full") 2 strikes.Walls)
 look_of (kinds.Begun row) = begun_look row
-look_of kinds.Done = Some (look (codes "said") 2 false)
-look_of kinds.Removed = Some (look (codes "said") 2 false)
-look_of kinds.Left = Some (look (codes "said") 2 false)
-look_of kinds.Said = Some (look (codes "said") 2 false)
+look_of kinds.Done = Some (look (codes "said") 2 strikes.None)
+look_of kinds.Removed = Some (look (codes "said") 2 strikes.None)
+look_of kinds.Left = Some (look (codes "said") 2 strikes.None)
+look_of kinds.Said = Some (look (codes "said") 2 strikes.None)
 look_of _ = None
 
-abbrev pub crossing : Bool → Place → ℕ → List ℕ
-crossing true at half = cross_text at half
-crossing false at half = []
+-- what shows that the value in a frame didn't go on
+abbrev pub strike_text : Strike → Place → ℕ → List ℕ
+strike_text strikes.None at half = []
+strike_text strikes.Cross at half = cross_text at half
+strike_text strikes.Stroke at half = rising_text at half
+strike_text strikes.Walls at half = walls_text at half
 
 -- the edge of a frame that reaches so far to both sides
 abbrev pub edge_text : Look → ℕ → Place → List ℕ
@@ -137,7 +153,7 @@ abbrev pub framed_text : List ℕ → Place → List ℕ
 framed_text said at = said_text (codes "framed") said (down 4 at)
 
 abbrev pub frame_around : Look → ℕ → List ℕ → Place → List ℕ
-frame_around frame half said at = (edge_text frame half at ++ crossing frame.is_crossed at half) ++ framed_text said at
+frame_around frame half said at = (edge_text frame half at ++ strike_text frame.strike at half) ++ framed_text said at
 
 abbrev pub frame_text : Look → List ℕ → Place → List ℕ
 frame_text frame said at = frame_around frame (half_width said) said at

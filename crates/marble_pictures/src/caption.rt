@@ -103,7 +103,8 @@ pub(crate) fn sign(kind: Kind) -> &'static str
     ensures { result.now ≡ sign kind }
 {
     match kind {
-        Kind::Bad(_) | Kind::Dropped(_) | Kind::Lost(_) => "x",
+        Kind::Bad(_) | Kind::Lost(_) => "x",
+        Kind::Dropped(_) => "/",
         Kind::Full(_) => "!",
         Kind::Begun(Row::State(_)) | Kind::Set(_) => "=",
         Kind::Begun(Row::Ticket(_)) | Kind::Waiting => "?",

@@ -24,13 +24,13 @@ line{stroke:#444;stroke-width:2}
 .dashed{stroke-dasharray:5 4}
 .step{stroke:#009e73;stroke-width:3;stroke-linecap:square}
 .guide{stroke:#eee;stroke-width:1}
-.cross{stroke:#d55e00;stroke-width:2}
+.cross,.wall{stroke:#d55e00;stroke-width:2}
 circle{fill:#fff;stroke:#444}
 rect{fill:#fff;stroke:#444}
 .accepted{fill:#56b4e9}
 .before{stroke-dasharray:3 3}
 .received{fill:#f0e442}
-.lost{stroke:#d55e00}
+.lost,.dropped,.full{stroke:#d55e00}
 .said{stroke:#999}
 .sheet{stroke:none}
 </style>

@@ -3,7 +3,7 @@
 ghost use Rattle.std.specs.Prelude.{◌≡◌, ◌<◌, ◌≤◌, ◌++◌, ◌∷◌, [], IfOk, OnOk, IsTrue, length, take, string_bytes};
 ghost use Rattle.std.specs.Option.{option_map};
 ghost use Rattle.marble_pictures.specs.Captions.{words_of};
-ghost use Rattle.marble_pictures.specs.Symbols.{escaped_byte, escaped, line_text, segment_text, opening_text, said_text, half_width, falling_text, rising_text, cross_text, rect_text, look_in, begun_look, look_of, crossing, edge_text, framed_text, frame_around, frame_text, heading_text, head_at, head_text, crossed_head, bar_text, ring_text, value_text, begun_text, bare_text, symbol_by, symbol_text};
+ghost use Rattle.marble_pictures.specs.Symbols.{escaped_byte, escaped, line_text, segment_text, opening_text, said_text, half_width, falling_text, rising_text, cross_text, left_wall, right_wall, walls_text, rect_text, look_in, begun_look, look_of, strike_text, edge_text, framed_text, frame_around, frame_text, heading_text, head_at, head_text, crossed_head, bar_text, ring_text, value_text, begun_text, bare_text, symbol_by, symbol_text};
 
 use crate::caption::{plain_byte, push_numbered, push_words};
 use crate::sheet::{CHARACTER, Sheet};
@@ -29,13 +29,26 @@ pub(crate) struct Placed<'a> {
     pub(crate) step: usize,
 }
 
+/// What shows that the value in a frame didn't go on.
+#[derive(Clone, Copy)]
+enum Strike {
+    /// It did.
+    None,
+    /// Two lines through it.
+    Cross,
+    /// One line through it, which rises.
+    Stroke,
+    /// A wall at each side.
+    Walls,
+}
+
 /// A frame round a text.
 #[derive(Clone, Copy)]
 struct Frame {
     class: &'static str,
     /// How round its corners are.
     round: usize,
-    is_crossed: bool,
+    strike: Strike,
 }
 
 /// Adds a character as SVG wants it: what has a meaning there by its name, and a question mark for a byte that is no
@@ -223,6 +236,38 @@ fn push_cross(picture: &mut String, at: Place, half: usize) -> Result<(), AllocE
     push_rising(picture, at, half)
 }
 
+/// Adds the wall on the left of a frame, which is higher than that.
+fn push_left_wall(picture: &mut String, at: Place, half: usize) -> Result<(), AllocError>
+    ensures { OnOk result (string_bytes picture.new ≡ string_bytes picture.old ++ left_wall at half) }
+{
+    push_line(
+        picture,
+        "wall",
+        at.up(14).left(half),
+        at.down(14).left(half),
+    )
+}
+
+/// Adds the wall on the right of a frame.
+fn push_right_wall(picture: &mut String, at: Place, half: usize) -> Result<(), AllocError>
+    ensures { OnOk result (string_bytes picture.new ≡ string_bytes picture.old ++ right_wall at half) }
+{
+    push_line(
+        picture,
+        "wall",
+        at.up(14).right(half),
+        at.down(14).right(half),
+    )
+}
+
+/// Adds a wall at each side of a frame.
+fn push_walls(picture: &mut String, at: Place, half: usize) -> Result<(), AllocError>
+    ensures { OnOk result (string_bytes picture.new ≡ string_bytes picture.old ++ walls_text at half) }
+{
+    push_left_wall(picture, at, half)?;
+    push_right_wall(picture, at, half)
+}
+
 /// Adds an edge.
 #[tactic(auto, unfolding(crate::specs::Symbols::rect_text))]
 fn push_rect(
@@ -243,19 +288,20 @@ fn push_rect(
     picture.push_str("\"/>\n")
 }
 
-/// Adds a cross, if there is one.
-fn push_crossing(
+/// Adds what shows that a value didn't go on, if anything does.
+fn push_strike(
     picture: &mut String,
-    is_crossed: bool,
+    strike: Strike,
     at: Place,
     half: usize,
 ) -> Result<(), AllocError>
-    ensures { OnOk result (string_bytes picture.new ≡ string_bytes picture.old ++ crossing is_crossed at half) }
+    ensures { OnOk result (string_bytes picture.new ≡ string_bytes picture.old ++ strike_text strike at half) }
 {
-    if is_crossed {
-        push_cross(picture, at, half)
-    } else {
-        Ok(())
+    match strike {
+        Strike::None => Ok(()),
+        Strike::Cross => push_cross(picture, at, half),
+        Strike::Stroke => push_rising(picture, at, half),
+        Strike::Walls => push_walls(picture, at, half),
     }
 }
 
@@ -291,7 +337,7 @@ fn push_around(
     ensures { OnOk result (string_bytes picture.new ≡ string_bytes picture.old ++ frame_around (look_in frame) half said.now at) }
 {
     push_edge(picture, frame, half, at)?;
-    push_crossing(picture, frame.is_crossed, at, half)?;
+    push_strike(picture, frame.strike, at, half)?;
     push_framed(picture, said, at)
 }
 
@@ -352,7 +398,7 @@ fn begun_frame(row: Row) -> Option<Frame>
         Row::Ticket(_) => Some(Frame {
             class: "before",
             round: 11,
-            is_crossed: false,
+            strike: Strike::None,
         }),
         _ => None,
     }
@@ -366,28 +412,38 @@ fn frame_of(kind: Kind) -> Option<Frame>
         Kind::Accepted(_) => Some(Frame {
             class: "accepted",
             round: 11,
-            is_crossed: false,
+            strike: Strike::None,
         }),
         Kind::AcceptedBefore(_) => Some(Frame {
             class: "accepted before",
             round: 11,
-            is_crossed: false,
+            strike: Strike::None,
         }),
         Kind::Received(_) => Some(Frame {
             class: "received",
             round: 11,
-            is_crossed: false,
+            strike: Strike::None,
         }),
-        Kind::Dropped(_) | Kind::Full(_) | Kind::Lost(_) => Some(Frame {
+        Kind::Lost(_) => Some(Frame {
             class: "lost",
             round: 11,
-            is_crossed: true,
+            strike: Strike::Cross,
+        }),
+        Kind::Dropped(_) => Some(Frame {
+            class: "dropped",
+            round: 11,
+            strike: Strike::Stroke,
+        }),
+        Kind::Full(_) => Some(Frame {
+            class: "full",
+            round: 2,
+            strike: Strike::Walls,
         }),
         Kind::Begun(row) => begun_frame(row),
         Kind::Done | Kind::Removed | Kind::Left | Kind::Said => Some(Frame {
             class: "said",
             round: 2,
-            is_crossed: false,
+            strike: Strike::None,
         }),
         _ => None,
     }

@@ -59,7 +59,8 @@ fn push_answer(text: &mut String, answer: &[u8]) -> Result<(), AllocError> {
 /// The sign before a mark's value in a text without pictures.
 pub(crate) fn sign(kind: Kind) -> &'static str {
     match kind {
-        Kind::Bad(_) | Kind::Dropped(_) | Kind::Lost(_) => "x",
+        Kind::Bad(_) | Kind::Lost(_) => "x",
+        Kind::Dropped(_) => "/",
         Kind::Full(_) => "!",
         Kind::Begun(Row::State(_)) | Kind::Set(_) => "=",
         Kind::Begun(Row::Ticket(_)) | Kind::Waiting => "?",

@@ -22,13 +22,26 @@ pub(crate) struct Placed<'a> {
     pub(crate) step: usize,
 }
 
+/// What shows that the value in a frame didn't go on.
+#[derive(Clone, Copy)]
+enum Strike {
+    /// It did.
+    None,
+    /// Two lines through it.
+    Cross,
+    /// One line through it, which rises.
+    Stroke,
+    /// A wall at each side.
+    Walls,
+}
+
 /// A frame round a text.
 #[derive(Clone, Copy)]
 struct Frame {
     class: &'static str,
     /// How round its corners are.
     round: usize,
-    is_crossed: bool,
+    strike: Strike,
 }
 
 /// Adds a character as SVG wants it: what has a meaning there by its name, and a question mark for a byte that is no
@@ -133,17 +146,26 @@ fn push_rect(
     )
 }
 
-/// Adds a cross, if there is one.
-fn push_crossing(
+/// Adds a wall, which is higher than a frame.
+fn push_wall(picture: &mut String, at: Place) -> Result<(), AllocError> {
+    push_line(picture, "wall", at.up(14), at.down(14))
+}
+
+/// Adds what shows that a value didn't go on, if anything does.
+fn push_strike(
     picture: &mut String,
-    is_crossed: bool,
+    strike: Strike,
     at: Place,
     half: usize,
 ) -> Result<(), AllocError> {
-    if is_crossed {
-        push_cross(picture, at, half)
-    } else {
-        Ok(())
+    match strike {
+        Strike::None => Ok(()),
+        Strike::Cross => push_cross(picture, at, half),
+        Strike::Stroke => push_rising(picture, at, half),
+        Strike::Walls => {
+            push_wall(picture, at.left(half))?;
+            push_wall(picture, at.right(half))
+        }
     }
 }
 
@@ -173,7 +195,7 @@ fn push_around(
     at: Place,
 ) -> Result<(), AllocError> {
     push_edge(picture, frame, half, at)?;
-    push_crossing(picture, frame.is_crossed, at, half)?;
+    push_strike(picture, frame.strike, at, half)?;
     push_framed(picture, said, at)
 }
 
@@ -226,7 +248,7 @@ fn begun_frame(row: Row) -> Option<Frame> {
         Row::Ticket(_) => Some(Frame {
             class: "before",
             round: 11,
-            is_crossed: false,
+            strike: Strike::None,
         }),
         _ => None,
     }
@@ -238,28 +260,38 @@ fn frame_of(kind: Kind) -> Option<Frame> {
         Kind::Accepted(_) => Some(Frame {
             class: "accepted",
             round: 11,
-            is_crossed: false,
+            strike: Strike::None,
         }),
         Kind::AcceptedBefore(_) => Some(Frame {
             class: "accepted before",
             round: 11,
-            is_crossed: false,
+            strike: Strike::None,
         }),
         Kind::Received(_) => Some(Frame {
             class: "received",
             round: 11,
-            is_crossed: false,
+            strike: Strike::None,
         }),
-        Kind::Dropped(_) | Kind::Full(_) | Kind::Lost(_) => Some(Frame {
+        Kind::Lost(_) => Some(Frame {
             class: "lost",
             round: 11,
-            is_crossed: true,
+            strike: Strike::Cross,
+        }),
+        Kind::Dropped(_) => Some(Frame {
+            class: "dropped",
+            round: 11,
+            strike: Strike::Stroke,
+        }),
+        Kind::Full(_) => Some(Frame {
+            class: "full",
+            round: 2,
+            strike: Strike::Walls,
         }),
         Kind::Begun(row) => begun_frame(row),
         Kind::Done | Kind::Removed | Kind::Left | Kind::Said => Some(Frame {
             class: "said",
             round: 2,
-            is_crossed: false,
+            strike: Strike::None,
         }),
         _ => None,
     }
