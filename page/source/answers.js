@@ -46,7 +46,7 @@ class AnswersView {
     this.head.replaceChildren(...heads.map(({ title, look }) => textElement("th", title, { scope: "col", class: look })));
     Object.assign(this, { turns, columns, stop: clamp(this.stop, 0, Math.max(0, turns.length - 1)) });
     this.table.setAttribute("aria-rowcount", turns.length + 1);
-    this.table.style.setProperty("--digits", String(turns.at(-1)?.number ?? "").length);
+    this.table.style.setProperty("--digits", Math.max(2, String(turns.at(-1)?.number ?? "").length));
     this.make(this.isWhole ? 0 : clamp(this.first, 0, turns.length - ROWS_AT_ONCE));
   }
 

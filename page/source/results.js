@@ -167,12 +167,13 @@ function pointAt(turn, cell) {
   markAll(turn.number, turn, cell);
   if (isBad(turn.answer)) reasons.explainFirst(turn);
   const told = cell ? sentenceOf(cell) : tellTurn(turn);
+  const joint = hasMarks(turn) ? ". " : "; ";
   byId("pointed").replaceChildren(
     `Line ${turn.number} `,
     textElement("code", turn.text),
     " answers ",
     textElement("strong", turn.answer ?? "nothing"),
-    told ? `. ${told}.` : ".",
+    `${joint}${told}.`,
   );
 }
 

@@ -27,12 +27,20 @@ function sentenceOf(cell) {
   return cell.sentence;
 }
 
+/** The cells of a line on rows. */
+function cellsOf({ column }) {
+  return page.runs[0]?.picture.columns[column]?.filter(({ row }) => row > 0) ?? [];
+}
+
+function hasMarks(turn) {
+  return cellsOf(turn).length > 0;
+}
+
 /** The sentences on all marks of a line; where it has none, why. */
-function tellTurn({ column, number, words, answer }) {
-  const cells = page.runs[0]?.picture.columns[column]?.filter(({ row }) => row > 0) ?? [];
-  if (cells.length > 0) return cells.map(sentenceOf).join("; ");
-  if (isBad(answer)) return `${BAD_LINE}${reasonAt(number, ": ")}`;
-  return words[0] === "cold" ? COLD_LINE : REFUSED_LINE;
+function tellTurn(turn) {
+  if (hasMarks(turn)) return cellsOf(turn).map(sentenceOf).join("; ");
+  if (isBad(turn.answer)) return `${BAD_LINE}${reasonAt(turn.number, ": ")}`;
+  return turn.words[0] === "cold" ? COLD_LINE : REFUSED_LINE;
 }
 
 /** The emission that a cell shows, if it shows one: { flow, emission }. On a flow's row its number stands above it. */
