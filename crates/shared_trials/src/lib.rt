@@ -31,6 +31,8 @@ mod ticks;
 #[cfg(test)]
 mod tools;
 #[cfg(test)]
+mod waiting_looks;
+#[cfg(test)]
 mod waiting_rows;
 #[cfg(test)]
 mod waiting_together;

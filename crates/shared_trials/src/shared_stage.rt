@@ -164,6 +164,11 @@ impl Emitting {
         }
     }
 
+    /// How often its task was woken so far.
+    pub(crate) fn wakes(&mut self) -> u32 {
+        self.watcher.wakes()
+    }
+
     // The answer with the number of a receipt, which has to be this emitter's.
     fn received(&self, receipt: &Receipt, answer: Answer) -> Answer {
         if receipt.emitter() == self.id {
@@ -386,9 +391,9 @@ impl Stage {
         [
             self.a.watcher.wakes(),
             self.b.watcher.wakes(),
-            self.first.watcher.wakes(),
-            self.second.watcher.wakes(),
-            self.third.watcher.wakes(),
+            self.first.wakes(),
+            self.second.wakes(),
+            self.third.wakes(),
         ]
     }
 

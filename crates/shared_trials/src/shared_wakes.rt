@@ -2,15 +2,20 @@
 
 use crate::shared_rows::PLAIN;
 use crate::shared_stage::Answer::{
-    Accepted, Cancelled, Count, Done, Dropped, Full, Nothing, Pending, Removed, Reset, Subscribed,
-    Value, Waiting,
+    Accepted, Cancelled, Count, Done, Dropped, Full, Left, Nothing, Pending, Removed, Reset,
+    Subscribed, Value, Waiting,
 };
 use crate::shared_stage::Call::{Ask, Cancel, Emit, Next, Subscribe, Take, TakeBack, Try};
 use crate::shared_stage::Party::{A, B, First, Owner, Second, Third};
-use crate::shared_stage::{Call, Line, watched};
-use crate::tools::Differences;
+use crate::shared_stage::{Answer, Call, Emitting, Line, Listening, watched};
+use crate::tools::{Differences, assert_same};
 use cold_flow::Policy;
 use shared_core::Config;
+use shared_flow::SharedFlow;
+use std::alloc::AllocGlobal;
+use std::process::Abort;
+use std::random::RandomSource;
+use std::sync::Wait;
 use std::test::Fail;
 
 /// The calls on a new flow with their answers, and the wakes so far after each.
@@ -19,6 +24,13 @@ struct Row<'a> {
     config: Config,
     lines: &'a [(Line, [u32; 5])],
 }
+
+/// One emission may be in flight, so one may sleep.
+const ONE_BED: Config = Config {
+    extra: 1,
+    emits: 1,
+    ..PLAIN
+};
 
 const ROWS: &[Row<'_>] = &[
     Row {
@@ -242,7 +254,138 @@ const ROWS: &[Row<'_>] = &[
             ((First, Ask, Done(0)), [0, 0, 1, 0, 0]),
         ],
     },
+    // It is let in by its own poll, since the receipt has woken nobody. One that finds the only bed taken doesn't sleep: its task is
+    // woken at once.
+    Row {
+        name: "a poll that ends its emission leaves the bed",
+        config: ONE_BED,
+        lines: &[
+            ((A, Subscribe, Subscribed), [0, 0, 0, 0, 0]),
+            ((First, Try(0), Accepted(0)), [0, 0, 0, 0, 0]),
+            ((First, Emit(1), Waiting), [0, 0, 0, 0, 0]),
+            ((First, Ask, Pending), [0, 0, 0, 0, 0]),
+            ((A, Take, Value(0)), [0, 0, 0, 0, 0]),
+            ((First, Ask, Done(1)), [0, 0, 1, 0, 0]),
+            ((First, Emit(2), Waiting), [0, 0, 1, 0, 0]),
+            ((First, Ask, Pending), [0, 0, 1, 0, 0]),
+            ((A, Next, Value(1)), [0, 0, 2, 0, 0]),
+            ((First, Ask, Done(2)), [0, 0, 2, 0, 0]),
+            ((Second, Emit(3), Waiting), [0, 0, 2, 0, 0]),
+            ((Second, Ask, Pending), [0, 0, 2, 0, 0]),
+            ((A, Next, Value(2)), [0, 0, 2, 1, 0]),
+            ((Second, Ask, Done(3)), [0, 0, 2, 1, 0]),
+        ],
+    },
+    Row {
+        name: "a poll that ends a hand over leaves the bed",
+        config: Config {
+            extra: 0,
+            ..ONE_BED
+        },
+        lines: &[
+            ((A, Subscribe, Subscribed), [0, 0, 0, 0, 0]),
+            ((First, Emit(0), Waiting), [0, 0, 0, 0, 0]),
+            ((First, Ask, Pending), [0, 0, 0, 0, 0]),
+            ((A, Take, Value(0)), [0, 0, 0, 0, 0]),
+            ((First, Ask, Done(0)), [0, 0, 1, 0, 0]),
+            ((Second, Emit(1), Waiting), [0, 0, 1, 0, 0]),
+            ((Second, Ask, Pending), [0, 0, 1, 0, 0]),
+            ((A, Next, Value(1)), [0, 0, 1, 1, 0]),
+            ((Second, Ask, Done(1)), [0, 0, 1, 1, 0]),
+        ],
+    },
+    Row {
+        name: "a withdrawal leaves the bed, whether it came too late or not",
+        config: ONE_BED,
+        lines: &[
+            ((A, Subscribe, Subscribed), [0, 0, 0, 0, 0]),
+            ((First, Try(0), Accepted(0)), [0, 0, 0, 0, 0]),
+            ((First, Emit(1), Waiting), [0, 0, 0, 0, 0]),
+            ((First, Ask, Pending), [0, 0, 0, 0, 0]),
+            ((A, Take, Value(0)), [0, 0, 0, 0, 0]),
+            ((First, TakeBack, Left(1)), [0, 0, 1, 0, 0]),
+            ((First, Emit(2), Waiting), [0, 0, 1, 0, 0]),
+            ((First, Ask, Pending), [0, 0, 1, 0, 0]),
+            ((First, TakeBack, Removed), [0, 0, 2, 0, 0]),
+            ((Second, Emit(3), Waiting), [0, 0, 2, 0, 0]),
+            ((Second, Ask, Pending), [0, 0, 2, 0, 0]),
+            ((A, Next, Value(1)), [0, 0, 2, 1, 0]),
+            ((Second, Ask, Done(2)), [0, 0, 2, 1, 0]),
+        ],
+    },
+    Row {
+        name: "a cancelled subscription leaves the bed",
+        config: Config {
+            subscribers: 1,
+            ..ONE_BED
+        },
+        lines: &[
+            ((A, Subscribe, Subscribed), [0, 0, 0, 0, 0]),
+            ((A, Next, Pending), [0, 0, 0, 0, 0]),
+            ((A, Cancel, Cancelled), [1, 0, 0, 0, 0]),
+            ((B, Subscribe, Subscribed), [1, 0, 0, 0, 0]),
+            ((B, Next, Pending), [1, 0, 0, 0, 0]),
+            ((First, Try(0), Accepted(0)), [1, 1, 0, 0, 0]),
+            ((B, Take, Value(0)), [1, 1, 0, 0, 0]),
+            ((B, Next, Pending), [1, 1, 0, 0, 0]),
+            ((First, Try(1), Accepted(1)), [1, 2, 0, 0, 0]),
+        ],
+    },
+    // Its own look lets the value in, which wakes all that sleep; the next value wakes it no more.
+    Row {
+        name: "a poll that receives leaves the bed",
+        config: ONE_BED,
+        lines: &[
+            ((A, Subscribe, Subscribed), [0, 0, 0, 0, 0]),
+            ((B, Subscribe, Subscribed), [0, 0, 0, 0, 0]),
+            ((First, Try(0), Accepted(0)), [0, 0, 0, 0, 0]),
+            ((A, Take, Value(0)), [0, 0, 0, 0, 0]),
+            ((A, Next, Pending), [0, 0, 0, 0, 0]),
+            ((Second, Emit(1), Waiting), [0, 0, 0, 0, 0]),
+            ((B, Take, Value(0)), [0, 0, 0, 0, 0]),
+            ((A, Next, Value(1)), [1, 0, 0, 0, 0]),
+            ((Second, Ask, Done(1)), [1, 0, 0, 0, 0]),
+            ((B, Take, Value(1)), [1, 0, 0, 0, 0]),
+            ((First, Try(2), Accepted(2)), [1, 0, 0, 0, 0]),
+            ((A, Next, Value(2)), [1, 0, 0, 0, 0]),
+            ((A, Next, Pending), [1, 0, 0, 0, 0]),
+        ],
+    },
 ];
+
+// What became of an emission that slept when its emitter was closed, where a value before it was taken without the lock, or not;
+// and how often the next emission was woken, which sleeps.
+fn closed<R>(rt: &R, is_taken: bool) -> (Answer, Answer, u32)
+where
+    R: Wait + Abort + RandomSource + AllocGlobal,
+{
+    let mut flow = SharedFlow::new(rt.alloc(), ONE_BED).expect(rt, "a flow");
+    let mut first = Emitting::new(rt, &mut flow, 1);
+    let mut second = Emitting::new(rt, &mut flow, 2);
+    let mut a = Listening::new(rt);
+    a.subscribe(rt, &mut flow);
+    first.perform(rt, Try(0));
+    first.perform(rt, Emit(1));
+    first.perform(rt, Ask);
+    if is_taken {
+        a.take();
+    }
+    let ended = first.end(rt);
+    second.perform(rt, Emit(2));
+    let asked = second.perform(rt, Ask);
+    let wakes = second.wakes();
+    second.close(rt);
+    a.leave(rt);
+    (ended, asked, wakes)
+}
+
+#[test]
+fn who_is_closed_leaves_the_bed(rt: HostRuntime) {
+    let removed = closed(&rt, false);
+    assert_same(&rt, "it waited", removed, (Removed, Pending, 0));
+    let left = closed(&rt, true);
+    assert_same(&rt, "it was let in", left, (Left(1), Pending, 0));
+}
 
 #[test]
 fn calls_wake(rt: HostRuntime) -> Result<(), Fail> {

@@ -7,7 +7,7 @@ use crate::shared_stage::config;
 use crate::tools::assert_same;
 use cold_flow::{Policy, Refusal};
 use hot_callers::asked;
-use shared_core::Tried;
+use shared_core::{Begun, Tried, Withdrawn};
 use shared_flow::{Emitter, Parker, Receipt, SharedFlow, Subscription};
 use std::alloc::AllocGlobal;
 use std::process::Abort;
@@ -215,6 +215,48 @@ fn what_is_there_is_answered_at_once(rt: HostRuntime) {
     let made = SharedFlow::<u64>::new(rt.alloc(), config(0, 1, Policy::DropLatest));
     let mut flow = made.expect(&rt, "a flow");
     assert_answered_at_once(&rt, &mut flow, &mut parker);
+}
+
+// How often, of so many values, one that waits for the next lets it in itself: its looks before it would sleep find nothing, since
+// the emission waits for another subscription, whose receipt wakes nobody, and its look under the lock lets that emission in.
+fn let_in<R: Wait + Abort>(
+    rt: &R,
+    flow: &mut SharedFlow<u64>,
+    parker: &mut Parker,
+    values: u64,
+) -> u64 {
+    let mut emitter = flow.emitter(rt, 1).expect(rt, "an emitter");
+    let mut waiting = flow.subscribe(rt).expect(rt, "a subscription");
+    let mut other = flow.subscribe(rt).expect(rt, "a subscription");
+    let mut count: u64 = 0;
+    let _first = emitter.try_emit(rt, 0);
+    let _taken = waiting.try_next();
+    for value in 1..=values {
+        if emitter.in_flight() {
+            break;
+        }
+        let begun = emitter.start_emit(rt, value);
+        let _taken = other.try_next();
+        let found = received(rt, &mut waiting, parker);
+        let withdrawn = emitter.cancel_emit(rt);
+        let waited = matches!(begun, Ok(Begun::Waiting(())));
+        if waited && found == Ok(value) && matches!(withdrawn, Withdrawn::Left(_)) {
+            count = count.saturating_add(1);
+        }
+    }
+    waiting.cancel(rt);
+    other.cancel(rt);
+    emitter.close(rt);
+    count
+}
+
+#[test]
+fn one_that_waits_lets_in_what_it_waits_for(rt: HostRuntime) {
+    let mut parker = Parker::new(&rt).expect(&rt, "a parker");
+    let made = SharedFlow::<u64>::new(rt.alloc(), config(0, 1, Policy::Suspend));
+    let mut flow = made.expect(&rt, "a flow");
+    let count = let_in(&rt, &mut flow, &mut parker, 3);
+    assert_same(&rt, "let in and received", count, 3);
 }
 
 // The number of a receipt.
