@@ -9,7 +9,7 @@ ghost use Rattle.marble_marks.specs.Turns.{asked_of, saying_in};
 use flow_script::{CoreObject, Engine, LaneObject, LineAnswer, ScriptFault, answers_of};
 use marble_marks::{Said, marks};
 use marble_pictures::{svg_picture, text_picture};
-use script_commands::ScriptObject;
+use script_commands::{NameHash, ScriptObject};
 use std::alloc::{AllocError, AllocGlobal, Global};
 use std::random::RandomSource;
 use std::sync::Wait;
@@ -35,21 +35,26 @@ fn said_of(alloc: Global, answers: Vec<LineAnswer>) -> Result<Vec<Said>, AllocEr
 }
 
 /// The picture in SVG of a script with these answers.
-fn svg_of(alloc: Global, script: &[u8], said: &[Said]) -> Result<String, AllocError>
+fn svg_of(alloc: Global, hash: NameHash, script: &[u8], said: &[Said]) -> Result<String, AllocError>
     requires { length script.now ≤ 1048576 }
     ensures { IfOk result (λ picture. DrawsLines (asked_of script.now (map saying_in said.now)) (string_bytes picture)) }
 {
-    let mut marks = marks(alloc, script, said)?;
+    let mut marks = marks(alloc, hash, script, said)?;
     let picture = svg_picture(alloc, &mut marks)?;
     Ok(picture)
 }
 
 /// The picture in characters of a script with these answers.
-fn text_of(alloc: Global, script: &[u8], said: &[Said]) -> Result<String, AllocError>
+fn text_of(
+    alloc: Global,
+    hash: NameHash,
+    script: &[u8],
+    said: &[Said],
+) -> Result<String, AllocError>
     requires { length script.now ≤ 1048576 }
     ensures { IfOk result (λ picture. ShowsLines Text (asked_of script.now (map saying_in said.now)) (string_bytes picture)) }
 {
-    let mut marks = marks(alloc, script, said)?;
+    let mut marks = marks(alloc, hash, script, said)?;
     let picture = text_picture(alloc, &mut marks)?;
     Ok(picture)
 }
@@ -57,6 +62,7 @@ fn text_of(alloc: Global, script: &[u8], said: &[Said]) -> Result<String, AllocE
 /// The picture of a script with these answers.
 fn picture_of(
     alloc: Global,
+    hash: NameHash,
     form: Form,
     script: &[u8],
     answers: Vec<LineAnswer>,
@@ -66,8 +72,8 @@ fn picture_of(
 {
     let said = said_of(alloc, answers)?;
     match form {
-        Form::Svg => svg_of(alloc, script, &said),
-        Form::Text => text_of(alloc, script, &said),
+        Form::Svg => svg_of(alloc, hash, script, &said),
+        Form::Text => text_of(alloc, hash, script, &said),
     }
 }
 
@@ -89,7 +95,7 @@ pub fn draw_script<'r, H: Wait + RandomSource + AllocGlobal>(
         form script.now result) }
 {
     let answers = answers_of(rt, engine, script)?;
-    match picture_of(rt.alloc(), form, script, answers) {
+    match picture_of(rt.alloc(), NameHash::new(rt), form, script, answers) {
         Ok(picture) => Ok(picture),
         Err(_) => Err(ScriptFault::NoMemory),
     }

@@ -3,22 +3,23 @@
 ghost use Rattle.std.specs.Prelude.{◌≡◌, ℕ, List, None, OnOk, bytes_eq, is_some, true, false};
 ghost use Rattle.marble_marks.specs.Firsts.{noted_of, first};
 
+use script_commands::NameHash;
 use std::alloc::{AllocError, Global};
 use std::collections::HashMap;
 
 /// A number for each of some names: the first that was noted of it.
 #[derive(Drop)]
 pub(crate) struct Firsts<'a> {
-    noted: HashMap<&'a [u8], usize>,
+    noted: HashMap<&'a [u8], usize, NameHash>,
 }
 
 impl<'a> Firsts<'a> {
-    /// Nothing is noted.
-    pub(crate) fn new(alloc: Global) -> Firsts<'a>
+    /// Nothing is noted. Names are hashed so.
+    pub(crate) fn new(alloc: Global, hash: NameHash) -> Firsts<'a>
         ensures { (name : List ℕ) → noted_of result name ≡ None }
     {
         Firsts {
-            noted: HashMap::new(alloc),
+            noted: HashMap::with_hasher(alloc, hash),
         }
     }
 

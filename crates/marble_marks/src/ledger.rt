@@ -8,7 +8,7 @@ use crate::loss::Loss;
 use crate::reply::Reply;
 use crate::turn::Turn;
 use flow_terms::Policy;
-use script_commands::{Command, Making, Party, Request};
+use script_commands::{Command, Making, NameHash, Party, Request};
 use std::alloc::{AllocError, Global};
 use std::collections::HashMap;
 
@@ -59,7 +59,7 @@ struct Ledger<'a> {
     host_of: Firsts<'a>,
     guests: Vec<Guest>,
     /// The last guest of each name.
-    guest_of: HashMap<&'a [u8], usize>,
+    guest_of: HashMap<&'a [u8], usize, NameHash>,
     losses: Vec<Loss>,
 }
 
@@ -284,13 +284,17 @@ impl<'a> Ledger<'a> {
     }
 }
 
-/// The values that made way in these lines.
-pub(crate) fn losses_in(alloc: Global, turns: &[Turn<'_>]) -> Result<Vec<Loss>, AllocError> {
+/// The values that made way in these lines. Names are hashed so.
+pub(crate) fn losses_in(
+    alloc: Global,
+    hash: NameHash,
+    turns: &[Turn<'_>],
+) -> Result<Vec<Loss>, AllocError> {
     let mut ledger = Ledger {
         hosts: Vec::new(alloc),
-        host_of: Firsts::new(alloc),
+        host_of: Firsts::new(alloc, hash),
         guests: Vec::new(alloc),
-        guest_of: HashMap::new(alloc),
+        guest_of: HashMap::with_hasher(alloc, hash),
         losses: Vec::new(alloc),
     };
     for (line, turn) in turns.iter().enumerate() {

@@ -21,6 +21,7 @@ use crate::rows::Rows;
 use crate::said::Said;
 use crate::tickets::Tickets;
 use crate::turn::{Turn, turns};
+use script_commands::NameHash;
 use std::alloc::{AllocError, Global};
 
 /// What a line shows on a row.
@@ -118,10 +119,11 @@ fn marks_in<'a>(
 
 /// The marks of a script with these answers, each to the line with its number, in their order. First come the
 /// marks of what each answer shows by itself, in the order of the lines; then those of the emissions' numbers, and of the
-/// values that made way.
+/// values that made way. Names are hashed so.
 #[tactic(auto, using(crate::proofs::Receiving::all_counted))]
 pub fn marks<'a>(
     alloc: Global,
+    hash: NameHash,
     script: &'a [u8],
     answers: &'a [Said],
 ) -> Result<Vec<Mark<'a>>, AllocError>
@@ -132,9 +134,9 @@ pub fn marks<'a>(
     let turns = turns(alloc, script, answers)?;
     let names = names_in(alloc, &turns)?;
     let acts = acts(alloc, &turns)?;
-    let losses = losses_in(alloc, &turns)?;
-    let rows = Rows::of(alloc, &names)?;
-    let tickets = Tickets::of(alloc, &acts)?;
+    let losses = losses_in(alloc, hash, &turns)?;
+    let rows = Rows::of(alloc, hash, &names)?;
+    let tickets = Tickets::of(alloc, hash, &acts)?;
     let guests = Guests::of(alloc, &rows, &acts)?;
     let mut marks = marks_in(alloc, &rows, &turns)?;
     add_numbers(alloc, &mut marks, &rows, &tickets)?;

@@ -5,6 +5,7 @@ ghost use Rattle.marble_marks.specs.Marks.{row_of};
 ghost use Rattle.marble_marks.specs.Firsts.{noted_of};
 
 use crate::firsts::Firsts;
+use script_commands::NameHash;
 use std::alloc::{AllocError, Global};
 
 /// The names that have rows, each with its row.
@@ -19,10 +20,14 @@ pub(crate) struct Rows<'n, 'a> {
 
 impl<'n, 'a> Rows<'n, 'a> {
     /// The rows of these names, in their order.
-    pub(crate) fn of(alloc: Global, names: &'n [&'a [u8]]) -> Result<Rows<'n, 'a>, AllocError>
+    pub(crate) fn of(
+        alloc: Global,
+        hash: NameHash,
+        names: &'n [&'a [u8]],
+    ) -> Result<Rows<'n, 'a>, AllocError>
         ensures { IfOk result (λ rows. rows.names.now ≡ names.now) }
     {
-        let mut found = Firsts::new(alloc);
+        let mut found = Firsts::new(alloc, hash);
         let mut row = 1;
         for name in names {
             found.note(*name, row)?;

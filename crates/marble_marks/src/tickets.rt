@@ -11,6 +11,7 @@ ghost use Rattle.marble_marks.specs.Firsts.{noted_of, first};
 
 use crate::deed::{Act, Deed};
 use crate::firsts::Firsts;
+use script_commands::NameHash;
 use std::alloc::{AllocError, Global};
 
 /// What these lines tell of emissions that had to wait.
@@ -64,10 +65,10 @@ fn note_removed<'a>(
 }
 
 /// Which emissions have to wait.
-fn waiting_in<'a>(alloc: Global, acts: &[Act<'a>]) -> Result<Firsts<'a>, AllocError>
+fn waiting_in<'a>(alloc: Global, hash: NameHash, acts: &[Act<'a>]) -> Result<Firsts<'a>, AllocError>
     ensures { IfOk result (λ waiting. (ticket : List ℕ) → is_some (noted_of waiting ticket) ≡ is_waiting ticket (map done_in acts.now)) }
 {
-    let mut waiting = Firsts::new(alloc);
+    let mut waiting = Firsts::new(alloc, hash);
     for act in acts {
         note_waiting(&mut waiting, *act)?;
     }
@@ -77,12 +78,13 @@ fn waiting_in<'a>(alloc: Global, acts: &[Act<'a>]) -> Result<Firsts<'a>, AllocEr
 /// Where emissions are said to have been accepted, of those that have to wait.
 fn finished_in<'a>(
     alloc: Global,
+    hash: NameHash,
     waiting: &Firsts<'_>,
     acts: &[Act<'a>],
 ) -> Result<Firsts<'a>, AllocError>
     ensures { IfOk result (λ finished. (ticket : List ℕ) → is_some (noted_of waiting.now ticket) ≡ true → noted_of finished ticket ≡ finished_at ticket (map done_in acts.now)) }
 {
-    let mut finished = Firsts::new(alloc);
+    let mut finished = Firsts::new(alloc, hash);
     for act in acts {
         note_finished(&mut finished, waiting, *act)?;
     }
@@ -92,12 +94,13 @@ fn finished_in<'a>(
 /// Which emissions were taken back, of those that have to wait.
 fn removed_in<'a>(
     alloc: Global,
+    hash: NameHash,
     waiting: &Firsts<'_>,
     acts: &[Act<'a>],
 ) -> Result<Firsts<'a>, AllocError>
     ensures { IfOk result (λ removed. (ticket : List ℕ) → is_some (noted_of waiting.now ticket) ≡ true → is_some (noted_of removed ticket) ≡ is_removed ticket (map done_in acts.now)) }
 {
-    let mut removed = Firsts::new(alloc);
+    let mut removed = Firsts::new(alloc, hash);
     for act in acts {
         note_removed(&mut removed, waiting, *act)?;
     }
@@ -106,12 +109,16 @@ fn removed_in<'a>(
 
 impl<'b, 'a> Tickets<'b, 'a> {
     /// What these lines tell.
-    pub(crate) fn of(alloc: Global, acts: &'b [Act<'a>]) -> Result<Tickets<'b, 'a>, AllocError>
+    pub(crate) fn of(
+        alloc: Global,
+        hash: NameHash,
+        acts: &'b [Act<'a>],
+    ) -> Result<Tickets<'b, 'a>, AllocError>
         ensures { IfOk result (λ tickets. tickets.acts.now ≡ acts.now) }
     {
-        let waiting = waiting_in(alloc, acts)?;
-        let finished = finished_in(alloc, &waiting, acts)?;
-        let removed = removed_in(alloc, &waiting, acts)?;
+        let waiting = waiting_in(alloc, hash, acts)?;
+        let finished = finished_in(alloc, hash, &waiting, acts)?;
+        let removed = removed_in(alloc, hash, &waiting, acts)?;
         Ok(Tickets {
             acts,
             finished,

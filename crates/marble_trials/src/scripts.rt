@@ -4,7 +4,7 @@ use crate::made::Dice;
 use crate::start;
 use marble_marks::{Mark, Said, marks};
 use marble_pictures::svg_picture;
-use script_commands::Answer;
+use script_commands::{Answer, NameHash};
 use std::alloc::{AllocError, Global};
 use std::fmt::Write;
 use std::test::Fail;
@@ -178,14 +178,14 @@ fn said_first(alloc: Global, answers: &[Made]) -> Result<Vec<start::Said>, Alloc
 }
 
 /// Whether both forms make the same marks of a script, in the same order.
-fn have_same_marks(alloc: Global, made: &Answered) -> Result<bool, AllocError> {
+fn have_same_marks(alloc: Global, hash: NameHash, made: &Answered) -> Result<bool, AllocError> {
     let script = made.script.as_bytes();
     if script.len() > 1048576 {
         return Ok(false);
     }
     let ones_said = said_now(alloc, &made.answers)?;
     let others_said = said_first(alloc, &made.answers)?;
-    let mut ones = marks(alloc, script, &ones_said)?;
+    let mut ones = marks(alloc, hash, script, &ones_said)?;
     let mut others = start::marks(alloc, script, &others_said)?;
     let same = have_same_places(&ones, &others);
     let one = svg_picture(alloc, &mut ones)?;
@@ -198,7 +198,7 @@ fn have_same_marks(alloc: Global, made: &Answered) -> Result<bool, AllocError> {
 fn marks_are_what_they_were(rt: HostRuntime) -> Result<(), Fail> {
     for seed in 0..SCRIPTS {
         let made = make_answered(rt.alloc(), &mut Dice::new(seed), Size::Short)?;
-        let same = have_same_marks(rt.alloc(), &made)?;
+        let same = have_same_marks(rt.alloc(), NameHash::new(&rt), &made)?;
         assert!(rt; same, "script {seed}");
     }
     Ok(())
@@ -209,7 +209,7 @@ fn marks_are_what_they_were(rt: HostRuntime) -> Result<(), Fail> {
 fn marks_of_many_names_are_what_they_were(rt: HostRuntime) -> Result<(), Fail> {
     for seed in 0..LONG_SCRIPTS {
         let made = make_answered(rt.alloc(), &mut Dice::new(seed), Size::Long)?;
-        let same = have_same_marks(rt.alloc(), &made)?;
+        let same = have_same_marks(rt.alloc(), NameHash::new(&rt), &made)?;
         assert!(rt; same, "script {seed}");
     }
     Ok(())
