@@ -1,4 +1,4 @@
-//! Workloads of flows: `flow_workloads [events|threads|chains SEED]`.
+//! Workloads of flows: `flow_workloads [events|threads|chains|edges|CASE SEED]`, where CASE is one of the cases of `edges`.
 //!
 //! With a name and a number below 2^32 it makes that workload's own inputs from the number, runs them, and writes a digest of all
 //! results. Without words it does a thousandth of each, for the number 1. The status is 0 where all was run, 1 for a fault, which is
@@ -9,14 +9,20 @@ mod actions;
 mod chains;
 mod course;
 mod crowd;
+mod edge_calls;
+mod edges;
 mod events;
 mod fan_out;
 mod fault;
 mod halves;
+mod laggards;
 mod listeners;
+mod lookups;
 mod merges;
+mod narrow;
 mod pending;
 mod repeated;
+mod rows;
 mod sharing;
 mod states;
 mod tally;

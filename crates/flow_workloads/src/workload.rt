@@ -1,7 +1,8 @@
 //! The workloads, by their names.
 
+use crate::edges::Edge;
 use crate::fault::Fault;
-use crate::{chains, events, threads};
+use crate::{chains, edges, events, threads};
 use std::alloc::AllocGlobal;
 use std::random::RandomSource;
 use std::sync::Wait;
@@ -17,6 +18,10 @@ pub(crate) enum Workload {
     Threads,
     /// Cold flows through operators, and shared ones.
     Chains,
+    /// Calls that the others don't make: each case.
+    Edges,
+    /// One case of them.
+    Edge(Edge),
 }
 
 /// A workload, and the number that its inputs are made from.
@@ -28,7 +33,12 @@ pub(crate) struct Order {
 
 impl Workload {
     /// Each of them.
-    pub(crate) const ALL: [Workload; 3] = [Workload::Events, Workload::Threads, Workload::Chains];
+    pub(crate) const ALL: [Workload; 4] = [
+        Workload::Events,
+        Workload::Threads,
+        Workload::Chains,
+        Workload::Edges,
+    ];
 
     /// Its name.
     pub(crate) fn name(self) -> &'static str {
@@ -36,6 +46,8 @@ impl Workload {
             Workload::Events => "events",
             Workload::Threads => "threads",
             Workload::Chains => "chains",
+            Workload::Edges => "edges",
+            Workload::Edge(edge) => edge.name(),
         }
     }
 
@@ -45,7 +57,8 @@ impl Workload {
             "events" => Some(Workload::Events),
             "threads" => Some(Workload::Threads),
             "chains" => Some(Workload::Chains),
-            _ => None,
+            "edges" => Some(Workload::Edges),
+            _ => Edge::named(name).map(Workload::Edge),
         }
     }
 
@@ -58,6 +71,8 @@ impl Workload {
             Workload::Events => events::run(rt.alloc(), seed, scale),
             Workload::Threads => threads::run(rt, seed, scale),
             Workload::Chains => chains::run(rt, seed, scale),
+            Workload::Edges => edges::run(rt.alloc(), seed, scale),
+            Workload::Edge(edge) => edge.run(rt.alloc(), seed, scale),
         }
     }
 }
