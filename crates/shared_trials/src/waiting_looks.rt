@@ -51,6 +51,12 @@ fn received_as_one_leaves<R: Wait + Threads + Sync>(
     found
 }
 
+// Emits a value, which waits, and asks for it.
+fn fall_asleep(rt: &impl Wait, emitting: &mut Emitting, value: u64) {
+    emitting.perform(rt, Call::Emit(value));
+    emitting.perform(rt, Call::Ask);
+}
+
 /// An owner, two emitters, and a subscription that waits by its parker.
 struct Scene {
     flow: SharedFlow<u64>,
@@ -80,10 +86,8 @@ impl Scene {
         let mut leaving = self.flow.subscribe(rt).ok();
         self.first.perform(rt, Call::Try(0));
         let _taken = self.waiting.try_next();
-        for (emitting, value) in [(&mut self.first, 1), (&mut self.second, 2)] {
-            emitting.perform(rt, Call::Emit(value));
-            emitting.perform(rt, Call::Ask);
-        }
+        fall_asleep(rt, &mut self.first, 1);
+        fall_asleep(rt, &mut self.second, 2);
         let before = self.second.wakes();
         let found = received_as_one_leaves(rt, &mut self.waiting, &mut self.parker, &mut leaving);
         let is_woken = self.second.wakes() > before;
