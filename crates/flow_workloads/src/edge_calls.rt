@@ -65,12 +65,7 @@ pub(crate) fn take(flow: &mut SharedState<u64>, id: SubId, digest: &mut Digest) 
 }
 
 /// The subscription at this place takes one value.
-pub(crate) fn take_at(
-    flow: &mut SharedState<u64>,
-    ids: &[SubId],
-    at: usize,
-    digest: &mut Digest,
-) {
+pub(crate) fn take_at(flow: &mut SharedState<u64>, ids: &[SubId], at: usize, digest: &mut Digest) {
     if let Some(id) = ids.get(at) {
         take(flow, *id, digest);
     }
