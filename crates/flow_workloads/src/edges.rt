@@ -89,9 +89,9 @@ impl Edge {
     /// Makes its calls, each emission with this value.
     pub(crate) fn run(self, alloc: Global, value: u64, scale: Scale) -> Result<Digest, Fault> {
         match self {
-            Edge::Laggard1024 => laggards::one(alloc, value, 1024, scale.of(400_000)),
-            Edge::Laggard8 => laggards::one(alloc, value, 8, scale.of(6_000_000)),
-            Edge::TwoLaggards => laggards::two(alloc, value, scale.of(400_000)),
+            Edge::Laggard1024 => laggards::one(alloc, value, 1024, scale.of(7)),
+            Edge::Laggard8 => laggards::one(alloc, value, 8, scale.of(100)),
+            Edge::TwoLaggards => laggards::two(alloc, value, scale.of(7)),
             Edge::Nobody => narrow::nobody(alloc, value, scale.of(20_000_000)),
             Edge::Oldest => narrow::oldest(alloc, value, scale.of(10_000_000)),
             Edge::FrontGap => lookups::front_gap(alloc, value, scale.of(40)),

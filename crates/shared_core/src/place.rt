@@ -32,6 +32,23 @@ fn place_without_gaps(places: &[Place], number: u64) -> Option<usize>
     None
 }
 
+/// The same, if none from it on was cancelled before the last live one: it is as many places before that one as its number is before
+/// that one's.
+#[inline]
+fn place_from_last(places: &[Place], number: u64) -> Option<usize>
+    ensures found { IfSome result (λ i. (p : _) × (slice_get places.now i ≡ Some p) × (p.number ≡ number)) }
+{
+    let last = places.last()?;
+    // A number after the last one, or too far before it, wraps to an index past it.
+    let after = last.number.wrapping_sub(number) as usize;
+    let at = places.len().wrapping_sub(1).wrapping_sub(after);
+    let place = places.get(at)?;
+    if place.number == number {
+        return Some(at);
+    }
+    None
+}
+
 /// Where the subscription with this number has its place, among so many places from `from` on: a binary search, since places
 /// stand by rising numbers.
 fn place_among(places: &[Place], number: u64, from: usize, count: usize) -> Option<usize>
@@ -66,18 +83,14 @@ fn is_place(places: &[Place], number: u64, at: usize) -> bool
     place.number == number
 }
 
-/// Where the subscription with this number may have its place: numbers rise, so it is at most as many places after the first one as
-/// its number is after that one's, and at most as many before the last one as its number is before that one's. Where none was
-/// cancelled from it on, the lower bound is its place.
+/// Where the subscription with this number has its place: numbers rise, so it is at most as many places after the first one as its
+/// number is after that one's, and at most as many before the last one as its number is before that one's.
 fn place_between(places: &[Place], number: u64) -> Option<usize>
     ensures found { IfSome result (λ i. (p : _) × (slice_get places.now i ≡ Some p) × (p.number ≡ number)) }
     ensures none { IfNone result (Rises (λ p. p.number) places.now → list_any (λ p. p.number == number) places.now ≡ false) }
 {
     let end = places.len().checked_sub(1)?;
     let low = end.saturating_sub(places[end].number.saturating_sub(number) as usize);
-    if places[low].number == number {
-        return Some(low);
-    }
     let high = end.min(number.saturating_sub(places[0].number) as usize);
     place_among(places, number, low, (high + 1).saturating_sub(low))
 }
@@ -96,8 +109,8 @@ fn place_listed(places: &[Place], number: u64) -> Option<usize>
     None
 }
 
-/// Where the subscription with this number has its place among many, where others between the first one and it may have gone: often
-/// the one that received last, at `recent`, or the one after that.
+/// Where the subscription with this number has its place among many, where others between the first one and it may have gone. Often
+/// none after it has gone, or it is the one that received last, at `recent`, or the one after that.
 //
 // Not inlined, so that a receipt without gaps keeps its registers.
 #[inline(never)]
@@ -105,6 +118,9 @@ fn place_with_gaps(places: &[Place], number: u64, recent: usize) -> Option<usize
     ensures found { IfSome result (λ i. (p : _) × (slice_get places.now i ≡ Some p) × (p.number ≡ number)) }
     ensures none { IfNone result (Rises (λ p. p.number) places.now → list_any (λ p. p.number == number) places.now ≡ false) }
 {
+    if let Some(at) = place_from_last(places, number) {
+        return Some(at);
+    }
     if is_place(places, number, recent) {
         return Some(recent);
     }

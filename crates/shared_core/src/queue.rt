@@ -68,8 +68,22 @@ impl<T: Copy> Queue<T> {
         self.items.pop_front()
     }
 
-    /// Takes the value at this index from the oldest one on.
+    /// Takes the value at this index from the oldest one on. Most often that is the oldest.
+    #[inline]
     pub fn remove(&mut self, index: usize) -> T
+        requires { index < length self.old.values }
+        ensures value { slice_get self.old.values index ≡ Some result }
+        ensures rest { self.new ≡ record self.old { values = remove self.old.values index } }
+    {
+        if index > 0 {
+            return self.remove_behind(index);
+        }
+        self.pop().unwrap()
+    }
+
+    // Not inlined, so that who takes the oldest keeps its registers.
+    #[inline(never)]
+    fn remove_behind(&mut self, index: usize) -> T
         requires { index < length self.old.values }
         ensures value { slice_get self.old.values index ≡ Some result }
         ensures rest { self.new ≡ record self.old { values = remove self.old.values index } }

@@ -4,7 +4,7 @@ use Rattle.std.proofs.lemmas.Option.{slice_get_read}
 use Rattle.std.specs.Option.{OnSome}
 use Rattle.std.specs.List.{remove}
 use Rattle.shared_core.specs.Queues.{Queued}
-use Rattle.shared_core.proofs.queue.Queue.remove.Goals as goal
+use Rattle.shared_core.proofs.queue.Queue.remove_behind.Goals as goal
 
 abbrev queued : {T : Type 0} → List T → ℕ → Queued T
 queued values limit = record { values = values; limit = limit }
