@@ -39,7 +39,7 @@ text_of (Truth false) = codes "false"
 text_of (Values values) = listing values
 text_of (Collected values None) = listing values ++ codes " finished"
 text_of (Collected values (Some fault)) = listing values ++ (codes " failed " ++ decimal fault)
-text_of (BadCommand line) = codes "line " ++ (decimal line ++ codes ": bad command")
+text_of (BadCommand line reason) = codes "line " ++ (decimal line ++ codes ": bad command")
 text_of answer = word_of answer
 
 -- an answer and the newline after it

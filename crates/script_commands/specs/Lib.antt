@@ -1,6 +1,7 @@
 pub mod Commands
 pub mod Keywords
 pub mod Listings
+pub mod Reasons
 pub mod Answers
 pub mod Replies
 pub mod Parts

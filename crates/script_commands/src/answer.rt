@@ -8,6 +8,7 @@ mod replies;
 
 use crate::decimals::{add_counted, add_decimal};
 use crate::listing::Listing;
+use crate::reason::Reason;
 use cold_flow::Refusal;
 use std::alloc::AllocError;
 use std::fmt;
@@ -57,8 +58,8 @@ pub enum Answer {
     Collected { values: Listing, fault: Option<u64> },
     /// A stage of a pipe gave more than 10,000 values.
     TooMany,
-    /// The line with this number is no command.
-    BadCommand(u64),
+    /// The line with this number is no command, for this reason, which the text doesn't tell.
+    BadCommand { line: u64, reason: Reason },
 }
 
 impl Answer {
@@ -102,7 +103,7 @@ impl Answer {
             Answer::Truth(false) => text.extend_from_slice(b"false"),
             Answer::Values(values) => values.add_to(text),
             Answer::Collected { values, fault } => add_collected(text, values, *fault),
-            Answer::BadCommand(line) => {
+            Answer::BadCommand { line, .. } => {
                 add_counted(text, b"line ", *line)?;
                 text.extend_from_slice(b": bad command")
             }
@@ -141,7 +142,7 @@ impl fmt::Display for Answer {
                 values,
                 fault: Some(fault),
             } => write!(f, "{values} failed {fault}"),
-            Answer::BadCommand(line) => write!(f, "line {line}: bad command"),
+            Answer::BadCommand { line, .. } => write!(f, "line {line}: bad command"),
             _ => f.write_str(self.word()),
         }
     }
