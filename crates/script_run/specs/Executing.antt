@@ -6,6 +6,8 @@ use Rattle.script_commands.specs.declared.answer.Answer.{Answer}
 use Rattle.script_commands.specs.declared.answer.Answer.TheVariants as answers
 use Rattle.script_commands.specs.declared.part.Part.{Part}
 use Rattle.script_commands.specs.declared.part.Part.TheVariants.{Whole}
+use Rattle.script_commands.specs.declared.reason.Reason.{Reason}
+use Rattle.script_commands.specs.declared.reason.Reason.TheVariants as reasons
 use Rattle.script_commands.specs.declared.request.Request.{Request}
 use Rattle.script_commands.specs.Commands.{Order, Made, Joining}
 use Rattle.script_commands.specs.Commands as commands
@@ -35,6 +37,26 @@ module _ {O : Type 0} where
   TellsMaking name (Ok object) old answer new =
       (answer ≡ Some answers.Ok) × Binds old new name (Some (part_of (length old.objects) Whole)) × (new.objects ≡ old.objects ++ object ∷ [])
   TellsMaking name (Err refusal) old answer new = (answer ≡ Some (answers.Refused refusal)) × Stays old new
+
+-- ---- why a command has no answer, where it has none
+
+-- a question, by what its name stands for
+abbrev pub against_asking : Option Binding → Reason
+against_asking None = reasons.Unbound
+against_asking (Some binding) = reasons.OtherKind
+
+-- a joining, by what the host's name stands for, and the party's
+abbrev pub against_joining : Option Binding → Option Binding → Reason
+against_joining None taken = reasons.Unbound
+against_joining (Some binding) (Some taken) = reasons.Bound
+against_joining (Some binding) None = reasons.OtherKind
+
+-- THE REASON, by what names stand for. A making has no answer only where its name is bound, and a pipe always has one
+abbrev pub reason_of : Order → (List ℕ → Option Binding) → Reason
+reason_of (commands.make name made) bound = reasons.Bound
+reason_of (commands.join host name joining) bound = against_joining (bound host) (bound name)
+reason_of (commands.ask name request) bound = against_asking (bound name)
+reason_of (commands.cold pipe) bound = reasons.OtherKind
 
 -- What the calls on an object do (`ScriptObject` of script_commands): making, a command to a part, and a party's joining a part
 module _ {O : Type 0} (makes : Made → Result O Refusal → Type 0)

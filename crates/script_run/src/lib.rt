@@ -10,6 +10,7 @@ mod input;
 mod line_answer;
 mod names;
 mod output;
+mod reasons;
 mod run;
 mod runner;
 mod script;

@@ -1,16 +1,20 @@
 //! What the names of a script stand for, and what its lines do.
 
-ghost use Rattle.std.specs.Prelude.{◌≡◌, length, IfOk};
+ghost use Rattle.std.specs.Prelude.{◌≡◌, Some, length, IfOk};
 ghost use Rattle.script_commands.specs.Commands.{order_of, made_in, joining_in, make, join, ask};
+ghost use Rattle.script_commands.specs.declared.answer.Answer.TheVariants.{BadCommand};
 ghost use Rattle.script_words.specs.Lines.{starts_with_hash};
 ghost use Rattle.script_run.specs.Standings.{IsFresh, standing};
-ghost use Rattle.script_run.specs.Executing.{Executes};
-ghost use Rattle.script_run.specs.Replying.{Replies};
+ghost use Rattle.script_run.specs.Executing.{Executes, reason_of};
+ghost use Rattle.script_run.specs.Replying.{ObeysOrder, Replies};
 
 use crate::binding::Binding;
 use crate::names::Names;
+use crate::reasons::{against_asking, against_joining};
 use futures::task::{Context, Solo};
-use script_commands::{Answer, Command, Making, NameHash, Part, Party, Request, ScriptObject};
+use script_commands::{
+    Answer, Command, Making, NameHash, Part, Party, Reason, Request, ScriptObject,
+};
 use script_words::Words;
 use std::alloc::{AllocError, Global};
 
@@ -25,6 +29,13 @@ fn is_comment(word: &[u8]) -> bool
         [first, ..] => *first == b'#',
         [] => false,
     }
+}
+
+/// What a bad line with this number is answered.
+fn bad(line: u64, reason: Reason) -> Answer
+    ensures { result ≡ BadCommand line reason }
+{
+    Answer::BadCommand { line, reason }
 }
 
 /// What a script has made so far. It must be spent, by [`close`](Runner::close), since its objects must be.
@@ -142,6 +153,38 @@ impl<'s, 't, O: ScriptObject<'s>> Runner<'s, 't, O> {
         }
     }
 
+    /// Why a command has no answer, where it has none. Then nothing changed, so names stand for what they stood for.
+    fn reason(&self, command: Command<'s>) -> Reason
+        ensures { result ≡ reason_of (order_of command.entry) (standing self.now).bound }
+    {
+        match command {
+            Command::Make { .. } => Reason::Bound,
+            Command::Join { host, name, .. } => {
+                against_joining(self.names.get(host), self.names.get(name))
+            }
+            Command::Ask { name, .. } => against_asking(self.names.get(name)),
+            Command::Cold { .. } => Reason::OtherKind,
+        }
+    }
+
+    /// What a line answers of which this command comes.
+    fn obey(
+        &mut self,
+        alloc: Global,
+        number: u64,
+        command: Command<'s>,
+    ) -> Result<Answer, AllocError>
+        ensures { IfOk result (λ answer. ObeysOrder O.makes O.asks O.joins number (order_of command.entry) (standing self.old) (Some answer) (standing self.new)) }
+    {
+        match self.execute(alloc, command)? {
+            Some(answer) => Ok(answer),
+            None => {
+                let reason = self.reason(command);
+                Ok(bad(number, reason))
+            }
+        }
+    }
+
     /// What a line answers, if anything. Its number counts from 1.
     #[tactic(auto, unfolding(crate::specs::Replying::Replies))]
     pub fn reply(
@@ -159,13 +202,12 @@ impl<'s, 't, O: ScriptObject<'s>> Runner<'s, 't, O> {
         if is_comment(first) {
             return Ok(None);
         }
-        let bad = Answer::BadCommand(number);
         if line.len() > MOST_LINE_BYTES {
-            return Ok(Some(bad));
+            return Ok(Some(bad(number, Reason::TooLong)));
         }
         match Command::parse(first, words) {
-            Some(command) => Ok(Some(self.execute(alloc, command)?.unwrap_or(bad))),
-            None => Ok(Some(bad)),
+            Some(command) => Ok(Some(self.obey(alloc, number, command)?)),
+            None => Ok(Some(bad(number, Reason::of_words(first)))),
         }
     }
 
