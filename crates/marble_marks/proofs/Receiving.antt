@@ -51,14 +51,14 @@ abbrev counted : List (List ℕ) → ℕ → List ℕ → List ℕ → Option Ki
 counted names column answer name kind = received names column answer (option_map (λ k. event name k) kind)
 
 none_said : (names : List (List ℕ)) (column : ℕ) (answer name : List ℕ) (reply : Reply) → counted names column answer name (said reply) ≡ []
-none_said names column answer name replies.Bad = refl
+none_said names column answer name (replies.Bad reason) = refl
 none_said names column answer name _ = refl
 
 next_counted : (names : List (List ℕ)) (column : ℕ) (answer name : List ℕ) (reply : Reply) →
     counted names column answer name (next_kind reply) ≡ option_to_list (option_map (λ value. receipt column (row_of names name) value answer) (value_said reply))
 next_counted names column answer name (replies.Value value) = refl
 next_counted names column answer name replies.Pending = refl
-next_counted names column answer name replies.Bad = refl
+next_counted names column answer name (replies.Bad reason) = refl
 next_counted names column answer name _ = refl
 
 none_ticket : (names : List (List ℕ)) (column : ℕ) (answer name : List ℕ) (reply : Reply) → counted names column answer name (ticket_kind reply) ≡ []
@@ -70,29 +70,29 @@ none_ticket names column answer name _ = refl
 
 none_held : (names : List (List ℕ)) (column : ℕ) (answer name : List ℕ) (reply : Reply) → counted names column answer name (value_kind reply) ≡ []
 none_held names column answer name (replies.Value value) = refl
-none_held names column answer name replies.Bad = refl
+none_held names column answer name (replies.Bad reason) = refl
 none_held names column answer name _ = refl
 
 none_tried : (names : List (List ℕ)) (column : ℕ) (answer name : List ℕ) (value : ℕ) (reply : Reply) → counted names column answer name (try_kind value reply) ≡ []
 none_tried names column answer name value replies.Accepted = refl
 none_tried names column answer name value replies.Dropped = refl
 none_tried names column answer name value replies.Full = refl
-none_tried names column answer name value replies.Bad = refl
+none_tried names column answer name value (replies.Bad reason) = refl
 none_tried names column answer name value _ = refl
 
 none_cancelled : (names : List (List ℕ)) (column : ℕ) (answer name : List ℕ) (reply : Reply) → counted names column answer name (cancel_kind reply) ≡ []
 none_cancelled names column answer name replies.Ok = refl
-none_cancelled names column answer name replies.Bad = refl
+none_cancelled names column answer name (replies.Bad reason) = refl
 none_cancelled names column answer name _ = refl
 
 none_set : (names : List (List ℕ)) (column : ℕ) (answer name : List ℕ) (value : ℕ) (reply : Reply) → counted names column answer name (set_kind value reply) ≡ []
 none_set names column answer name value replies.Ok = refl
-none_set names column answer name value replies.Bad = refl
+none_set names column answer name value (replies.Bad reason) = refl
 none_set names column answer name value _ = refl
 
 none_compared : (names : List (List ℕ)) (column : ℕ) (answer name : List ℕ) (value : ℕ) (reply : Reply) → counted names column answer name (compare_kind value reply) ≡ []
 none_compared names column answer name value replies.True = refl
-none_compared names column answer name value replies.Bad = refl
+none_compared names column answer name value (replies.Bad reason) = refl
 none_compared names column answer name value _ = refl
 
 asked_counted : (names : List (List ℕ)) (column : ℕ) (answer name : List ℕ) (request : Request) (reply : Reply) →
@@ -120,7 +120,7 @@ order_counted names column answer (Some (commands.ask name request)) reply = ask
 order_counted names column answer (Some (commands.cold pipe)) reply = refl
 
 no_line : (column number : ℕ) (line : List ℕ) (reply : Reply) (rest : List Seen) → receipts_in (seen column 0 (line_kind number reply) line ∷ rest) ≡ receipts_in rest
-no_line column number line replies.Bad rest = refl
+no_line column number line (replies.Bad reason) rest = refl
 no_line column number line _ rest = refl
 
 line_counted : (names : List (List ℕ)) (asked : Asked) → receipts_in (marks_at names asked) ≡ option_to_list (receipt_at names asked)

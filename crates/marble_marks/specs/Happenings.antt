@@ -49,7 +49,7 @@ joins host name (commands.emission value) reply = emits host name value reply
 
 -- any answer but that of a bad line
 abbrev pub said : Reply → Option Kind
-said replies.Bad = None
+said (replies.Bad reason) = None
 said _ = Some kinds.Said
 
 abbrev pub next_kind : Reply → Option Kind

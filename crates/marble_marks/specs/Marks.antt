@@ -61,7 +61,7 @@ abbrev pub mark_in : Mark → Seen
 mark_in mark = seen mark.column mark.row mark.kind mark.text.now
 
 abbrev pub line_kind : ℕ → Reply → Kind
-line_kind number replies.Bad = kinds.Bad number
+line_kind number (replies.Bad reason) = kinds.Bad number reason
 line_kind number _ = kinds.Line number
 
 -- the mark at the head of a line's column

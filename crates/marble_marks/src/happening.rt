@@ -74,7 +74,7 @@ fn said(reply: Reply) -> Option<Kind>
     ensures { result ≡ said reply }
 {
     match reply {
-        Reply::Bad => None,
+        Reply::Bad(_) => None,
         _ => Some(Kind::Said),
     }
 }

@@ -1,5 +1,7 @@
 //! What a picture of a script is made of.
 
+use script_commands::Reason;
+
 /// What a row of a picture is for.
 #[derive(Clone, Copy)]
 pub enum Row {
@@ -22,8 +24,8 @@ pub enum Row {
 pub enum Kind {
     /// The line with this number, at the head of its column.
     Line(u64),
-    /// The bad line with this number, at the head of its column.
-    Bad(u64),
+    /// The bad line with this number, at the head of its column, and why it is bad.
+    Bad(u64, Reason),
     /// The name of a row, before it.
     Named(Row),
     /// A row begins.

@@ -61,7 +61,7 @@ fn line_mark<'a>(turn: &Turn<'a>) -> Mark<'a>
     ensures { mark_in result ≡ line_mark (asked_in turn.now) }
 {
     let kind = match Reply::of(turn.answer) {
-        Reply::Bad => Kind::Bad(turn.number),
+        Reply::Bad(reason) => Kind::Bad(turn.number, reason),
         _ => Kind::Line(turn.number),
     };
     Mark {
