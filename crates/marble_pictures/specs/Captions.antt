@@ -18,7 +18,7 @@ plain_answer answer = if nat_le (length answer) 14 then plain answer else plain 
 
 -- the sign before a mark's value in a text without pictures
 abbrev pub sign : Kind → List ℕ
-sign (kinds.Bad number) = codes "x"
+sign (kinds.Bad number reason) = codes "x"
 sign (kinds.Lost value) = codes "x"
 sign (kinds.Dropped value) = codes "/"
 sign (kinds.Full value) = codes "!"
@@ -49,7 +49,7 @@ begun_words _ = []
 -- WHAT A MARK SAYS, by its kind and its text
 abbrev pub words_of : Kind → List ℕ → List ℕ
 words_of (kinds.Line number) text = decimal number
-words_of (kinds.Bad number) text = decimal number
+words_of (kinds.Bad number reason) text = decimal number
 words_of (kinds.Named row) text = role row ++ plain text
 words_of (kinds.Begun row) text = begun_words row
 words_of (kinds.Accepted value) text = decimal value

@@ -6,6 +6,8 @@ use Rattle.marble_marks.specs.declared.mark.Kind.TheVariants as kinds
 use Rattle.marble_marks.specs.declared.mark.Mark.{Mark}
 use Rattle.marble_marks.specs.declared.mark.Row.{Row}
 use Rattle.marble_marks.specs.declared.mark.Row.TheVariants as rows
+use Rattle.script_commands.specs.declared.reason.Reason.{Reason}
+use Rattle.script_commands.specs.Reasons.{sentence_of}
 use Rattle.marble_pictures.specs.declared.sheet.Sheet.{Sheet}
 use Rattle.marble_pictures.specs.declared.steps.Place.{Place}
 use Rattle.marble_pictures.specs.declared.symbol.Frame.{Frame}
@@ -165,15 +167,28 @@ unfoldable pub heading_text : List ℕ → Place → List ℕ
 heading_text said at =
     codes "<text class=\"head\" x=\"" ++ (decimal at.x ++ (codes "\" y=\"" ++ (decimal at.y ++ (codes "\">" ++ (said ++ codes "<title>")))))
 
--- the head of a line's column, with the line to it
+-- the begin of that head, with the line to it
+abbrev pub titled_text : List ℕ → List ℕ → Place → List ℕ
+titled_text line said at = heading_text said at ++ escaped line
+
 abbrev pub head_at : List ℕ → List ℕ → Place → List ℕ
-head_at line said at = (heading_text said at ++ escaped line) ++ codes "</title></text>\n"
+head_at line said at = titled_text line said at ++ codes "</title></text>\n"
 
 abbrev pub head_text : List ℕ → List ℕ → Place → List ℕ
 head_text line said at = head_at line said (down 4 at)
 
-abbrev pub crossed_head : List ℕ → ℕ → List ℕ → Place → List ℕ
-crossed_head line half said at = cross_text at half ++ head_text line said at
+-- why a line is bad, on a line of its own after it
+abbrev pub why_text : Reason → List ℕ
+why_text reason = codes "&#10;bad command: " ++ sentence_of reason
+
+abbrev pub bad_head_at : Reason → List ℕ → List ℕ → Place → List ℕ
+bad_head_at reason line said at = (titled_text line said at ++ why_text reason) ++ codes "</title></text>\n"
+
+abbrev pub bad_head : Reason → List ℕ → List ℕ → Place → List ℕ
+bad_head reason line said at = bad_head_at reason line said (down 4 at)
+
+abbrev pub crossed_head : Reason → List ℕ → ℕ → List ℕ → Place → List ℕ
+crossed_head reason line half said at = cross_text at half ++ bad_head reason line said at
 
 abbrev pub bar_text : Place → List ℕ
 bar_text at = line_text (codes "bar") (up 10 at) (down 10 at)
@@ -191,7 +206,7 @@ begun_text _ step said at = bar_text at
 
 abbrev pub bare_text : Kind → List ℕ → ℕ → List ℕ → Place → List ℕ
 bare_text (kinds.Line number) line step said at = head_text line said at
-bare_text (kinds.Bad number) line step said at = crossed_head line (half_width said) said at
+bare_text (kinds.Bad number reason) line step said at = crossed_head reason line (half_width said) said at
 bare_text (kinds.Named row) line step said at = said_text (codes "name") said (place 8 (bounded (at.y + 4)))
 bare_text (kinds.Number number) line step said at = said_text (codes "number") said (up 14 at)
 bare_text (kinds.Set value) line step said at = value_text step said at

@@ -103,7 +103,7 @@ pub(crate) fn sign(kind: Kind) -> &'static str
     ensures { result.now ≡ sign kind }
 {
     match kind {
-        Kind::Bad(_) | Kind::Lost(_) => "x",
+        Kind::Bad(_, _) | Kind::Lost(_) => "x",
         Kind::Dropped(_) => "/",
         Kind::Full(_) => "!",
         Kind::Begun(Row::State(_)) | Kind::Set(_) => "=",
@@ -146,7 +146,7 @@ pub(crate) fn push_words(text: &mut String, mark: &Mark<'_>) -> Result<(), Alloc
 {
     match mark.kind {
         Kind::Line(value)
-        | Kind::Bad(value)
+        | Kind::Bad(value, _)
         | Kind::Accepted(value)
         | Kind::AcceptedBefore(value)
         | Kind::Lost(value)
@@ -196,7 +196,7 @@ pub(crate) fn words_len(mark: &Mark<'_>) -> usize
 {
     match mark.kind {
         Kind::Line(value)
-        | Kind::Bad(value)
+        | Kind::Bad(value, _)
         | Kind::Accepted(value)
         | Kind::AcceptedBefore(value)
         | Kind::Lost(value)

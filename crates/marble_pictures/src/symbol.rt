@@ -3,12 +3,13 @@
 ghost use Rattle.std.specs.Prelude.{◌≡◌, ◌<◌, ◌≤◌, ◌++◌, ◌∷◌, [], IfOk, OnOk, IsTrue, length, take, string_bytes};
 ghost use Rattle.std.specs.Option.{option_map};
 ghost use Rattle.marble_pictures.specs.Captions.{words_of};
-ghost use Rattle.marble_pictures.specs.Symbols.{escaped_byte, escaped, line_text, segment_text, opening_text, said_text, half_width, falling_text, rising_text, cross_text, left_wall, right_wall, walls_text, rect_text, look_in, begun_look, look_of, strike_text, edge_text, framed_text, frame_around, frame_text, heading_text, head_at, head_text, crossed_head, bar_text, ring_text, value_text, begun_text, bare_text, symbol_by, symbol_text};
+ghost use Rattle.marble_pictures.specs.Symbols.{escaped_byte, escaped, line_text, segment_text, opening_text, said_text, half_width, falling_text, rising_text, cross_text, left_wall, right_wall, walls_text, rect_text, look_in, begun_look, look_of, strike_text, edge_text, framed_text, frame_around, frame_text, heading_text, titled_text, head_at, head_text, why_text, bad_head_at, bad_head, crossed_head, bar_text, ring_text, value_text, begun_text, bare_text, symbol_by, symbol_text};
 
 use crate::caption::{plain_byte, push_numbered, push_words};
 use crate::sheet::{CHARACTER, Sheet};
 use crate::steps::{LOWEST, Place};
 use marble_marks::{Kind, Mark, Row};
+use script_commands::Reason;
 use std::alloc::AllocError;
 
 /// How many bytes of a run that stand for themselves are added one by one. For fewer, adding them together costs more.
@@ -360,12 +361,19 @@ fn push_heading(picture: &mut String, said: &str, at: Place) -> Result<(), Alloc
     picture.push_str("<title>")
 }
 
+/// Adds the begin of that head, with the line's text to it.
+fn push_titled(picture: &mut String, line: &[u8], said: &str, at: Place) -> Result<(), AllocError>
+    ensures { OnOk result (string_bytes picture.new ≡ string_bytes picture.old ++ titled_text line.now said.now at) }
+{
+    push_heading(picture, said, at)?;
+    push_escaped(picture, line)
+}
+
 /// Adds the head of a line's column, with the line's text to it, at this place.
 fn push_head_at(picture: &mut String, line: &[u8], said: &str, at: Place) -> Result<(), AllocError>
     ensures { OnOk result (string_bytes picture.new ≡ string_bytes picture.old ++ head_at line.now said.now at) }
 {
-    push_heading(picture, said, at)?;
-    push_escaped(picture, line)?;
+    push_titled(picture, line, said, at)?;
     picture.push_str("</title></text>\n")
 }
 
@@ -376,18 +384,55 @@ fn push_head(picture: &mut String, line: &[u8], said: &str, at: Place) -> Result
     push_head_at(picture, line, said, at.down(4))
 }
 
-/// Adds the head of a bad line's column.
+/// Adds why a line is bad, on a line of its own.
+fn push_why(picture: &mut String, reason: Reason) -> Result<(), AllocError>
+    ensures { OnOk result (string_bytes picture.new ≡ string_bytes picture.old ++ why_text reason) }
+{
+    picture.push_str("&#10;bad command: ")?;
+    picture.push_str(reason.sentence())
+}
+
+/// Adds the head of a bad line's column, with the line's text and the reason to it, at this place.
+fn push_bad_head_at(
+    picture: &mut String,
+    reason: Reason,
+    line: &[u8],
+    said: &str,
+    at: Place,
+) -> Result<(), AllocError>
+    ensures { OnOk result (string_bytes picture.new ≡ string_bytes picture.old ++ bad_head_at reason line.now said.now at) }
+{
+    push_titled(picture, line, said, at)?;
+    push_why(picture, reason)?;
+    picture.push_str("</title></text>\n")
+}
+
+/// Adds the head of a bad line's column: its number, with the line's text and the reason to it.
+fn push_bad_head(
+    picture: &mut String,
+    reason: Reason,
+    line: &[u8],
+    said: &str,
+    at: Place,
+) -> Result<(), AllocError>
+    ensures { OnOk result (string_bytes picture.new ≡ string_bytes picture.old ++ bad_head reason line.now said.now at) }
+{
+    push_bad_head_at(picture, reason, line, said, at.down(4))
+}
+
+/// Adds the head of a bad line's column, which is crossed out.
 fn push_crossed_head(
     picture: &mut String,
+    reason: Reason,
     line: &[u8],
     half: usize,
     said: &str,
     at: Place,
 ) -> Result<(), AllocError>
-    ensures { OnOk result (string_bytes picture.new ≡ string_bytes picture.old ++ crossed_head line.now half said.now at) }
+    ensures { OnOk result (string_bytes picture.new ≡ string_bytes picture.old ++ crossed_head reason line.now half said.now at) }
 {
     push_cross(picture, at, half)?;
-    push_head(picture, line, said, at)
+    push_bad_head(picture, reason, line, said, at)
 }
 
 /// The frame of the begin of a row, where it has one.
@@ -501,7 +546,10 @@ fn push_bare(
 {
     match placed.mark.kind {
         Kind::Line(_) => push_head(picture, placed.mark.text, said, at),
-        Kind::Bad(_) => { push_crossed_head(picture, placed.mark.text, half_width(said), said, at) }
+        Kind::Bad(_, reason) => {
+            let half = half_width(said);
+            push_crossed_head(picture, reason, placed.mark.text, half, said, at)
+        }
         Kind::Named(_) => {
             let Place { y, .. } = at.down(4);
             push_text(picture, "name", said, Place { x: 8, y })

@@ -1,6 +1,7 @@
 //! Lists of marks that are made by numbers without an order.
 
 use marble_marks::{Kind, Mark, Row};
+use script_commands::Reason;
 use std::alloc::{AllocError, Global};
 
 /// Texts of marks. Those of names and answers are shown up to lengths on both sides of each limit.
@@ -37,6 +38,18 @@ const NUMBERS: &[u64] = &[
 
 /// How high a row of an SVG is: rows so far down that their place is no number any more stand at the last one.
 const ROW: usize = 44;
+
+/// One of the reasons why a line is bad.
+pub(crate) fn reason(index: usize) -> Reason {
+    match index {
+        0 => Reason::TooLong,
+        1 => Reason::NoCommand,
+        2 => Reason::Words,
+        3 => Reason::Unbound,
+        4 => Reason::Bound,
+        _ => Reason::OtherKind,
+    }
+}
 
 /// Numbers without an order, by a linear congruence.
 #[derive(Clone, Copy)]
@@ -77,7 +90,7 @@ impl Dice {
     fn shown(&mut self) -> Kind {
         match self.below(20) {
             0 => Kind::Line(self.number()),
-            1 => Kind::Bad(self.number()),
+            1 => Kind::Bad(self.number(), reason(self.below(6))),
             2 | 3 => Kind::Begun(self.row()),
             4 => Kind::Accepted(self.number()),
             5 => Kind::AcceptedBefore(self.number()),

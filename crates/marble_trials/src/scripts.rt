@@ -1,6 +1,6 @@
 //! Marks of many scripts with made answers, beside those of the first form.
 
-use crate::made::Dice;
+use crate::made::{Dice, reason};
 use crate::start;
 use marble_marks::{Mark, Said, marks};
 use marble_pictures::svg_picture;
@@ -52,7 +52,10 @@ impl Made {
             11 => Answer::Truth(true),
             12 => Answer::Dropped,
             13 => Answer::Full,
-            14 => Answer::BadCommand(self.number),
+            14 => Answer::BadCommand {
+                line: self.number,
+                reason: reason(self.value as usize),
+            },
             _ => Answer::Closed,
         }
     }

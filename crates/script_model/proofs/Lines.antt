@@ -6,17 +6,20 @@ use Rattle.script_commands.specs.declared.answer.Answer.{Answer}
 use Rattle.script_commands.specs.declared.answer.Answer.TheVariants.{BadCommand}
 use Rattle.script_commands.specs.declared.part.Part.{Part}
 use Rattle.script_commands.specs.declared.request.Request.{Request}
+use Rattle.script_commands.specs.declared.reason.Reason.{Reason}
 use Rattle.script_commands.specs.Answers.{line_of}
 use Rattle.script_commands.specs.Commands.{Order, Made, Joining, command_of}
+use Rattle.script_commands.specs.Commands as commands
+use Rattle.script_commands.specs.Reasons.{against_words}
 use Rattle.script_words.specs.Lines.{words_of, starts_with_hash}
 use Rattle.script_run.specs.declared.line_answer.LineAnswer.{LineAnswer}
-use Rattle.script_run.specs.Executing.{Joined, Executes}
+use Rattle.script_run.specs.Executing.{Joined, Executes, against_asking, against_joining, reason_of}
 use Rattle.script_run.specs.Replying.{answer_at, RepliesUnless, RepliesTo, Replies, Answers}
 use Rattle.script_run.specs.Scripts.{text_of_answers, AnswersLines}
 use Rattle.script_run.specs.Standings.{Standing}
 use Rattle.script_model.specs.Findings.{Finding, Findings, plain, found_at}
 use Rattle.script_model.specs.Things.{Thing}
-use Rattle.script_model.specs.Worlds.{World, empty_world, step}
+use Rattle.script_model.specs.Worlds.{World, empty_world, binding_of, step}
 use Rattle.script_model.specs.Answering.{or_bad, reply_unless, reply_to, reply_of, answers_from, answers_of_lines}
 use Rattle.script_model.proofs.Picturing.{Pictures, Comes, pictures_fresh, pictures_still}
 use Rattle.script_model.proofs.Steps.{Meets, executes}
@@ -62,26 +65,39 @@ module _ {O : Type 0} (Stands : O → Thing → Type 0) (makes : Made → Result
     (meets : Meets Stands makes asks joins) where
   -- ---- a line
 
+  -- a command has the same reason on objects as on the world
+  same_reason : (order : Order) (old : Standing O) (world : World) → Pictures Stands old world → reason_of order old.bound ≡ reason_of order (binding_of world.names)
+  same_reason (commands.make name made) old world p = refl
+  same_reason (commands.join host name party) old world p =
+      ap (λ binding. against_joining binding (old.bound name)) (p.names host) ∙ ap (λ taken. against_joining (binding_of world.names host) taken) (p.names name)
+  same_reason (commands.ask name request) old world p = ap against_asking (p.names name)
+  same_reason (commands.cold pipe) old world p = refl
+
   obeys : (number : ℕ) (order : Order) (old new : Standing O) (world : World) (answer came : Option Answer) → Pictures Stands old world → Executes makes asks joins order old came new
-      → answer ≡ Some (unwrap_or came (BadCommand number)) → (finding : Finding) × Comes Stands (or_bad number (step finding order world)) new answer
+      → answer ≡ Some (unwrap_or came (BadCommand number (reason_of order old.bound)))
+      → (finding : Finding) × Comes Stands (or_bad number (reason_of order (binding_of world.names)) (step finding order world)) new answer
   obeys number order old new world answer came p h is =
       let done = executes Stands makes asks joins meets old new world came p order h in (
         done.0,
-        record { answered = is ∙ ap (λ a. Some (unwrap_or a (BadCommand number))) done.1.answered; pictured = done.1.pictured },
+        record {
+          answered = is ∙ ap (λ reason. Some (unwrap_or came (BadCommand number reason))) (same_reason order old world p)
+              ∙ ap (λ a. Some (unwrap_or a (BadCommand number (reason_of order (binding_of world.names))))) done.1.answered;
+          pictured = done.1.pictured;
+        },
       )
 
-  replies_unless : (number : ℕ) (is_comment is_long : Bool) (order : Option Order) (old new : Standing O) (world : World) (answer : Option Answer) → Pictures Stands old world
-      → RepliesUnless makes asks joins number is_comment is_long order old answer new → (finding : Finding) × Comes Stands (reply_unless finding number is_comment is_long order world) new answer
-  replies_unless number true is_long order old new world answer p h = (plain, record { answered = h.0; pictured = pictures_still Stands old new world p h.1 })
-  replies_unless number false true order old new world answer p h = (plain, record { answered = h.0; pictured = pictures_still Stands old new world p h.1 })
-  replies_unless number false false None old new world answer p h = (plain, record { answered = h.0; pictured = pictures_still Stands old new world p h.1 })
-  replies_unless number false false (Some order) old new world answer p h = obeys number order old new world answer h.0 p h.1 h.2
+  replies_unless : (number : ℕ) (is_comment is_long : Bool) (unread : Reason) (order : Option Order) (old new : Standing O) (world : World) (answer : Option Answer) → Pictures Stands old world
+      → RepliesUnless makes asks joins number is_comment is_long unread order old answer new → (finding : Finding) × Comes Stands (reply_unless finding number is_comment is_long unread order world) new answer
+  replies_unless number true is_long unread order old new world answer p h = (plain, record { answered = h.0; pictured = pictures_still Stands old new world p h.1 })
+  replies_unless number false true unread order old new world answer p h = (plain, record { answered = h.0; pictured = pictures_still Stands old new world p h.1 })
+  replies_unless number false false unread None old new world answer p h = (plain, record { answered = h.0; pictured = pictures_still Stands old new world p h.1 })
+  replies_unless number false false unread (Some order) old new world answer p h = obeys number order old new world answer h.0 p h.1 h.2
 
   replies_to : (number size : ℕ) (words : List (List ℕ)) (old new : Standing O) (world : World) (answer : Option Answer) → Pictures Stands old world
       → RepliesTo makes asks joins number size words old answer new → (finding : Finding) × Comes Stands (reply_to finding number size words world) new answer
   replies_to number size [] old new world answer p h = (plain, record { answered = h.0; pictured = pictures_still Stands old new world p h.1 })
   replies_to number size (first ∷ words) old new world answer p h =
-      replies_unless number (starts_with_hash first) (nat_lt 1024 size) (command_of first words) old new world answer p h
+      replies_unless number (starts_with_hash first) (nat_lt 1024 size) (against_words first) (command_of first words) old new world answer p h
 
   replies : (number : ℕ) (line : List ℕ) (old new : Standing O) (world : World) (answer : Option Answer) → Pictures Stands old world
       → Replies makes asks joins number line old answer new → (finding : Finding) × Comes Stands (reply_of finding number line world) new answer

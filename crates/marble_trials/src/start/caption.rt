@@ -59,7 +59,7 @@ fn push_answer(text: &mut String, answer: &[u8]) -> Result<(), AllocError> {
 /// The sign before a mark's value in a text without pictures.
 pub(crate) fn sign(kind: Kind) -> &'static str {
     match kind {
-        Kind::Bad(_) | Kind::Lost(_) => "x",
+        Kind::Bad(_, _) | Kind::Lost(_) => "x",
         Kind::Dropped(_) => "/",
         Kind::Full(_) => "!",
         Kind::Begun(Row::State(_)) | Kind::Set(_) => "=",
@@ -96,7 +96,7 @@ fn push_begun(text: &mut String, row: Row) -> Result<(), AllocError> {
 fn push_words(text: &mut String, mark: &Mark<'_>) -> Result<(), AllocError> {
     match mark.kind {
         Kind::Line(value)
-        | Kind::Bad(value)
+        | Kind::Bad(value, _)
         | Kind::Accepted(value)
         | Kind::AcceptedBefore(value)
         | Kind::Lost(value)

@@ -63,7 +63,7 @@ fn joins<'a>(
 /// Another answer than those that are shown by a kind of their own. A bad line shows nothing on a row.
 fn said(reply: Reply) -> Option<Kind> {
     match reply {
-        Reply::Bad => None,
+        Reply::Bad(_) => None,
         _ => Some(Kind::Said),
     }
 }

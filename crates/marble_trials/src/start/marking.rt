@@ -54,7 +54,7 @@ pub(crate) fn row_of(names: &[&[u8]], name: &[u8]) -> usize {
 /// The mark at the head of a line's column.
 fn line_mark<'a>(turn: &Turn<'a>) -> Mark<'a> {
     let kind = match Reply::of(turn.answer) {
-        Reply::Bad => Kind::Bad(turn.number),
+        Reply::Bad(reason) => Kind::Bad(turn.number, reason),
         _ => Kind::Line(turn.number),
     };
     Mark {

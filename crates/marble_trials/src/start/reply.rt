@@ -1,6 +1,6 @@
 //! What an answer says, as far as a picture shows it.
 
-use script_commands::Answer;
+use script_commands::{Answer, Reason};
 
 /// What an answer says, as far as a picture shows it.
 #[derive(Clone, Copy)]
@@ -19,8 +19,8 @@ pub(crate) enum Reply {
     Left,
     Pending,
     Value(u64),
-    /// The line is a bad command.
-    Bad,
+    /// The line is a bad command, for this reason.
+    Bad(Reason),
     /// Something else.
     Other,
 }
@@ -40,7 +40,7 @@ impl Reply {
             Answer::Left => Reply::Left,
             Answer::Pending => Reply::Pending,
             Answer::Value(value) => Reply::Value(*value),
-            Answer::BadCommand(_) => Reply::Bad,
+            Answer::BadCommand { reason, .. } => Reply::Bad(*reason),
             _ => Reply::Other,
         }
     }

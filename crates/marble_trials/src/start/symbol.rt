@@ -4,6 +4,7 @@ use crate::start::caption::{caption, plain_byte};
 use crate::start::sheet::{CHARACTER, Sheet};
 use crate::start::steps::{LOWEST, Place};
 use marble_marks::{Kind, Mark, Row};
+use script_commands::Reason;
 use std::alloc::{AllocError, Global};
 use std::fmt::Write;
 
@@ -233,13 +234,17 @@ fn push_head(picture: &mut String, line: &[u8], said: &str, at: Place) -> Result
 /// Adds the head of a bad line's column.
 fn push_crossed_head(
     picture: &mut String,
+    reason: Reason,
     line: &[u8],
     half: usize,
     said: &str,
     at: Place,
 ) -> Result<(), AllocError> {
     push_cross(picture, at, half)?;
-    push_head(picture, line, said, at)
+    push_heading(picture, said, at.down(4))?;
+    push_escaped(picture, line)?;
+    let why = reason.sentence();
+    write!(picture, "&#10;bad command: {why}</title></text>\n")
 }
 
 /// The frame of the begin of a row, where it has one.
@@ -337,7 +342,10 @@ fn push_bare(
 ) -> Result<(), AllocError> {
     match placed.mark.kind {
         Kind::Line(_) => push_head(picture, placed.mark.text, said, at),
-        Kind::Bad(_) => { push_crossed_head(picture, placed.mark.text, half_width(said), said, at) }
+        Kind::Bad(_, reason) => {
+            let half = half_width(said);
+            push_crossed_head(picture, reason, placed.mark.text, half, said, at)
+        }
         Kind::Named(_) => {
             let Place { y, .. } = at.down(4);
             push_text(picture, "name", said, Place { x: 8, y })
