@@ -311,6 +311,116 @@ fn merges_ask_on(rt: HostRuntime) -> Result<(), Fail> {
     Ok(())
 }
 
+// Of each poll of a merge of three inner flows its answer, and how often each of them was asked until then.
+struct Turns<'a> {
+    name: &'a str,
+    polls: &'a [(Polling, (u32, u32, u32))],
+}
+
+// The steps of three inner flows, how many of them are merged at once, and their turns.
+struct Inner<'a> {
+    steps: [&'a [Step<u64, u64>]; 3],
+    workers: u32,
+    turns: Turns<'a>,
+}
+
+const THIRTY: Polling = Poll::Ready(Event::Value(30));
+
+const TURNS: &[Inner<'_>] = &[
+    // Each poll goes on behind the run that gave last, so none is asked twice before each other was.
+    Inner {
+        steps: [
+            &[WAIT; 6],
+            &[Step::Value(7); 6],
+            &[WAIT, WAIT, WAIT, Step::Value(30), WAIT],
+        ],
+        workers: 3,
+        turns: Turns {
+            name: "runs that wait are asked as often as one that always gives",
+            polls: &[
+                (SEVEN, (1, 1, 0)),
+                (SEVEN, (2, 2, 1)),
+                (SEVEN, (3, 3, 2)),
+                (SEVEN, (4, 4, 3)),
+                (THIRTY, (4, 4, 4)),
+                (SEVEN, (5, 5, 4)),
+            ],
+        },
+    },
+    Inner {
+        steps: [&[WAIT], &[], &[WAIT]],
+        workers: 2,
+        turns: Turns {
+            name: "the place of a run that ends is filled in the poll in which another waits",
+            polls: &[(Poll::Pending, (1, 1, 1)), (ENDED, (2, 1, 2))],
+        },
+    },
+];
+
+// Polls a run, and compares each answer and the counts after it.
+fn assert_asks_inner<R: Run<Item = u64, Fault = u64>>(
+    rt: &impl Abort,
+    task: &MockTask,
+    mut run: R,
+    counts: (&Cell<u32>, &Cell<u32>, &Cell<u32>),
+    turns: &Turns<'_>,
+) {
+    let (zero, one, other) = counts;
+    for (answer, asked) in turns.polls {
+        assert_poll(rt, task, &mut run, answer);
+        assert_same(rt, turns.name, (zero.get(), one.get(), other.get()), *asked);
+    }
+}
+
+// A merge of three inner flows that are lent.
+fn assert_turns<F: Flow<Item = u64, Fault = u64> + Copy>(
+    rt: &impl Abort,
+    alloc: Global,
+    task: &MockTask,
+    merging: ((F, F, F), u32),
+    turns: &Turns<'_>,
+    counts: (&Cell<u32>, &Cell<u32>, &Cell<u32>),
+) -> Result<(), Refusal> {
+    let ((zero, one, other), workers) = merging;
+    let function = Pick { zero, one, other };
+    let run = flat_map_merge(alloc, range::<u64>(0, 3), function, workers)?.start()?;
+    assert_asks_inner(rt, task, run, counts, turns);
+    Ok(())
+}
+
+// The same of inner flows whose polls are counted.
+fn assert_counted_turns<F: Flow<Item = u64, Fault = u64>>(
+    rt: &impl Abort,
+    alloc: Global,
+    task: &MockTask,
+    inner: (F, F, F),
+    workers: u32,
+    turns: &Turns<'_>,
+) -> Result<(), Refusal> {
+    let zero = Cell::new(0);
+    let one = Cell::new(0);
+    let other = Cell::new(0);
+    let first = Counted::new(inner.0, &zero);
+    let second = Counted::new(inner.1, &one);
+    let third = Counted::new(inner.2, &other);
+    let merging = ((&first, &second, &third), workers);
+    assert_turns(rt, alloc, task, merging, turns, (&zero, &one, &other))
+}
+
+#[test]
+fn merges_ask_in_turn(rt: HostRuntime) -> Result<(), Fail> {
+    let task = MockTask::new(&rt)?;
+    for row in TURNS {
+        let [zero, one, other] = row.steps;
+        let zero = stepped(rt.alloc(), zero)?;
+        let one = stepped(rt.alloc(), one)?;
+        let other = stepped(rt.alloc(), other)?;
+        let inner = (&zero, &one, &other);
+        assert_counted_turns(&rt, rt.alloc(), &task, inner, row.workers, &row.turns)?;
+    }
+    Ok(())
+}
+
 // Starts the flow and cancels its run, or says why there is none.
 fn cancelled_or_refused<F: Flow>(flow: F) -> Option<Refusal> {
     match flow.start() {
