@@ -4,8 +4,34 @@ ghost use Rattle.std.specs.Prelude.{◌≡◌, ◌+◌, ◌≤◌, ◌==◌, nat
 ghost use Rattle.std.specs.List.{list_any, list_all};
 ghost use Rattle.shared_core.specs.Rising.{Rises, StandsWithin};
 
-/// So few places, or tickets, are all looked at: that takes no longer than to look for one by its number, or at those noted.
+/// So few places are all looked at for room, and so few tickets for a number: that takes no longer than to look at those that are
+/// noted, or to search.
 pub const FEW: usize = 8;
+
+/// Among so few places each is looked at for a number.
+pub const LISTED: usize = 4;
+
+/// How many subscriptions are live: how they are looked at depends on it, and nothing else.
+//
+// Kept with them, since a loop over places that are known to be at most eight is written out eight times.
+#[derive(Clone, Copy)]
+pub enum Crowd {
+    /// At most `FEW`, of whom all are looked at.
+    Few,
+    /// More.
+    Many,
+}
+
+impl Crowd {
+    /// That of so many.
+    pub fn of(count: usize) -> Crowd {
+        if count <= FEW {
+            Crowd::Few
+        } else {
+            Crowd::Many
+        }
+    }
+}
 
 /// A live subscription: its number, and where it stands.
 #[derive(Clone, Copy)]
@@ -19,7 +45,7 @@ pub struct Place {
 /// Where the subscription with this number has its place, if none from the first live one on was cancelled before it. Places
 /// stand by rising numbers, so it is as many places after the first one as its number is after that one's.
 #[inline]
-fn place_without_gaps(places: &[Place], number: u64) -> Option<usize>
+pub fn place_without_gaps(places: &[Place], number: u64) -> Option<usize>
     ensures found { IfSome result (λ i. (p : _) × (slice_get places.now i ≡ Some p) × (p.number ≡ number)) }
 {
     let first = places.first()?;
@@ -74,7 +100,8 @@ fn place_among(places: &[Place], number: u64, from: usize, count: usize) -> Opti
 }
 
 /// Whether the subscription with this number has its place at this index.
-fn is_place(places: &[Place], number: u64, at: usize) -> bool
+#[inline]
+pub fn is_place(places: &[Place], number: u64, at: usize) -> bool
     ensures { IsTrue result → (p : _) × (slice_get places.now at ≡ Some p) × (p.number ≡ number) }
 {
     let Some(place) = places.get(at) else {
@@ -97,7 +124,7 @@ fn place_between(places: &[Place], number: u64) -> Option<usize>
 
 /// Where the subscription with this number has its place, looked for at each place.
 #[inline]
-fn place_listed(places: &[Place], number: u64) -> Option<usize>
+pub fn place_listed(places: &[Place], number: u64) -> Option<usize>
     ensures found { IfSome result (λ i. (p : _) × (slice_get places.now i ≡ Some p) × (p.number ≡ number)) }
     ensures none { IfNone result (list_any (λ p. p.number == number) places.now ≡ false) }
 {
@@ -109,20 +136,14 @@ fn place_listed(places: &[Place], number: u64) -> Option<usize>
     None
 }
 
-/// Where the subscription with this number has its place among many, where others between the first one and it may have gone. Often
-/// none after it has gone, or it is the one that received last, at `recent`, or the one after that.
-//
-// Not inlined, so that a receipt without gaps keeps its registers.
-#[inline(never)]
-fn place_with_gaps(places: &[Place], number: u64, recent: usize) -> Option<usize>
+/// Where the subscription with this number has its place, where others between the first one and it may have gone. Often none after
+/// it has gone, or it is the one after the one that received last, at `recent`.
+pub fn place_with_gaps(places: &[Place], number: u64, recent: usize) -> Option<usize>
     ensures found { IfSome result (λ i. (p : _) × (slice_get places.now i ≡ Some p) × (p.number ≡ number)) }
     ensures none { IfNone result (Rises (λ p. p.number) places.now → list_any (λ p. p.number == number) places.now ≡ false) }
 {
     if let Some(at) = place_from_last(places, number) {
         return Some(at);
-    }
-    if is_place(places, number, recent) {
-        return Some(recent);
     }
     let after = recent.wrapping_add(1);
     if is_place(places, number, after) {
@@ -131,27 +152,15 @@ fn place_with_gaps(places: &[Place], number: u64, recent: usize) -> Option<usize
     place_between(places, number)
 }
 
-/// Where the subscription with this number has its place. Few places are all looked at.
-#[inline]
-pub fn find_place(places: &[Place], number: u64, recent: usize) -> Option<usize>
-    ensures found { IfSome result (λ i. (p : _) × (slice_get places.now i ≡ Some p) × (p.number ≡ number)) }
-    ensures none { IfNone result (Rises (λ p. p.number) places.now → list_any (λ p. p.number == number) places.now ≡ false) }
-{
-    if let Some(at) = place_without_gaps(places, number) {
-        return Some(at);
-    }
-    if places.len() <= FEW {
-        return place_listed(places, number);
-    }
-    place_with_gaps(places, number, recent)
-}
-
 /// The same, looked for at each place where a search by its number finds none.
 pub fn place_of(places: &[Place], number: u64, recent: usize) -> Option<usize>
     ensures found { IfSome result (λ i. (p : _) × (slice_get places.now i ≡ Some p) × (p.number ≡ number)) }
     ensures none { IfNone result (list_any (λ p. p.number == number) places.now ≡ false) }
 {
-    if let Some(at) = find_place(places, number, recent) {
+    if let Some(at) = place_without_gaps(places, number) {
+        return Some(at);
+    }
+    if let Some(at) = place_with_gaps(places, number, recent) {
         return Some(at);
     }
     place_listed(places, number)

@@ -27,7 +27,10 @@ ghost use Rattle.shared_core.specs.Rising.{Rises};
 ghost use Rattle.shared_core.specs.Ringed.{empty_ring, has_space, with_value, without_oldest, Receives};
 
 use crate::config::Config;
-use crate::place::{FEW, Place, each_past, find_place, place_of};
+use crate::place::{
+    Crowd, LISTED, Place, each_past, is_place, place_listed, place_of, place_with_gaps,
+    place_without_gaps,
+};
 use crate::slowest::Slowest;
 use circular_buffer::HeapCircularBuffer;
 use std::alloc::{AllocError, Global};
@@ -46,6 +49,8 @@ pub struct Ring<T: Copy> {
     replay: usize,
     /// The places of live subscriptions, by rising numbers.
     places: Vec<Place>,
+    /// How many they are.
+    crowd: Crowd,
     /// Where the place stood that was asked for a value last.
     recent: usize,
     /// While the next number is below this, there is room.
@@ -94,6 +99,7 @@ impl<T: Copy> Ring<T> {
             cached: 0,
             replay: config.replay as usize,
             places,
+            crowd: Crowd::Few,
             recent: 0,
             room_until: u64::MAX,
             slowest: Slowest::unknown(),
@@ -117,9 +123,14 @@ impl<T: Copy> Ring<T> {
         self.values.capacity() as u64
     }
 
+    /// How many subscriptions are live.
+    pub fn crowd(&self) -> Crowd {
+        self.crowd
+    }
+
     /// Whether each live subscription has fewer values pending than it may: none stands at the oldest value of a full ring.
     #[inline]
-    pub fn has_room(&mut self) -> bool
+    pub fn has_room(&mut self, crowd: Crowd) -> bool
         ensures room { result ≡ has_space self.old }
         ensures same { self.new ≡ self.old }
     {
@@ -127,10 +138,10 @@ impl<T: Copy> Ring<T> {
         if self.next_number < limit {
             return true;
         }
-        if self.places.len() <= FEW {
-            return each_past(&self.places, self.next_number - limit);
+        match crowd {
+            Crowd::Few => each_past(&self.places, self.next_number - limit),
+            Crowd::Many => self.has_room_for_many(),
         }
-        self.has_room_for_many()
     }
 
     /// The same of many places in a full ring: it is known while the next number is below `room_until`.
@@ -203,7 +214,27 @@ impl<T: Copy> Ring<T> {
         ensures found { IfSome result (λ i. (e : _) × (slice_get self.now.live i ≡ Some e) × (e.0 ≡ number)) }
         ensures none { IfNone result (Rises (λ e. e.0) self.now.live → list_any (λ e. e.0 == number) self.now.live ≡ false) }
     {
-        find_place(&self.places, number, self.recent)
+        if let Some(at) = place_without_gaps(&self.places, number) {
+            return Some(at);
+        }
+        if self.places.len() <= LISTED {
+            return place_listed(&self.places, number);
+        }
+        if is_place(&self.places, number, self.recent) {
+            return Some(self.recent);
+        }
+        self.find_with_gaps(number)
+    }
+
+    /// The same among more than a few, where others between the first one and it may have gone.
+    //
+    // Not inlined, so that a receipt without gaps keeps its registers.
+    #[inline(never)]
+    fn find_with_gaps(&self, number: u64) -> Option<usize>
+        ensures found { IfSome result (λ i. (e : _) × (slice_get self.now.live i ≡ Some e) × (e.0 ≡ number)) }
+        ensures none { IfNone result (Rises (λ e. e.0) self.now.live → list_any (λ e. e.0 == number) self.now.live ≡ false) }
+    {
+        place_with_gaps(&self.places, number, self.recent)
     }
 
     /// Where the live subscription with this number stands in their list.
@@ -258,6 +289,7 @@ impl<T: Copy> Ring<T> {
         self.room_until = self.room_until.min(position + self.limit());
         self.slowest.others = self.slowest.others.min(position);
         self.places.push_reserved(Place { number, position });
+        self.crowd = Crowd::of(self.places.len());
     }
 
     /// The subscription at this index isn't live any more.
@@ -266,6 +298,7 @@ impl<T: Copy> Ring<T> {
         ensures { self.new ≡ record self.old { live = remove self.old.live at } }
     {
         let _place = self.places.remove(at);
+        self.crowd = Crowd::of(self.places.len());
         self.slowest = Slowest::unknown();
     }
 

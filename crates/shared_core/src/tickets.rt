@@ -62,9 +62,6 @@ fn out_among<E: Copy>(
 /// Where the ticket with this number may stand: tickets rise, so it is at most as many after the first one as its number is after that
 /// one's, and at most as many before the last one as its number is before that one's. Where all tickets between are out, one of
 /// these bounds is its place.
-//
-// Not inlined, so that a poll of one of the oldest keeps its registers.
-#[inline(never)]
 fn out_between<E: Copy>(out: &Queue<OutTicket<E>>, ticket: u64) -> Option<usize>
     ensures found { IfSome result (λ i. (h : _) × (slice_get out.now.values i ≡ Some h) × (h.ticket ≡ ticket)) }
     ensures none { IfNone result (Rises (λ h. h.ticket) out.now.values → list_any (λ h. h.ticket == ticket) out.now.values ≡ false) }
@@ -83,7 +80,6 @@ fn out_between<E: Copy>(out: &Queue<OutTicket<E>>, ticket: u64) -> Option<usize>
 }
 
 /// Where the ticket with this number stands, looked for at each one.
-#[inline]
 fn out_listed<E: Copy>(out: &Queue<OutTicket<E>>, ticket: u64) -> Option<usize>
     ensures found { IfSome result (λ i. (h : _) × (slice_get out.now.values i ≡ Some h) × (h.ticket ≡ ticket)) }
     ensures none { IfNone result (list_any (λ h. h.ticket == ticket) out.now.values ≡ false) }
@@ -96,21 +92,38 @@ fn out_listed<E: Copy>(out: &Queue<OutTicket<E>>, ticket: u64) -> Option<usize>
     None
 }
 
-/// Where the ticket with this number stands among those that are out. Few are all looked at, and of many the two oldest first: their
-/// emissions are accepted next.
-#[inline]
-pub fn out_at<E: Copy>(out: &Queue<OutTicket<E>>, ticket: u64) -> Option<usize>
+/// Where the ticket with this number stands among those that are out, if it is none of the two oldest.
+//
+// Not inlined, so that a poll of one of the oldest keeps its registers.
+#[inline(never)]
+fn out_behind<E: Copy>(out: &Queue<OutTicket<E>>, ticket: u64) -> Option<usize>
     ensures found { IfSome result (λ i. (h : _) × (slice_get out.now.values i ≡ Some h) × (h.ticket ≡ ticket)) }
     ensures none { IfNone result (Rises (λ h. h.ticket) out.now.values → list_any (λ h. h.ticket == ticket) out.now.values ≡ false) }
 {
     if out.len() <= FEW {
         return out_listed(out, ticket);
     }
+    out_between(out, ticket)
+}
+
+/// Where the ticket with this number stands among those that are out. The two oldest are looked at first: their emissions are
+/// accepted next.
+#[inline]
+pub fn out_at<E: Copy>(out: &Queue<OutTicket<E>>, ticket: u64) -> Option<usize>
+    ensures found { IfSome result (λ i. (h : _) × (slice_get out.now.values i ≡ Some h) × (h.ticket ≡ ticket)) }
+    ensures none { IfNone result (Rises (λ h. h.ticket) out.now.values → list_any (λ h. h.ticket == ticket) out.now.values ≡ false) }
+{
+    if out.len() == 0 {
+        return None;
+    }
     if out.get(0).ticket == ticket {
         return Some(0);
+    }
+    if out.len() == 1 {
+        return None;
     }
     if out.get(1).ticket == ticket {
         return Some(1);
     }
-    out_between(out, ticket)
+    out_behind(out, ticket)
 }

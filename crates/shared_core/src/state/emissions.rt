@@ -7,6 +7,7 @@ ghost use Rattle.shared_core.specs.Calls as calls;
 ghost use Rattle.shared_core.specs.Shown.{Follows, Reads};
 
 use crate::config::NUMBER_LIMIT;
+use crate::place::Crowd;
 use crate::state::SharedState;
 use crate::tickets::{Accepted, OutTicket, Waiting, out_at};
 use flow_terms::{Begun, Emit, Policy, Refusal, Ticket, Tried, Withdrawn};
@@ -29,11 +30,11 @@ enum Fate {
 impl<T: Copy> SharedState<T> {
     /// Whether each live subscription has a place left.
     #[inline]
-    fn has_room(&mut self) -> bool
+    fn has_room(&mut self, crowd: Crowd) -> bool
         ensures room { result ≡ room_in self.old }
         ensures same { self.new ≡ self.old }
     {
-        self.ring.has_room()
+        self.ring.has_room(crowd)
     }
 
     /// Whether the numbers are used up, with one for each emission that waits.
@@ -44,11 +45,11 @@ impl<T: Copy> SharedState<T> {
         self.ring.next_number() + self.waiting.len() as u64 == NUMBER_LIMIT
     }
 
-    /// What an emission comes to that begins now.
+    /// What an emission comes to that begins now, beside so many.
     //
     // Inlined, so that an emission is one function, and what follows each fate stands where it is known.
     #[inline(always)]
-    fn fate(&mut self) -> Fate
+    fn fate(&mut self, crowd: Crowd) -> Fate
         ensures fate { HasFate self.old result }
         ensures same { self.new ≡ self.old }
     {
@@ -56,25 +57,25 @@ impl<T: Copy> SharedState<T> {
             return Fate::Enters;
         }
         if self.config.replay + self.config.extra == 0 {
-            if self.waiting.len() > 0 || !self.has_room() {
+            if self.waiting.len() > 0 || !self.has_room(crowd) {
                 return Fate::HeldUp;
             }
             return Fate::HandedOver;
         }
         match self.config.policy {
-            Policy::Suspend => self.enters_or(Fate::HeldUp),
-            Policy::DropLatest => self.enters_or(Fate::Dropped),
+            Policy::Suspend => self.enters_or(crowd, Fate::HeldUp),
+            Policy::DropLatest => self.enters_or(crowd, Fate::Dropped),
             // Whether anybody has all places taken, nobody has to ask.
             Policy::DropOldest => Fate::PushesIn,
         }
     }
 
     /// What an emission comes to where room decides.
-    fn enters_or(&mut self, without_room: Fate) -> Fate
+    fn enters_or(&mut self, crowd: Crowd, without_room: Fate) -> Fate
         ensures fate { result ≡ (if room_in self.old then Fate.Enters else without_room) }
         ensures same { self.new ≡ self.old }
     {
-        if self.has_room() {
+        if self.has_room(crowd) {
             Fate::Enters
         } else {
             without_room
@@ -149,7 +150,8 @@ impl<T: Copy> SharedState<T> {
         if self.waiting.len() == 0 {
             return false;
         }
-        if !self.has_room() {
+        let crowd = self.ring.crowd();
+        if !self.has_room(crowd) {
             return false;
         }
         self.accept_oldest()
@@ -195,14 +197,32 @@ impl<T: Copy> SharedState<T> {
     /// `Full` where the emission would have to wait, and wherever somebody is live in a flow without places. Refused as `Spent`
     /// where the numbers below 2^62 are used up, with one for each emission that waits. The emitter's number has no part in the
     /// answer: the flow keeps it only with an emission that waits.
+    //
+    // Inlined wherever it is called, so that the answer needn't go through memory.
+    #[inline(always)]
     pub fn try_emit(&mut self, emitter: u32, value: T) -> Result<Tried<u64>, Refusal>
         ensures { Follows (calls.try_emit emitter value) self.old result self.new }
     {
         if self.is_spent() {
             return Err(Refusal::Spent);
         }
-        let fate = self.fate();
+        if let Crowd::Many = self.ring.crowd() {
+            return Ok(self.try_beside_many(emitter, value));
+        }
+        let fate = self.fate(Crowd::Few);
         Ok(self.try_with(fate, emitter, value))
+    }
+
+    /// The same beside many subscriptions.
+    //
+    // Not inlined, so that an emission beside few keeps its registers.
+    #[inline(never)]
+    fn try_beside_many(&mut self, emitter: u32, value: T) -> Tried<u64>
+        requires { self.old.next_number + waiting_in self.old < number_limit }
+        ensures { Follows (calls.try_emit emitter value) self.old (Ok result) self.new }
+    {
+        let fate = self.fate(Crowd::Many);
+        self.try_with(fate, emitter, value)
     }
 
     /// Does what an emission comes to that can't wait.
@@ -231,7 +251,8 @@ impl<T: Copy> SharedState<T> {
         if self.is_spent() || self.config.first + self.given == NUMBER_LIMIT {
             return Err(Refusal::Spent);
         }
-        let fate = self.fate();
+        let crowd = self.ring.crowd();
+        let fate = self.fate(crowd);
         self.start_with(fate, emitter, value)
     }
 

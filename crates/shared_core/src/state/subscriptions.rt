@@ -44,6 +44,9 @@ impl<T: Copy> SharedState<T> {
     ///
     /// `Nothing` where none is pending, and `Closed` where the subscription isn't live. After a value that isn't of the prelude,
     /// emissions that wait are accepted while there is room.
+    //
+    // Inlined wherever it is called, so that the answer needn't go through memory.
+    #[inline(always)]
     pub fn next(&mut self, id: SubId) -> Next<T>
         ensures { Follows (calls.next_value id.0) self.old result self.new }
     {
@@ -54,6 +57,7 @@ impl<T: Copy> SharedState<T> {
     }
 
     /// The next value of a subscription of whose prelude nothing is left.
+    #[inline(always)]
     fn next_accepted(&mut self, id: SubId) -> Next<T>
         ensures { IsWithout id.0 self.old.rests → Follows (calls.next_value id.0) self.old result self.new }
     {

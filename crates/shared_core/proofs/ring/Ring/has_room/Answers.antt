@@ -12,8 +12,8 @@ returns-then-self-limit-clause-room g c =
     sym (ap has_space (sym c.self.view_is)
     ∙ room-from_below ring.next_number ring.values.items ring.values.capacity ring.places.items (below-few ring.next_number ring.values.items ring.values.capacity ring.places.items few))
 
-pub returns-then-len-le-FEW-clause-room : goal.returns-then-len-le-FEW-clause-room
-returns-then-len-le-FEW-clause-room g c =
+pub returns-in-Few-clause-room : goal.returns-in-Few-clause-room
+returns-in-Few-clause-room g c =
     let ring = c.self.inside in
     let limit : c.limit-limit.result ≡ ring.values.capacity = c.limit-limit.ensures.limit ∙ sym (ap (λ (r : Ringed _). r.limit) c.self.view_is) in
     c.each_past.ensures

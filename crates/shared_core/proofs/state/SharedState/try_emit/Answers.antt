@@ -19,3 +19,6 @@ try_with-requires-clause-numbers g c =
 
 pub returns : goal.returns
 returns g c = subst (λ old. Follows (calls.try_emit c.args.emitter c.args.value) old (Ok c.try_with.result) c.try_with.new.self) c.fate-fate.ensures.same c.try_with.ensures
+
+pub try_beside_many-requires : goal.try_beside_many-requires
+try_beside_many-requires g c = within_limit _ (sym c.is_spent.ensures.spent ∙ c.if-is_spent.false) c.is_spent.ensures.bound
