@@ -103,11 +103,11 @@ waiting_next q e ticket t same on = ⊎_elim
 -- what a call answered with is below the next number after it, which isn't below the one before it
 makes_next : (lane : LaneSeen) (q : SequencerSeen) (r : Round) (t : SequencerSeen) → t.view.shape ≡ q.view.shape → Makes lane q r t → (next q ≤ next t) × (after_number r ≤ next t)
 makes_next lane q (round.Try e (Ok (tried.Accepted n))) t same on = let more = one_more q (e.emitter, e.word) t same on.2 in let is = on.1 in (omega (arith, more), omega (arith, more, is))
-makes_next lane q (round.Try e (Ok tried.Dropped)) t same on = unnumbered q t (loaded_next q t on.1)
+makes_next lane q (round.Try e (Ok tried.Dropped)) t same on = unnumbered q t (loaded_next q t on.1.0)
 makes_next lane q (round.Try e (Ok tried.Full)) t same on = unnumbered q t (full_next q t on.1)
 makes_next lane q (round.Try e (Err refusal)) t same on = unnumbered q t (same_state q t on.2)
 makes_next lane q (round.Start e (Ok (begun.Accepted n))) t same on = let more = one_more q (e.emitter, e.word) t same on.2 in let is = on.1 in (omega (arith, more), omega (arith, more, is))
-makes_next lane q (round.Start e (Ok begun.Dropped)) t same on = unnumbered q t (loaded_next q t on.1)
+makes_next lane q (round.Start e (Ok begun.Dropped)) t same on = unnumbered q t (loaded_next q t on.1.0)
 makes_next lane q (round.Start e (Ok (begun.Waiting ticket))) t same on = unnumbered q t (waiting_next q (e.emitter, e.word) ticket t same on)
 makes_next lane q (round.Start e (Err refusal)) t same on = unnumbered q t (refused_next q refusal t on)
 makes_next lane q (round.Poll ticket (emit.Done n)) t same on = (loaded_next (given_back on.0 q) t on.5, accepted_below t (on.1).emitter n on.4)

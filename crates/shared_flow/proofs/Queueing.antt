@@ -71,11 +71,11 @@ queued q t e ticket number waits log =
 -- what a call does to the queue
 goes : (lane : LaneSeen) (q : SequencerSeen) (r : Round) (t : SequencerSeen) → Makes lane q r t → Goes r (progress_of q) (progress_of t)
 goes lane q (round.Try e (Ok (tried.Accepted n))) t on = accepted_now q t e on.0 on.4.0 on.2
-goes lane q (round.Try e (Ok tried.Dropped)) t on = loaded_is q t on.1
+goes lane q (round.Try e (Ok tried.Dropped)) t on = loaded_is q t on.1.0
 goes lane q (round.Try e (Ok tried.Full)) t on = full_is q t on.1
 goes lane q (round.Try e (Err refusal)) t on = state_is q t on.2
 goes lane q (round.Start e (Ok (begun.Accepted n))) t on = accepted_now q t e on.0 on.4.0 on.2
-goes lane q (round.Start e (Ok begun.Dropped)) t on = loaded_is q t on.1
+goes lane q (round.Start e (Ok begun.Dropped)) t on = loaded_is q t on.1.0
 goes lane q (round.Start e (Ok (begun.Waiting ticket))) t on = ⊎_elim
     (λ stood. inl (accepted_now q t e stood.0 stood.2.1 stood.2.3))
     (λ waits. inr (queued q t e ticket on.1 waits.0 waits.1))

@@ -1,4 +1,5 @@
 pub mod Accepting
+pub mod Beginning
 pub mod Lives
 pub mod Makes
 pub mod Outstanding

@@ -15,3 +15,6 @@ same_loaded q t only = let e = only.0 in (
 
 pub same_twice : (q m t : SequencerSeen) → IsSameSequencer q m → IsSameSequencer m t → IsSameSequencer q t
 same_twice q m t a b = (b.0 ∙ a.0, b.1 ∙ a.1, b.2 ∙ a.2, b.3 ∙ a.3, b.4 ∙ a.4, b.5 ∙ a.5)
+
+pub loaded_twice : (q m t : SequencerSeen) → OnlyLoaded q m → OnlyLoaded m t → OnlyLoaded q t
+loaded_twice q m t a b = (b.0 ∙ ap (λ (z : SequencerSeen). record z { view = t.view }) a.0, b.1 ∙ a.1, b.2 ∙ a.2)

@@ -1,17 +1,18 @@
 -- Waiting emissions are accepted one after another.
-use Rattle.std.proofs.Common.{Bool, true, false, true≢false, ◌≡◌, ◌≢◌, ℕ, zero, suc, ◌+◌, ◌<◌, ◌≤◌, List, [], ◌∷◌, ◌++◌, Some, map, take, drop, length, slice_get, sym, refl, ap, ◌∙◌, subst, arith, length-append, length-drop, append_assoc}
+use Rattle.std.proofs.Common.{Bool, true, false, ◌≡◌, ◌≢◌, ℕ, zero, suc, ◌+◌, ◌<◌, ◌≤◌, List, [], ◌∷◌, ◌++◌, Some, map, take, drop, length, slice_get, sym, refl, ap, ◌∙◌, subst, arith, length-append, length-drop, append_assoc}
 use mathlib.Core.List.{map-append}
 use lib.ListN.{length-map}
 use Rattle.std.proofs.lemmas.Option.{none-some}
 use Rattle.std.proofs.lemmas.List.{append-nil, nil_from_length}
 use Rattle.shared_lane.proofs.Outstanding.{inside_some}
 use Rattle.circular_buffer.specs.Buffer.{keep_last}
+use Rattle.lane_steps.specs.declared.view.Shape.{Shape}
 use Rattle.lane_steps.specs.declared.view.View.{View}
 use Rattle.lane_steps.specs.Law.{Begins}
 use Rattle.flow_terms.specs.declared.policy.Policy.{Policy}
 use Rattle.flow_terms.specs.declared.policy.Policy.TheVariants.{Suspend, DropOldest, DropLatest}
 use Rattle.shared_lane.specs.Views.{SequencerSeen}
-use Rattle.shared_lane.specs.Surveys.{Round, FoundAt, Behind, cursor_loads}
+use Rattle.shared_lane.specs.Surveys.{cursor_loads}
 use Rattle.shared_lane.specs.declared.tickets.Waiting.{Waiting}
 use Rattle.shared_lane.specs.Sequencers.{entry_of, stood, cached, seen, next, IsSameTickets, OnlyLoaded, RoundedBy, Settled, IsStuck, accepted_on, stood_on}
 
@@ -82,22 +83,9 @@ settled_more k q t t' u was same_seen same_cache same subs shape r since one = l
       quiet = λ none. let few : k + 1 ≤ length q.waiting = omega arith in let zero_long : length q.waiting ≡ 0 = ap length none in absurd (omega arith);
     }
 
--- a round that found no room found a cursor too far behind
-found_behind : (p : Policy) (lag : ℕ) (q : SequencerSeen) (v : View) → RoundedBy p lag q false v → (ns : List ℕ) × (length ns ≡ q.view.shape.places) × Round FoundAt q.view ns v × Behind (next q) lag ns true
-found_behind Suspend lag q v r = r
-found_behind DropOldest lag q v r = absurd (true≢false (sym r.0))
-found_behind DropLatest lag q v r = r
-
 pub stuck : (q t t' : SequencerSeen) (lag : ℕ) → Begins t.view.loads q.view.loads → OnlyLoaded t t' → RoundedBy t.policy lag t false t'.view → lag ≡ t.view.shape.cells → IsStuck q t'
-stuck q t t' lag since only round cells = let f = found_behind t.policy lag t t'.view round in
-    let number : next t' ≡ next t = (λ i. (only.1 i).first + length (only.2 i)) in (
-      t.view,
-      f.0,
-      since,
-      f.1 ∙ (λ i. (sym only.1 i).places),
-      f.2,
-      subst (λ (z : ℕ × ℕ). Behind z.0 z.1 f.0 true) (λ i. (sym number i, (cells ∙ (λ j. (sym only.1 j).cells)) i)) f.3,
-    )
+stuck q t t' lag since only round cells =
+    (t, since, (only, subst (λ (z : ℕ). RoundedBy t.policy z t false t'.view) (cells ∙ ap (λ (z : Shape). z.cells) (sym only.1)) round))
 
 -- the first that waits is accepted, and its ticket stands
 pub settles : (q : SequencerSeen) (w : Waiting) → slice_get q.waiting 0 ≡ Some w → Settled 1 q (stood_on w.ticket w.emitter (next q) (accepted_on (entry_of w) (record q { waiting = drop 1 q.waiting })))

@@ -72,6 +72,11 @@ RoundedBy DropLatest lag q room v = (ns : List ℕ) × (length ns ≡ q.view.sha
 abbrev pub Rounded : ℕ → SequencerSeen → Bool → SequencerSeen → Type 0
 Rounded lag q room t = RoundedBy q.policy lag q room t.view
 
+-- From q to t every cursor was loaded, in one round and no other, and by what it found there was room or not. Each answer that tells of
+-- room says so by this: the loads that t has and q hasn't are those of the round.
+abbrev pub ByCursors : ℕ → SequencerSeen → Bool → SequencerSeen → Type 0
+ByCursors lag q room t = OnlyLoaded q t × Rounded lag q room t
+
 -- the first k waiting emissions were accepted, in their order
 pub record Settled (k : ℕ) (q t : SequencerSeen) : Type 0 where
   pub few : k ≤ length q.waiting
@@ -85,20 +90,13 @@ pub record Settled (k : ℕ) (q t : SequencerSeen) : Type 0 where
   -- where nothing waited nothing was done
   pub quiet : q.waiting ≡ [] → t ≡ q
 
--- since q, a round over the cursors found one that stood as far behind as there are cells
+-- since q, and last, a round over the cursors found one that stood as far behind as there are cells
 abbrev pub IsStuck : SequencerSeen → SequencerSeen → Type 0
-IsStuck q t = (v : View) × (ns : List ℕ) × Begins v.loads q.view.loads
-    × (length ns ≡ t.view.shape.places) × Round FoundAt v ns t.view × Behind (next t) t.view.shape.cells ns true
+IsStuck q t = (m : SequencerSeen) × Begins m.view.loads q.view.loads × ByCursors t.view.shape.cells m false t
 
 -- the call first accepted waiting emissions, as many as it could, and `then` says what it did after that
 abbrev pub AfterScan : SequencerSeen → (SequencerSeen → Type 0) → Type 0
 AfterScan q then = (m : SequencerSeen) × (k : ℕ) × IsSameSequencer q m × Settled k q m × (m.waiting ≢ [] → IsStuck q m) × then m
-
--- the emission was accepted, after a round over the cursors that found room
-abbrev pub AcceptedOn : SequencerSeen → Entry → ℕ → SequencerSeen → Type 0
-AcceptedOn q e n t = (q.waiting ≡ []) × (n ≡ next q) × (seen t ≡ seen q ++ e ∷ [])
-    × (t.cache ≡ keep_last q.replay (q.cache ++ e.1 ∷ [])) × IsSameTickets q t × (t.subscription ≡ q.subscription)
-    × ((v : View) × RoundedBy q.policy q.capacity q true v × (t.view.loads ≡ v.loads) × (t.view.sequencing.places ≡ v.sequencing.places))
 
 -- the emission is the last of those accepted, and in the cache
 abbrev pub accepted_on : Entry → SequencerSeen → SequencerSeen
@@ -106,6 +104,12 @@ accepted_on e q = record q {
   view = record q.view { seen = q.view.seen ++ e ∷ []; sequencing = record q.view.sequencing { flying = false; entry = e } };
   cache = keep_last q.replay (q.cache ++ e.1 ∷ []);
 }
+
+-- the emission was accepted, after a round over the cursors that found room
+abbrev pub AcceptedOn : SequencerSeen → Entry → ℕ → SequencerSeen → Type 0
+AcceptedOn q e n t = (q.waiting ≡ []) × (n ≡ next q) × (seen t ≡ seen q ++ e ∷ [])
+    × (t.cache ≡ keep_last q.replay (q.cache ++ e.1 ∷ [])) × IsSameTickets q t × (t.subscription ≡ q.subscription)
+    × ((m : SequencerSeen) × ByCursors q.capacity q true m × (t ≡ accepted_on e m))
 
 -- an accepted emission's ticket is out
 abbrev pub stood_on : ℕ → ℕ → ℕ → SequencerSeen → SequencerSeen
@@ -117,12 +121,12 @@ accepted_with_ticket e q = stood_on q.ticket e.0 (next q) (record (accepted_on e
 
 -- there was no room: an emission waits, or a round over the cursors found none
 abbrev pub FoundNoRoom : SequencerSeen → SequencerSeen → Type 0
-FoundNoRoom q t = ((q.waiting ≢ []) × (t ≡ q)) ⊎ (OnlyLoaded q t × Rounded q.capacity q false t)
+FoundNoRoom q t = ((q.waiting ≢ []) × (t ≡ q)) ⊎ ByCursors q.capacity q false t
 
 -- an attempt to emit: what is answered, by cursors that were loaded in the call
 abbrev pub TriedOn : SequencerSeen → Entry → Tried ℕ → SequencerSeen → Type 0
 TriedOn q e (Accepted n) t = AcceptedOn q e n t
-TriedOn q e Dropped t = (q.policy ≡ DropLatest) × OnlyLoaded q t × Rounded q.capacity q false t
+TriedOn q e Dropped t = (q.policy ≡ DropLatest) × ByCursors q.capacity q false t
 TriedOn q e Full t = (q.policy ≡ Suspend) × FoundNoRoom q t
 
 -- a number is left for one more emission, and for one more ticket
@@ -149,18 +153,26 @@ HasStood q e t = (t.ticket ≡ q.ticket + 1) × (t.waiting ≡ q.waiting)
     × (t.standing ≡ q.standing ++ record { ticket = q.ticket; emitter = e.0; number = next q } ∷ [])
     × (seen t ≡ seen q ++ e ∷ []) × (t.cache ≡ keep_last q.replay (q.cache ++ e.1 ∷ [])) × (t.subscription ≡ q.subscription)
 
--- some cursor was open, as the call loaded them where there is no buffer
-abbrev pub IsWatched : SequencerSeen → Type 0
-IsWatched q = (v : View) × RoundedBy Suspend 0 q false v
+-- Where there is no buffer: a first round found an open cursor, and a second one, right after it, found the one cell free or not.
+abbrev pub LookedTwice : Bool → SequencerSeen → SequencerSeen → Type 0
+LookedTwice free q t = (q.capacity ≡ 0) × ((m : SequencerSeen) × ByCursors q.capacity q false m × ByCursors 1 m free t)
+
+-- the cursors were loaded, and one of them stood in the way of the emission
+abbrev pub FoundInTheWay : SequencerSeen → SequencerSeen → Type 0
+FoundInTheWay q t = ((0 < q.capacity) × ByCursors q.capacity q false t) ⊎ LookedTwice false q t
+
+-- the emission waits, behind another one or for a cursor
+abbrev pub WaitsOn : SequencerSeen → Entry → SequencerSeen → Type 0
+WaitsOn q e t = ((q.waiting ≢ []) × (t ≡ waited e q)) ⊎ ((m : SequencerSeen) × FoundInTheWay q m × (t ≡ waited e m))
 
 -- the start of an emission
 abbrev pub BegunOn : SequencerSeen → Entry → Begun ℕ Ticket → SequencerSeen → Type 0
 BegunOn q e (begun.Accepted n) t = AcceptedOn q e n t
-BegunOn q e begun.Dropped t = (q.policy ≡ DropLatest) × OnlyLoaded q t × Rounded q.capacity q false t
--- where the value is in its cell already, some cursor was open; else the emission waits behind a cursor or another emission
+BegunOn q e begun.Dropped t = (q.policy ≡ DropLatest) × ByCursors q.capacity q false t
+-- the value is in its cell already, and some cursor was open; else the emission waits
 BegunOn q e (begun.Waiting ticket) t = (q.policy ≡ Suspend) × (ticket.0 ≡ q.ticket) × HasFreeTicket q
-    × (((q.waiting ≡ []) × (q.capacity ≡ 0) × HasStood q e t × IsWatched q)
-    ⊎ ((t ≡ record (waited e q) { view = t.view }) × (seen t ≡ seen q) × ((q.waiting ≢ []) ⊎ IsStuck q t)))
+    × (((q.waiting ≡ []) × (q.capacity ≡ 0) × HasStood q e t × ((m : SequencerSeen) × LookedTwice true q m × (t ≡ accepted_with_ticket e m)))
+    ⊎ ((t ≡ record (waited e q) { view = t.view }) × (seen t ≡ seen q) × WaitsOn q e t))
 
 abbrev pub RefusedStart : SequencerSeen → Refusal → SequencerSeen → Type 0
 RefusedStart q Spent t = ((next q + length q.waiting ≡ 4611686018427387904) ⊎ (q.ticket ≡ 4611686018427387904)) × (t ≡ q)
