@@ -1,6 +1,6 @@
 -- What a reader has seen, and what it takes.
 use Rattle.std.specs.Prelude.{◌≡◌, ℕ, ◌+◌, ◌-◌, ◌<◌, ◌≤◌, List, [], ◌∷◌, ◌++◌, length, replicate, Bool, true, false}
-use Rattle.lane_steps.specs.Layout.{tail_word, cursor_word}
+use Rattle.lane_steps.specs.Layout.{tail_word, cursor_word, cell_word}
 use Rattle.lane_steps.specs.Law.{Begins, HasWord, received, lost}
 use Rattle.shared_lane.specs.Views.{LaneSeen, ReaderSeen, ReceiptSeen}
 use Rattle.shared_lane.specs.declared.reader.Taken.{Taken}
@@ -39,10 +39,16 @@ IsKept n r = r.shape.drops ≡ false → n ≡ at r
 abbrev pub WentTo : ℕ → ReaderSeen → ReaderSeen → Type 0
 WentTo n r t = (at r ≤ n) × IsKept n r × (t.story ≡ story_to n r)
 
+-- The exchange of this attempt failed. It was tried where the cursor had been loaded at m, below the tail, and the value of m had been
+-- loaded; and after these loads, which are all, the position rose past m to n. Nothing but an exchange that found n there tells that.
+abbrev pub FailedToTake : ReaderSeen → ℕ → ReaderSeen → Type 0
+FailedToTake r n t = (m : ℕ) × (tail : ℕ) × (x : ℕ) × (at r ≤ m) × (m < n) × (m < tail) × (tail ≡ r.shape.first + length t.seen)
+    × (t.loads ≡ r.loads ++ (cursor_word r.place, m) ∷ (tail_word, tail) ∷ (cell_word r.shape m, x) ∷ [])
+
 -- what an attempt to take the next value did
 abbrev pub TookNext : ReaderSeen → Taken ℕ → ReaderSeen → Type 0
 TookNext r (Value w) t = (n : ℕ) × (at r ≤ n) × IsKept n r × (t.story ≡ story_to n r ++ true ∷ []) × HasWord r.shape.first t.seen n w
 -- the tail that was loaded last is the position
 TookNext r Nothing t = (n : ℕ) × WentTo n r t × (n ≡ r.shape.first + length t.seen)
     × (t.loads ≡ r.loads ++ (cursor_word r.place, n) ∷ (tail_word, n) ∷ [])
-TookNext r Overtaken t = (n : ℕ) × (at r < n) × (r.shape.drops ≡ true) × (t.story ≡ story_to n r)
+TookNext r Overtaken t = (n : ℕ) × (at r < n) × (r.shape.drops ≡ true) × (t.story ≡ story_to n r) × FailedToTake r n t

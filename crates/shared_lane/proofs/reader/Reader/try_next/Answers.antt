@@ -1,13 +1,16 @@
-use Rattle.std.proofs.Common.{rules, arith, ◌≡◌, ℕ, ◌+◌, ◌-◌, ◌<◌, ◌≤◌, List, [], ◌∷◌, ◌++◌, length, replicate, Bool, true, false, refl, sym, ap, ◌∙◌, subst, Fits, w64}
+use Rattle.std.proofs.Common.{rules, arith, ◌≡◌, ℕ, ◌+◌, ◌-◌, ◌<◌, ◌≤◌, List, [], ◌∷◌, ◌++◌, length, replicate, Bool, true, false, refl, sym, ap, ◌∙◌, subst, append_assoc, Fits, w64}
 use Rattle.lane_steps.specs.declared.view.View.{View}
 use Rattle.lane_steps.specs.declared.view.Reading.{Reading}
 use Rattle.lane_steps.specs.declared.view.Shape.{Shape}
 use Rattle.lane_steps.specs.Law.{Entry, HasWord, received}
-use Rattle.lane_steps.specs.Layout.{cell_index}
+use Rattle.lane_steps.specs.Layout.{tail_word, cursor_word, cell_word, cell_index}
 use Rattle.lane_steps.specs.Steps.{position, got, found_at, picked_up}
 use Rattle.shared_lane.specs.Views.{LaneSeen, ReaderSeen}
 use Rattle.shared_lane.proofs.Stories.{position_found, found_twice, received_none, received_one, each_once}
 use Rattle.shared_lane.proofs.reader.Reader.try_next.Goals as goal
+
+three : {A : Type 0} (l : List A) (a b c : A) → ((l ++ a ∷ []) ++ b ∷ []) ++ c ∷ [] ≡ l ++ a ∷ b ∷ c ∷ []
+three l a b c = append_assoc (l ++ a ∷ []) (b ∷ []) (c ∷ []) ∙ append_assoc l (a ∷ []) (b ∷ c ∷ [])
 
 pub index_from-cell-requires : goal.index_from-cell-requires
 index_from-cell-requires g c = let s = c.self.inside in let of_lane = ap (λ (z : ReaderSeen). z.shape) c.self.view_is ∙ (c.requires.1 ∙ sym (ap (λ (z : LaneSeen). z.shape) c.words-words.ensures)) in
@@ -59,7 +62,29 @@ returns-then-found-at-clause-taken g c = rw (← c.self.view_is) (let s = c.self
     let above : n < m = subst (λ (z : ℕ). z < m) (ap position e3 ∙ pos) miss.1 in
     let shape = ap (λ (v : View). v.shape) cell.view ∙ ap (λ (v : View). v.shape) tail.view.0 ∙ ap (λ (v : View). v.shape) own.view.0 in
     let story = ap (λ (x : Reading). x.story) e4 ∙ (ap (λ (z : ℕ). (r.story ++ replicate (n - p) false) ++ replicate (m - z) false) pos ∙ found_twice p n m r.story le (omega arith)) in
-    (m, omega arith, ap (λ (z : Shape). z.drops) (sym shape) ∙ miss.2, story))
+    let tail_is : ℕ = c.load_tail-tail.result in let x : ℕ = c.load_cell-word.result in let before = s.seat.me.0.loads in
+    let there = ap (λ (v : View). position v.reading) own.view.0 ∙ pos in let near = tail.view.4 in let ne = c.if-tail-at.false in
+    let of_lane : s.seat.me.0.shape ≡ c.words-words.result.now.shape = ap (λ (z : ReaderSeen). z.shape) c.self.view_is ∙ (c.requires.1 ∙ sym (ap (λ (z : LaneSeen). z.shape) c.words-words.ensures)) in
+    let begins = ap (λ (v : View). v.shape) tail.view.0 ∙ ap (λ (v : View). v.shape) own.view.0 in let seen = ap (λ (v : View). v.seen) miss.0 ∙ ap (λ (v : View). v.seen) cell.view in
+    let word : cell_word c.words-words.result.now.shape (position c.load_tail-tail.new.seat.me.0.reading) ≡ cell_word s.seat.me.0.shape n = λ i. cell_word (sym of_lane i) ((ap position e2 ∙ pos) i) in
+    let loads = ap (λ (v : View). v.loads) miss.0 ∙ (ap (λ (v : View). v.loads) cell.view
+    ∙ ap (λ (l : List (ℕ × ℕ)). l ++ (cell_word c.words-words.result.now.shape (position c.load_tail-tail.new.seat.me.0.reading), x) ∷ [])
+    (ap (λ (v : View). v.loads) tail.view.0 ∙ ap (λ (l : List (ℕ × ℕ)). l ++ (tail_word, tail_is) ∷ []) (ap (λ (v : View). v.loads) own.view.0))) in (
+      m,
+      omega arith,
+      ap (λ (z : Shape). z.drops) (sym shape) ∙ miss.2,
+      story,
+      (
+        n,
+        tail_is,
+        x,
+        le,
+        above,
+        omega arith,
+        tail.view.3 ∙ (λ i. (begins i).first + length (sym seen i)),
+        loads ∙ (three before _ _ _ ∙ (λ i. before ++ (cursor_word (sym inv.place_is i), n) ∷ (tail_word, tail_is) ∷ (word i, x) ∷ [])),
+      ),
+    ))
 
 pub overflow_add-self-2 : goal.overflow_add-self-2
 overflow_add-self-2 g c = let s = c.self.inside in let inv = c.self.invariant in let r : Reading = s.seat.me.0.reading in let n : ℕ = c.load_own-at.result in let once = each_once s.start r.story in let own = c.load_own-at.ensures.view in let counted = inv.taken_is in
