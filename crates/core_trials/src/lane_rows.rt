@@ -212,7 +212,13 @@ fn lane_drops_oldest(rt: HostRuntime) -> Result<(), Fail> {
         LOSES_THREE,
     );
     assert_met(&rt, &lane, &mut sequencer, &mut reader, (5, 2, 3));
-    reader.close(&lane);
+    let closed = reader.close(&lane);
+    assert_same(
+        &rt,
+        "its end",
+        (closed.received(), closed.dropped()),
+        (2, 3),
+    );
     let mut reader = admitted(&rt, &lane, &mut sequencer);
     assert_life(
         &rt,

@@ -1,5 +1,5 @@
 -- What a step leaves as it was.
-use Rattle.std.proofs.Common.{◌≡◌, ◌≢◌, ℕ, ◌+◌, ◌<◌, List, ◌++◌, length, get_or, set, sym, refl, ap, ◌∙◌, subst, ⊎_elim, arith, length-set, append_assoc, get_or-set_other, get_or-set_same}
+use Rattle.std.proofs.Common.{◌≡◌, ◌≢◌, ◌⊎◌, ℕ, false, ◌+◌, ◌<◌, List, ◌++◌, length, get_or, set, sym, refl, ap, ◌∙◌, subst, ⊎_elim, arith, length-set, append_assoc, get_or-set_other, get_or-set_same}
 use mathlib.Core.Logic.{dite}
 use mathlib.Core.Option.{some}
 use native.Mathlib.Decide.{ℕ_discrete}
@@ -8,9 +8,10 @@ use lib.Seq.{set-get_or}
 use Rattle.atomic_table.specs.Table.{State}
 use Rattle.atomic_table.proofs.Lists.{at_set}
 use Rattle.lane_steps.specs.declared.view.Shape.{Shape}
+use Rattle.lane_steps.specs.declared.view.Reading.{Reading}
 use Rattle.lane_steps.specs.declared.view.View.{View}
 use Rattle.lane_steps.specs.Layout.{cursor_word, cell_word}
-use Rattle.lane_steps.specs.Law.{Begins, Place, PlaceOk, SeatOk, Law}
+use Rattle.lane_steps.specs.Law.{Begins, Place, PlaceOk, QuitOk, WasOpenedAgain, SeatOk, Law}
 use Rattle.lane_steps.proofs.Apart.{cursor_is_no_tail, cursors_differ, cell_is_no_cursor, cursor_within}
 
 abbrev pick : {A : Type 0} {P : Type 0} → Dec P → A → A → A
@@ -44,6 +45,17 @@ seats_stay K vs me w mine others j v e = ⊎_elim (λ (t : (j ≡ me) × (w ≡ 
 
 pub begins_more : {A : Type 0} (xs start : List A) (more : List A) → Begins xs start → Begins (xs ++ more) start
 begins_more xs start more b = (b.0 ++ more, ap (λ l. l ++ more) b.1 ∙ append_assoc start b.0 more)
+
+-- what a seat closed stays closed, or was opened again, where a place changes in a way that it may
+pub quit_stays : (key : Shape) (place : ℕ → Place) (p : ℕ) (pl : Place) (j : ℕ) (rd : Reading)
+    → (((place p).is_open ≡ false) ⊎ WasOpenedAgain j (place p) → (pl.is_open ≡ false) ⊎ WasOpenedAgain j pl) → QuitOk key j place rd → QuitOk key j (put place p pl) rd
+quit_stays key place p pl j rd stays was h = let o = was h in let G : Place → Type 0 = λ z. (z.is_open ≡ false) ⊎ WasOpenedAgain j z in (
+  o.0,
+  o.1,
+  dite (ℕ_discrete rd.place p)
+      (λ e. subst G (sym (put_here place p pl) ∙ ap (put place p pl) (sym e)) (stays (subst (λ (z : ℕ). G (place z)) e o.2)))
+      (λ ne. subst G (sym (put_else place p pl rd.place ne)) o.2),
+)
 
 module _ {S : Type 0} (key : Shape) where
   -- a step that leaves the words, the log and the places as they were

@@ -1,5 +1,5 @@
 -- The reader's steps keep the law.
-use Rattle.std.proofs.Common.{◌≡◌, ◌≢◌, ℕ, suc, ◌+◌, ◌-◌, ◌<◌, eqb, Bool, true, false, List, [], ◌∷◌, ◌++◌, length, replicate, get_or, sym, refl, ap, ◌∙◌, subst, ⊎_elim, arith, length-append, eq-eqb, ne_eqb}
+use Rattle.std.proofs.Common.{◌≡◌, ◌≢◌, ◌⊎◌, inl, ℕ, suc, ◌+◌, ◌-◌, ◌<◌, eqb, Bool, true, false, List, [], ◌∷◌, ◌++◌, length, replicate, get_or, sym, refl, ap, ◌∙◌, subst, ⊎_elim, arith, length-append, eq-eqb, ne_eqb}
 use mathlib.Core.Logic.{dite}
 use mathlib.Core.Option.{some, none}
 use native.Mathlib.Decide.{ℕ_discrete}
@@ -13,10 +13,10 @@ use Rattle.lane_steps.specs.declared.view.Sequencing.{Sequencing}
 use Rattle.lane_steps.specs.declared.view.Reading.{Reading}
 use Rattle.lane_steps.specs.declared.view.View.{View}
 use Rattle.lane_steps.specs.Layout.{cursor_word, cell_word}
-use Rattle.lane_steps.specs.Law.{Entry, closed, Begins, HasWord, Place, cursor, PlaceOk, KnownOk, SequencerOk, ReaderOk, SeatOk, Law}
+use Rattle.lane_steps.specs.Law.{Entry, closed, Begins, HasWord, Place, cursor, PlaceOk, KnownOk, SequencerOk, ReaderOk, SeatOk, WasOpenedAgain, Law}
 use Rattle.lane_steps.specs.Steps.{position, next_number, got, found_at, picked_up, ended, noticed, picked, took, looked, quit}
 use Rattle.lane_steps.proofs.Lists.{which, not_both, there, begins_self, begins_length, begins_at, none_lost, one_more, lost_none}
-use Rattle.lane_steps.proofs.Frames.{put, put_here, put_else, unmoved, place_step}
+use Rattle.lane_steps.proofs.Frames.{put, put_here, put_else, quit_stays, unmoved, place_step}
 
 module _ (key : Shape) where
   -- how far the reader's own story is behind its cursor
@@ -79,7 +79,7 @@ module _ (key : Shape) where
           w,
           keeps,
           tt,
-          unmoved key s r 0 id w record { seen = begins_self r.log; told = (r.log, refl); sequencing = λ a. let q = ok.sequencing a in (q.0, refl, q.2); reading = ok.reading },
+          unmoved key s r 0 id w record { seen = begins_self r.log; told = (r.log, refl); sequencing = λ a. let q = ok.sequencing a in (q.0, refl, q.2); reading = ok.reading; quit = ok.quit },
           (refl, (refl, ok.seen, ok.told, is, omega arith)),
         )
 
@@ -104,20 +104,22 @@ module _ (key : Shape) where
             told = ok.told;
             sequencing = ok.sequencing;
             reading = λ _. (own.0, record { inside = own.1.inside; live = own.1.live; handed = own.1.handed; seat = own.1.seat; start = own.1.start; story = own.1.story; picked = λ _. (omega arith, has) });
+            quit = λ h. not_both rd.active act (ok.quit h).0;
           },
           (refl, refl),
         )
 
     -- the other seats, at a step of the reader of the place p
     pub others_stay : (s : State S View) (r : Law key s) (p me : ℕ) (pl : Place) → (r.place p).holder ≡ me → ((k : Known) → KnownOk k (r.place p) → KnownOk k pl)
-        → (j : ℕ) (v : View) → j ≢ me → get_elem? s.views j ≡ some v → SeatOk key r.log r.flying r.entry (put r.place p pl) r.sequencer j v
-    others_stay s r p me pl holds stays j v other at = let ok = r.each_seat j v at in record {
+        → ((j : ℕ) → ((r.place p).is_open ≡ false) ⊎ WasOpenedAgain j (r.place p) → (pl.is_open ≡ false) ⊎ WasOpenedAgain j pl) → (j : ℕ) (v : View) → j ≢ me → get_elem? s.views j ≡ some v → SeatOk key r.log r.flying r.entry (put r.place p pl) r.sequencer j v
+    others_stay s r p me pl holds stays leaves j v other at = let ok = r.each_seat j v at in record {
       seen = ok.seen;
       told = ok.told;
       sequencing = sequencer_stays r.log r.flying r.entry r.place r.sequencer j p pl v stays ok.sequencing;
       reading = λ act. let o = ok.reading act in dite (ℕ_discrete v.reading.place p)
           (λ same. absurd (other (sym o.1.seat ∙ (ap (λ (z : ℕ). (r.place z).holder) same ∙ holds))))
           (λ ne. (o.0, subst (ReaderOk key r.log j v.reading) (sym (put_else r.place p pl v.reading.place ne)) o.1));
+      quit = quit_stays key r.place p pl j v.reading (leaves j) ok.quit;
     }
 
     -- a load by the reader that finds its cursor
@@ -129,6 +131,7 @@ module _ (key : Shape) where
       told = subst (Begins r.log) (sym c) ok.told;
       sequencing = λ h. let o = ok.sequencing (ap (λ (q : Sequencing). q.active) (sym d) ∙ h) in (a ∙ o.0, b ∙ o.1, subst (SequencerOk key r.flying r.entry r.place r.sequencer id) (sym d) o.2);
       reading = λ h. (a ∙ own.0, subst (λ (x : Reading). ReaderOk key r.log id x (r.place x.place)) (sym e) (found_ok r.log id n v.reading (r.place v.reading.place) own.1 is));
+      quit = λ h. not_both v.reading.active act (ok.quit (ap (λ (x : Reading). x.quit) (sym e) ∙ h)).0;
     }
 
     pub looks : (slots id i : ℕ) (me : Me S View) → me.0.reading.active ≡ true → i ≡ cursor_word me.0.reading.place → Allows (Law key) slots id me i (λ n. n) (looked (step slots i 0 0 none) me)
@@ -190,8 +193,9 @@ module _ (key : Shape) where
                     picked = λ e. not_both false e refl;
                   },
                 );
+                quit = λ h. not_both rd.active act (ok.quit h).0;
               }
-              (others_stay s r rd.place id pl' own.1.seat stays))),
+              (others_stay s r rd.place id pl' own.1.seat stays (λ _ was. was)))),
           (refl, ((λ _. (refl, (has.0, has.1, index ∙ ap (λ (z : ℕ). z + has.0) (sym first), sym (begins_at r.log v.seen has.0 ok.seen (omega arith)) ∙ has.3))), λ miss. absurd (miss hit))),
         ))
         (λ miss. let w : View = record v { reading = found_at n rd } in let above : position rd < n = omega arith in (
@@ -243,7 +247,8 @@ module _ (key : Shape) where
                 told = ok.told;
                 sequencing = sequencer_stays r.log r.flying r.entry r.place r.sequencer id rd.place pl' v stays ok.sequencing;
                 reading = λ e. not_both false e refl;
+                quit = λ _. (refl, own.1.inside, subst (λ (z : Place). (z.is_open ≡ false) ⊎ WasOpenedAgain id z) (sym (put_here r.place rd.place pl')) (inl refl));
               }
-              (others_stay s r rd.place id pl' own.1.seat stays)),
+              (others_stay s r rd.place id pl' own.1.seat stays (λ _ _. inl refl))),
           (refl, refl),
         )

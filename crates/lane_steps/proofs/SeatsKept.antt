@@ -14,8 +14,8 @@ use Rattle.lane_steps.specs.declared.view.View.{View}
 use Rattle.lane_steps.specs.Layout.{cursor_word, width}
 use Rattle.lane_steps.specs.Law.{Entry, closed, Begins, Place, cursor, lost, PlaceOk, KnownOk, ReaderOk, SeatOk, Law, shut_place, opening_view, no_sequencing}
 use Rattle.lane_steps.specs.Steps.{known_from, next_number, known_of, with_known, found_at, handed_out, new_reader, receipt_of, without_reader, only_reader, telling, joined, spent, witness, met}
-use Rattle.lane_steps.proofs.Lists.{which, not_both, index_there, at_end}
-use Rattle.lane_steps.proofs.Frames.{put, put_here, put_else, seats_stay, unmoved}
+use Rattle.lane_steps.proofs.Lists.{which, not_both, within, index_there, at_end}
+use Rattle.lane_steps.proofs.Frames.{put, put_here, put_else, quit_stays, seats_stay, unmoved}
 use Rattle.lane_steps.proofs.ReaderKept.{reaches, whole_story, found_ok, no_drop, sequencer_stays}
 use Rattle.lane_steps.proofs.SequencerKept.{learns}
 
@@ -24,11 +24,15 @@ front zero l = refl
 front (suc n) [] = refl
 front (suc n) (x ∷ xs) = ap (λ m. x ∷ m) (front n xs)
 
+-- a new seat's number is no seat's that there is
+beyond : (views : List View) (id j : ℕ) (w u : View) → get_elem? views j ≡ some u → length (set views id w) ≢ j
+beyond views id j w u at = let inside = within views j u at in let long = length-set views id w in λ e. absurd (omega arith)
+
 module _ (key : Shape) where
   -- a seat that knows no more than some first entries
   witness_ok : (log : List Entry) (flying : Bool) (entry : Entry) (place : ℕ → Place) (sequencer j : ℕ) (shape : Shape) (some_entries : List Entry) → Begins log some_entries
       → SeatOk key log flying entry place sequencer j (witness shape some_entries)
-  witness_ok log flying entry place sequencer j shape l b = record { seen = b; told = (log, refl); sequencing = λ e. not_both false e refl; reading = λ e. not_both false e refl }
+  witness_ok log flying entry place sequencer j shape l b = record { seen = b; told = (log, refl); sequencing = λ e. not_both false e refl; reading = λ e. not_both false e refl; quit = λ e. not_both false e refl }
 
   moved_reader : (log : List Entry) (place : ℕ → Place) (was now : ℕ) (rd : Reading) → ReaderOk key log was rd (place rd.place) → ReaderOk key log now rd (put place rd.place (record (place rd.place) { holder = now }) rd.place)
   moved_reader log place was now rd o = subst (ReaderOk key log now rd) (sym (put_here place rd.place (record (place rd.place) { holder = now })))
@@ -108,13 +112,13 @@ module _ (key : Shape) where
         let theirs = ⊎_elim (λ (t : (other ≡ id) × (telling v w ≡ w)). absurd (apart t.0)) (λ (t : (other ≢ id) × (get_elem? s.views other ≡ some w)). r.each_seat other w t.1) (at_set s.views id other (telling v w) w there) in
         reseated s r (set (set s.views id (telling v w)) other spent)
         (seats_stay O (set s.views id (telling v w)) other spent (witness_ok r.log r.flying r.entry r.place r.sequencer other spent.shape [] (r.log, refl))
-        (λ j u _ e. seats_stay O s.views id (telling v w) record { seen = ok.seen; told = theirs.seen; sequencing = ok.sequencing; reading = ok.reading } (λ i x _. r.each_seat i x) j u e))
+        (λ j u _ e. seats_stay O s.views id (telling v w) record { seen = ok.seen; told = theirs.seen; sequencing = ok.sequencing; reading = ok.reading; quit = ok.quit } (λ i x _. r.each_seat i x) j u e))
 
     -- the reader of the place p gets a seat of its own
     pub hands_out : (id p : ℕ) (v : View) → v.sequencing.active ≡ true → p < key.places → (known_of v.sequencing p).is_open ≡ true → (known_of v.sequencing p).unread ≡ true → Splits {S = S} (Law key) id v (handed_out p v) (new_reader p v)
     hands_out id p v act inside is_open unread s r at = let ok = r.each_seat id v at in let own = ok.sequencing act in let q : Sequencing = v.sequencing in let k : Known = known_of q p in let count = own.2.count in
         let there_k = index_there q.places p shut_place (omega arith) in let knows = own.2.knows p k there_k in let pl : Place = r.place p in let was = knows.unread is_open unread in let all = r.each_place p inside in
-        let left : View = handed_out p v in let right : View = new_reader p v in let n : ℕ = length (set s.views id left) in let pl' : Place = record pl { unread = false; holder = n } in let k' : Known = record k { unread = false } in
+        let left : View = handed_out p v in let right : View = new_reader p v in let n : ℕ = length (set s.views id left) in let new_seat : (j : ℕ) (u : View) → get_elem? s.views j ≡ some u → n ≢ j = λ j u e. beyond s.views id j left u e in let pl' : Place = record pl { unread = false; holder = n } in let k' : Known = record k { unread = false } in
         let O = SeatOk key r.log r.flying r.entry (put r.place p pl') r.sequencer in
         let knows' : KnownOk k' (put r.place p pl' p) = subst (KnownOk k') (sym (put_here r.place p pl')) record { shut = knows.shut; start = knows.start; floor = knows.floor; lost = knows.lost; unread = λ _ e. not_both false e refl } in
         let others : (j : ℕ) (rd : Reading) → ReaderOk key r.log j rd (r.place rd.place) → ReaderOk key r.log j rd (put r.place p pl' rd.place) = λ j rd o. dite (ℕ_discrete rd.place p)
@@ -125,6 +129,7 @@ module _ (key : Shape) where
           told = ok.told;
           sequencing = λ _. (own.0, own.1, learns key r.flying r.entry r.place (put r.place p pl') r.sequencer id p k' q own.2 knows' (λ x ne. put_else r.place p pl' x ne));
           reading = λ a. let o = ok.reading a in (o.0, others id v.reading o.1);
+          quit = quit_stays key r.place p pl' id v.reading (λ _. inr (inr (new_seat id v at))) ok.quit;
         } in
         let theirs : O n right = record {
           seen = ok.seen;
@@ -142,6 +147,7 @@ module _ (key : Shape) where
               picked = λ e. not_both false e refl;
             },
           );
+          quit = λ e. not_both false e refl;
         } in
         placed s r p pl' (set s.views id left ++ right ∷ []) refl refl refl (λ e. not_both false e refl)
         (λ j u e. ⊎_elim (seats_stay O s.views id left mine
@@ -150,6 +156,7 @@ module _ (key : Shape) where
           told = o.told;
           sequencing = λ a. absurd (other ((o.sequencing a).2.seat ∙ sym own.2.seat));
           reading = λ a. let y = o.reading a in (y.0, others i x.reading y.1);
+          quit = quit_stays key r.place p pl' i x.reading (λ _. inr (inr (new_seat i x here))) o.quit;
         }) j u)
         (λ (t : (j ≡ n) × (right ≡ u)). subst (λ (z : ℕ × View). O z.0 z.1) (λ i. (sym t.0 i, t.1 i)) theirs) (at_end (set s.views id left) right u j e))
 
@@ -162,19 +169,20 @@ module _ (key : Shape) where
     -- the reader's part gets a seat of its own
     pub parts : (id : ℕ) (v : View) → v.reading.active ≡ true → Splits {S = S} (Law key) id v (without_reader v) (only_reader v)
     parts id v act s r at = let ok = r.each_seat id v at in let own = ok.reading act in let rd : Reading = v.reading in let p : ℕ = rd.place in let left : View = without_reader v in let right : View = only_reader v in
-        let n : ℕ = length (set s.views id left) in let pl' : Place = record (r.place p) { holder = n } in let O = SeatOk key r.log r.flying r.entry (put r.place p pl') r.sequencer in
+        let n : ℕ = length (set s.views id left) in let new_seat : (j : ℕ) (u : View) → get_elem? s.views j ≡ some u → n ≢ j = λ j u e. beyond s.views id j left u e in let pl' : Place = record (r.place p) { holder = n } in let O = SeatOk key r.log r.flying r.entry (put r.place p pl') r.sequencer in
         let stays : (k : Known) → KnownOk k (r.place p) → KnownOk k pl' = λ k o. known_stays k (r.place p) n o in
         placed s r p pl' (set s.views id left ++ right ∷ []) refl refl refl (λ u. u)
         (λ j u e. ⊎_elim (seats_stay O s.views id left
-        record { seen = ok.seen; told = ok.told; sequencing = sequencer_stays key r.log r.flying r.entry r.place r.sequencer id p pl' v stays ok.sequencing; reading = λ a. not_both false a refl }
+        record { seen = ok.seen; told = ok.told; sequencing = sequencer_stays key r.log r.flying r.entry r.place r.sequencer id p pl' v stays ok.sequencing; reading = λ a. not_both false a refl; quit = λ e. not_both false e refl }
         (λ i x other here. let o = r.each_seat i x here in record {
           seen = o.seen;
           told = o.told;
           sequencing = sequencer_stays key r.log r.flying r.entry r.place r.sequencer i p pl' x stays o.sequencing;
           reading = λ a. let y = o.reading a in (y.0, elsewhere s r p id pl' own.1.seat i other x.reading y.1);
+          quit = quit_stays key r.place p pl' i x.reading (λ _. inr (inr (new_seat i x here))) o.quit;
         }) j u)
         (λ (t : (j ≡ n) × (right ≡ u)). subst (λ (z : ℕ × View). O z.0 z.1) (λ i. (sym t.0 i, t.1 i))
-        record { seen = ok.seen; told = ok.told; sequencing = λ a. not_both false a refl; reading = λ _. (own.0, moved_reader r.log r.place id n rd own.1) }) (at_end (set s.views id left) right u j e))
+        record { seen = ok.seen; told = ok.told; sequencing = λ a. not_both false a refl; reading = λ _. (own.0, moved_reader r.log r.place id n rd own.1); quit = λ h. not_both rd.active act (ok.quit h).0 }) (at_end (set s.views id left) right u j e))
 
     -- a seat takes in the reader's part of another
     pub joins : (id other : ℕ) (v w : View) → w.reading.active ≡ true → v.sequencing.active ≡ true → Joins {S = S} (Law key) id v other w (joined v w) spent
@@ -190,12 +198,14 @@ module _ (key : Shape) where
           told = theirs.seen;
           sequencing = sequencer_stays key r.log r.flying r.entry r.place r.sequencer id p pl' v stays ok.sequencing;
           reading = λ _. ((ok.sequencing leads).0, moved_reader r.log r.place other id rd own.1);
+          quit = λ h. not_both rd.active act (theirs.quit h).0;
         })
-        (λ i x _ h not_other. let o = r.each_seat i x h in record {
+        (λ i x not_id h not_other. let o = r.each_seat i x h in record {
           seen = o.seen;
           told = o.told;
           sequencing = sequencer_stays key r.log r.flying r.entry r.place r.sequencer i p pl' x stays o.sequencing;
           reading = λ a. let y = o.reading a in (y.0, elsewhere s r p other pl' own.1.seat i not_other x.reading y.1);
+          quit = quit_stays key r.place p pl' i x.reading (λ _. inr (inr (λ e. not_id (sym e)))) o.quit;
         }) j u t.1 t.0)
         (at_set (set s.views id (joined v w)) other j spent u e))
 
@@ -217,6 +227,7 @@ module _ (key : Shape) where
             told = (r.log, refl);
             sequencing = λ _. (own.0, own.1, learns key r.flying r.entry r.place r.place r.sequencer id p k' q own.2 record { shut = knows.shut; start = knows.start; floor = λ _. omega arith; lost = knows.lost; unread = knows.unread } (λ _ _. refl));
             reading = λ _. (mine.0, now);
+            quit = λ h. not_both rd.active reads (ok.quit h).0;
           },
           (
             refl,
@@ -254,6 +265,7 @@ module _ (key : Shape) where
         told = ([], refl);
         sequencing = λ _. (refl, refl, record { seat = refl; in_flight = refl; entry_is = refl; count = length-replicate key.places known; knows = λ p k e. subst (λ (z : Known). KnownOk z (place p)) (all_same key.places p known k e) (knows p) });
         reading = λ e. not_both false e refl;
+        quit = λ e. not_both false e refl;
       };
     }
       where

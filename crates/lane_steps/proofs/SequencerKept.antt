@@ -1,5 +1,5 @@
 -- The sequencer's steps keep the law.
-use Rattle.std.proofs.Common.{◌≡◌, ◌≢◌, ℕ, suc, ◌+◌, ◌<◌, ◌≤◌, eqb, cond, Bool, true, false, List, [], ◌∷◌, ◌++◌, length, replicate, get_or, set, sym, refl, ap, ◌∙◌, subst, ⊎_elim, arith, length-append, length-set, append_assoc, eq-eqb, ne_eqb, get_or-set_other, get_or-set_same}
+use Rattle.std.proofs.Common.{◌≡◌, ◌≢◌, inl, inr, ℕ, suc, ◌+◌, ◌<◌, ◌≤◌, eqb, cond, Bool, true, false, List, [], ◌∷◌, ◌++◌, length, replicate, get_or, set, sym, refl, ap, ◌∙◌, subst, ⊎_elim, arith, length-append, length-set, append_assoc, eq-eqb, ne_eqb, get_or-set_other, get_or-set_same}
 use mathlib.Core.Logic.{dite}
 use mathlib.Core.Option.{some, none}
 use native.Mathlib.Decide.{ℕ_discrete}
@@ -17,7 +17,7 @@ use Rattle.lane_steps.specs.Law.{Entry, closed, Begins, Place, cursor, lost, Pla
 use Rattle.lane_steps.specs.Steps.{next_number, known_of, known_at, known_past, known_from, with_known, Standing, surveyed, filled, accepted, dropped, opened}
 use Rattle.lane_steps.proofs.Apart.{cursor_is_no_tail, cursors_differ, cell_is_no_tail, cell_is_no_cursor, cells_differ, tail_within, cell_within}
 use Rattle.lane_steps.proofs.Lists.{which, not_both, within, index_there, at_end, begins_self, one_more, lost_one}
-use Rattle.lane_steps.proofs.Frames.{put, put_here, put_else, seats_stay, begins_more, unmoved, place_step}
+use Rattle.lane_steps.proofs.Frames.{put, put_here, put_else, quit_stays, seats_stay, begins_more, unmoved, place_step}
 
 module _ (key : Shape) where
   -- the sequencer knows k of the place p, which may have changed, and of the others what it did
@@ -75,6 +75,7 @@ module _ (key : Shape) where
             told = (r.log, refl);
             sequencing = λ _. (own.0, own.1, learns r.flying r.entry r.place r.place r.sequencer id p (known_at n k) q own.2 f.0 (λ _ _. refl));
             reading = ok.reading;
+            quit = ok.quit;
           },
           (
             refl,
@@ -122,8 +123,8 @@ module _ (key : Shape) where
                   all_received = all.all_received;
                 };
             each_seat = seats_stay (SeatOk key r.log true (e, x) r.place r.sequencer) s.views id w
-                record { seen = ok.seen; told = ok.told; sequencing = λ _. (own.0, own.1, record { seat = own.2.seat; in_flight = refl; entry_is = refl; count = own.2.count; knows = own.2.knows }); reading = ok.reading }
-                (λ j u other here. let o = r.each_seat j u here in record { seen = o.seen; told = o.told; sequencing = λ a. absurd (other ((o.sequencing a).2.seat ∙ sym own.2.seat)); reading = o.reading });
+                record { seen = ok.seen; told = ok.told; sequencing = λ _. (own.0, own.1, record { seat = own.2.seat; in_flight = refl; entry_is = refl; count = own.2.count; knows = own.2.knows }); reading = ok.reading; quit = ok.quit }
+                (λ j u other here. let o = r.each_seat j u here in record { seen = o.seen; told = o.told; sequencing = λ a. absurd (other ((o.sequencing a).2.seat ∙ sym own.2.seat)); reading = o.reading; quit = o.quit });
           } in law),
           (refl, refl),
         )
@@ -177,12 +178,14 @@ module _ (key : Shape) where
                   told = begins_more r.log v.told (r.entry ∷ []) ok.told;
                   sequencing = λ _. (own.0, (λ c. own.1 c ++ own.2.entry_is c ∷ []), record { seat = own.2.seat; in_flight = refl; entry_is = own.2.entry_is; count = own.2.count; knows = own.2.knows });
                   reading = λ a. let o = ok.reading a in (o.0, grows id v.reading (r.place v.reading.place) o.1);
+                  quit = ok.quit;
                 }
                 (λ j u other here. let o = r.each_seat j u here in record {
                   seen = begins_more r.log u.seen (r.entry ∷ []) o.seen;
                   told = begins_more r.log u.told (r.entry ∷ []) o.told;
                   sequencing = λ a. absurd (other ((o.sequencing a).2.seat ∙ sym own.2.seat));
                   reading = λ a. let x = o.reading a in (x.0, grows j u.reading (r.place u.reading.place) x.1);
+                  quit = o.quit;
                 });
           } in law),
           (refl, refl),
@@ -227,12 +230,14 @@ module _ (key : Shape) where
                 told = ok.told;
                 sequencing = λ _. (own.0, own.1, learns r.flying r.entry r.place (put r.place p pl') r.sequencer id p k' q own.2 knows' (λ x ne. put_else r.place p pl' x ne));
                 reading = λ a. let o = ok.reading a in (o.0, others id v.reading o.1);
+                quit = quit_stays key r.place p pl' id v.reading (λ was. was) ok.quit;
               }
               (λ j u other here. let o = r.each_seat j u here in record {
                 seen = o.seen;
                 told = o.told;
                 sequencing = λ a. absurd (other ((o.sequencing a).2.seat ∙ sym own.2.seat));
                 reading = λ a. let x = o.reading a in (x.0, others j u.reading x.1);
+                quit = quit_stays key r.place p pl' j u.reading (λ was. was) o.quit;
               })),
           (
             refl,
@@ -251,6 +256,7 @@ module _ (key : Shape) where
             told = ok.told;
             sequencing = λ _. (own.0, own.1, learns r.flying r.entry r.place r.place r.sequencer id p (known_at n k) q own.2 f.0 (λ _ _. refl));
             reading = ok.reading;
+            quit = ok.quit;
           }),
           (
             refl,
@@ -295,12 +301,14 @@ module _ (key : Shape) where
                 told = ok.told;
                 sequencing = λ _. (own.0, own.1, learns r.flying r.entry r.place (put r.place p pl') r.sequencer id p k' q own.2 knows' (λ x ne. put_else r.place p pl' x ne));
                 reading = λ a. let o = ok.reading a in (o.0, none_reads s r p pl' closed_place id v.reading o.1);
+                quit = quit_stays key r.place p pl' id v.reading (λ _. inr (inl refl)) ok.quit;
               }
               (λ j u other here. let o = r.each_seat j u here in record {
                 seen = o.seen;
                 told = o.told;
                 sequencing = λ a. absurd (other ((o.sequencing a).2.seat ∙ sym own.2.seat));
                 reading = λ a. let x = o.reading a in (x.0, none_reads s r p pl' closed_place j u.reading x.1);
+                quit = quit_stays key r.place p pl' j u.reading (λ _. inr (inl refl)) o.quit;
               }),
           (refl, λ p' e. let is : p ≡ p' = cursors_differ p p' e in ap (λ (z : ℕ). let u : View = record v { sequencing = with_known z k' q } in u) is),
         )

@@ -1,5 +1,5 @@
 -- What holds of the lane's words and of all views, between any two steps.
-use Rattle.std.specs.Prelude.{◌≡◌, ℕ, suc, ◌+◌, ◌<◌, ◌≤◌, List, [], ◌∷◌, ◌++◌, length, replicate, slice_index, Bool, true, false}
+use Rattle.std.specs.Prelude.{◌≡◌, ◌≢◌, ◌⊎◌, ℕ, suc, ◌+◌, ◌<◌, ◌≤◌, List, [], ◌∷◌, ◌++◌, length, replicate, slice_index, Bool, true, false}
 use mathlib.Core.Option.{some}
 use lib.ListN.{get_elem?}
 use Rattle.atomic_table.specs.Table.{State}
@@ -85,11 +85,20 @@ pub record ReaderOk (key : Shape) (log : List Entry) (j : ℕ) (r : Reading) (pl
   pub story : (k : ℕ) × (pl.story ≡ r.story ++ replicate k false)
   pub picked : r.picked ≡ true → (r.number ≤ cursor pl) × (r.number ≡ cursor pl → HasWord key.first log r.number r.word)
 
+-- the place was opened again after the seat j had closed its cursor: it has no reader yet, or one of another seat
+abbrev pub WasOpenedAgain : ℕ → Place → Type 0
+WasOpenedAgain j pl = (pl.unread ≡ true) ⊎ (pl.holder ≢ j)
+
+-- where the reader's part has closed its cursor, the place is closed from then on, or was opened again
+abbrev pub QuitOk : Shape → ℕ → (ℕ → Place) → Reading → Type 0
+QuitOk key j place r = r.quit ≡ true → (r.active ≡ false) × (r.place < key.places) × (((place r.place).is_open ≡ false) ⊎ WasOpenedAgain j (place r.place))
+
 pub record SeatOk (key : Shape) (log : List Entry) (flying : Bool) (entry : Entry) (place : ℕ → Place) (sequencer j : ℕ) (v : View) : Type 0 where
   pub seen : Begins log v.seen
   pub told : Begins log v.told
   pub sequencing : v.sequencing.active ≡ true → (v.shape ≡ key) × (v.seen ≡ log) × SequencerOk key flying entry place sequencer j v.sequencing
   pub reading : v.reading.active ≡ true → (v.shape ≡ key) × ReaderOk key log j v.reading (place v.reading.place)
+  pub quit : QuitOk key j place v.reading
 
 pub record Law {S : Type 0} (key : Shape) (s : State S View) : Type 0 where
   -- all accepted emissions
@@ -119,7 +128,7 @@ abbrev pub no_sequencing : Sequencing
 no_sequencing = record { active = false; flying = false; entry = (0, 0); places = [] }
 
 abbrev pub no_reading : Reading
-no_reading = record { active = false; place = 0; start = 0; story = []; picked = false; number = 0; word = 0 }
+no_reading = record { active = false; quit = false; place = 0; start = 0; story = []; picked = false; number = 0; word = 0 }
 
 abbrev pub opening_view : Shape → View
 opening_view key = record {

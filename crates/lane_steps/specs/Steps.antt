@@ -35,7 +35,7 @@ abbrev pub picked_up : ℕ → Reading → Reading
 picked_up x r = record r { picked = true; number = position r; word = x }
 
 abbrev pub ended : Reading → Reading
-ended r = record r { active = false; picked = false }
+ended r = record r { active = false; quit = true; picked = false }
 
 abbrev pub known_of : Sequencing → ℕ → Known
 known_of q p = slice_index_or q.places p shut_place

@@ -38,7 +38,7 @@ mod view;
 mod words;
 
 pub use layout::DISTANCE;
-pub use promises::unread_values_stay;
+pub use promises::{closed_cursors_stay, unread_values_stay};
 pub use rule::{LaneRule, Place};
 pub use view::{Known, Reading, Sequencing, Shape, View};
 pub use words::{CLOSED, Words};

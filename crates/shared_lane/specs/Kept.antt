@@ -2,7 +2,7 @@
 use Rattle.std.specs.Prelude.{◌≡◌, ℕ, ◌+◌, ◌≤◌, ◌<◌, [], length, max, true, false}
 use Rattle.atomic_table.specs.declared.shared.Seat.{Seat}
 use Rattle.lane_steps.specs.declared.view.View.{View}
-use Rattle.lane_steps.specs.Law.{received}
+use Rattle.lane_steps.specs.Law.{received, lost}
 use Rattle.lane_steps.specs.Layout.{cell_index}
 use Rattle.lane_steps.specs.Steps.{position, next_number}
 use Rattle.shared_lane.specs.Views.{SequencerSeen}
@@ -18,6 +18,12 @@ pub record IsReading (seat : Seat (Unit {0}) View) (place start at cell taken : 
   pub at_is : at ≡ position seat.me.0.reading
   pub cell_is : cell ≡ cell_index seat.me.0.shape at
   pub taken_is : taken ≡ length (received start seat.me.0.reading.story)
+
+-- the seat of a reader that has ended, and what it counted
+pub record IsEnded (seat : Seat (Unit {0}) View) (from got missed : ℕ) : Type 0 where
+  pub start_is : from ≡ seat.me.0.reading.start
+  pub received_is : got ≡ length (received seat.me.0.reading.start seat.me.0.reading.story)
+  pub dropped_is : missed ≡ length (lost seat.me.0.reading.start seat.me.0.reading.story)
 
 -- what is true of what contracts see of a sequencer
 pub record IsSound (q : SequencerSeen) : Type 0 where

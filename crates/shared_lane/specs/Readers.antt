@@ -2,7 +2,7 @@
 use Rattle.std.specs.Prelude.{◌≡◌, ℕ, ◌+◌, ◌-◌, ◌<◌, ◌≤◌, List, [], ◌∷◌, ◌++◌, length, replicate, Bool, true, false}
 use Rattle.lane_steps.specs.Layout.{tail_word, cursor_word, cell_word}
 use Rattle.lane_steps.specs.Law.{Begins, HasWord, received, lost}
-use Rattle.shared_lane.specs.Views.{LaneSeen, ReaderSeen, ReceiptSeen}
+use Rattle.shared_lane.specs.Views.{LaneSeen, ReaderSeen, ClosedSeen, ReceiptSeen}
 use Rattle.shared_lane.specs.declared.reader.Taken.{Taken}
 use Rattle.shared_lane.specs.declared.reader.Taken.TheVariants.{Value, Nothing, Overtaken}
 
@@ -38,6 +38,10 @@ IsKept n r = r.shape.drops ≡ false → n ≡ at r
 -- the reader's position is n, and what lay between was lost
 abbrev pub WentTo : ℕ → ReaderSeen → ReaderSeen → Type 0
 WentTo n r t = (at r ≤ n) × IsKept n r × (t.story ≡ story_to n r)
+
+-- the end of this reader: it is as it was, and has closed its cursor
+abbrev pub end_of : ReaderSeen → ClosedSeen
+end_of r = record { reader = r; quit = true }
 
 -- The exchange of this attempt failed. It was tried where the cursor had been loaded at m, below the tail, and the value of m had been
 -- loaded; and after these loads, which are all, the position rose past m to n. Nothing but an exchange that found n there tells that.

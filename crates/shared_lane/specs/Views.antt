@@ -1,4 +1,4 @@
--- What contracts see of a lane, and of its sequencer, its readers and its receipts.
+-- What contracts see of a lane, and of its sequencer, its readers, their ends and its receipts.
 use Rattle.std.specs.Prelude.{ℕ, List, Bool}
 use Rattle.atomic_table.specs.Seated.{TableId}
 use Rattle.atomic_table.specs.declared.shared.Seat.{Seat}
@@ -25,6 +25,11 @@ pub record ReaderSeen : Type 0 where
   pub story : List Bool
   pub seen : List Entry
   pub loads : List (ℕ × ℕ)
+
+-- A reader's end: the reader as it was, and whether it closed its cursor.
+pub record ClosedSeen : Type 0 where
+  pub reader : ReaderSeen
+  pub quit : Bool
 
 -- A receipt: whose emission it is for, its number, and the accepted emissions up to it.
 pub record ReceiptSeen : Type 0 where
@@ -62,6 +67,9 @@ module _ {S : Type 0} where
     seen = s.me.0.seen;
     loads = s.me.0.loads;
   }
+
+  abbrev pub closed_of : Seat S View → ClosedSeen
+  closed_of s = record { reader = reader_of s; quit = s.me.0.reading.quit }
 
   abbrev pub receipt_of : Seat S View → ℕ → ℕ → ReceiptSeen
   receipt_of s emitter number = record { table = s.table_id; seen = s.me.0.seen; emitter = emitter; number = number }

@@ -30,7 +30,7 @@
 //!
 //! # What a closed reader loses
 //! [`close`](Reader::close) uses the reader up: what was pending is given up, its place can be used again, and it holds
-//! nobody back.
+//! nobody back. It answers what became of the reader ([`Closed`]).
 //!
 //! # Who knows what
 //! A reader has seen the accepted emissions as they were at its last load of the tail. A [`Receipt`] carries what was
@@ -51,6 +51,7 @@
 //! parties that never met, fairness, wakes: nobody sleeps here.
 #![tactic(auto)]
 
+mod closed;
 mod headline;
 mod lane;
 mod meeting;
@@ -60,6 +61,7 @@ mod sequencer;
 mod survey;
 mod tickets;
 
+pub use closed::Closed;
 pub use headline::each_reader_receives_cache_then_later;
 pub use lane::Lane;
 pub use meeting::{Met, meet};

@@ -3,9 +3,10 @@ ghost use Rattle.std.specs.Prelude.{◌≡◌, ◌+◌, ◌<◌, [], length, tru
 ghost use Rattle.lane_steps.specs.Law.{Begins};
 ghost use Rattle.shared_lane.specs.Views.{reader_of};
 ghost use Rattle.shared_lane.specs.Kept.{IsReading};
-ghost use Rattle.shared_lane.specs.Readers.{IsReaderOf, IsReceiptOf, IsSameReader, TookNext, at, received_count, lost_count};
+ghost use Rattle.shared_lane.specs.Readers.{IsReaderOf, IsReceiptOf, IsSameReader, TookNext, at, received_count, lost_count, end_of};
 
 use super::{Reader, Taken};
+use crate::closed::Closed;
 use crate::lane::Lane;
 use crate::receipt::Receipt;
 use lane_steps::Place;
@@ -95,9 +96,16 @@ impl Reader {
     }
 
     /// Closes its cursor, so that its place can be used again and holds nobody back. What was pending is given up.
-    pub fn close<A: Allocator>(self, lane: &Lane<A>)
+    ///
+    /// What it answers holds the seat that closed the cursor: by the lane's law the place is closed from then on, until the
+    /// sequencer opens it again. No clause says so of a later call of the sequencer.
+    pub fn close<A: Allocator>(self, lane: &Lane<A>) -> Closed
         requires { IsReaderOf lane.now self }
+        ensures { result ≡ end_of self }
     {
+        let start = self.start();
+        let received = self.received();
+        let dropped = self.dropped();
         let Reader {
             mut seat,
             place,
@@ -107,5 +115,6 @@ impl Reader {
             taken: _,
         } = self;
         lane.words().quit(&mut seat, place);
+        Closed::of(seat, start, received, dropped)
     }
 }
