@@ -10,4 +10,5 @@ pub mod CombineLaws
 pub mod Standing
 pub mod StandingLaws
 pub mod Merge
+pub mod PlaceLaws
 pub mod MergeLaws

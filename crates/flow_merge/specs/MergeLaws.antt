@@ -1,7 +1,7 @@
 -- Laws of a merge.
 use Rattle.std.specs.Prelude.{◌≡◌, ℕ, ◌<◌, List, [], ◌∷◌, ◌++◌, Bool, true, false, Option, Some, ⊤, refl, length, slice_get, slice_set}
 use Rattle.std.proofs.Common.{zero, suc, sym, ◌∙◌, ap, subst, inl, inr, arith}
-use Rattle.std.specs.List.{AllZip, remove}
+use Rattle.std.specs.List.{AllZip, insert, remove}
 use Rattle.std.proofs.lemmas.Slice.Zip.{AllZip-long}
 use Rattle.cold_flow.specs.declared.cause.Cause.{Cause}
 use Rattle.cold_flow.specs.declared.cause.Cause.TheVariants.{Finished, Refused, Cancelled}
@@ -12,14 +12,16 @@ use Rattle.flow_merge.specs.Standing.{Gave, Ended}
 use Rattle.flow_merge.specs.Merge.{Merges, MayMerge}
 use Rattle.flow_merge.specs.Merge.Merges.{stops, gives, leaves, begins, finishes, outer_ends, inner_ends}
 use Rattle.flow_merge.specs.Combine.{OrFinished}
+use Rattle.flow_merge.specs.PlaceLaws.{Placed, itself, among, whose, placed_none, placed_longer, placed-append, placed_last}
+use Rattle.flow_merge.specs.PlaceLaws.Placed.{here, behind}
 
--- the last of the traces that stand
-record Last {B E R : Type 0} (may : R → Traces B E) (runs : List R) (r : R) (traces : List (Trace B E)) : Type 0 where
+-- the traces of the runs that stand and of one more
+record Joined {B E R : Type 0} (may : R → Traces B E) (runs : List R) (r : R) (traces : List (Trace B E)) : Type 0 where
   pub others : List (Trace B E)
-  pub last : Trace B E
-  pub is : others ++ last ∷ [] ≡ traces
+  pub own : Trace B E
+  pub placed : Placed own others traces
   pub stand : AllZip may runs others
-  pub came : may r last
+  pub came : may r own
 
 at_end : {X : Type 0} (xs : List X) (x : X) → slice_get (xs ++ x ∷ []) (length xs) ≡ Some x
 at_end [] x = refl
@@ -31,25 +33,57 @@ outer_begins true outer h = (ended_by [] Finished, refl)
 outer_begins false outer h = (so_far [], h)
 
 module _ {B E R : Type 0} (may : R → Traces B E) where
-  last_of : (runs : List R) (r : R) (traces : List (Trace B E)) → AllZip may (runs ++ r ∷ []) traces → Last may runs r traces
-  last_of [] r [] all = absurd all
-  last_of [] r (t ∷ []) all = record { others = []; last = t; is = refl; stand = tt; came = all.0 }
-  last_of [] r (t ∷ (u ∷ traces)) all = absurd all.1
-  last_of (x ∷ runs) r [] all = absurd all
-  last_of (x ∷ runs) r (t ∷ traces) all =
-      let l = last_of runs r traces all.1 in
-      record {
-        others = t ∷ l.others;
-        last = l.last;
-        is = ap (λ (ts : List (Trace B E)). t ∷ ts) l.is;
-        stand = (all.0, l.stand);
-        came = l.came;
-      }
+  joined_by : (runs : List R) (at : ℕ) (r : R) (traces : List (Trace B E)) → AllZip may (insert runs at r) traces → Joined may runs r traces
+  joined_by runs zero r [] all = absurd all
+  joined_by runs zero r (t ∷ traces) all = record { others = traces; own = t; placed = here; stand = all.1; came = all.0 }
+  joined_by [] (suc at) r [] all = absurd all
+  joined_by [] (suc at) r (t ∷ traces) all = record { others = traces; own = t; placed = here; stand = all.1; came = all.0 }
+  joined_by (x ∷ runs) (suc at) r [] all = absurd all
+  joined_by (x ∷ runs) (suc at) r (t ∷ traces) all =
+      let j = joined_by runs at r traces all.1 in
+      record { others = t ∷ j.others; own = j.own; placed = behind j.placed; stand = (all.0, j.stand); came = j.came }
 
   -- any runs may have given nothing yet
   pub all_begin : ((r : R) → may r (so_far [])) → (runs : List R) → (ts : List (Trace B E)) × AllZip may runs ts
   all_begin h [] = ([], tt)
   all_begin h (r ∷ runs) = let rest = all_begin h runs in (so_far [] ∷ rest.0, (h r, rest.1))
+
+-- What may come doesn't depend on where one of the traces stands.
+module _ {A B E : Type 0} (limit : ℕ) (inner : A → Traces B E) where
+  moved : {these : List (Trace B E)} {outer : Trace A E} {out : Trace B E} → Merges limit inner these outer out
+      → (u : Trace B E) (others those : List (Trace B E)) → Placed u others these → Placed u others those → Merges limit inner those outer out
+  moved stops u others those p q = stops
+  moved (begins x t room came m) u others those p q =
+      begins x t (subst (λ (n : ℕ). n < limit) (placed_longer p ∙ sym (placed_longer q)) room) came
+      (moved m u (others ++ t ∷ []) (those ++ t ∷ []) (placed-append p t) (placed-append q t))
+  moved (gives at v t is m) u others those p q =
+      elim (whose p at (led_by v t) is) [
+        | inl found ↦
+            let own = itself q in
+            gives own.0 v t (own.1.is ∙ ap Some found.0) (moved m t others (slice_set those own.0 t) (found.1.changed t) (own.1.changed t))
+        | inr found ↦
+            let other = among q found.0 (led_by v t) found.1.was in
+            gives other.0 v t other.1.is
+            (moved m u (slice_set others found.0 t) (slice_set those other.0 t) (found.1.changed t) (other.1.changed t))
+      ]
+  moved (leaves {outer = outer} {out = out} at is m) u others those p q =
+      elim (whose p at (ended_by [] Finished) is) [
+        | inl found ↦
+            let own = itself q in
+            leaves own.0 (own.1.is ∙ ap Some found.0)
+            (subst (λ (ts : List (Trace B E)). Merges limit inner ts outer out) (found.1.left ∙ sym own.1.left) m)
+        | inr found ↦
+            let other = among q found.0 (ended_by [] Finished) found.1.was in
+            leaves other.0 other.1.is (moved m u (remove others found.0) (remove those other.0) found.1.left other.1.left)
+      ]
+  moved finishes u others those p q = absurd (placed_none p)
+  moved (outer_ends k room fails) u others those p q =
+      outer_ends k (subst (λ (n : ℕ). n < limit) (placed_longer p ∙ sym (placed_longer q)) room) fails
+  moved (inner_ends at k is fails) u others those p q =
+      elim (whose p at (ended_by [] k) is) [
+        | inl found ↦ let own = itself q in inner_ends own.0 k (own.1.is ∙ ap Some found.0) fails
+        | inr found ↦ let other = among q found.0 (ended_by [] k) found.1.was in inner_ends other.0 k other.1.is fails
+      ]
 
 module _ {A B E R : Type 0} (limit : ℕ) (inner : A → Traces B E) (may : R → Traces B E) where
   pub merge_gives : (old new : List R) (outer : Traces A E) (at : ℕ) (v : B)
@@ -92,18 +126,18 @@ module _ {A B E R : Type 0} (limit : ℕ) (inner : A → Traces B E) (may : R �
       let g = answered all.0 all.1 in
       record { standing = g.before; of_outer = outer_begun.0; stand = g.stand; outer_came = outer_begun.1; merges = inner_ends at k g.first fails }
 
-  pub merge_begins : (runs : List R) (r : R) (old new : Traces A E) (x : A) → After old x new → length runs < limit
-      → ((t : Trace B E) → may r t → inner x t) → Within (MayMerge limit inner may runs old) (MayMerge limit inner may (runs ++ r ∷ []) new)
-  merge_begins runs r old new x after room starts t h =
-      let l = last_of may runs r h.standing h.stand in
+  pub merge_begins : (runs : List R) (at : ℕ) (r : R) (old new : Traces A E) (x : A) → After old x new → length runs < limit
+      → ((t : Trace B E) → may r t → inner x t) → Within (MayMerge limit inner may runs old) (MayMerge limit inner may (insert runs at r) new)
+  merge_begins runs at r old new x after room starts t h =
+      let j = joined_by may runs at r h.standing h.stand in
       record {
-        standing = l.others;
+        standing = j.others;
         of_outer = led_by x h.of_outer;
-        stand = l.stand;
+        stand = j.stand;
         outer_came = after h.of_outer h.outer_came;
         merges =
-            begins x l.last (subst (λ (n : ℕ). n < limit) (sym (AllZip-long may runs l.others l.stand)) room) (inl (starts l.last l.came))
-            (subst (λ (ts : List (Trace B E)). Merges limit inner ts h.of_outer t) (sym l.is) h.merges);
+            begins x j.own (subst (λ (n : ℕ). n < limit) (sym (AllZip-long may runs j.others j.stand)) room) (inl (starts j.own j.came))
+            (moved limit inner h.merges j.own j.others (j.others ++ j.own ∷ []) j.placed (placed_last j.others j.own));
       }
 
   pub merge_outer_waits : (runs : List R) (old new : Traces A E) → Within old new

@@ -1,6 +1,6 @@
 //! Several inner flows at once.
 
-ghost use Rattle.std.specs.Prelude.{◌≡◌, ◌+◌, ◌<◌, ◌≤◌, ◌↔◌, ◌⊎◌, ◌&&◌};
+ghost use Rattle.std.specs.Prelude.{◌≡◌, ◌+◌, ◌<◌, ◌≤◌, ◌↔◌, ◌&&◌};
 ghost use Rattle.std.specs.Prelude.{true, false, [], None, IsSome, IsTrue, IfOk, IsOk, Err, vec_len};
 ghost use Rattle.futures.specs.Poll.{OnPending};
 ghost use Rattle.futures.specs.Task.{IsArmed, Keeps};
@@ -69,13 +69,14 @@ pub struct MergedRun<O: Run, F: Flow, G, E> {
     outer_finished: bool,
     function: G,
     limit: u32,
-    // The inner runs that stand, in the order of their starts.
+    // The inner runs that stand, in the order in which they are asked, which goes round.
     runs: Vec<F::Running>,
-    // The index of the inner run that is asked next, so that none is asked twice while another waits.
-    next: usize,
+    // The index of the inner run that a poll asks first. The length stands for 0, too.
+    turn: usize,
     ended: Option<Cause<E>>,
     ghost positive: { 0 < limit },
     ghost few: { vec_len runs ≤ limit },
+    ghost within: { turn ≤ vec_len runs },
     ghost stopped: { IsSome ended → IsTrue (O.stopped outer && all_stopped F.Running.stopped runs.items) },
 }
 
@@ -106,7 +107,7 @@ impl<
             function: self.function,
             limit: self.limit,
             runs: Vec::new(self.alloc),
-            next: 0,
+            turn: 0,
             ended: None,
         })
     }
@@ -192,7 +193,11 @@ impl<
                 }
                 match self.function.apply(value).start() {
                     Ok(run) => {
-                        self.runs.push_reserved(run);
+                        // It stands before the turn: it is asked after all others.
+                        if self.runs.insert(self.turn, run).is_err() {
+                            unreachable!()
+                        }
+                        self.turn += 1;
                         Poll::Ready(None)
                     }
                     Err(refusal) => Poll::Ready(Some(Cause::Refused(refusal))),
@@ -218,19 +223,18 @@ impl<
         ensures kept { Keeps cx.old cx.new }
     {
         let mut unanswered = 0;
-        // How many of the runs that stand answered pending in this poll, and whether the outer did.
+        // How many of the runs that stand, from the turn on, answered pending in this poll, and whether the outer did.
         let mut asked = 0;
         let mut outer_waits = false;
         'questions: while unanswered < BUDGET {
-            if self.wants_outer(asked, outer_waits) {
-                self.next = self.place_after(asked);
+            if self.wants_outer(outer_waits) {
                 match self.ask_outer(cx) {
                     Poll::Ready(None) => unanswered += 1,
                     Poll::Ready(Some(cause)) => return Poll::Ready(Event::End(cause)),
                     Poll::Pending => outer_waits = true,
                 }
             } else if asked < self.runs.len() {
-                match self.ask_next(cx) {
+                match self.ask_next(asked, cx) {
                     Poll::Ready(None) => unanswered += 1,
                     Poll::Ready(Some(Event::Value(value))) => return Poll::Ready(Event::Value(
                         value,
@@ -247,16 +251,16 @@ impl<
                 return Poll::Ready(Event::End(Cause::Finished));
             }
         }
+        self.turn = self.index_after(asked);
         cx.yield_now()
     }
 
-    // Whether the outer is to be asked, once `asked` of the runs that stand were: before any of them or after all, so that a run that is
-    // started now comes behind those that wait.
-    fn wants_outer(&self, asked: usize, outer_waits: bool) -> bool
+    // Whether the outer is to be asked.
+    fn wants_outer(&self, outer_waits: bool) -> bool
         ensures unfinished { IsTrue result → self.now.outer_finished ≡ false }
         ensures room { IsTrue result → vec_len self.now.runs < self.now.limit }
         ensures silent { IsTrue result → outer_waits ≡ false }
-        ensures otherwise { result ≡ false → asked ≡ 0 → vec_len self.now.runs ≡ 0 → outer_waits ≡ false → self.now.outer_finished ≡ true }
+        ensures otherwise { result ≡ false → vec_len self.now.runs ≡ 0 → outer_waits ≡ false → self.now.outer_finished ≡ true }
     {
         if self.outer_finished {
             return false;
@@ -264,29 +268,26 @@ impl<
         if outer_waits {
             return false;
         }
-        if self.runs.len() >= self.limit as usize {
-            return false;
-        }
-        if asked == 0 {
-            return true;
-        }
-        asked == self.runs.len()
+        self.runs.len() < self.limit as usize
     }
 
-    // The index of the run that is asked next, if one is started now: that run, where all others were asked.
-    fn place_after(&self, asked: usize) -> usize
-        ensures { (result ≡ self.now.next) ⊎ (result ≡ vec_len self.now.runs) }
+    // The index of the run that is asked next, once `asked` of them were in this poll.
+    fn index_after(&self, asked: usize) -> usize
+        requires { asked ≤ vec_len self.now.runs }
+        ensures within { result ≤ vec_len self.now.runs }
+        ensures stands { asked < vec_len self.now.runs → result < vec_len self.now.runs }
     {
-        if asked == self.runs.len() {
-            return self.runs.len();
+        let index = self.turn + asked;
+        if index < self.runs.len() {
+            return index;
         }
-        self.next
+        index - self.runs.len()
     }
 
-    // Asks the inner run whose turn it is. One that has finished leaves.
-    fn ask_next(&mut self, cx: &mut Context<'_>) -> Poll<Option<Event<B, E>>>
+    // Asks the inner run whose turn it is, once `asked` of them were asked in this poll. One that has finished leaves.
+    fn ask_next(&mut self, asked: usize, cx: &mut Context<'_>) -> Poll<Option<Event<B, E>>>
         requires going { self.old.ended ≡ None }
-        requires stands { 0 < vec_len self.old.runs }
+        requires stands { asked < vec_len self.old.runs }
         ensures asked { Asks (⟦<MergedRun<O, F, G, E> as Run>⟧.may self.old) result (⟦<MergedRun<O, F, G, E> as Run>⟧.may self.new) }
         ensures going { self.new.ended ≡ None }
         ensures limit { self.new.limit ≡ self.old.limit }
@@ -294,24 +295,31 @@ impl<
         ensures armed { OnPending result (IsArmed cx.new) }
         ensures kept { Keeps cx.old cx.new }
     {
-        if self.next >= self.runs.len() {
-            self.next = 0;
-        }
-        match ask_at(&mut self.runs, self.next, cx) {
+        let index = self.index_after(asked);
+        match ask_at(&mut self.runs, index, cx) {
             Poll::Ready(Event::Value(value)) => {
-                self.next += 1;
+                self.turn = index + 1;
                 Poll::Ready(Some(Event::Value(value)))
             }
             Poll::Ready(Event::End(cause)) => {
+                self.turn = turn_without(self.turn, index);
                 if let Cause::Finished = cause {
                     return Poll::Ready(None);
                 }
                 Poll::Ready(Some(Event::End(cause)))
             }
-            Poll::Pending => {
-                self.next += 1;
-                Poll::Pending
-            }
+            Poll::Pending => Poll::Pending,
         }
     }
+}
+
+// Where the turn is, once the run at `index` left.
+fn turn_without(turn: usize, index: usize) -> usize
+    ensures moves_up { index < turn → result + 1 ≡ turn }
+    ensures stays { turn ≤ index → result ≡ turn }
+{
+    if index < turn {
+        return turn - 1;
+    }
+    turn
 }

@@ -68,7 +68,6 @@ pub returns-else-outer_waits-clause-narrows : goal.returns-else-outer_waits-clau
 returns-else-outer_waits-clause-narrows g c =
     let self = c.questions.self in
     let none : vec_len self.runs ≡ 0 = omega (arith, c.if-asked-len.false, c.len.ensures, c.if-asked-gt0.false) in
-    let unasked : c.questions.asked ≡ 0 = omega (arith, c.if-asked-gt0.false) in
     let empty : length self.runs.items ≡ 0 = omega (arith, self.runs.ok.0) in
-    let finished : self.outer_finished ≡ true = c.if-wants_outer.ensures.otherwise refl unasked none c.if-outer_waits.false in
+    let finished : self.outer_finished ≡ true = c.if-wants_outer.ensures.otherwise refl none c.if-outer_waits.false in
     c.questions.invariant.within _ (rw c.questions.invariant.going (merge_finishes _ _ _ _ self.outer_finished (g.O.Run.may self.outer) empty finished))
