@@ -311,15 +311,16 @@ fn merges_ask_on(rt: HostRuntime) -> Result<(), Fail> {
     Ok(())
 }
 
-// Of each poll of a merge of three inner flows its answer, and how often each of them was asked until then.
+// Of each poll of a merge its answer, and how often the first inner flow, the second and all others were asked until then.
 struct Turns<'a> {
     name: &'a str,
     polls: &'a [(Polling, (u32, u32, u32))],
 }
 
-// The steps of three inner flows, how many of them are merged at once, and their turns.
+// The steps of the first inner flow, of the second and of each other, how many there are, how many are merged at once, and their turns.
 struct Inner<'a> {
     steps: [&'a [Step<u64, u64>]; 3],
+    flows: u64,
     workers: u32,
     turns: Turns<'a>,
 }
@@ -334,6 +335,7 @@ const TURNS: &[Inner<'_>] = &[
             &[Step::Value(7); 6],
             &[WAIT, WAIT, WAIT, Step::Value(30), WAIT],
         ],
+        flows: 3,
         workers: 3,
         turns: Turns {
             name: "runs that wait are asked as often as one that always gives",
@@ -349,10 +351,57 @@ const TURNS: &[Inner<'_>] = &[
     },
     Inner {
         steps: [&[WAIT], &[], &[WAIT]],
+        flows: 3,
         workers: 2,
         turns: Turns {
             name: "the place of a run that ends is filled in the poll in which another waits",
             polls: &[(Poll::Pending, (1, 1, 1)), (ENDED, (2, 1, 2))],
+        },
+    },
+    // A start and an end are two of the 64 answers after which a poll yields. The first poll spends two on starts before that.
+    Inner {
+        steps: [&[WAIT; 6], &[], &[]],
+        flows: 1_000,
+        workers: 2,
+        turns: Turns {
+            name: "a run that waits is asked in each poll, though others start and end all the time",
+            polls: &[
+                (Poll::Pending, (1, 1, 30)),
+                (Poll::Pending, (2, 1, 62)),
+                (Poll::Pending, (3, 1, 94)),
+                (Poll::Pending, (4, 1, 126)),
+            ],
+        },
+    },
+    Inner {
+        steps: [&[Step::Value(7); 6], &[WAIT; 6], &[]],
+        flows: 1_000,
+        workers: 3,
+        turns: Turns {
+            name: "a run that is started is asked after all that stand, wherever the turn is",
+            polls: &[
+                (SEVEN, (1, 0, 0)),
+                (SEVEN, (2, 1, 1)),
+                (SEVEN, (3, 2, 2)),
+                (SEVEN, (4, 3, 3)),
+                (SEVEN, (5, 4, 4)),
+            ],
+        },
+    },
+    // 64 starts, and two more; then, twice, 32 ends with a start after each.
+    Inner {
+        steps: [&[Step::Value(7); 6], &[WAIT; 6], &[]],
+        flows: 1_000,
+        workers: 66,
+        turns: Turns {
+            name: "a poll goes on where the one before it yielded",
+            polls: &[
+                (Poll::Pending, (0, 0, 0)),
+                (SEVEN, (1, 0, 0)),
+                (Poll::Pending, (1, 1, 32)),
+                (Poll::Pending, (1, 1, 64)),
+                (SEVEN, (2, 1, 64)),
+            ],
         },
     },
 ];
@@ -372,19 +421,20 @@ fn assert_asks_inner<R: Run<Item = u64, Fault = u64>>(
     }
 }
 
-// A merge of three inner flows that are lent.
+// A merge of inner flows that are lent.
 fn assert_turns<F: Flow<Item = u64, Fault = u64> + Copy>(
     rt: &impl Abort,
     alloc: Global,
     task: &MockTask,
-    merging: ((F, F, F), u32),
-    turns: &Turns<'_>,
+    inner: (F, F, F),
+    row: &Inner<'_>,
     counts: (&Cell<u32>, &Cell<u32>, &Cell<u32>),
 ) -> Result<(), Refusal> {
-    let ((zero, one, other), workers) = merging;
+    let (zero, one, other) = inner;
     let function = Pick { zero, one, other };
-    let run = flat_map_merge(alloc, range::<u64>(0, 3), function, workers)?.start()?;
-    assert_asks_inner(rt, task, run, counts, turns);
+    let outer = range::<u64>(0, row.flows);
+    let run = flat_map_merge(alloc, outer, function, row.workers)?.start()?;
+    assert_asks_inner(rt, task, run, counts, &row.turns);
     Ok(())
 }
 
@@ -394,8 +444,7 @@ fn assert_counted_turns<F: Flow<Item = u64, Fault = u64>>(
     alloc: Global,
     task: &MockTask,
     inner: (F, F, F),
-    workers: u32,
-    turns: &Turns<'_>,
+    row: &Inner<'_>,
 ) -> Result<(), Refusal> {
     let zero = Cell::new(0);
     let one = Cell::new(0);
@@ -403,8 +452,8 @@ fn assert_counted_turns<F: Flow<Item = u64, Fault = u64>>(
     let first = Counted::new(inner.0, &zero);
     let second = Counted::new(inner.1, &one);
     let third = Counted::new(inner.2, &other);
-    let merging = ((&first, &second, &third), workers);
-    assert_turns(rt, alloc, task, merging, turns, (&zero, &one, &other))
+    let inner = (&first, &second, &third);
+    assert_turns(rt, alloc, task, inner, row, (&zero, &one, &other))
 }
 
 #[test]
@@ -416,7 +465,7 @@ fn merges_ask_in_turn(rt: HostRuntime) -> Result<(), Fail> {
         let one = stepped(rt.alloc(), one)?;
         let other = stepped(rt.alloc(), other)?;
         let inner = (&zero, &one, &other);
-        assert_counted_turns(&rt, rt.alloc(), &task, inner, row.workers, &row.turns)?;
+        assert_counted_turns(&rt, rt.alloc(), &task, inner, row)?;
     }
     Ok(())
 }
