@@ -32,6 +32,7 @@ const programs = new Programs(showLoadTrouble, showLongRun);
 const prober = new Prober();
 const reasons = new Reasons(
   JSON.parse(blockOfData("command-forms")),
+  JSON.parse(blockOfData("reasons")),
   async (script) => endsBad(await prober.answer(script)),
   showReason,
 );
@@ -190,6 +191,7 @@ function readRun(script, { engine, picture, answers: said }) {
   const same = page.runs.find(({ svg, output }) => svg === picture.output && output === said.output);
   const drawn = same?.picture ?? readPicture(picture.output);
   if (!same) tellCells(drawn, turns);
+  reasons.takeFrom(drawn, turns);
   return { engine, turns, svg: picture.output, output: said.output, picture: drawn };
 }
 

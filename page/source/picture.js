@@ -65,6 +65,12 @@ class Shape {
   get words() {
     return this.tag === "text" ? wordsIn(this.markup) : undefined;
   }
+
+  /** What stands in its title, as it is written. */
+  get title() {
+    const from = this.markup.indexOf("<title>");
+    return from < 0 ? undefined : this.markup.slice(from + 7, this.markup.lastIndexOf("</title>"));
+  }
 }
 
 function wordsIn(markup) {
