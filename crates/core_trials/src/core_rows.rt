@@ -192,6 +192,18 @@ const ROWS: &[Row<'_>] = &[
         cache: &[],
     },
     Row {
+        name: "spent_before_places",
+        config: Config {
+            first: LAST,
+            ..PLAIN
+        },
+        exchanges: &[
+            (Call::Subscribe, Reply::Sub(Ok(SubId(LAST)))),
+            (Call::Subscribe, Reply::Sub(Err(Refusal::Spent))),
+        ],
+        cache: &[],
+    },
+    Row {
         name: "withdrawn_tickets_stay_spent",
         config: Config {
             emits: 2,

@@ -15,6 +15,8 @@ mod lane_threads;
 #[cfg(test)]
 mod list_body;
 #[cfg(test)]
+mod making_rows;
+#[cfg(test)]
 mod state_rows;
 #[cfg(test)]
 mod tools;

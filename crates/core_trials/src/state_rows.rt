@@ -1,4 +1,4 @@
-//! A state flow's worked examples, two writers and many collectors on threads, seats that run out, and want of memory.
+//! A state flow's worked examples, two writers and many collectors on threads, and seats that run out.
 ghost use Rattle.std.specs.Prelude.{◌≡◌};
 
 use crate::tools::assert_same;
@@ -6,7 +6,6 @@ use cold_flow::Refusal;
 use futures::task::Poll;
 use futures::test::MockTask;
 use hot_callers::{Dimmer, Light, asked_twice};
-use linked_list_allocator::LocalHeap;
 use state_flow::{Collector, StateFlow, StateSeat};
 use std::test::Fail;
 use std::thread;
@@ -256,35 +255,6 @@ fn three_threads_collect_what_one_sets(rt: HostRuntime) -> Result<(), Fail> {
     assert_eq!(rt; collected.as_slice(), [(true, LAST + 1); 3].as_slice());
     assert_eq!(rt; setter.collectors(), 0);
     Ok(())
-}
-
-// A flow of two seats, and how many are spare once both are taken.
-fn made_in(heap: &LocalHeap) -> Result<u32, Refusal> {
-    let mut seat = StateFlow::new(heap, 0u64, 2)?;
-    let other = seat.take_seat(0)?;
-    Ok(other.spare() + seat.spare())
-}
-
-#[test]
-fn want_of_memory_is_answered(rt: HostRuntime) -> Result<(), Fail> {
-    let mut was_refused = false;
-    for blocks in 1..64usize {
-        let heap = LocalHeap::new(rt.alloc(), 16 * blocks)?;
-        match made_in(&heap) {
-            Ok(spare) => {
-                assert_same(&rt, "spare seats", spare, 0);
-                assert_same(&rt, "heap after the flow", heap.used(), 0);
-                assert!(rt; was_refused);
-                return Ok(());
-            }
-            Err(refusal) => {
-                assert_same(&rt, "refusal", refusal.number(), 4);
-                assert_same(&rt, "heap after the refusal", heap.used(), 0);
-                was_refused = true;
-            }
-        }
-    }
-    Err(Fail::from("never made"))
 }
 
 // A type of the caller's own is a value. A collector's first ask gives the value.

@@ -261,6 +261,57 @@ const ROWS: &[Row<'_>] = &[
         ],
         cache: &[7],
     },
+    Row {
+        name: "spent numbers of subscriptions come before full places",
+        config: Config {
+            subscribers: 1,
+            first: LAST,
+            ..PLAIN
+        },
+        lines: &[(A, Subscribe, Subscribed), (B, Subscribe, Refused(7))],
+        cache: &[],
+    },
+    Row {
+        name: "spent numbers of emissions come before tickets",
+        config: Config {
+            extra: 1,
+            emits: 1,
+            first: LAST - 1,
+            ..PLAIN
+        },
+        lines: &[
+            (A, Subscribe, Subscribed),
+            (First, Try(1), Accepted(LAST - 1)),
+            (First, Emit(2), Waiting),
+            (Second, Emit(3), Refused(7)),
+            (A, Next, Value(1)),
+            (First, Ask, Done(LAST)),
+        ],
+        cache: &[],
+    },
+    Row {
+        name: "spent numbers of tickets come before tickets",
+        config: Config {
+            emits: 1,
+            first: LAST - 2,
+            ..PLAIN
+        },
+        lines: &[
+            (A, Subscribe, Subscribed),
+            (First, Emit(1), Waiting),
+            (First, TakeBack, Left(LAST - 2)),
+            (First, Emit(2), Waiting),
+            (First, TakeBack, Removed),
+            (First, Emit(3), Waiting),
+            // A number is left, and no ticket.
+            (Second, Emit(4), Refused(7)),
+            (Second, Try(4), Full),
+            (A, Next, Value(1)),
+            (A, Next, Value(3)),
+            (First, Ask, Done(LAST - 1)),
+        ],
+        cache: &[],
+    },
 ];
 
 #[test]

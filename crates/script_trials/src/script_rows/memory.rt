@@ -1,7 +1,7 @@
 //! Scripts where an allocation is refused, as under `rt try --test --fail-alloc N`. Up to the first line that is refused
 //! with 4, or the end for want of memory, the lines written are those of ample memory; once more, all are.
 
-use super::rows::{Row, SHARE_WHILE_SUBSCRIBED, STATE_CONFLATES};
+use super::rows::{FIRST_PATH, Row, SHARE_WHILE_SUBSCRIBED, STATE_CONFLATES};
 use super::{ENGINES, lines_of};
 use crate::tools::{Differences, made_again};
 use flow_script::{Engine, ScriptFault, run_script};
@@ -14,8 +14,8 @@ use std::test::Fail;
 /// How many bytes a text has at most: the writer has that room at first, and takes no memory later.
 const ROOM: usize = 1024;
 
-/// A sharing, and a state.
-const FLOWS: &[Row] = &[SHARE_WHILE_SUBSCRIBED, STATE_CONFLATES];
+/// A shared flow, a sharing, and a state.
+const FLOWS: &[Row] = &[FIRST_PATH, SHARE_WHILE_SUBSCRIBED, STATE_CONFLATES];
 
 const BUFFERS: &[Row] = &[
     Row {

@@ -21,6 +21,13 @@ pub const STATE_CONFLATES: Row = Row {
     answers: "ok ; ok ; value 0 ; ok ; ok ; ok ; value 2 ; ok ; ok ; pending ; true ; false ; true ; value 5",
 };
 
+/// The script of the examples: a flow with two places, which are filled and freed.
+pub const FIRST_PATH: Row = Row {
+    name: "first_path",
+    script: "shared f 0 2 suspend ; sub f a ; try f 1 ; try f 2 ; try f 3 ; next a ; try f 3 ; next a ; next a ; next a ; cancel a ; next a",
+    answers: "ok ; ok ; accepted ; accepted ; full ; value 1 ; accepted ; value 2 ; value 3 ; pending ; ok ; closed",
+};
+
 pub const ROWS: &[Row] = &[
     Row {
         name: "replay_gives_latest",
@@ -72,11 +79,7 @@ pub const ROWS: &[Row] = &[
         script: "shared f 0 0 suspend ; sub f a ; emit f e 5 ; sub f b ; next b ; poll e ; cancel a ; poll e",
         answers: "ok ; ok ; waiting ; ok ; pending ; waiting ; ok ; done",
     },
-    Row {
-        name: "first_path",
-        script: "shared f 0 2 suspend ; sub f a ; try f 1 ; try f 2 ; try f 3 ; next a ; try f 3 ; next a ; next a ; next a ; cancel a ; next a",
-        answers: "ok ; ok ; accepted ; accepted ; full ; value 1 ; accepted ; value 2 ; value 3 ; pending ; ok ; closed",
-    },
+    FIRST_PATH,
     Row {
         name: "places_full",
         script: "shared f 0 0 suspend ; sub f a1 ; sub f a2 ; sub f a3 ; sub f a4 ; sub f a5 ; sub f a6 ; sub f a7 ; sub f a8 ; sub f a9 ; cancel a1 ; sub f a9",
@@ -133,6 +136,11 @@ pub const ROWS: &[Row] = &[
         answers: "ok ; refused 10 ; ok ; value 1 ; ok ; closed",
     },
     Row {
+        name: "prelude_before_places",
+        script: "shared f 0 0 suspend ; sub f a1 ; sub f a2 ; sub f a3 ; sub f a4 ; sub f a5 ; sub f a6 ; sub f a7 ; sub f a8 ; sub f a9 with 1,2,3,4,5,6,7,8,9,10,11,12,13,14,15,16,17 ; sub f a9 with 1",
+        answers: "ok ; ok ; ok ; ok ; ok ; ok ; ok ; ok ; ok ; refused 10 ; refused 5",
+    },
+    Row {
         name: "prelude_of_a_sharing",
         script: "share f 0 1 suspend eager of 1 ; sub f a with 9 ; tick f 0 ; next a ; next a ; sub f b with 1,2,3,4,5,6,7,8,9,10,11,12,13,14,15,16,17",
         answers: "ok ; ok ; on ; value 9 ; value 1 ; refused 10",
@@ -183,5 +191,10 @@ pub const ROWS: &[Row] = &[
         name: "plan_for_state",
         script: "stated s 7 plan 0:0:9:start,0:0:9:clear of 1 ; tick s 0 ; value s ; tick s 0 ; value s ; share h 0 0 oldest plan 0:2:1:start of 1 ; share h 0 0 oldest plan 0:1:2:start of 1",
         answers: "ok ; on ; value 1 ; off ; value 7 ; refused 11 ; refused 2",
+    },
+    Row {
+        name: "plan_before_places",
+        script: "share h 65537 0 suspend plan 0:2:1:start of 1 ; share h 65537 0 suspend plan 0:1:2:start of 1",
+        answers: "refused 11 ; refused 1",
     },
 ];

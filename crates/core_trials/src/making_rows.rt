@@ -1,0 +1,146 @@
+//! Refusals at making: which one comes first, want of memory last; and what is made in heaps that are too small.
+
+use crate::tools::{Differences, assert_same};
+use cold_flow::{Policy, Refusal};
+use linked_list_allocator::LocalHeap;
+use shared_core::{Config, SharedState};
+use shared_lane::Lane;
+use state_flow::StateFlow;
+use std::alloc::Global;
+use std::process::Abort;
+use std::test::Fail;
+
+const PLAIN: Config = Config {
+    replay: 0,
+    extra: 1,
+    policy: Policy::Suspend,
+    subscribers: 1,
+    emits: 1,
+    first: 0,
+};
+
+/// A config that is refused for more than one reason, and the number of the refusal.
+struct Row<'a> {
+    name: &'a str,
+    config: Config,
+    refusal: u8,
+}
+
+const ROWS: &[Row<'_>] = &[
+    Row {
+        name: "places come before limits",
+        config: Config {
+            replay: 65_537,
+            subscribers: 0,
+            ..PLAIN
+        },
+        refusal: 1,
+    },
+    Row {
+        name: "the policy comes before limits",
+        config: Config {
+            extra: 0,
+            policy: Policy::DropOldest,
+            emits: 1_025,
+            ..PLAIN
+        },
+        refusal: 2,
+    },
+    Row {
+        name: "limits come before memory",
+        config: Config {
+            first: (1 << 62) + 1,
+            ..PLAIN
+        },
+        refusal: 3,
+    },
+];
+
+/// The number of the refusal of a flow on one thread, 0 where it is made.
+fn flow_refusal(alloc: Global, config: Config) -> u8 {
+    match SharedState::<u64>::new(alloc, config) {
+        Ok(_) => 0,
+        Err(refusal) => refusal.number(),
+    }
+}
+
+/// The same of a lane in this heap.
+fn lane_refusal(heap: &LocalHeap, config: Config) -> u8 {
+    match Lane::new(heap, config) {
+        Ok(_) => 0,
+        Err(refusal) => refusal.number(),
+    }
+}
+
+/// The same of a state with so many seats.
+fn state_refusal(heap: &LocalHeap, seats: u32) -> u8 {
+    match StateFlow::new(heap, 0u64, seats) {
+        Ok(_) => 0,
+        Err(refusal) => refusal.number(),
+    }
+}
+
+#[test]
+fn refusals_at_making_come_in_order(rt: HostRuntime) -> Result<(), Fail> {
+    let mut differences = Differences::none(rt.alloc());
+    // There is room for nothing in it.
+    let heap = LocalHeap::new(rt.alloc(), 16)?;
+    for row in ROWS {
+        let refusals = (
+            flow_refusal(rt.alloc(), row.config),
+            lane_refusal(&heap, row.config),
+        );
+        differences.compare(row.name, refusals, (row.refusal, row.refusal))?;
+    }
+    differences.compare("a lane without memory", lane_refusal(&heap, PLAIN), 4)?;
+    for (seats, refusal) in [(0, 3), (1_025, 3), (1, 4)] {
+        differences.compare("a state", state_refusal(&heap, seats), refusal)?;
+    }
+    differences.assert_none(&rt);
+    Ok(())
+}
+
+/// What takes its memory from a heap of a test's own.
+enum Made {
+    Lane,
+    State,
+}
+
+const EACH: &[Made] = &[Made::Lane, Made::State];
+
+fn made_in(heap: &LocalHeap, made: &Made) -> Result<(), Refusal> {
+    match made {
+        Made::Lane => {
+            Lane::new(heap, PLAIN)?;
+        }
+        Made::State => {
+            StateFlow::new(heap, 0u64, 2)?.take_seat(0)?;
+        }
+    }
+    Ok(())
+}
+
+// Each heap has one block more than the one before, so that each allocation, from the first to the last, is the refused one.
+fn assert_made_at_last(rt: &impl Abort, alloc: Global, made: &Made) -> Result<(), Fail> {
+    let mut was_refused = false;
+    for blocks in 1..64usize {
+        let heap = LocalHeap::new(alloc, 16 * blocks)?;
+        let ended = made_in(&heap, made);
+        assert_same(rt, "heap after the call", heap.used(), 0);
+        if ended.is_ok() {
+            assert!(rt; was_refused);
+            return Ok(());
+        }
+        assert_same(rt, "refusal", ended, Err(Refusal::NoMemory));
+        was_refused = true;
+    }
+    Err(Fail::from("never made"))
+}
+
+#[test]
+fn want_of_memory_is_answered(rt: HostRuntime) -> Result<(), Fail> {
+    for made in EACH {
+        assert_made_at_last(&rt, rt.alloc(), made)?;
+    }
+    Ok(())
+}
