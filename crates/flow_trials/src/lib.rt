@@ -16,6 +16,8 @@ mod memory_rows;
 #[cfg(test)]
 mod merge_rows;
 #[cfg(test)]
+mod refused_rows;
+#[cfg(test)]
 mod tools;
 #[cfg(test)]
 mod unfold_rows;
