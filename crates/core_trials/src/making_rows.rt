@@ -1,9 +1,8 @@
-//! Refusals at making: which one comes first, want of memory last; and what is made in heaps that are too small.
+//! Refusals at making: which one comes first, want of memory last; and what is made, and replied, in heaps that are too small.
 
 use crate::tools::{Differences, assert_same};
-use cold_flow::{Policy, Refusal};
 use linked_list_allocator::LocalHeap;
-use shared_core::{Config, SharedState};
+use shared_core::{Call, Config, Policy, Refusal, SharedState};
 use shared_lane::Lane;
 use state_flow::StateFlow;
 use std::alloc::Global;
@@ -104,11 +103,18 @@ fn refusals_at_making_come_in_order(rt: HostRuntime) -> Result<(), Fail> {
 enum Made {
     Lane,
     State,
+    Replies,
 }
 
-const EACH: &[Made] = &[Made::Lane, Made::State];
+const EACH: &[Made] = &[Made::Lane, Made::State, Made::Replies];
 
-fn made_in(heap: &LocalHeap, made: &Made) -> Result<(), Refusal> {
+// Runs two calls, of which none is made where there is no room for their replies.
+fn replied_in(heap: &LocalHeap, flow: &mut SharedState<u64>) -> Result<(), Refusal> {
+    let mut replies = Vec::new(heap);
+    flow.run(&[Call::Subscribe, Call::Count], &mut replies)
+}
+
+fn made_in(heap: &LocalHeap, flow: &mut SharedState<u64>, made: &Made) -> Result<(), Refusal> {
     match made {
         Made::Lane => {
             Lane::new(heap, PLAIN)?;
@@ -116,6 +122,7 @@ fn made_in(heap: &LocalHeap, made: &Made) -> Result<(), Refusal> {
         Made::State => {
             StateFlow::new(heap, 0u64, 2)?.take_seat(0)?;
         }
+        Made::Replies => replied_in(heap, flow)?,
     }
     Ok(())
 }
@@ -123,9 +130,11 @@ fn made_in(heap: &LocalHeap, made: &Made) -> Result<(), Refusal> {
 // Each heap has one block more than the one before, so that each allocation, from the first to the last, is the refused one.
 fn assert_made_at_last(rt: &impl Abort, alloc: Global, made: &Made) -> Result<(), Fail> {
     let mut was_refused = false;
+    let mut flow = SharedState::new(alloc, PLAIN)?;
     for blocks in 1..64usize {
         let heap = LocalHeap::new(alloc, 16 * blocks)?;
-        let ended = made_in(&heap, made);
+        assert_same(rt, "subscriptions before", flow.subscription_count(), 0);
+        let ended = made_in(&heap, &mut flow, made);
         assert_same(rt, "heap after the call", heap.used(), 0);
         if ended.is_ok() {
             assert!(rt; was_refused);

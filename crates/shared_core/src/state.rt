@@ -59,7 +59,7 @@ use crate::queue::Queue;
 use crate::ring::Ring;
 use crate::tickets::{Accepted, OutTicket, Waiting};
 use flow_terms::Refusal;
-use std::alloc::{AllocError, Global};
+use std::alloc::{AllocError, Allocator, Global};
 use std::marker::Model;
 
 /// A shared flow on one thread: Kotlin's `MutableSharedFlow`. It never completes.
@@ -172,7 +172,11 @@ impl<T: Copy> SharedState<T> {
     /// Makes the calls in order, and adds the reply to each to `out`.
     ///
     /// Room for the replies is reserved first. Where there is no memory for that, the refusal is `NoMemory` and no call was made.
-    pub fn run(&mut self, calls: &[Call<T>], out: &mut Vec<Reply<T>>) -> Result<(), Refusal>
+    pub fn run<A: Allocator>(
+        &mut self,
+        calls: &[Call<T>],
+        out: &mut Vec<Reply<T>, A>,
+    ) -> Result<(), Refusal>
         ensures memory { IsOkUnless result Refusal.NoMemory }
         ensures ok { OnOk result (Runs calls.now self.old out.old.items out.new.items self.new) }
         ensures err { OnErr result ((self.new ≡ self.old) × (out.new.items ≡ out.old.items)) }
