@@ -1,5 +1,5 @@
-//! Starts that are refused, whichever allocation it is by: of the inner flows of a flat map, of the source of an operator and of a
-//! buffer. The capacity of a buffer is refused before.
+//! Starts that a flow of the tests' own refuses: of the inner flows of a flat map, of the source of an operator and of a buffer.
+//! The capacity of a buffer is refused before.
 
 use crate::tools::{Differences, ENDED, Polling, Same, Sum, assert_same, next, task_made};
 use cold_flow::{Cause, Event, Flow, Policy, Refusal, distinct, range, take};
@@ -40,7 +40,7 @@ impl<F: Flow> Flow for Scarce<'_, F> {
     ghost uncancelled = { λ s. F.uncancelled s.flow };
 }
 
-/// What a flow over such ones has left of `before` once the refused start was the last.
+/// What `before` has come to where the refused start was the last.
 const NONE_AFTER: u32 = u32::MAX;
 
 const TEN: Polling = Poll::Ready(Event::Value(10));
