@@ -1,5 +1,5 @@
 -- Each step of the feed and of the drain keeps the rule of the buffer.
-use Rattle.std.proofs.Common.{◌≡◌, ◌≢◌, ℕ, zero, suc, ◌+◌, Option, Some, None, Bool, true, false, true≢false, cond, List, [], ◌∷◌, ◌++◌, map, length, set, sym, refl, ap, ◌∙◌, subst, inl, inr, ⊎_elim, append_assoc, append-nil, zero-add}
+use Rattle.std.proofs.Common.{◌≡◌, ◌≢◌, ℕ, zero, suc, ◌+◌, ◌≤◌, arith, Option, Some, None, Bool, true, false, true≢false, cond, List, [], ◌∷◌, ◌++◌, map, length, set, sym, refl, ap, ◌∙◌, subst, inl, inr, ⊎_elim, append_assoc, append-nil, length-append, zero-add}
 use Rattle.std.proofs.lemmas.List.{map-append, length-map}
 use mathlib.Core.Option.{some, some-ne-none, some-injective}
 use lib.ListN.{get_elem?}
@@ -13,7 +13,7 @@ use Rattle.cold_flow.specs.declared.event.Event.TheVariants.{Value, End}
 use Rattle.flow_buffer.specs.declared.side.Side.{Side}
 use Rattle.flow_buffer.specs.History.{is_taken, is_stored, is_dropped, picked, marked, Rises}
 use Rattle.flow_buffer.specs.Sides.{WasFull}
-use Rattle.flow_buffer.specs.Channel.{Buffers, FitsFeed, FitsDrain, IsLast, Sends, Overwrites, Takes, Looks, feed_side, drain_side, fresh_side, spare_side, missed_side, joined_side, Agree}
+use Rattle.flow_buffer.specs.Channel.{Buffers, FitsFeed, FitsLevel, FitsDrain, IsLast, Sends, Overwrites, Takes, Looks, feed_side, drain_side, fresh_side, spare_side, missed_side, joined_side, Agree}
 use Rattle.flow_buffer.proofs.Histories.{append_left, append_right, picked-append, picked_same, picked-rises, picked-alike, marked-middle, Front, first_held, turned, turned-length, turned-parts, turned-picked}
 
 module _ {T : Type 0} where
@@ -53,6 +53,9 @@ module _ {T E : Type 0} where
   no_feed : (feed : ℕ) (lossy : Bool) (sent : Option (Cause E)) (produced : List (Bool × T)) (pass : ℕ) (v : Side T E) → v.feeds ≡ false → FitsFeed feed lossy sent produced pass v
   no_feed feed lossy sent produced pass v without does = absurd (true≢false (sym does ∙ without))
 
+  no_level : (n pass : ℕ) (v : Side T E) → v.feeds ≡ false → FitsLevel n pass v
+  no_level n pass v without does unsent = absurd (true≢false (sym does ∙ without))
+
   no_drain : (drain : ℕ) (lossy : Bool) (sent : Option (Cause E)) (taken : List (ℕ × T)) (history : List (Fate × T)) (pass : ℕ) (v : Side T E) → v.drains ≡ false → FitsDrain drain lossy sent taken history pass v
   no_drain drain lossy sent taken history pass v without does = absurd (true≢false (sym does ∙ without))
 
@@ -68,6 +71,11 @@ module _ {T E : Type 0} where
         all_set (FitsFeed feed lossy sent' produced') views pass w (subst (λ (p : ℕ). FitsFeed feed lossy sent' produced' p w) (sym mine.0) fits)
         (λ j u other e does. absurd (other ((all j u e does).0 ∙ sym mine.0)))
 
+    -- what it knows of the channel's content then
+    leveled : (n feed : ℕ) (lossy : Bool) (sent : Option (Cause E)) (produced : List (Bool × T)) → v.feeds ≡ true → All (FitsFeed feed lossy sent produced) views → FitsLevel n pass w → All (FitsLevel n) (set views pass w)
+    leveled n feed lossy sent produced feeds all fits = let mine = all pass v at feeds in
+        all_set (FitsLevel n) views pass w fits (λ j u other e does. absurd (other ((all j u e does).0 ∙ sym mine.0)))
+
     -- the same of the drain
     drained : (drain : ℕ) (lossy : Bool) (sent : Option (Cause E)) (taken taken' : List (ℕ × T)) (history history' : List (Fate × T)) → v.drains ≡ true → All (FitsDrain drain lossy sent taken history) views → FitsDrain drain lossy sent taken' history' drain w → All (FitsDrain drain lossy sent taken' history') (set views pass w)
     drained drain lossy sent taken taken' history history' drains all fits = let mine = all pass v at drains in
@@ -78,18 +86,22 @@ module _ {T E : Type 0} where
     others_feed : (feed : ℕ) (lossy : Bool) (sent : Option (Cause E)) (produced : List (Bool × T)) → w.feeds ≡ false → All (FitsFeed feed lossy sent produced) views → All (FitsFeed feed lossy sent produced) (set views pass w)
     others_feed feed lossy sent produced without all = all_set (FitsFeed feed lossy sent produced) views pass w (no_feed feed lossy sent produced pass w without) (λ j u other e. all j u e)
 
+    -- the channel holds no more than before
+    others_level : (m n : ℕ) → n ≤ m → w.feeds ≡ false → All (FitsLevel m) views → All (FitsLevel n) (set views pass w)
+    others_level m n fewer without all = all_set (FitsLevel n) views pass w (no_level n pass w without) (λ j u other e does unsent. let old : m ≤ u.level = all j u e does unsent in omega arith)
+
     others_drain : (drain : ℕ) (lossy : Bool) (sent : Option (Cause E)) (taken : List (ℕ × T)) (history : List (Fate × T)) → w.drains ≡ false → All (FitsDrain drain lossy sent taken history) views → All (FitsDrain drain lossy sent taken history) (set views pass w)
     others_drain drain lossy sent taken history without all = all_set (FitsDrain drain lossy sent taken history) views pass w (no_drain drain lossy sent taken history pass w without) (λ j u other e. all j u e)
 
-  feeds_is : (v : Side T E) → v ≡ feed_side v.lossy None v.produced → v.feeds ≡ true
+  feeds_is : (v : Side T E) → v ≡ feed_side v.lossy None v.produced v.level → v.feeds ≡ true
   feeds_is v is = ap (λ (s : Side T E). s.feeds) is
 
-  open_is : (v : Side T E) → v ≡ feed_side v.lossy None v.produced → v.sent ≡ None
+  open_is : (v : Side T E) → v ≡ feed_side v.lossy None v.produced v.level → v.sent ≡ None
   open_is v is = ap (λ (s : Side T E). s.sent) is
 
   -- a feed that may drop
-  lossy_is : (v : Side T E) → v ≡ feed_side true None v.produced → (v ≡ feed_side v.lossy None v.produced) × (v.lossy ≡ true)
-  lossy_is v is = let may = ap (λ (s : Side T E). s.lossy) is in (is ∙ ap (λ b. feed_side b None v.produced) (sym may), may)
+  lossy_is : (v : Side T E) → v ≡ feed_side true None v.produced v.level → (v ≡ feed_side v.lossy None v.produced v.level) × (v.lossy ≡ true)
+  lossy_is v is = let may = ap (λ (s : Side T E). s.lossy) is in (is ∙ ap (λ b. feed_side b None v.produced v.level) (sym may), may)
 
   values : List (ℕ × T) → List (Event T E)
   values = map (λ e. Value e.1)
@@ -114,6 +126,7 @@ module _ {T E : Type 0} where
     above = refl;
     lossless = λ _. refl;
     feeds = λ pass v e does. let o = only pass fresh_side v e in (o.0, ap (λ (s : Side T E). s.lossy) (sym o.1), ap (λ (s : Side T E). s.sent) (sym o.1), ap (λ (s : Side T E). s.produced) (sym o.1));
+    levels = λ pass v e does unsent. omega arith;
     drains = λ pass v e does. let o = only pass fresh_side v e in (o.0, ap (λ (s : Side T E). s.lossy) (sym o.1), ap (λ (s : Side T E). s.taken) (sym o.1), λ known. absurd (known (ap (λ (s : Side T E). s.got) (sym o.1))));
   }
 
@@ -122,7 +135,7 @@ module _ {T E : Type 0} where
   held_more n pending x = ap values (picked-append is_stored n pending ((Stored, x) ∷ [])) ∙ map-append (λ (e : ℕ × T). Value e.1) (picked is_stored n pending) ((n + length pending, x) ∷ [])
 
   -- steps of the feed before the end
-  module _ (pass : ℕ) (v : Side T E) (is : v ≡ feed_side v.lossy None v.produced) where
+  module _ (pass : ℕ) (v : Side T E) (is : v ≡ feed_side v.lossy None v.produced v.level) where
     module _ (items : List (Event T E)) (views : List (Side T E)) (h : Buffers items views) (at : get_elem? views pass ≡ some v) where
       unsent : h.sent ≡ None
       unsent = let mine = h.feeds pass v at (feeds_is v is) in sym mine.2 ∙ open_is v is
@@ -134,12 +147,16 @@ module _ {T E : Type 0} where
       unfolding values
       all_values = h.holds ∙ (ap (λ l. values (picked is_stored (length h.decided) h.pending) ++ l) nothing_last ∙ append-nil (values (picked is_stored (length h.decided) h.pending)))
 
+      no_more : length items ≤ v.level
+      no_more = h.levels pass v at (feeds_is v is) (open_is v is)
+
     -- a value joins at the back
     pub sends : (n : ℕ) (x : T) → Pushes (Buffers {T = T} {E = E}) n pass v (Value x) (Sends {E = E} v (Value x))
     unfolding values
     sends n x items views room h at =
         let mine = h.feeds pass v at (feeds_is v is) in
-        let w : Side T E = feed_side v.lossy None (v.produced ++ (false, x) ∷ []) in
+        let w : Side T E = feed_side v.lossy None (v.produced ++ (false, x) ∷ []) (length items + 1) in
+        let before : length items ≤ v.level = no_more items views h at in
         let pending : List (Fate × T) = h.pending ++ (Stored, x) ∷ [] in (
           w,
           record {
@@ -157,10 +174,11 @@ module _ {T E : Type 0} where
             lossless = λ free. picked_more is_dropped h.decided h.pending (Stored, x) refl ∙ h.lossless free;
             feeds = fed views pass v w at h.feed h.lossy h.sent None (marked (h.decided ++ h.pending)) (marked (h.decided ++ pending)) (feeds_is v is) h.feeds
                 (λ _. (refl, mine.1, refl, ap (λ t. t ++ (false, x) ∷ []) mine.3 ∙ sym (marked_more h.decided h.pending (Stored, x))));
+            levels = leveled views pass v w at (length (items ++ Value x ∷ [])) h.feed h.lossy h.sent (marked (h.decided ++ h.pending)) (feeds_is v is) h.feeds (λ _ _. omega (arith, length-append items (Value x ∷ [])));
             drains = reopens h.drain h.lossy h.sent None (picked is_taken 0 h.decided) (h.decided ++ h.pending) (h.decided ++ pending) (set views pass w) (unsent items views h at)
                 (others_drain views pass v w at h.drain h.lossy h.sent (picked is_taken 0 h.decided) (h.decided ++ h.pending) refl h.drains);
           },
-          refl,
+          (refl, omega arith),
         )
 
     -- the end is sent
@@ -168,7 +186,7 @@ module _ {T E : Type 0} where
     unfolding values
     closes n cause items views room h at =
         let mine = h.feeds pass v at (feeds_is v is) in
-        let w : Side T E = feed_side v.lossy (Some cause) v.produced in (
+        let w : Side T E = feed_side v.lossy (Some cause) v.produced v.level in (
           w,
           record {
             feed = h.feed;
@@ -184,6 +202,7 @@ module _ {T E : Type 0} where
             above = h.above;
             lossless = h.lossless;
             feeds = fed views pass v w at h.feed h.lossy h.sent (Some cause) (marked (h.decided ++ h.pending)) (marked (h.decided ++ h.pending)) (feeds_is v is) h.feeds (λ _. (refl, mine.1, refl, mine.3));
+            levels = leveled views pass v w at (length (items ++ End cause ∷ [])) h.feed h.lossy h.sent (marked (h.decided ++ h.pending)) (feeds_is v is) h.feeds (λ does unsent. let not : Some cause ≡ None = unsent in cc);
             drains = reopens h.drain h.lossy h.sent (Some cause) (picked is_taken 0 h.decided) (h.decided ++ h.pending) (h.decided ++ h.pending) (set views pass w) (unsent items views h at)
                 (others_drain views pass v w at h.drain h.lossy h.sent (picked is_taken 0 h.decided) (h.decided ++ h.pending) refl h.drains);
           },
@@ -199,14 +218,15 @@ module _ {T E : Type 0} where
       all_values items views h at
           ∙ sym (ap values (picked-append is_stored 0 h.decided h.pending
           ∙ (ap (λ t. t ++ picked is_stored (0 + length h.decided) h.pending) h.below ∙ ap (λ n. picked is_stored n h.pending) (zero-add (length h.decided))))),
+      no_more items views h at,
     )
 
     -- a new value is dropped
-    pub misses : (x : T) → v.lossy ≡ true → Forks (Buffers {T = T} {E = E}) pass v (feed_side v.lossy None (v.produced ++ (true, x) ∷ [])) spare_side
+    pub misses : (x : T) → v.lossy ≡ true → Forks (Buffers {T = T} {E = E}) pass v (feed_side v.lossy None (v.produced ++ (true, x) ∷ []) v.level) spare_side
     unfolding values
     misses x may items views h at =
         let mine = h.feeds pass v at (feeds_is v is) in
-        let w : Side T E = feed_side v.lossy None (v.produced ++ (true, x) ∷ []) in
+        let w : Side T E = feed_side v.lossy None (v.produced ++ (true, x) ∷ []) v.level in
         let pending : List (Fate × T) = h.pending ++ (Dropped, x) ∷ [] in
         let made = marked (h.decided ++ pending) in record {
           feed = h.feed;
@@ -224,6 +244,8 @@ module _ {T E : Type 0} where
           feeds = all_snoc (FitsFeed h.feed h.lossy None made) (set views pass w) spare_side (λ j. no_feed h.feed h.lossy None made j spare_side refl)
               (fed views pass v w at h.feed h.lossy h.sent None (marked (h.decided ++ h.pending)) made (feeds_is v is) h.feeds
               (λ _. (refl, mine.1, refl, ap (λ t. t ++ (true, x) ∷ []) mine.3 ∙ sym (marked_more h.decided h.pending (Dropped, x)))));
+          levels = all_snoc (FitsLevel (length items)) (set views pass w) spare_side (λ j. no_level (length items) j spare_side refl)
+              (leveled views pass v w at (length items) h.feed h.lossy h.sent (marked (h.decided ++ h.pending)) (feeds_is v is) h.feeds (λ _ _. no_more items views h at));
           drains = all_snoc (FitsDrain h.drain h.lossy None (picked is_taken 0 h.decided) (h.decided ++ pending)) (set views pass w) spare_side (λ j. no_drain h.drain h.lossy None (picked is_taken 0 h.decided) (h.decided ++ pending) j spare_side refl)
               (reopens h.drain h.lossy h.sent None (picked is_taken 0 h.decided) (h.decided ++ h.pending) (h.decided ++ pending) (set views pass w) (unsent items views h at)
               (others_drain views pass v w at h.drain h.lossy h.sent (picked is_taken 0 h.decided) (h.decided ++ h.pending) refl h.drains));
@@ -312,9 +334,10 @@ module _ {T E : Type 0} where
 
       -- the record after the step, from what the sides know then
       after_leaving : (views' : List (Side T E)) (lossless : h.lossy ≡ false → picked is_dropped 0 (now_decided ++ l.front.after) ≡ []) → All (FitsFeed h.feed h.lossy h.sent (marked (now_decided ++ l.front.after))) views'
+          → All (FitsLevel (length items)) views'
           → All (FitsDrain h.drain h.lossy h.sent (picked is_taken 0 now_decided) (now_decided ++ l.front.after)) views' → Buffers items views'
       unfolding values
-      after_leaving views' lossless feeds drains = record {
+      after_leaving views' lossless feeds levels drains = record {
         feed = h.feed;
         drain = h.drain;
         lossy = h.lossy;
@@ -328,6 +351,7 @@ module _ {T E : Type 0} where
         above = now_above;
         lossless = lossless;
         feeds = feeds;
+        levels = levels;
         drains = drains;
       }
 
@@ -354,6 +378,7 @@ module _ {T E : Type 0} where
                 (λ free. alike i x rest l Taken refl is_dropped refl ∙ h.lossless free)
                 (subst (λ (t : List (Bool × T)). All (FitsFeed h.feed h.lossy h.sent t) (set views pass w)) (were_marked i x rest l Taken refl ∙ sym (now_marked i x rest l Taken refl))
                 (others_feed views pass v w at h.feed h.lossy h.sent (marked (h.decided ++ h.pending)) refl h.feeds))
+                (others_level views pass v w at (length (item ∷ items)) (length items) (omega arith) refl h.levels)
                 (drained views pass v w at h.drain h.lossy h.sent (picked is_taken 0 h.decided) (picked is_taken 0 decided) (h.decided ++ h.pending) (decided ++ l.front.after) drains_is h.drains (λ _. (refl, mine_is.1, sym taken_is, λ known. absurd (known refl)))),
             ((i, refl), subst (λ (t : List (ℕ × T)). Rises 0 t) taken_is (picked-rises is_taken 0 decided)),
           )
@@ -381,6 +406,7 @@ module _ {T E : Type 0} where
               above = h.above;
               lossless = h.lossless;
               feeds = others_feed views pass v w at h.feed h.lossy h.sent (marked history) refl h.feeds;
+              levels = others_level views pass v w at (length (item ∷ items)) (length items) (omega arith) refl h.levels;
               drains = drained views pass v w at h.drain h.lossy h.sent (picked is_taken 0 h.decided) (picked is_taken 0 h.decided) history history drains_is h.drains (λ _. (refl, mine_is.1, mine_is.2, λ _. (sym e.1, refl)));
             },
             (
@@ -398,16 +424,18 @@ module _ {T E : Type 0} where
       takes_by ((i, x) ∷ rest) is = takes_value i x rest (leaves i x rest is)
 
     -- the feed takes it
-    module _ (pass : ℕ) (v : Side T E) (is : v ≡ feed_side v.lossy None v.produced) (may : v.lossy ≡ true) (at : get_elem? views pass ≡ some v) where
+    module _ (pass : ℕ) (v : Side T E) (is : v ≡ feed_side v.lossy None v.produced v.level) (may : v.lossy ≡ true) (at : get_elem? views pass ≡ some v) where
       overwrites_value : (i : ℕ) (x : T) (rest : List (ℕ × T)) → Leaves i x rest → (w : Side T E) × Buffers items (set views pass w) × Overwrites v item w
       overwrites_value i x rest l =
           let mine = h.feeds pass v at (feeds_is v is) in
           let decided = now_decided i x rest l Dropped refl in
-          let w : Side T E = feed_side v.lossy None (marked (decided ++ l.front.after)) in (
+          let w : Side T E = feed_side v.lossy None (marked (decided ++ l.front.after)) v.level in
+          let before : length (item ∷ items) ≤ v.level = h.levels pass v at (feeds_is v is) (open_is v is) in (
             w,
             after_leaving i x rest l Dropped refl (set views pass w)
                 (λ free. absurd (true≢false (sym may ∙ (mine.1 ∙ free))))
                 (fed views pass v w at h.feed h.lossy h.sent h.sent (marked (h.decided ++ h.pending)) (marked (decided ++ l.front.after)) (feeds_is v is) h.feeds (λ _. (refl, mine.1, sym (open_is v is) ∙ mine.2, refl)))
+                (leveled views pass v w at (length items) h.feed h.lossy h.sent (marked (h.decided ++ h.pending)) (feeds_is v is) h.feeds (λ _ _. omega arith))
                 (reopens h.drain h.lossy h.sent h.sent (picked is_taken 0 decided) (h.decided ++ h.pending) (decided ++ l.front.after) (set views pass w) (sym mine.2 ∙ open_is v is)
                 (subst (λ (t : List (ℕ × T)). All (FitsDrain h.drain h.lossy h.sent t (h.decided ++ h.pending)) (set views pass w)) (sym (now_taken i x rest l Dropped refl ∙ append-nil (picked is_taken 0 h.decided)))
                 (others_drain views pass v w at h.drain h.lossy h.sent (picked is_taken 0 h.decided) (h.decided ++ h.pending) refl h.drains))),
@@ -424,13 +452,13 @@ module _ {T E : Type 0} where
   pub takes : (pass : ℕ) (v : Side T E) → v ≡ drain_side v.lossy None v.taken v.history → Pops (Buffers {T = T} {E = E}) pass v (Takes v)
   takes pass v is item items views h at = takes_by items views item h pass v is at (picked is_stored (length h.decided) h.pending) refl
 
-  pub overwrites : (pass : ℕ) (v : Side T E) → v ≡ feed_side v.lossy None v.produced → v.lossy ≡ true → Pops (Buffers {T = T} {E = E}) pass v (Overwrites v)
+  pub overwrites : (pass : ℕ) (v : Side T E) → v ≡ feed_side v.lossy None v.produced v.level → v.lossy ≡ true → Pops (Buffers {T = T} {E = E}) pass v (Overwrites v)
   overwrites pass v is may item items views h at = overwrites_by items views item h pass v is may at (picked is_stored (length h.decided) h.pending) refl
 
   -- the first pass becomes the feed's, and a new one is the drain's
-  pub cuts : (pass : ℕ) (lossy : Bool) → Forks (Buffers {T = T} {E = E}) pass fresh_side (feed_side lossy None []) (drain_side lossy None [] [])
+  pub cuts : (pass : ℕ) (lossy : Bool) → Forks (Buffers {T = T} {E = E}) pass fresh_side (feed_side lossy None [] 0) (drain_side lossy None [] [])
   cuts pass lossy items views h at =
-      let l : Side T E = feed_side lossy None [] in
+      let l : Side T E = feed_side lossy None [] 0 in
       let r : Side T E = drain_side lossy None [] [] in
       let mine = h.feeds pass fresh_side at refl in
       let mine' = h.drains pass fresh_side at refl in
@@ -453,29 +481,31 @@ module _ {T E : Type 0} where
         lossless = λ _. ap (picked is_dropped 0) (unmarked (h.decided ++ h.pending) (sym mine.3));
         feeds = all_snoc (FitsFeed h.feed lossy None produced) vs r (λ j. no_feed h.feed lossy None produced j r refl)
             (all_set (FitsFeed h.feed lossy None produced) views pass l (λ _. (mine.0, refl, refl, mine.3)) (λ j u other e does. absurd (other ((h.feeds j u e does).0 ∙ sym mine.0))));
+        levels = all_snoc (FitsLevel (length items)) vs r (λ j. no_level (length items) j r refl)
+            (leveled views pass fresh_side l at (length items) h.feed h.lossy h.sent produced refl h.feeds (λ _ _. h.levels pass fresh_side at refl refl));
         drains = λ j u e. ⊎_elim (λ (was : get_elem? vs j ≡ some u). λ does. absurd (old j u was does))
             (λ (new : r ≡ u). λ does. (at_end vs r u j (λ was. old j u was does) e, ap (λ (s : Side T E). s.lossy) (sym new), ap (λ (s : Side T E). s.taken) (sym new) ∙ mine'.2, λ known. absurd (known (ap (λ (s : Side T E). s.got) (sym new))))) (at_snoc vs r u j e);
       }
 
-  pub sends_item : (n pass : ℕ) (v : Side T E) → v ≡ feed_side v.lossy None v.produced → (item : Event T E) → Pushes (Buffers {T = T} {E = E}) n pass v item (Sends v item)
+  pub sends_item : (n pass : ℕ) (v : Side T E) → v ≡ feed_side v.lossy None v.produced v.level → (item : Event T E) → Pushes (Buffers {T = T} {E = E}) n pass v item (Sends v item)
   sends_item n pass v is (Value x) = sends pass v is n x
   sends_item n pass v is (End cause) = closes pass v is n cause
 
-  -- a channel that was full held as many values as it has places
-  pub was_full : (k : ℕ) (v : Side T E) → HeldAt k (Looks {E = E} v) → WasFull k v.produced
+  -- a channel that was full held as many values as it has places, and so it did when the last one was put in
+  pub was_full : (k : ℕ) (v : Side T E) → HeldAt k (Looks {E = E} v) → WasFull k v.produced × (k ≤ v.level)
   was_full k v held = let h = held.2 in
-      let value : ℕ × T → Event T E = λ e. Value e.1 in (h.0, h.1, sym (length-map (picked is_stored 0 h.0) value) ∙ (ap length (sym h.2) ∙ held.1))
+      let value : ℕ × T → Event T E = λ e. Value e.1 in ((h.0, h.1, sym (length-map (picked is_stored 0 h.0) value) ∙ (ap length (sym h.2) ∙ held.1)), subst (λ n. n ≤ v.level) held.1 h.3)
 
-  pub overwrites_as : (pass : ℕ) (v : Side T E) → v ≡ feed_side true None v.produced → Pops (Buffers {T = T} {E = E}) pass v (Overwrites v)
+  pub overwrites_as : (pass : ℕ) (v : Side T E) → v ≡ feed_side true None v.produced v.level → Pops (Buffers {T = T} {E = E}) pass v (Overwrites v)
   overwrites_as pass v is = let l = lossy_is v is in overwrites pass v l.0 l.1
 
-  pub misses_as : (pass : ℕ) (v : Side T E) → v ≡ feed_side true None v.produced → (value : Option T) (x : T) → value ≡ Some x → Forks (Buffers {T = T} {E = E}) pass v (missed_side value v) spare_side
+  pub misses_as : (pass : ℕ) (v : Side T E) → v ≡ feed_side true None v.produced v.level → (value : Option T) (x : T) → value ≡ Some x → Forks (Buffers {T = T} {E = E}) pass v (missed_side value v) spare_side
   misses_as pass v is value x picked_is = let l = lossy_is v is in
       let P : Option T → Type 0 = λ o. Forks (Buffers {T = T} {E = E}) pass v (missed_side o v) spare_side in
       subst P (sym picked_is) (misses pass v l.0 x l.1)
 
-  pub cuts_as : (pass : ℕ) (lossy : Bool) (v : Side T E) → v ≡ fresh_side → Forks (Buffers {T = T} {E = E}) pass v (feed_side lossy None []) (drain_side lossy None [] [])
-  cuts_as pass lossy v is = let P : Side T E → Type 0 = λ s. Forks (Buffers {T = T} {E = E}) pass s (feed_side lossy None []) (drain_side lossy None [] []) in
+  pub cuts_as : (pass : ℕ) (lossy : Bool) (v : Side T E) → v ≡ fresh_side → Forks (Buffers {T = T} {E = E}) pass v (feed_side lossy None [] 0) (drain_side lossy None [] [])
+  cuts_as pass lossy v is = let P : Side T E → Type 0 = λ s. Forks (Buffers {T = T} {E = E}) pass s (feed_side lossy None [] 0) (drain_side lossy None [] []) in
       subst P (sym is) (cuts pass lossy)
 
   -- the feed's pass takes in the drain's
@@ -506,6 +536,8 @@ module _ {T E : Type 0} where
         lossless = h.lossless;
         feeds = all_set (FitsFeed h.feed h.lossy h.sent produced) vs other spare_side (no_feed h.feed h.lossy h.sent produced other spare_side refl)
             (λ j y apart e. fed views pass v both at h.feed h.lossy h.sent h.sent produced produced feeds h.feeds fits j y e);
+        levels = all_set (FitsLevel (length items)) vs other spare_side (no_level (length items) other spare_side refl)
+            (λ j y apart e. leveled views pass v both at (length items) h.feed h.lossy h.sent produced feeds h.feeds (λ _ unsent. h.levels pass v at feeds unsent) j y e);
         drains = all_set (FitsDrain pass h.lossy h.sent taken history) vs other spare_side (no_drain pass h.lossy h.sent taken history other spare_side refl) (λ j y apart e. now j y e apart);
       }
 

@@ -15,9 +15,9 @@ use Rattle.flow_buffer.specs.Fitting.{IsFeed}
 
 module _ {T E Q M L A : Type 0} (c other : Rows (Badge (Key (Event T E))) (Doing (Event T E) (Side T E)) Q M (Key (Event T E)) L A) (policy : Policy) (was is : Pass (Event T E) (Side T E)) where
   pub fed : (dropped now_dropped : ℕ) (waiting : Option (Event T E)) (sent : Option (Cause E)) → IsFeed c other policy was dropped waiting sent → sent ≡ None
-      → IsSeatAt c is → knows is ≡ feed_side (may_drop policy) None (knows is).produced → now_dropped ≡ saturated (drops (knows is).produced)
+      → IsSeatAt c is → knows is ≡ feed_side (may_drop policy) None (knows is).produced (knows is).level → now_dropped ≡ saturated (drops (knows is).produced)
       → IsFeed c other policy is now_dropped None sent
   fed dropped now_dropped waiting sent feed unsent seat open_still counted =
-      let side : knows is ≡ feed_side (may_drop policy) sent (knows is).produced = subst (λ (n : Option (Cause E)). knows is ≡ feed_side (may_drop policy) n (knows is).produced) (sym unsent) open_still in
+      let side : knows is ≡ feed_side (may_drop policy) sent (knows is).produced (knows is).level = subst (λ (n : Option (Cause E)). knows is ≡ feed_side (may_drop policy) n (knows is).produced (knows is).level) (sym unsent) open_still in
       let after : NothingAfter {T = T} sent None = subst (λ (n : Option (Cause E)). NothingAfter {T = T} n None) (sym unsent) tt in
       (feed.0, seat, side, counted, after)

@@ -1,5 +1,5 @@
 -- What a pump did that brought a value.
-use Rattle.std.proofs.Common.{◌≡◌, ℕ, Bool, false, MatchOption, Option, Some, None, is_some, List, refl}
+use Rattle.std.proofs.Common.{◌≡◌, ◌≤◌, ℕ, Bool, false, MatchOption, Option, Some, None, is_some, List, refl}
 use Rattle.futures.specs.declared.task.Poll.TheVariants.{Ready}
 use Rattle.cold_flow.specs.declared.event.Event.TheVariants.{Value}
 use Rattle.cold_flow.specs.Poll.{Traces}
@@ -7,7 +7,7 @@ use Rattle.flow_terms.specs.declared.policy.Policy.{Policy}
 use Rattle.flow_terms.specs.declared.policy.Policy.TheVariants.{Suspend}
 use Rattle.flow_terms.specs.declared.fill.Fill.{Fill}
 use Rattle.flow_terms.specs.declared.fill.Fill.TheVariants.{Took, Overwrote, Dropped, Full, Pending, Ended}
-use Rattle.flow_buffer.specs.Sides.{Feeding, Filled, WasFull}
+use Rattle.flow_buffer.specs.Sides.{Feeding, Filled, Levels, WasFull}
 use Rattle.flow_buffer.specs.Feed.{Brings, MayPump}
 
 pub unsent_by : {A : Type 0} (o : Option A) (b : Bool) → b ≡ is_some o → b ≡ false → o ≡ None
@@ -28,12 +28,13 @@ module _ {T : Type 0} (k : ℕ) (policy : Policy) (old : List (Bool × T)) (x : 
 module _ {U T E : Type 0} (may : U → Traces T E) (from to : U) (old new : Feeding T E) (x : T) where
   pub may_pump : (result : Option Fill) → old.sent ≡ None → Brings may from old.waiting (Ready (Value x)) to
       → MatchOption result ((old.policy ≡ Suspend) × WasFull old.capacity old.produced) (λ fill. Filled old.capacity old.policy old.produced x fill new.produced)
-      → MatchOption result (new ≡ record old { waiting = Some (Value x) }) (λ _. new ≡ record old { produced = new.produced; waiting = None })
+      → MatchOption result (old.capacity ≤ old.level) (λ fill. Levels old.capacity old.level fill new.level)
+      → MatchOption result (new ≡ record old { waiting = Some (Value x) }) (λ _. new ≡ record old { produced = new.produced; level = new.level; waiting = None })
       → MayPump may from old result to new
-  may_pump None unsent brings full same = (unsent, full.1, (Value x, brings, full.0, same))
-  may_pump (Some Took) unsent brings filled same = (unsent, (x, brings, filled), same)
-  may_pump (Some Overwrote) unsent brings filled same = (unsent, (x, brings, filled), same)
-  may_pump (Some Dropped) unsent brings filled same = (unsent, (x, brings, filled), same)
-  may_pump (Some Full) unsent brings filled same = absurd filled
-  may_pump (Some Pending) unsent brings filled same = absurd filled
-  may_pump (Some Ended) unsent brings filled same = absurd filled
+  may_pump None unsent brings full high same = (unsent, full.1, high, (Value x, brings, full.0, same))
+  may_pump (Some Took) unsent brings filled level same = (unsent, (x, brings, filled), level, same)
+  may_pump (Some Overwrote) unsent brings filled level same = (unsent, (x, brings, filled), level, same)
+  may_pump (Some Dropped) unsent brings filled level same = (unsent, (x, brings, filled), level, same)
+  may_pump (Some Full) unsent brings filled level same = absurd filled
+  may_pump (Some Pending) unsent brings filled level same = absurd filled
+  may_pump (Some Ended) unsent brings filled level same = absurd filled

@@ -1,5 +1,5 @@
 -- What the channel holds, and what its two sides know.
-use Rattle.std.specs.Prelude.{◌≡◌, ◌≢◌, ℕ, Bool, true, false, MatchBool, Option, Some, None, List, [], ◌∷◌, ◌++◌, ◌⊎◌, map, length}
+use Rattle.std.specs.Prelude.{◌≡◌, ◌≢◌, ℕ, ◌+◌, ◌≤◌, Bool, true, false, MatchBool, Option, Some, None, List, [], ◌∷◌, ◌++◌, ◌⊎◌, map, length}
 use mathlib.Core.Option.{some}
 use lib.ListN.{get_elem?}
 use Rattle.flow_buffer.specs.declared.side.Fate.{Fate}
@@ -12,34 +12,39 @@ use Rattle.flow_buffer.specs.History.{is_taken, is_stored, is_dropped, picked, m
 
 module _ {T E : Type 0} where
   -- what the feed knows, and what the drain knows
-  abbrev pub feed_side : Bool → Option (Cause E) → List (Bool × T) → Side T E
-  feed_side lossy sent produced = record { feeds = true; drains = false; lossy = lossy; sent = sent; produced = produced; got = None; taken = []; history = [] }
+  abbrev pub feed_side : Bool → Option (Cause E) → List (Bool × T) → ℕ → Side T E
+  feed_side lossy sent produced level =
+      record { feeds = true; drains = false; lossy = lossy; sent = sent; produced = produced; level = level; got = None; taken = []; history = [] }
 
   abbrev pub drain_side : Bool → Option (Cause E) → List (ℕ × T) → List (Fate × T) → Side T E
   drain_side lossy got taken history =
-      record { feeds = false; drains = true; lossy = lossy; sent = None; produced = []; got = got; taken = taken; history = history }
+      record { feeds = false; drains = true; lossy = lossy; sent = None; produced = []; level = 0; got = got; taken = taken; history = history }
 
   -- one pass of both sides, before the channel is used
   abbrev pub fresh_side : Side T E
-  fresh_side = record { feeds = true; drains = true; lossy = false; sent = None; produced = []; got = None; taken = []; history = [] }
+  fresh_side = record { feeds = true; drains = true; lossy = false; sent = None; produced = []; level = 0; got = None; taken = []; history = [] }
 
   -- a pass of no side
   abbrev pub spare_side : Side T E
-  spare_side = record { feeds = false; drains = false; lossy = false; sent = None; produced = []; got = None; taken = []; history = [] }
+  spare_side = record { feeds = false; drains = false; lossy = false; sent = None; produced = []; level = 0; got = None; taken = []; history = [] }
 
   -- both sides in one pass again
   abbrev pub joined_side : Side T E → Side T E → Side T E
   joined_side v w =
-      record { feeds = true; drains = true; lossy = v.lossy; sent = v.sent; produced = v.produced; got = w.got; taken = w.taken; history = w.history }
+      record { feeds = true; drains = true; lossy = v.lossy; sent = v.sent; produced = v.produced; level = v.level; got = w.got; taken = w.taken; history = w.history }
 
   -- the feed after a new value was dropped, which the proof of the call names
   abbrev pub missed_side : Option T → Side T E → Side T E
   missed_side None v = v
-  missed_side (Some x) v = feed_side v.lossy None (v.produced ++ (true, x) ∷ [])
+  missed_side (Some x) v = feed_side v.lossy None (v.produced ++ (true, x) ∷ []) v.level
 
   -- there is one feed, which knows what was produced and dropped, and which end was sent
   abbrev pub FitsFeed : ℕ → Bool → Option (Cause E) → List (Bool × T) → ℕ → Side T E → Type 0
   FitsFeed feed lossy sent produced pass v = v.feeds ≡ true → (pass ≡ feed) × (v.lossy ≡ lossy) × (v.sent ≡ sent) × (v.produced ≡ produced)
+
+  -- before its end the feed knows a number of messages that the channel, which holds n, doesn't exceed
+  abbrev pub FitsLevel : ℕ → ℕ → Side T E → Type 0
+  FitsLevel n pass v = v.feeds ≡ true → v.sent ≡ None → n ≤ v.level
 
   -- an end that came is the one that was sent, and then it is known what became of every value
   abbrev pub EndIsSent : Option (Cause E) → Option (Cause E) → List (Fate × T) → List (Fate × T) → Type 0
@@ -70,25 +75,26 @@ module _ {T E : Type 0} where
     pub above : picked is_taken (length decided) pending ≡ []
     pub lossless : lossy ≡ false → picked is_dropped 0 (decided ++ pending) ≡ []
     pub feeds : (pass : ℕ) (v : Side T E) → get_elem? views pass ≡ some v → FitsFeed feed lossy sent (marked (decided ++ pending)) pass v
+    pub levels : (pass : ℕ) (v : Side T E) → get_elem? views pass ≡ some v → FitsLevel (length items) pass v
     pub drains : (pass : ℕ) (v : Side T E) → get_elem? views pass ≡ some v
         → FitsDrain drain lossy sent (picked is_taken 0 decided) (decided ++ pending) pass v
 
   -- the value joins at the back
   abbrev pub Sends : Side T E → Event T E → Side T E → Type 0
-  Sends v (Value x) w = w ≡ feed_side v.lossy None (v.produced ++ (false, x) ∷ [])
-  Sends v (End cause) w = w ≡ feed_side v.lossy (Some cause) v.produced
+  Sends v (Value x) w = (w ≡ feed_side v.lossy None (v.produced ++ (false, x) ∷ []) w.level) × (w.level ≤ v.level + 1)
+  Sends v (End cause) w = w ≡ feed_side v.lossy (Some cause) v.produced v.level
 
   -- what is offered joins at the back, or the channel was full
   abbrev pub Offers : ℕ → Side T E → Event T E → Bool → Side T E → Type 0
-  Offers k v item sent w = MatchBool sent (Sends v item w) ((w ≡ v) × WasFull k v.produced)
+  Offers k v item sent w = MatchBool sent (Sends v item w) ((w ≡ v) × WasFull k v.produced × (k ≤ v.level))
 
   -- the feed takes the oldest out, which is dropped
   abbrev pub Overwrites : Side T E → Event T E → Side T E → Type 0
-  Overwrites v item w = DropsOne v.produced w.produced × (w ≡ feed_side v.lossy None w.produced)
+  Overwrites v item w = DropsOne v.produced w.produced × (w ≡ feed_side v.lossy None w.produced v.level)
 
   -- the feed takes the oldest out, if there is one
   abbrev pub DropsOldest : Side T E → Bool → Side T E → Type 0
-  DropsOldest v dropped w = MatchBool dropped (DropsOne v.produced w.produced × (w ≡ feed_side true None w.produced)) (w ≡ v)
+  DropsOldest v dropped w = MatchBool dropped (DropsOne v.produced w.produced × (w ≡ feed_side true None w.produced v.level)) (w ≡ v)
 
   -- the drain takes the oldest; with the end it learns what became of all
   abbrev pub Takes : Side T E → Event T E → Side T E → Type 0
@@ -100,9 +106,11 @@ module _ {T E : Type 0} where
   MayTake v None w = w ≡ v
   MayTake v (Some item) w = Takes v item w
 
-  -- what the feed learns of the channel's content before the end: it is what a history of the produced values holds
+  -- what the feed learns of the channel's content before the end: it is what a history of the produced values holds, and no more
+  -- than it held when the last one was put in
   abbrev pub Looks : Side T E → List (Event T E) → Type 0
   Looks v items = (history : List (Fate × T)) × (marked history ≡ v.produced) × (items ≡ map (λ e. Value e.1) (picked is_stored 0 history))
+      × (length items ≤ v.level)
 
   -- A feed and a drain tell of one history: the feed of what was produced and dropped in it, the drain of what was taken. The
   -- drain's end is the feed's, and then its history is that one.

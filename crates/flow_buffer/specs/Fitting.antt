@@ -26,6 +26,7 @@ module _ {T E Q M L A : Type 0} (c : Rows (Badge (Key (Event T E))) (Doing (Even
     capacity = ruled_capacity c;
     policy = policy;
     produced = (knows pass).produced;
+    level = (knows pass).level;
     waiting = waiting;
     sent = sent;
   }
@@ -35,7 +36,7 @@ module _ {T E Q M L A : Type 0} (c : Rows (Badge (Key (Event T E))) (Doing (Even
   abbrev pub IsFeed : Rows (Badge (Key (Event T E))) (Doing (Event T E) (Side T E)) Q M (Key (Event T E)) L A → Policy
       → Pass (Event T E) (Side T E) → ℕ → Option (Event T E) → Option (Cause E) → Type 0
   IsFeed other policy pass dropped waiting sent = (other ≡ c) × IsSeatAt c pass
-      × (knows pass ≡ feed_side (may_drop policy) sent (knows pass).produced) × (dropped ≡ saturated (drops (knows pass).produced))
+      × (knows pass ≡ feed_side (may_drop policy) sent (knows pass).produced (knows pass).level) × (dropped ≡ saturated (drops (knows pass).produced))
       × NothingAfter sent waiting
 
   -- what contracts see of a drain: what its pass knows, and the end that came

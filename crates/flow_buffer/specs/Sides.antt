@@ -1,5 +1,5 @@
 -- How contracts see the two sides.
-use Rattle.std.specs.Prelude.{◌≡◌, ℕ, ◌+◌, ◌-◌, ◌^◌, min, Bool, true, false, cond, ◌⊎◌, ⊤, Option, Some, None, List, [], ◌∷◌, ◌++◌, length}
+use Rattle.std.specs.Prelude.{◌≡◌, ℕ, ◌+◌, ◌-◌, ◌^◌, ◌≤◌, min, Bool, true, false, cond, ◌⊎◌, ⊤, Option, Some, None, List, [], ◌∷◌, ◌++◌, length}
 use Rattle.atomic_table.specs.Seated.{TableId}
 use Rattle.atomic_table.specs.declared.badge.Badge.{Badge}
 use Rattle.crossbeam_channel.specs.declared.flavors.array.Key.{Key}
@@ -18,12 +18,14 @@ pub record Channel (T E : Type 0) : Type 0 where
   pub table : TableId
   pub key : Badge (Key (Event T E))
 
--- a feed: what was produced, with what was dropped of it, what came and waits for a place, and the end that was sent
+-- A feed: what was produced, with what was dropped of it, how many values the channel held when the last one was put in, what came
+-- and waits for a place, and the end that was sent. It is the channel that tells that number, at the step by which it took the value.
 pub record Feeding (T E : Type 0) : Type 0 where
   pub channel : Channel T E
   pub capacity : ℕ
   pub policy : Policy
   pub produced : List (Bool × T)
+  pub level : ℕ
   pub waiting : Option (Event T E)
   pub sent : Option (Cause E)
 
@@ -72,6 +74,15 @@ module _ {T : Type 0} where
   Filled k policy old x Full new = ⊥
   Filled k policy old x Pending new = ⊥
   Filled k policy old x Ended new = ⊥
+
+-- A value is dropped only where the channel of k places was full when the last one was put in. What is dropped puts none in.
+abbrev pub Levels : ℕ → ℕ → Fill → ℕ → Type 0
+Levels k level Took new = new ≤ level + 1
+Levels k level Overwrote new = (k ≤ level) × (new ≤ level + 1)
+Levels k level Dropped new = (k ≤ level) × (new ≡ level)
+Levels k level Full new = ⊥
+Levels k level Pending new = ⊥
+Levels k level Ended new = ⊥
 
 module _ {T E : Type 0} where
   -- the end that the upstream gave, if it did: it was sent, or it waits for a place

@@ -32,7 +32,8 @@ impl<U: Run> Feed<U> {
     ///
     /// Under `Policy::Suspend` a value waits for a place, and so does the end under every policy. The end is never
     /// dropped; it is `Fill::Ended`, as is every later pump, which asks nothing. It never answers `Fill::Full`.
-    /// `Fill::Overwrote` and `Fill::Dropped` come only where the buffer was full at a moment of the call.
+    /// `Fill::Overwrote` and `Fill::Dropped` come only where the buffer was full when the last value had been put in. That it
+    /// still was full in this call isn't claimed: a feed learns how many values the buffer holds only by putting one in.
     pub fn pump(&mut self, rt: &impl Wait, cx: &mut Context<'_>) -> Fill
         ensures pumps { Pumps U.may self.old.upstream self.old.inlet result self.new.upstream self.new.inlet }
         ensures waits { result ≡ Pending → U.polled self.old.upstream Waiting self.new.upstream }
@@ -56,7 +57,8 @@ impl<U: Run> Feed<U> {
     /// is `None`.
     ///
     /// So it is for a value under `Policy::Suspend`, and for the end under every policy. The next call puts what stayed,
-    /// and asks the upstream nothing before it is put. `None` comes only where the buffer was full at a moment of the call.
+    /// and asks the upstream nothing before it is put. `None` comes only where the buffer was full when the last value had been
+    /// put in. That it still was full in this call isn't claimed.
     pub fn try_pump(&mut self, rt: &impl Wait, cx: &mut Context<'_>) -> Option<Fill>
         ensures pumps { MayPump U.may self.old.upstream self.old.inlet result self.new.upstream self.new.inlet }
         ensures waits { result ≡ Some Pending → U.polled self.old.upstream Waiting self.new.upstream }

@@ -1,6 +1,6 @@
 //! The feed's end of the channel.
 
-ghost use Rattle.std.specs.Prelude.{◌≡◌, ◌≢◌, ◌+◌, [], true, false, length, map, Option, Some, None, is_some, MatchBool, MatchOption};
+ghost use Rattle.std.specs.Prelude.{◌≡◌, ◌≢◌, ◌≤◌, ◌+◌, [], true, false, length, map, Option, Some, None, is_some, MatchBool, MatchOption};
 ghost use Rattle.crossbeam_channel.specs.Claims.{view as knows, IsSeatAt};
 ghost use Rattle.crossbeam_channel.specs.Ends.{sends_on, receives_on, ruled_capacity};
 ghost use Rattle.flow_buffer.specs.Channel.{feed_side, Agree};
@@ -8,7 +8,7 @@ ghost use Rattle.flow_buffer.specs.Fitting.{channel_of, feed_view, IsFeed};
 ghost use Rattle.cold_flow.specs.declared.event.Event.TheVariants.{Value, End};
 ghost use Rattle.flow_terms.specs.declared.policy.Policy.TheVariants.{Suspend};
 ghost use Rattle.flow_buffer.specs.Feed.{Settles};
-ghost use Rattle.flow_buffer.specs.Sides.{Feeding, may_drop, saturated, drops, is_loss, Filled, WasFull};
+ghost use Rattle.flow_buffer.specs.Sides.{Feeding, may_drop, saturated, drops, is_loss, Filled, Levels, WasFull};
 
 use crate::drain::Drain;
 use crate::rule::{Agreeing, Together};
@@ -59,12 +59,13 @@ impl<T: Copy, E: Copy> Inlet<T, E> {
     ) -> Inlet<T, E>
         requires ends { receives_on receiver ≡ sends_on sender }
         requires channel { IsSeatAt (sends_on sender) pass }
-        requires fresh { knows pass ≡ feed_side (may_drop policy) None [] }
+        requires fresh { knows pass ≡ feed_side (may_drop policy) None [] 0 }
         ensures { result ≡ record {
           channel = channel_of (sends_on sender);
           capacity = ruled_capacity (sends_on sender);
           policy = policy;
           produced = [];
+          level = 0;
           waiting = None;
           sent = None;
         } }
@@ -84,7 +85,8 @@ impl<T: Copy, E: Copy> Inlet<T, E> {
     pub(crate) fn fill(&mut self, rt: &impl Wait, value: T) -> Fill
         requires unended { self.old.sent ≡ None }
         ensures fill { Filled self.old.capacity self.old.policy self.old.produced value result self.new.produced }
-        ensures same { self.new ≡ record self.old { produced = self.new.produced; waiting = None } }
+        ensures level { Levels self.old.capacity self.old.level result self.new.level }
+        ensures same { self.new ≡ record self.old { produced = self.new.produced; level = self.new.level; waiting = None } }
     {
         let fill = put(
             rt,
@@ -115,7 +117,8 @@ impl<T: Copy, E: Copy> Inlet<T, E> {
     pub(crate) fn try_fill(&mut self, rt: &impl Wait, value: T) -> Option<Fill>
         requires unended { self.old.sent ≡ None }
         ensures fill { MatchOption result ((self.old.policy ≡ Suspend) × WasFull self.old.capacity self.old.produced) (λ fill. Filled self.old.capacity self.old.policy self.old.produced value fill self.new.produced) }
-        ensures same { MatchOption result (self.new ≡ record self.old { waiting = Some (Value value) }) (λ _. self.new ≡ record self.old { produced = self.new.produced; waiting = None }) }
+        ensures level { MatchOption result (self.old.capacity ≤ self.old.level) (λ fill. Levels self.old.capacity self.old.level fill self.new.level) }
+        ensures same { MatchOption result (self.new ≡ record self.old { waiting = Some (Value value) }) (λ _. self.new ≡ record self.old { produced = self.new.produced; level = self.new.level; waiting = None }) }
     {
         if self.policy != Policy::Suspend {
             return Some(self.fill(rt, value));
@@ -131,7 +134,7 @@ impl<T: Copy, E: Copy> Inlet<T, E> {
     // Sends the end if there is a place, and says whether it did. Where there is none, the end waits here.
     pub(crate) fn try_finish(&mut self, rt: &impl Wait, cause: Cause<E>) -> bool
         requires unended { self.old.sent ≡ None }
-        ensures { MatchBool result (self.new ≡ record self.old { waiting = None; sent = Some cause }) (WasFull self.old.capacity self.old.produced × (self.new ≡ record self.old { waiting = Some (End cause) })) }
+        ensures { MatchBool result (self.new ≡ record self.old { waiting = None; sent = Some cause }) (WasFull self.old.capacity self.old.produced × (self.old.capacity ≤ self.old.level) × (self.new ≡ record self.old { waiting = Some (End cause) })) }
     {
         if offer(rt, &self.sender, &mut self.pass, Event::End(cause)) {
             self.waiting = None;

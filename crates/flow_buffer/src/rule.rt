@@ -55,7 +55,7 @@ impl<T, E> Lesson<Event<T, E>, Side<T, E>> for Taking {
 pub struct Lossless;
 
 impl<T, E> Split<Side<T, E>> for Lossless {
-    ghost left = { λ v. feed_side false None [] };
+    ghost left = { λ v. feed_side false None [] 0 };
 
     ghost right = { λ v. drain_side false None [] [] };
 }
@@ -64,7 +64,7 @@ impl<T, E> Split<Side<T, E>> for Lossless {
 pub struct Lossy;
 
 impl<T, E> Split<Side<T, E>> for Lossy {
-    ghost left = { λ v. feed_side true None [] };
+    ghost left = { λ v. feed_side true None [] 0 };
 
     ghost right = { λ v. drain_side true None [] [] };
 }

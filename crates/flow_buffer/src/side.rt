@@ -25,6 +25,8 @@ pub struct Side<T, E> {
     pub sent: Option<Cause<E>>,
     /// The feed's: every produced value, and whether it was dropped.
     pub produced: LinkedList<(bool, T)>,
+    /// The feed's: how many messages the channel held when the last value had been put in.
+    pub level: u64,
     /// The drain's: the end that it received.
     pub got: Option<Cause<E>>,
     /// The drain's: every taken value with its index.

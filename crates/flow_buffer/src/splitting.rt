@@ -28,7 +28,7 @@ pub fn split<F: Flow>(
 ) -> Result<(Feed<F::Running>, Drain<F::Item, F::Fault>), Refusal>
     ensures capacity { IfOk result (λ r. refused_capacity capacity ≡ None) }
     ensures started { IfOk result (λ r. Within (F.may source) (F.Running.may r.0.upstream)) }
-    ensures feed { IfOk result (λ r. r.0.inlet ≡ record { channel = r.1.channel; capacity = capacity; policy = policy; produced = []; waiting = None; sent = None }) }
+    ensures feed { IfOk result (λ r. r.0.inlet ≡ record { channel = r.1.channel; capacity = capacity; policy = policy; produced = []; level = 0; waiting = None; sent = None }) }
     ensures drain { IfOk result (λ r. r.1 ≡ record { channel = r.0.inlet.channel; lossy = may_drop policy; taken = []; end = None; history = [] }) }
     ensures refused { IfErr result (λ refusal. WasRefused capacity refusal) }
 {

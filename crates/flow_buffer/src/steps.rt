@@ -5,7 +5,7 @@ ghost use Rattle.crossbeam_channel.specs.Claims.{view as knows, IsSeatAt};
 ghost use Rattle.crossbeam_channel.specs.Ends.{sends_on, receives_on, ruled_capacity};
 ghost use Rattle.crossbeam_channel.specs.Fifo.{Held};
 ghost use Rattle.flow_buffer.specs.Channel.{Sends, Offers, Overwrites, DropsOldest, Takes, MayTake, Looks, feed_side, drain_side};
-ghost use Rattle.flow_buffer.specs.Sides.{Filled, may_drop};
+ghost use Rattle.flow_buffer.specs.Sides.{Filled, Levels, may_drop};
 
 use crate::rule::{Buffering, Missed, Missing, Overwriting, Sending, Taking};
 use crate::side::Side;
@@ -29,7 +29,7 @@ pub(crate) fn send<T: Copy, E: Copy, R: Wait>(
     item: Event<T, E>,
 )
     requires channel { IsSeatAt (sends_on sender.now) pass.old }
-    requires unended { knows pass.old ≡ feed_side (knows pass.old).lossy None (knows pass.old).produced }
+    requires unended { knows pass.old ≡ feed_side (knows pass.old).lossy None (knows pass.old).produced (knows pass.old).level }
     ensures channel { IsSeatAt (sends_on sender.now) pass.new }
     ensures sent { Sends (knows pass.old) item (knows pass.new) }
 {
@@ -49,7 +49,7 @@ pub(crate) fn offer<T: Copy, E: Copy, R: Wait>(
     item: Event<T, E>,
 ) -> bool
     requires channel { IsSeatAt (sends_on sender.now) pass.old }
-    requires unended { knows pass.old ≡ feed_side (knows pass.old).lossy None (knows pass.old).produced }
+    requires unended { knows pass.old ≡ feed_side (knows pass.old).lossy None (knows pass.old).produced (knows pass.old).level }
     ensures channel { IsSeatAt (sends_on sender.now) pass.new }
     ensures sent { Offers (ruled_capacity (sends_on sender.now)) (knows pass.old) item result (knows pass.new) }
 {
@@ -70,7 +70,7 @@ pub(crate) fn drop_oldest<T: Copy, E: Copy, R: Wait>(
     pass: &mut Knowledge<T, E>,
 ) -> bool
     requires channel { IsSeatAt (receives_on receiver.now) pass.old }
-    requires unended { knows pass.old ≡ feed_side true None (knows pass.old).produced }
+    requires unended { knows pass.old ≡ feed_side true None (knows pass.old).produced (knows pass.old).level }
     ensures channel { IsSeatAt (receives_on receiver.now) pass.new }
     ensures dropped { DropsOldest (knows pass.old) result (knows pass.new) }
 {
@@ -81,9 +81,9 @@ pub(crate) fn drop_oldest<T: Copy, E: Copy, R: Wait>(
 fn note<T: Copy, E: Copy, W: Missed<T>>(sender: &Sender<T, E>, pass: &mut Knowledge<T, E>, value: T)
     requires value { W.value ≡ Some value }
     requires channel { IsSeatAt (sends_on sender.now) pass.old }
-    requires unended { knows pass.old ≡ feed_side true None (knows pass.old).produced }
+    requires unended { knows pass.old ≡ feed_side true None (knows pass.old).produced (knows pass.old).level }
     ensures channel { IsSeatAt (sends_on sender.now) pass.new }
-    ensures dropped { knows pass.new ≡ feed_side true None ((knows pass.old).produced ++ (true, value) ∷ []) }
+    ensures dropped { knows pass.new ≡ feed_side true None ((knows pass.old).produced ++ (true, value) ∷ []) (knows pass.old).level }
 {
     let _spare = sender.another::<Missing<W>>(pass);
 }
@@ -94,9 +94,9 @@ pub(crate) fn drop_latest<T: Copy, E: Copy>(
     value: T,
 )
     requires channel { IsSeatAt (sends_on sender.now) pass.old }
-    requires unended { knows pass.old ≡ feed_side true None (knows pass.old).produced }
+    requires unended { knows pass.old ≡ feed_side true None (knows pass.old).produced (knows pass.old).level }
     ensures channel { IsSeatAt (sends_on sender.now) pass.new }
-    ensures dropped { knows pass.new ≡ feed_side true None ((knows pass.old).produced ++ (true, value) ∷ []) }
+    ensures dropped { knows pass.new ≡ feed_side true None ((knows pass.old).produced ++ (true, value) ∷ []) (knows pass.old).level }
 {
     note::<T, E, Brand>(sender, pass, value);
 }
@@ -112,10 +112,11 @@ pub(crate) fn put<T: Copy, E: Copy, R: Wait>(
 ) -> Fill
     requires ends { receives_on receiver.now ≡ sends_on sender.now }
     requires channel { IsSeatAt (sends_on sender.now) pass.old }
-    requires unended { knows pass.old ≡ feed_side (may_drop policy) None (knows pass.old).produced }
+    requires unended { knows pass.old ≡ feed_side (may_drop policy) None (knows pass.old).produced (knows pass.old).level }
     ensures channel { IsSeatAt (sends_on sender.now) pass.new }
-    ensures unended { knows pass.new ≡ feed_side (may_drop policy) None (knows pass.new).produced }
+    ensures unended { knows pass.new ≡ feed_side (may_drop policy) None (knows pass.new).produced (knows pass.new).level }
     ensures fill { Filled (ruled_capacity (sends_on sender.now)) policy (knows pass.old).produced value result (knows pass.new).produced }
+    ensures level { Levels (ruled_capacity (sends_on sender.now)) (knows pass.old).level result (knows pass.new).level }
 {
     match policy {
         Policy::Suspend => put_or_wait(rt, sender, pass, value),
@@ -132,10 +133,11 @@ fn put_or_wait<T: Copy, E: Copy, R: Wait>(
     value: T,
 ) -> Fill
     requires channel { IsSeatAt (sends_on sender.now) pass.old }
-    requires unended { knows pass.old ≡ feed_side false None (knows pass.old).produced }
+    requires unended { knows pass.old ≡ feed_side false None (knows pass.old).produced (knows pass.old).level }
     ensures channel { IsSeatAt (sends_on sender.now) pass.new }
-    ensures unended { knows pass.new ≡ feed_side false None (knows pass.new).produced }
+    ensures unended { knows pass.new ≡ feed_side false None (knows pass.new).produced (knows pass.new).level }
     ensures fill { Filled (ruled_capacity (sends_on sender.now)) Policy.Suspend (knows pass.old).produced value result (knows pass.new).produced }
+    ensures level { Levels (ruled_capacity (sends_on sender.now)) (knows pass.old).level result (knows pass.new).level }
 {
     if offer(rt, sender, pass, Event::Value(value)) {
         return Fill::Took;
@@ -154,10 +156,11 @@ fn put_over_oldest<T: Copy, E: Copy, R: Wait>(
 ) -> Fill
     requires ends { receives_on receiver.now ≡ sends_on sender.now }
     requires channel { IsSeatAt (sends_on sender.now) pass.old }
-    requires unended { knows pass.old ≡ feed_side true None (knows pass.old).produced }
+    requires unended { knows pass.old ≡ feed_side true None (knows pass.old).produced (knows pass.old).level }
     ensures channel { IsSeatAt (sends_on sender.now) pass.new }
-    ensures unended { knows pass.new ≡ feed_side true None (knows pass.new).produced }
+    ensures unended { knows pass.new ≡ feed_side true None (knows pass.new).produced (knows pass.new).level }
     ensures fill { Filled (ruled_capacity (sends_on sender.now)) Policy.DropOldest (knows pass.old).produced value result (knows pass.new).produced }
+    ensures level { Levels (ruled_capacity (sends_on sender.now)) (knows pass.old).level result (knows pass.new).level }
 {
     if offer(rt, sender, pass, Event::Value(value)) {
         return Fill::Took;
@@ -175,10 +178,11 @@ fn put_or_drop<T: Copy, E: Copy, R: Wait>(
     value: T,
 ) -> Fill
     requires channel { IsSeatAt (sends_on sender.now) pass.old }
-    requires unended { knows pass.old ≡ feed_side true None (knows pass.old).produced }
+    requires unended { knows pass.old ≡ feed_side true None (knows pass.old).produced (knows pass.old).level }
     ensures channel { IsSeatAt (sends_on sender.now) pass.new }
-    ensures unended { knows pass.new ≡ feed_side true None (knows pass.new).produced }
+    ensures unended { knows pass.new ≡ feed_side true None (knows pass.new).produced (knows pass.new).level }
     ensures fill { Filled (ruled_capacity (sends_on sender.now)) Policy.DropLatest (knows pass.old).produced value result (knows pass.new).produced }
+    ensures level { Levels (ruled_capacity (sends_on sender.now)) (knows pass.old).level result (knows pass.new).level }
 {
     if offer(rt, sender, pass, Event::Value(value)) {
         return Fill::Took;

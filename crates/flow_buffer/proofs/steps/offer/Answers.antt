@@ -11,4 +11,5 @@ returns-in-Ok-clause-sent g c = rw c.loop.invariant.1 at c.in-Ok.ensures.rule
 pub returns-in-Err-Full-clause-sent : goal.returns-in-Err-Full-clause-sent
 returns-in-Err-Full-clause-sent g c =
     let found = rw (c.in-Err-Full.field-0-is, c.loop.invariant.1) at c.in-Err-Full.ensures.rule in
-    (found.1, was_full _ (knows c.args.pass.now) (found.2 tt))
+    let full = was_full _ (knows c.args.pass.now) (found.2 tt) in
+    (found.1, full.0, full.1)
