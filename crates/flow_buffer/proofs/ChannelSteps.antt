@@ -1,5 +1,5 @@
 -- Each step of the feed and of the drain keeps the rule of the buffer.
-use Rattle.std.proofs.Common.{◌≡◌, ◌≢◌, ℕ, zero, suc, ◌+◌, ◌≤◌, arith, Option, Some, None, Bool, true, false, true≢false, cond, List, [], ◌∷◌, ◌++◌, map, length, set, sym, refl, ap, ◌∙◌, subst, inl, inr, ⊎_elim, append_assoc, append-nil, length-append, zero-add}
+use Rattle.std.proofs.Common.{◌≡◌, ◌≢◌, ℕ, zero, suc, ◌+◌, ◌-◌, ◌<◌, ◌≤◌, arith, Option, Some, None, Bool, true, false, true≢false, cond, List, [], ◌∷◌, ◌++◌, map, length, set, sym, refl, ap, ◌∙◌, subst, inl, inr, ⊎_elim, append_assoc, append-nil, length-append, zero-add}
 use Rattle.std.proofs.lemmas.List.{map-append, length-map}
 use mathlib.Core.Option.{some, some-ne-none, some-injective}
 use lib.ListN.{get_elem?}
@@ -10,10 +10,11 @@ use Rattle.flow_buffer.specs.declared.side.Fate.TheVariants.{Taken, Stored, Drop
 use Rattle.cold_flow.specs.declared.cause.Cause.{Cause}
 use Rattle.cold_flow.specs.declared.event.Event.{Event}
 use Rattle.cold_flow.specs.declared.event.Event.TheVariants.{Value, End}
+use Rattle.flow_buffer.specs.declared.side.Level.{Level}
 use Rattle.flow_buffer.specs.declared.side.Side.{Side}
 use Rattle.flow_buffer.specs.History.{is_taken, is_stored, is_dropped, picked, marked, Rises}
 use Rattle.flow_buffer.specs.Sides.{WasFull}
-use Rattle.flow_buffer.specs.Channel.{Buffers, FitsFeed, FitsLevel, FitsDrain, IsLast, Sends, Overwrites, Takes, Looks, feed_side, drain_side, fresh_side, spare_side, missed_side, joined_side, Agree}
+use Rattle.flow_buffer.specs.Channel.{Buffers, FitsFeed, FitsLevel, FitsSeen, IsLevel, FitsDrain, IsLast, Sends, Overwrites, Takes, Looks, at_first, less_one, feed_side, drain_side, fresh_side, spare_side, missed_side, joined_side, Agree}
 use Rattle.flow_buffer.proofs.Histories.{append_left, append_right, picked-append, picked_same, picked-rises, picked-alike, marked-middle, Front, first_held, turned, turned-length, turned-parts, turned-picked}
 
 module _ {T : Type 0} where
@@ -53,8 +54,11 @@ module _ {T E : Type 0} where
   no_feed : (feed : ℕ) (lossy : Bool) (sent : Option (Cause E)) (produced : List (Bool × T)) (pass : ℕ) (v : Side T E) → v.feeds ≡ false → FitsFeed feed lossy sent produced pass v
   no_feed feed lossy sent produced pass v without does = absurd (true≢false (sym does ∙ without))
 
-  no_level : (n pass : ℕ) (v : Side T E) → v.feeds ≡ false → FitsLevel n pass v
-  no_level n pass v without does unsent = absurd (true≢false (sym does ∙ without))
+  no_level : (level : Level) (pass : ℕ) (v : Side T E) → v.feeds ≡ false → FitsLevel level pass v
+  no_level level pass v without does = absurd (true≢false (sym does ∙ without))
+
+  no_sight : (seen pass : ℕ) (v : Side T E) → v.drains ≡ false → FitsSeen seen pass v
+  no_sight seen pass v without does = absurd (true≢false (sym does ∙ without))
 
   no_drain : (drain : ℕ) (lossy : Bool) (sent : Option (Cause E)) (taken : List (ℕ × T)) (history : List (Fate × T)) (pass : ℕ) (v : Side T E) → v.drains ≡ false → FitsDrain drain lossy sent taken history pass v
   no_drain drain lossy sent taken history pass v without does = absurd (true≢false (sym does ∙ without))
@@ -72,9 +76,9 @@ module _ {T E : Type 0} where
         (λ j u other e does. absurd (other ((all j u e does).0 ∙ sym mine.0)))
 
     -- what it knows of the channel's content then
-    leveled : (n feed : ℕ) (lossy : Bool) (sent : Option (Cause E)) (produced : List (Bool × T)) → v.feeds ≡ true → All (FitsFeed feed lossy sent produced) views → FitsLevel n pass w → All (FitsLevel n) (set views pass w)
-    leveled n feed lossy sent produced feeds all fits = let mine = all pass v at feeds in
-        all_set (FitsLevel n) views pass w fits (λ j u other e does. absurd (other ((all j u e does).0 ∙ sym mine.0)))
+    leveled : (level : Level) (feed : ℕ) (lossy : Bool) (sent : Option (Cause E)) (produced : List (Bool × T)) → v.feeds ≡ true → All (FitsFeed feed lossy sent produced) views → FitsLevel level pass w → All (FitsLevel level) (set views pass w)
+    leveled level feed lossy sent produced feeds all fits = let mine = all pass v at feeds in
+        all_set (FitsLevel level) views pass w fits (λ j u other e does. absurd (other ((all j u e does).0 ∙ sym mine.0)))
 
     -- the same of the drain
     drained : (drain : ℕ) (lossy : Bool) (sent : Option (Cause E)) (taken taken' : List (ℕ × T)) (history history' : List (Fate × T)) → v.drains ≡ true → All (FitsDrain drain lossy sent taken history) views → FitsDrain drain lossy sent taken' history' drain w → All (FitsDrain drain lossy sent taken' history') (set views pass w)
@@ -82,13 +86,20 @@ module _ {T E : Type 0} where
         all_set (FitsDrain drain lossy sent taken' history') views pass w (subst (λ (p : ℕ). FitsDrain drain lossy sent taken' history' p w) (sym mine.0) fits)
         (λ j u other e does. absurd (other ((all j u e does).0 ∙ sym mine.0)))
 
+    -- after how many puts it took the last value
+    sighted : (seen drain : ℕ) (lossy : Bool) (sent : Option (Cause E)) (taken : List (ℕ × T)) (history : List (Fate × T)) → v.drains ≡ true → All (FitsDrain drain lossy sent taken history) views → FitsSeen seen pass w → All (FitsSeen seen) (set views pass w)
+    sighted seen drain lossy sent taken history drains all fits = let mine = all pass v at drains in
+        all_set (FitsSeen seen) views pass w fits (λ j u other e does. absurd (other ((all j u e does).0 ∙ sym mine.0)))
+
     -- what the other side knows stays
     others_feed : (feed : ℕ) (lossy : Bool) (sent : Option (Cause E)) (produced : List (Bool × T)) → w.feeds ≡ false → All (FitsFeed feed lossy sent produced) views → All (FitsFeed feed lossy sent produced) (set views pass w)
     others_feed feed lossy sent produced without all = all_set (FitsFeed feed lossy sent produced) views pass w (no_feed feed lossy sent produced pass w without) (λ j u other e. all j u e)
 
-    -- the channel holds no more than before
-    others_level : (m n : ℕ) → n ≤ m → w.feeds ≡ false → All (FitsLevel m) views → All (FitsLevel n) (set views pass w)
-    others_level m n fewer without all = all_set (FitsLevel n) views pass w (no_level n pass w without) (λ j u other e does unsent. let old : m ≤ u.level = all j u e does unsent in omega arith)
+    others_level : (level : Level) → w.feeds ≡ false → All (FitsLevel level) views → All (FitsLevel level) (set views pass w)
+    others_level level without all = all_set (FitsLevel level) views pass w (no_level level pass w without) (λ j u other e. all j u e)
+
+    others_sight : (seen : ℕ) → w.drains ≡ false → All (FitsSeen seen) views → All (FitsSeen seen) (set views pass w)
+    others_sight seen without all = all_set (FitsSeen seen) views pass w (no_sight seen pass w without) (λ j u other e. all j u e)
 
     others_drain : (drain : ℕ) (lossy : Bool) (sent : Option (Cause E)) (taken : List (ℕ × T)) (history : List (Fate × T)) → w.drains ≡ false → All (FitsDrain drain lossy sent taken history) views → All (FitsDrain drain lossy sent taken history) (set views pass w)
     others_drain drain lossy sent taken history without all = all_set (FitsDrain drain lossy sent taken history) views pass w (no_drain drain lossy sent taken history pass w without) (λ j u other e. all j u e)
@@ -120,13 +131,17 @@ module _ {T E : Type 0} where
     decided = [];
     pending = [];
     last = [];
+    level = at_first;
+    seen = 0;
     holds = refl;
     ends = inl refl;
     below = refl;
     above = refl;
     lossless = λ _. refl;
     feeds = λ pass v e does. let o = only pass fresh_side v e in (o.0, ap (λ (s : Side T E). s.lossy) (sym o.1), ap (λ (s : Side T E). s.sent) (sym o.1), ap (λ (s : Side T E). s.produced) (sym o.1));
-    levels = λ pass v e does unsent. omega arith;
+    levels = λ pass v e does. ap (λ (s : Side T E). s.level) (sym (only pass fresh_side v e).1);
+    sights = λ pass v e does. ap (λ (s : Side T E). s.seen) (sym (only pass fresh_side v e).1);
+    counts = λ _. (omega arith, omega arith, λ _. refl);
     drains = λ pass v e does. let o = only pass fresh_side v e in (o.0, ap (λ (s : Side T E). s.lossy) (sym o.1), ap (λ (s : Side T E). s.taken) (sym o.1), λ known. absurd (known (ap (λ (s : Side T E). s.got) (sym o.1))));
   }
 
@@ -147,16 +162,22 @@ module _ {T E : Type 0} where
       unfolding values
       all_values = h.holds ∙ (ap (λ l. values (picked is_stored (length h.decided) h.pending) ++ l) nothing_last ∙ append-nil (values (picked is_stored (length h.decided) h.pending)))
 
-      no_more : length items ≤ v.level
-      no_more = h.levels pass v at (feeds_is v is) (open_is v is)
+      level_is : v.level ≡ h.level
+      level_is = h.levels pass v at (feeds_is v is)
+
+      counted : IsLevel (length items) h.seen v.level
+      counted = subst (IsLevel (length items) h.seen) (sym level_is) (h.counts unsent)
 
     -- a value joins at the back
     pub sends : (n : ℕ) (x : T) → Pushes (Buffers {T = T} {E = E}) n pass v (Value x) (Sends {E = E} v (Value x))
     unfolding values
     sends n x items views room h at =
         let mine = h.feeds pass v at (feeds_is v is) in
-        let w : Side T E = feed_side v.lossy None (v.produced ++ (false, x) ∷ []) (length items + 1) in
-        let before : length items ≤ v.level = no_more items views h at in
+        let w : Side T E = feed_side v.lossy None (v.produced ++ (false, x) ∷ []) (record { puts = v.level.puts + 1; held = length items + 1 }) in
+        let was = counted items views h at in
+        let before : h.seen ≤ v.level.puts = was.0 in
+        let fewer : length items ≤ v.level.held = was.1 in
+        let more : length (items ++ Value x ∷ []) ≡ length items + 1 = length-append items (Value x ∷ []) in
         let pending : List (Fate × T) = h.pending ++ (Stored, x) ∷ [] in (
           w,
           record {
@@ -174,11 +195,15 @@ module _ {T E : Type 0} where
             lossless = λ free. picked_more is_dropped h.decided h.pending (Stored, x) refl ∙ h.lossless free;
             feeds = fed views pass v w at h.feed h.lossy h.sent None (marked (h.decided ++ h.pending)) (marked (h.decided ++ pending)) (feeds_is v is) h.feeds
                 (λ _. (refl, mine.1, refl, ap (λ t. t ++ (false, x) ∷ []) mine.3 ∙ sym (marked_more h.decided h.pending (Stored, x))));
-            levels = leveled views pass v w at (length (items ++ Value x ∷ [])) h.feed h.lossy h.sent (marked (h.decided ++ h.pending)) (feeds_is v is) h.feeds (λ _ _. omega (arith, length-append items (Value x ∷ [])));
+            level = w.level;
+            seen = h.seen;
+            levels = leveled views pass v w at w.level h.feed h.lossy h.sent (marked (h.decided ++ h.pending)) (feeds_is v is) h.feeds (λ _. refl);
+            sights = others_sight views pass v w at h.seen refl h.sights;
+            counts = λ _. (omega arith, omega arith, λ _. more);
             drains = reopens h.drain h.lossy h.sent None (picked is_taken 0 h.decided) (h.decided ++ h.pending) (h.decided ++ pending) (set views pass w) (unsent items views h at)
                 (others_drain views pass v w at h.drain h.lossy h.sent (picked is_taken 0 h.decided) (h.decided ++ h.pending) refl h.drains);
           },
-          (refl, omega arith),
+          (refl, refl, omega arith),
         )
 
     -- the end is sent
@@ -202,7 +227,11 @@ module _ {T E : Type 0} where
             above = h.above;
             lossless = h.lossless;
             feeds = fed views pass v w at h.feed h.lossy h.sent (Some cause) (marked (h.decided ++ h.pending)) (marked (h.decided ++ h.pending)) (feeds_is v is) h.feeds (λ _. (refl, mine.1, refl, mine.3));
-            levels = leveled views pass v w at (length (items ++ End cause ∷ [])) h.feed h.lossy h.sent (marked (h.decided ++ h.pending)) (feeds_is v is) h.feeds (λ does unsent. let not : Some cause ≡ None = unsent in cc);
+            level = h.level;
+            seen = h.seen;
+            levels = leveled views pass v w at h.level h.feed h.lossy h.sent (marked (h.decided ++ h.pending)) (feeds_is v is) h.feeds (λ _. level_is items views h at);
+            sights = others_sight views pass v w at h.seen refl h.sights;
+            counts = λ unsent. let not : Some cause ≡ None = unsent in cc;
             drains = reopens h.drain h.lossy h.sent (Some cause) (picked is_taken 0 h.decided) (h.decided ++ h.pending) (h.decided ++ h.pending) (set views pass w) (unsent items views h at)
                 (others_drain views pass v w at h.drain h.lossy h.sent (picked is_taken 0 h.decided) (h.decided ++ h.pending) refl h.drains);
           },
@@ -218,7 +247,7 @@ module _ {T E : Type 0} where
       all_values items views h at
           ∙ sym (ap values (picked-append is_stored 0 h.decided h.pending
           ∙ (ap (λ t. t ++ picked is_stored (0 + length h.decided) h.pending) h.below ∙ ap (λ n. picked is_stored n h.pending) (zero-add (length h.decided))))),
-      no_more items views h at,
+      (counted items views h at).1,
     )
 
     -- a new value is dropped
@@ -244,8 +273,12 @@ module _ {T E : Type 0} where
           feeds = all_snoc (FitsFeed h.feed h.lossy None made) (set views pass w) spare_side (λ j. no_feed h.feed h.lossy None made j spare_side refl)
               (fed views pass v w at h.feed h.lossy h.sent None (marked (h.decided ++ h.pending)) made (feeds_is v is) h.feeds
               (λ _. (refl, mine.1, refl, ap (λ t. t ++ (true, x) ∷ []) mine.3 ∙ sym (marked_more h.decided h.pending (Dropped, x)))));
-          levels = all_snoc (FitsLevel (length items)) (set views pass w) spare_side (λ j. no_level (length items) j spare_side refl)
-              (leveled views pass v w at (length items) h.feed h.lossy h.sent (marked (h.decided ++ h.pending)) (feeds_is v is) h.feeds (λ _ _. no_more items views h at));
+          level = h.level;
+          seen = h.seen;
+          levels = all_snoc (FitsLevel h.level) (set views pass w) spare_side (λ j. no_level h.level j spare_side refl)
+              (leveled views pass v w at h.level h.feed h.lossy h.sent (marked (h.decided ++ h.pending)) (feeds_is v is) h.feeds (λ _. level_is items views h at));
+          sights = all_snoc (FitsSeen h.seen) (set views pass w) spare_side (λ j. no_sight h.seen j spare_side refl) (others_sight views pass v w at h.seen refl h.sights);
+          counts = λ _. h.counts (unsent items views h at);
           drains = all_snoc (FitsDrain h.drain h.lossy None (picked is_taken 0 h.decided) (h.decided ++ pending)) (set views pass w) spare_side (λ j. no_drain h.drain h.lossy None (picked is_taken 0 h.decided) (h.decided ++ pending) j spare_side refl)
               (reopens h.drain h.lossy h.sent None (picked is_taken 0 h.decided) (h.decided ++ h.pending) (h.decided ++ pending) (set views pass w) (unsent items views h at)
               (others_drain views pass v w at h.drain h.lossy h.sent (picked is_taken 0 h.decided) (h.decided ++ h.pending) refl h.drains));
@@ -333,11 +366,11 @@ module _ {T E : Type 0} where
       were_marked = ap marked (were_parts ∙ sym (append_assoc h.decided l.front.before ((Stored, x) ∷ l.front.after))) ∙ marked-middle (h.decided ++ l.front.before) (Stored, x) l.front.after
 
       -- the record after the step, from what the sides know then
-      after_leaving : (views' : List (Side T E)) (lossless : h.lossy ≡ false → picked is_dropped 0 (now_decided ++ l.front.after) ≡ []) → All (FitsFeed h.feed h.lossy h.sent (marked (now_decided ++ l.front.after))) views'
-          → All (FitsLevel (length items)) views'
+      after_leaving : (views' : List (Side T E)) (level : Level) (seen : ℕ) (lossless : h.lossy ≡ false → picked is_dropped 0 (now_decided ++ l.front.after) ≡ []) → All (FitsFeed h.feed h.lossy h.sent (marked (now_decided ++ l.front.after))) views'
+          → All (FitsLevel level) views' → All (FitsSeen seen) views' → (h.sent ≡ None → IsLevel (length items) seen level)
           → All (FitsDrain h.drain h.lossy h.sent (picked is_taken 0 now_decided) (now_decided ++ l.front.after)) views' → Buffers items views'
       unfolding values
-      after_leaving views' lossless feeds levels drains = record {
+      after_leaving views' level seen lossless feeds levels sights counts drains = record {
         feed = h.feed;
         drain = h.drain;
         lossy = h.lossy;
@@ -351,7 +384,11 @@ module _ {T E : Type 0} where
         above = now_above;
         lossless = lossless;
         feeds = feeds;
+        level = level;
+        seen = seen;
         levels = levels;
+        sights = sights;
+        counts = counts;
         drains = drains;
       }
 
@@ -359,7 +396,7 @@ module _ {T E : Type 0} where
     halves p = picked-append p 0 h.decided h.pending ∙ ap (λ n. picked p 0 h.decided ++ picked p n h.pending) (zero-add (length h.decided))
 
     -- the drain takes it
-    module _ (pass : ℕ) (v : Side T E) (is : v ≡ drain_side v.lossy None v.taken v.history) (at : get_elem? views pass ≡ some v) where
+    module _ (pass : ℕ) (v : Side T E) (is : v ≡ drain_side v.lossy None v.taken v.history v.seen) (at : get_elem? views pass ≡ some v) where
       drains_is : v.drains ≡ true
       drains_is = ap (λ (s : Side T E). s.drains) is
 
@@ -368,17 +405,19 @@ module _ {T E : Type 0} where
 
       takes_value : (i : ℕ) (x : T) (rest : List (ℕ × T)) → Leaves i x rest → (w : Side T E) × Buffers items (set views pass w) × Takes v item w
       takes_value i x rest l =
-          let w : Side T E = drain_side v.lossy None (v.taken ++ (i, x) ∷ []) v.history in
+          let w : Side T E = drain_side v.lossy None (v.taken ++ (i, x) ∷ []) v.history h.level.puts in
           let decided = now_decided i x rest l Taken refl in
           let taken_is : picked is_taken 0 decided ≡ w.taken = now_taken i x rest l Taken refl ∙ ap (λ t. t ++ (i, x) ∷ []) (sym mine_is.2) in
           let P : Event T E → Type 0 = λ y. (w : Side T E) × Buffers items (set views pass w) × Takes v y w in
           subst P (sym l.item_is) (
             w,
-            after_leaving i x rest l Taken refl (set views pass w)
+            after_leaving i x rest l Taken refl (set views pass w) h.level h.level.puts
                 (λ free. alike i x rest l Taken refl is_dropped refl ∙ h.lossless free)
                 (subst (λ (t : List (Bool × T)). All (FitsFeed h.feed h.lossy h.sent t) (set views pass w)) (were_marked i x rest l Taken refl ∙ sym (now_marked i x rest l Taken refl))
                 (others_feed views pass v w at h.feed h.lossy h.sent (marked (h.decided ++ h.pending)) refl h.feeds))
-                (others_level views pass v w at (length (item ∷ items)) (length items) (omega arith) refl h.levels)
+                (others_level views pass v w at h.level refl h.levels)
+                (sighted views pass v w at h.level.puts h.drain h.lossy h.sent (picked is_taken 0 h.decided) (h.decided ++ h.pending) drains_is h.drains (λ _. refl))
+                (λ open_now. let was : length (item ∷ items) ≤ h.level.held = (h.counts open_now).1 in (omega arith, omega arith, λ later. omega arith))
                 (drained views pass v w at h.drain h.lossy h.sent (picked is_taken 0 h.decided) (picked is_taken 0 decided) (h.decided ++ h.pending) (decided ++ l.front.after) drains_is h.drains (λ _. (refl, mine_is.1, sym taken_is, λ known. absurd (known refl)))),
             ((i, refl), subst (λ (t : List (ℕ × T)). Rises 0 t) taken_is (picked-rises is_taken 0 decided)),
           )
@@ -388,7 +427,7 @@ module _ {T E : Type 0} where
       takes_end none =
           let e = ended_is (only_last none) in
           let history : List (Fate × T) = h.decided ++ h.pending in
-          let w : Side T E = drain_side v.lossy (Some e.0) v.taken history in
+          let w : Side T E = drain_side v.lossy (Some e.0) v.taken history v.seen in
           let P : Event T E → Type 0 = λ y. (w : Side T E) × Buffers items (set views pass w) × Takes v y w in
           subst P (sym e.2) (
             w,
@@ -406,7 +445,11 @@ module _ {T E : Type 0} where
               above = h.above;
               lossless = h.lossless;
               feeds = others_feed views pass v w at h.feed h.lossy h.sent (marked history) refl h.feeds;
-              levels = others_level views pass v w at (length (item ∷ items)) (length items) (omega arith) refl h.levels;
+              level = h.level;
+              seen = h.seen;
+              levels = others_level views pass v w at h.level refl h.levels;
+              sights = sighted views pass v w at h.seen h.drain h.lossy h.sent (picked is_taken 0 h.decided) (h.decided ++ h.pending) drains_is h.drains (λ _. h.sights pass v at drains_is);
+              counts = λ unsent. let both : Some e.0 ≡ None = sym e.1 ∙ unsent in cc;
               drains = drained views pass v w at h.drain h.lossy h.sent (picked is_taken 0 h.decided) (picked is_taken 0 h.decided) history history drains_is h.drains (λ _. (refl, mine_is.1, mine_is.2, λ _. (sym e.1, refl)));
             },
             (
@@ -429,13 +472,17 @@ module _ {T E : Type 0} where
       overwrites_value i x rest l =
           let mine = h.feeds pass v at (feeds_is v is) in
           let decided = now_decided i x rest l Dropped refl in
-          let w : Side T E = feed_side v.lossy None (marked (decided ++ l.front.after)) v.level in
-          let before : length (item ∷ items) ≤ v.level = h.levels pass v at (feeds_is v is) (open_is v is) in (
+          let w : Side T E = feed_side v.lossy None (marked (decided ++ l.front.after)) (less_one v.level) in
+          let was : IsLevel (length (item ∷ items)) h.seen v.level = counted pass v is (item ∷ items) views h at in
+          let before : h.seen ≤ v.level.puts = was.0 in
+          let fewer : length (item ∷ items) ≤ v.level.held = was.1 in (
             w,
-            after_leaving i x rest l Dropped refl (set views pass w)
+            after_leaving i x rest l Dropped refl (set views pass w) (less_one v.level) h.seen
                 (λ free. absurd (true≢false (sym may ∙ (mine.1 ∙ free))))
                 (fed views pass v w at h.feed h.lossy h.sent h.sent (marked (h.decided ++ h.pending)) (marked (decided ++ l.front.after)) (feeds_is v is) h.feeds (λ _. (refl, mine.1, sym (open_is v is) ∙ mine.2, refl)))
-                (leveled views pass v w at (length items) h.feed h.lossy h.sent (marked (h.decided ++ h.pending)) (feeds_is v is) h.feeds (λ _ _. omega arith))
+                (leveled views pass v w at (less_one v.level) h.feed h.lossy h.sent (marked (h.decided ++ h.pending)) (feeds_is v is) h.feeds (λ _. refl))
+                (others_sight views pass v w at h.seen refl h.sights)
+                (λ _. (before, omega arith, λ earlier. let same : length (item ∷ items) ≡ v.level.held = was.2 earlier in omega arith))
                 (reopens h.drain h.lossy h.sent h.sent (picked is_taken 0 decided) (h.decided ++ h.pending) (decided ++ l.front.after) (set views pass w) (sym mine.2 ∙ open_is v is)
                 (subst (λ (t : List (ℕ × T)). All (FitsDrain h.drain h.lossy h.sent t (h.decided ++ h.pending)) (set views pass w)) (sym (now_taken i x rest l Dropped refl ∙ append-nil (picked is_taken 0 h.decided)))
                 (others_drain views pass v w at h.drain h.lossy h.sent (picked is_taken 0 h.decided) (h.decided ++ h.pending) refl h.drains))),
@@ -449,17 +496,17 @@ module _ {T E : Type 0} where
       overwrites_by [] none = let mine = h.feeds pass v at (feeds_is v is) in let e = ended_is (only_last none) in let both : Some e.0 ≡ None = sym e.1 ∙ (sym mine.2 ∙ open_is v is) in cc
       overwrites_by ((i, x) ∷ rest) is = overwrites_value i x rest (leaves i x rest is)
 
-  pub takes : (pass : ℕ) (v : Side T E) → v ≡ drain_side v.lossy None v.taken v.history → Pops (Buffers {T = T} {E = E}) pass v (Takes v)
+  pub takes : (pass : ℕ) (v : Side T E) → v ≡ drain_side v.lossy None v.taken v.history v.seen → Pops (Buffers {T = T} {E = E}) pass v (Takes v)
   takes pass v is item items views h at = takes_by items views item h pass v is at (picked is_stored (length h.decided) h.pending) refl
 
   pub overwrites : (pass : ℕ) (v : Side T E) → v ≡ feed_side v.lossy None v.produced v.level → v.lossy ≡ true → Pops (Buffers {T = T} {E = E}) pass v (Overwrites v)
   overwrites pass v is may item items views h at = overwrites_by items views item h pass v is may at (picked is_stored (length h.decided) h.pending) refl
 
   -- the first pass becomes the feed's, and a new one is the drain's
-  pub cuts : (pass : ℕ) (lossy : Bool) → Forks (Buffers {T = T} {E = E}) pass fresh_side (feed_side lossy None [] 0) (drain_side lossy None [] [])
+  pub cuts : (pass : ℕ) (lossy : Bool) → Forks (Buffers {T = T} {E = E}) pass fresh_side (feed_side lossy None [] at_first) (drain_side lossy None [] [] 0)
   cuts pass lossy items views h at =
-      let l : Side T E = feed_side lossy None [] 0 in
-      let r : Side T E = drain_side lossy None [] [] in
+      let l : Side T E = feed_side lossy None [] at_first in
+      let r : Side T E = drain_side lossy None [] [] 0 in
       let mine = h.feeds pass fresh_side at refl in
       let mine' = h.drains pass fresh_side at refl in
       let vs : List (Side T E) = set views pass l in
@@ -481,8 +528,12 @@ module _ {T E : Type 0} where
         lossless = λ _. ap (picked is_dropped 0) (unmarked (h.decided ++ h.pending) (sym mine.3));
         feeds = all_snoc (FitsFeed h.feed lossy None produced) vs r (λ j. no_feed h.feed lossy None produced j r refl)
             (all_set (FitsFeed h.feed lossy None produced) views pass l (λ _. (mine.0, refl, refl, mine.3)) (λ j u other e does. absurd (other ((h.feeds j u e does).0 ∙ sym mine.0))));
-        levels = all_snoc (FitsLevel (length items)) vs r (λ j. no_level (length items) j r refl)
-            (leveled views pass fresh_side l at (length items) h.feed h.lossy h.sent produced refl h.feeds (λ _ _. h.levels pass fresh_side at refl refl));
+        level = h.level;
+        seen = h.seen;
+        levels = all_snoc (FitsLevel h.level) vs r (λ j. no_level h.level j r refl)
+            (leveled views pass fresh_side l at h.level h.feed h.lossy h.sent produced refl h.feeds (λ _. h.levels pass fresh_side at refl));
+        sights = all_snoc (FitsSeen h.seen) vs r (λ j _. h.sights pass fresh_side at refl) (others_sight views pass fresh_side l at h.seen refl h.sights);
+        counts = λ _. h.counts (sym mine.2);
         drains = λ j u e. ⊎_elim (λ (was : get_elem? vs j ≡ some u). λ does. absurd (old j u was does))
             (λ (new : r ≡ u). λ does. (at_end vs r u j (λ was. old j u was does) e, ap (λ (s : Side T E). s.lossy) (sym new), ap (λ (s : Side T E). s.taken) (sym new) ∙ mine'.2, λ known. absurd (known (ap (λ (s : Side T E). s.got) (sym new))))) (at_snoc vs r u j e);
       }
@@ -492,9 +543,9 @@ module _ {T E : Type 0} where
   sends_item n pass v is (End cause) = closes pass v is n cause
 
   -- a channel that was full held as many values as it has places, and so it did when the last one was put in
-  pub was_full : (k : ℕ) (v : Side T E) → HeldAt k (Looks {E = E} v) → WasFull k v.produced × (k ≤ v.level)
+  pub was_full : (k : ℕ) (v : Side T E) → HeldAt k (Looks {E = E} v) → WasFull k v.produced × (k ≤ v.level.held)
   was_full k v held = let h = held.2 in
-      let value : ℕ × T → Event T E = λ e. Value e.1 in ((h.0, h.1, sym (length-map (picked is_stored 0 h.0) value) ∙ (ap length (sym h.2) ∙ held.1)), subst (λ n. n ≤ v.level) held.1 h.3)
+      let value : ℕ × T → Event T E = λ e. Value e.1 in ((h.0, h.1, sym (length-map (picked is_stored 0 h.0) value) ∙ (ap length (sym h.2) ∙ held.1)), subst (λ n. n ≤ v.level.held) held.1 h.3)
 
   pub overwrites_as : (pass : ℕ) (v : Side T E) → v ≡ feed_side true None v.produced v.level → Pops (Buffers {T = T} {E = E}) pass v (Overwrites v)
   overwrites_as pass v is = let l = lossy_is v is in overwrites pass v l.0 l.1
@@ -504,8 +555,8 @@ module _ {T E : Type 0} where
       let P : Option T → Type 0 = λ o. Forks (Buffers {T = T} {E = E}) pass v (missed_side o v) spare_side in
       subst P (sym picked_is) (misses pass v l.0 x l.1)
 
-  pub cuts_as : (pass : ℕ) (lossy : Bool) (v : Side T E) → v ≡ fresh_side → Forks (Buffers {T = T} {E = E}) pass v (feed_side lossy None [] 0) (drain_side lossy None [] [])
-  cuts_as pass lossy v is = let P : Side T E → Type 0 = λ s. Forks (Buffers {T = T} {E = E}) pass s (feed_side lossy None [] 0) (drain_side lossy None [] []) in
+  pub cuts_as : (pass : ℕ) (lossy : Bool) (v : Side T E) → v ≡ fresh_side → Forks (Buffers {T = T} {E = E}) pass v (feed_side lossy None [] at_first) (drain_side lossy None [] [] 0)
+  cuts_as pass lossy v is = let P : Side T E → Type 0 = λ s. Forks (Buffers {T = T} {E = E}) pass s (feed_side lossy None [] at_first) (drain_side lossy None [] [] 0) in
       subst P (sym is) (cuts pass lossy)
 
   -- the feed's pass takes in the drain's
@@ -536,8 +587,13 @@ module _ {T E : Type 0} where
         lossless = h.lossless;
         feeds = all_set (FitsFeed h.feed h.lossy h.sent produced) vs other spare_side (no_feed h.feed h.lossy h.sent produced other spare_side refl)
             (λ j y apart e. fed views pass v both at h.feed h.lossy h.sent h.sent produced produced feeds h.feeds fits j y e);
-        levels = all_set (FitsLevel (length items)) vs other spare_side (no_level (length items) other spare_side refl)
-            (λ j y apart e. leveled views pass v both at (length items) h.feed h.lossy h.sent produced feeds h.feeds (λ _ unsent. h.levels pass v at feeds unsent) j y e);
+        level = h.level;
+        seen = h.seen;
+        levels = all_set (FitsLevel h.level) vs other spare_side (no_level h.level other spare_side refl)
+            (λ j y apart e. leveled views pass v both at h.level h.feed h.lossy h.sent produced feeds h.feeds (λ _. h.levels pass v at feeds) j y e);
+        sights = all_set (FitsSeen h.seen) vs other spare_side (no_sight h.seen other spare_side refl)
+            (λ j y apart e. all_set (FitsSeen h.seen) views pass both (λ _. h.sights other u was drains) (λ i z _ there. h.sights i z there) j y e);
+        counts = h.counts;
         drains = all_set (FitsDrain pass h.lossy h.sent taken history) vs other spare_side (no_drain pass h.lossy h.sent taken history other spare_side refl) (λ j y apart e. now j y e apart);
       }
 

@@ -20,7 +20,7 @@ module _ {T : Type 0} where
 
 module _ {T E : Type 0} where
   abbrev IsDrainSide : Option (Cause E) → Side T E → Type 0
-  IsDrainSide end s = s ≡ drain_side s.lossy end s.taken s.history
+  IsDrainSide end s = s ≡ drain_side s.lossy end s.taken s.history s.seen
 
 module _ {T E Q M L A : Type 0} (c : Rows (Badge (Key (Event T E))) (Doing (Event T E) (Side T E)) Q M (Key (Event T E)) L A) (was is : Pass (Event T E) (Side T E)) where
   -- what a drain keeps
@@ -29,7 +29,7 @@ module _ {T E Q M L A : Type 0} (c : Rows (Badge (Key (Event T E))) (Doing (Even
   received (Value x) taken now_taken end old seat takes counted ends =
       let e = takes.0.1 in
       let before = (knows was).taken ++ (takes.0.0, x) ∷ [] in
-      let side : IsDrainSide end (knows is) = subst (IsDrainSide end) (sym e) (ap (λ (n : Option (Cause E)). drain_side (knows was).lossy n before (knows was).history) (sym ends)) in
+      let side : IsDrainSide end (knows is) = subst (IsDrainSide end) (sym e) (ap (λ (n : Option (Cause E)). drain_side (knows was).lossy n before (knows was).history (knows is).seen) (sym ends)) in
       let known : IsEndKnown end (knows is).lossy (knows is).taken (knows is).history = subst (λ (n : Option (Cause E)). IsEndKnown n (knows is).lossy (knows is).taken (knows is).history) (sym ends) tt in
       (seat, side, one_more taken now_taken _ _ _ old.2 counted (ap (λ (s : Side T E). s.taken) e), takes.1, known)
   received (End cause) taken now_taken end old seat takes counted ends =
@@ -37,7 +37,8 @@ module _ {T E Q M L A : Type 0} (c : Rows (Badge (Key (Event T E))) (Doing (Even
       let lossy : (knows was).lossy ≡ (knows is).lossy = sym (ap (λ (s : Side T E). s.lossy) e) in
       let same : (knows was).taken ≡ (knows is).taken = sym (ap (λ (s : Side T E). s.taken) e) in
       let side : IsDrainSide end (knows is) = subst (λ (n : Option (Cause E)). IsDrainSide n (knows is)) (sym ends)
-      (e ∙ (ap (λ l. drain_side l (Some cause) (knows was).taken (knows is).history) lossy ∙ ap (λ t. drain_side (knows is).lossy (Some cause) t (knows is).history) same)) in
+      (e ∙ (ap (λ l. drain_side l (Some cause) (knows was).taken (knows is).history (knows was).seen) lossy ∙ (ap (λ t. drain_side (knows is).lossy (Some cause) t (knows is).history (knows was).seen) same
+      ∙ ap (λ n. drain_side (knows is).lossy (Some cause) (knows is).taken (knows is).history n) (sym (ap (λ (s : Side T E). s.seen) e))))) in
       let decided : IsDecided (knows is).lossy (knows is).taken (knows is).history =
       subst (λ l. IsDecided l (knows is).taken (knows is).history) lossy (subst (λ t. IsDecided (knows was).lossy t (knows is).history) same takes.1) in
       let known : IsEndKnown end (knows is).lossy (knows is).taken (knows is).history = subst (λ (n : Option (Cause E)). IsEndKnown n (knows is).lossy (knows is).taken (knows is).history) (sym ends) decided in

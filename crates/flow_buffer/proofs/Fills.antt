@@ -1,12 +1,13 @@
 -- What a feed knows after it put a value in.
-use Rattle.std.proofs.Common.{◌≡◌, ◌≤◌, ℕ, ◌+◌, Bool, true, false, None, List, [], ◌∷◌, ◌++◌, refl, sym, ap, ◌∙◌, subst}
+use Rattle.std.proofs.Common.{◌≡◌, ◌≤◌, ℕ, ◌+◌, ◌-◌, arith, Bool, true, false, None, List, [], ◌∷◌, ◌++◌, refl, sym, ap, ◌∙◌, subst}
 use Rattle.flow_terms.specs.declared.policy.Policy.TheVariants.{DropOldest, DropLatest}
 use Rattle.flow_terms.specs.declared.fill.Fill.TheVariants.{Overwrote, Dropped}
 use Rattle.cold_flow.specs.declared.event.Event.TheVariants.{Value}
+use Rattle.flow_buffer.specs.declared.side.Level.{Level}
 use Rattle.flow_buffer.specs.declared.side.Side.{Side}
 use Rattle.flow_buffer.specs.History.{DropsOne}
 use Rattle.flow_buffer.specs.Sides.{WasFull, Filled}
-use Rattle.flow_buffer.specs.Channel.{feed_side, Sends, DropsOldest}
+use Rattle.flow_buffer.specs.Channel.{less_one, feed_side, Sends, DropsOldest}
 
 module _ {T E : Type 0} where
   -- a feed's side, before its end
@@ -19,7 +20,7 @@ module _ {T E : Type 0} where
   pub open_own : (lossy : Bool) (v : Side T E) → IsOpen lossy v → IsOpen v.lossy v
   open_own lossy v was = was ∙ ap (λ l. feed_side l None v.produced v.level) (sym (ap (λ (s : Side T E). s.lossy) was))
 
-  open_as : (lossy : Bool) (w : Side T E) (produced : List (Bool × T)) (level : ℕ) → w ≡ feed_side lossy None produced level → IsOpen lossy w
+  open_as : (lossy : Bool) (w : Side T E) (produced : List (Bool × T)) (level : Level) → w ≡ feed_side lossy None produced level → IsOpen lossy w
   open_as lossy w produced level is = is ∙ (ap (λ p. feed_side lossy None p level) (sym (ap (λ (s : Side T E). s.produced) is))
       ∙ ap (λ n. feed_side lossy None w.produced n) (sym (ap (λ (s : Side T E). s.level) is)))
 
@@ -36,7 +37,7 @@ module _ {T E : Type 0} where
 
   -- the oldest value was taken out, or there was none
   pub open_dropped : (dropped : Bool) (v w : Side T E) → IsOpen true v → DropsOldest v dropped w → IsOpen true w
-  open_dropped true v w was is = open_as true w w.produced v.level is.1
+  open_dropped true v w was is = open_as true w w.produced (less_one v.level) is.1
   open_dropped false v w was is = open_still true v w was is
 
   pub overwrote : (k : ℕ) (v u s w : Side T E) (x : T) → u ≡ v → WasFull k v.produced → DropsOldest u true s → Sends s (Value x) w
@@ -55,15 +56,18 @@ module _ {T E : Type 0} where
   missed k v u w x same full is = (refl, full, ap (λ (s : Side T E). s.produced) is ∙ ap (λ (s : Side T E). s.produced ++ (true, x) ∷ []) same)
 
   -- how many values the channel held when one was put in
-  pub raised : (v u w : Side T E) (x : T) → u ≡ v → Sends u (Value x) w → w.level ≤ v.level + 1
-  raised v u w x same is = subst (λ (s : Side T E). w.level ≤ s.level + 1) same is.1
+  pub raised : (v u w : Side T E) (x : T) → u ≡ v → Sends u (Value x) w → w.level.held ≤ v.level.held + 1
+  raised v u w x same is = subst (λ (s : Side T E). w.level.held ≤ s.level.held + 1) same is.2
 
-  pub level_kept : (dropped : Bool) (v u s : Side T E) → u ≡ v → DropsOldest u dropped s → s.level ≡ v.level
-  level_kept true v u s same is = ap (λ (t : Side T E). t.level) is.1 ∙ ap (λ (t : Side T E). t.level) same
-  level_kept false v u s same is = ap (λ (t : Side T E). t.level) (is ∙ same)
+  no_higher : (dropped : Bool) (v s : Side T E) → DropsOldest v dropped s → s.level.held ≤ v.level.held
+  no_higher true v s is = let less : s.level.held ≡ v.level.held - 1 = ap (λ (t : Side T E). t.level.held) is.1 in omega arith
+  no_higher false v s is = let same : s.level.held ≡ v.level.held = ap (λ (t : Side T E). t.level.held) is in omega arith
 
-  pub raised_last : (dropped : Bool) (v u s w : Side T E) (x : T) → u ≡ v → DropsOldest u dropped s → Sends s (Value x) w → w.level ≤ v.level + 1
-  raised_last dropped v u s w x same drops is = subst (λ n. w.level ≤ n + 1) (level_kept dropped v u s same drops) is.1
+  pub raised_last : (dropped : Bool) (v u s w : Side T E) (x : T) → u ≡ v → DropsOldest u dropped s → Sends s (Value x) w → w.level.held ≤ v.level.held + 1
+  raised_last dropped v u s w x same drops is =
+      let before : u.level.held ≡ v.level.held = ap (λ (t : Side T E). t.level.held) same in
+      let between : s.level.held ≤ u.level.held = no_higher dropped u s drops in
+      let last : w.level.held ≤ s.level.held + 1 = is.2 in omega arith
 
-  pub missed_level : (v u w : Side T E) (x : T) → u ≡ v → w ≡ feed_side true None (u.produced ++ (true, x) ∷ []) u.level → w.level ≡ v.level
-  missed_level v u w x same is = ap (λ (s : Side T E). s.level) is ∙ ap (λ (s : Side T E). s.level) same
+  pub missed_level : (v u w : Side T E) (x : T) → u ≡ v → w ≡ feed_side true None (u.produced ++ (true, x) ∷ []) u.level → w.level.held ≡ v.level.held
+  missed_level v u w x same is = ap (λ (s : Side T E). s.level.held) is ∙ ap (λ (s : Side T E). s.level.held) same

@@ -26,7 +26,7 @@ module _ {T E Q M L A : Type 0} (c : Rows (Badge (Key (Event T E))) (Doing (Even
     capacity = ruled_capacity c;
     policy = policy;
     produced = (knows pass).produced;
-    level = (knows pass).level;
+    level = (knows pass).level.held;
     waiting = waiting;
     sent = sent;
   }
@@ -47,6 +47,6 @@ module _ {T E Q M L A : Type 0} (c : Rows (Badge (Key (Event T E))) (Doing (Even
   -- a drain's pass knows what was taken, at rising indexes, and with an end what became of all; what was taken is counted
   abbrev pub IsDrain : Pass (Event T E) (Side T E) → ℕ → Option (Cause E) → Type 0
   IsDrain pass taken end = IsSeatAt c pass
-      × (knows pass ≡ drain_side (knows pass).lossy end (knows pass).taken (knows pass).history)
+      × (knows pass ≡ drain_side (knows pass).lossy end (knows pass).taken (knows pass).history (knows pass).seen)
       × (taken ≡ saturated (length (knows pass).taken)) × Rises 0 (knows pass).taken
       × IsEndKnown end (knows pass).lossy (knows pass).taken (knows pass).history

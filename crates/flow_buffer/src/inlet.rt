@@ -3,7 +3,7 @@
 ghost use Rattle.std.specs.Prelude.{◌≡◌, ◌≢◌, ◌≤◌, ◌+◌, [], true, false, length, map, Option, Some, None, is_some, MatchBool, MatchOption};
 ghost use Rattle.crossbeam_channel.specs.Claims.{view as knows, IsSeatAt};
 ghost use Rattle.crossbeam_channel.specs.Ends.{sends_on, receives_on, ruled_capacity};
-ghost use Rattle.flow_buffer.specs.Channel.{feed_side, Agree};
+ghost use Rattle.flow_buffer.specs.Channel.{at_first, feed_side, Agree};
 ghost use Rattle.flow_buffer.specs.Fitting.{channel_of, feed_view, IsFeed};
 ghost use Rattle.cold_flow.specs.declared.event.Event.TheVariants.{Value, End};
 ghost use Rattle.flow_terms.specs.declared.policy.Policy.TheVariants.{Suspend};
@@ -59,7 +59,7 @@ impl<T: Copy, E: Copy> Inlet<T, E> {
     ) -> Inlet<T, E>
         requires ends { receives_on receiver ≡ sends_on sender }
         requires channel { IsSeatAt (sends_on sender) pass }
-        requires fresh { knows pass ≡ feed_side (may_drop policy) None [] 0 }
+        requires fresh { knows pass ≡ feed_side (may_drop policy) None [] at_first }
         ensures { result ≡ record {
           channel = channel_of (sends_on sender);
           capacity = ruled_capacity (sends_on sender);

@@ -2,7 +2,7 @@
 
 ghost use Rattle.std.specs.Prelude.{◌≡◌, ◌++◌, [], ◌∷◌, true, false, Option, Some, None, ⊤};
 ghost use Rattle.flow_buffer.specs.Channel.{Buffers, Sends, Overwrites, Takes, Looks, Agree};
-ghost use Rattle.flow_buffer.specs.Channel.{fresh_side, feed_side, drain_side, spare_side, missed_side, joined_side};
+ghost use Rattle.flow_buffer.specs.Channel.{at_first, fresh_side, feed_side, drain_side, spare_side, missed_side, joined_side};
 
 use crate::side::Side;
 use cold_flow::Event;
@@ -55,18 +55,18 @@ impl<T, E> Lesson<Event<T, E>, Side<T, E>> for Taking {
 pub struct Lossless;
 
 impl<T, E> Split<Side<T, E>> for Lossless {
-    ghost left = { λ v. feed_side false None [] 0 };
+    ghost left = { λ v. feed_side false None [] at_first };
 
-    ghost right = { λ v. drain_side false None [] [] };
+    ghost right = { λ v. drain_side false None [] [] 0 };
 }
 
 /// The same, where values may be dropped.
 pub struct Lossy;
 
 impl<T, E> Split<Side<T, E>> for Lossy {
-    ghost left = { λ v. feed_side true None [] 0 };
+    ghost left = { λ v. feed_side true None [] at_first };
 
-    ghost right = { λ v. drain_side true None [] [] };
+    ghost right = { λ v. drain_side true None [] [] 0 };
 }
 
 /// The value that a full channel had no room for, which the proof of a call picks.

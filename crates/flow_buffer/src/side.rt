@@ -13,6 +13,14 @@ pub enum Fate {
     Dropped,
 }
 
+/// What a feed learns where it puts a value in.
+pub struct Level {
+    /// How many it has put in.
+    pub puts: u64,
+    /// How many the channel held then, less one where the feed took one out itself since.
+    pub held: u64,
+}
+
 /// What one side knows.
 pub struct Side<T, E> {
     /// May it send?
@@ -25,12 +33,14 @@ pub struct Side<T, E> {
     pub sent: Option<Cause<E>>,
     /// The feed's: every produced value, and whether it was dropped.
     pub produced: LinkedList<(bool, T)>,
-    /// The feed's: how many messages the channel held when the last value had been put in.
-    pub level: u64,
+    /// The feed's: what it learned with the last value that it put in.
+    pub level: Level,
     /// The drain's: the end that it received.
     pub got: Option<Cause<E>>,
     /// The drain's: every taken value with its index.
     pub taken: LinkedList<(u64, T)>,
     /// The drain's, once it has the end: what became of every produced value.
     pub history: LinkedList<(Fate, T)>,
+    /// The drain's: how many values had been put in when it last took one.
+    pub seen: u64,
 }

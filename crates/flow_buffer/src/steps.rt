@@ -116,7 +116,7 @@ pub(crate) fn put<T: Copy, E: Copy, R: Wait>(
     ensures channel { IsSeatAt (sends_on sender.now) pass.new }
     ensures unended { knows pass.new ≡ feed_side (may_drop policy) None (knows pass.new).produced (knows pass.new).level }
     ensures fill { Filled (ruled_capacity (sends_on sender.now)) policy (knows pass.old).produced value result (knows pass.new).produced }
-    ensures level { Levels (ruled_capacity (sends_on sender.now)) (knows pass.old).level result (knows pass.new).level }
+    ensures level { Levels (ruled_capacity (sends_on sender.now)) (knows pass.old).level.held result (knows pass.new).level.held }
 {
     match policy {
         Policy::Suspend => put_or_wait(rt, sender, pass, value),
@@ -137,7 +137,7 @@ fn put_or_wait<T: Copy, E: Copy, R: Wait>(
     ensures channel { IsSeatAt (sends_on sender.now) pass.new }
     ensures unended { knows pass.new ≡ feed_side false None (knows pass.new).produced (knows pass.new).level }
     ensures fill { Filled (ruled_capacity (sends_on sender.now)) Policy.Suspend (knows pass.old).produced value result (knows pass.new).produced }
-    ensures level { Levels (ruled_capacity (sends_on sender.now)) (knows pass.old).level result (knows pass.new).level }
+    ensures level { Levels (ruled_capacity (sends_on sender.now)) (knows pass.old).level.held result (knows pass.new).level.held }
 {
     if offer(rt, sender, pass, Event::Value(value)) {
         return Fill::Took;
@@ -160,7 +160,7 @@ fn put_over_oldest<T: Copy, E: Copy, R: Wait>(
     ensures channel { IsSeatAt (sends_on sender.now) pass.new }
     ensures unended { knows pass.new ≡ feed_side true None (knows pass.new).produced (knows pass.new).level }
     ensures fill { Filled (ruled_capacity (sends_on sender.now)) Policy.DropOldest (knows pass.old).produced value result (knows pass.new).produced }
-    ensures level { Levels (ruled_capacity (sends_on sender.now)) (knows pass.old).level result (knows pass.new).level }
+    ensures level { Levels (ruled_capacity (sends_on sender.now)) (knows pass.old).level.held result (knows pass.new).level.held }
 {
     if offer(rt, sender, pass, Event::Value(value)) {
         return Fill::Took;
@@ -182,7 +182,7 @@ fn put_or_drop<T: Copy, E: Copy, R: Wait>(
     ensures channel { IsSeatAt (sends_on sender.now) pass.new }
     ensures unended { knows pass.new ≡ feed_side true None (knows pass.new).produced (knows pass.new).level }
     ensures fill { Filled (ruled_capacity (sends_on sender.now)) Policy.DropLatest (knows pass.old).produced value result (knows pass.new).produced }
-    ensures level { Levels (ruled_capacity (sends_on sender.now)) (knows pass.old).level result (knows pass.new).level }
+    ensures level { Levels (ruled_capacity (sends_on sender.now)) (knows pass.old).level.held result (knows pass.new).level.held }
 {
     if offer(rt, sender, pass, Event::Value(value)) {
         return Fill::Took;
@@ -198,7 +198,7 @@ pub(crate) fn receive<T: Copy, E: Copy, R: Wait>(
     pass: &mut Knowledge<T, E>,
 ) -> Event<T, E>
     requires channel { IsSeatAt (receives_on receiver.now) pass.old }
-    requires unended { knows pass.old ≡ drain_side (knows pass.old).lossy None (knows pass.old).taken (knows pass.old).history }
+    requires unended { knows pass.old ≡ drain_side (knows pass.old).lossy None (knows pass.old).taken (knows pass.old).history (knows pass.old).seen }
     ensures channel { IsSeatAt (receives_on receiver.now) pass.new }
     ensures taken { Takes (knows pass.old) result (knows pass.new) }
 {
@@ -217,7 +217,7 @@ pub(crate) fn try_receive<T: Copy, E: Copy, R: Wait>(
     pass: &mut Knowledge<T, E>,
 ) -> Option<Event<T, E>>
     requires channel { IsSeatAt (receives_on receiver.now) pass.old }
-    requires unended { knows pass.old ≡ drain_side (knows pass.old).lossy None (knows pass.old).taken (knows pass.old).history }
+    requires unended { knows pass.old ≡ drain_side (knows pass.old).lossy None (knows pass.old).taken (knows pass.old).history (knows pass.old).seen }
     ensures channel { IsSeatAt (receives_on receiver.now) pass.new }
     ensures taken { MayTake (knows pass.old) result (knows pass.new) }
 {
