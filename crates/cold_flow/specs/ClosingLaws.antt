@@ -8,7 +8,8 @@ use Rattle.cold_flow.specs.declared.operators.closing.Closing.{Closing}
 use Rattle.cold_flow.specs.declared.operators.closing.Closing.TheVariants.{Open, Last, Over}
 use Rattle.cold_flow.specs.Trace.{Trace, ◌⊑◌, so_far, ended_by}
 use Rattle.cold_flow.specs.Poll.{Traces}
-use Rattle.cold_flow.specs.Closing.{Following, given_cause, polls_left, is_prompt}
+use Rattle.cold_flow.specs.Closing.{Following, answer, given_cause, polls_left, is_prompt}
+use Rattle.cold_flow.specs.Polled.{Rests}
 use Rattle.cold_flow.specs.Laws.{begins-any}
 
 module _ {A E : Type 0} where
@@ -35,6 +36,12 @@ module _ {E : Type 0} where
   open_gave Open k is e = cc
   open_gave Last k is e = cc
   open_gave (Over j) k is e = cc
+
+  -- one that followed its source may have asked it
+  pub open_rests : {S : Type 0} (c : Closing E) (old new : S) → c ≡ Open → Rests (answer c) old new
+  open_rests Open old new is k e = cc
+  open_rests Last old new is k e = cc
+  open_rests (Over j) old new is k e = cc
 
   pub open_approaches : (before after : Closing E) (old new : Count) → before ≡ Open → after ≡ Open
       → (IsFinite old → IsFinite new × (size new < size old))

@@ -13,6 +13,11 @@ use Rattle.cold_flow.specs.declared.ends.collect.Gathering.{Gathering}
 use Rattle.cold_flow.specs.declared.ends.collect.Gathering.TheVariants.{Going, Done, Lacking}
 use Rattle.cold_flow.specs.Fold.{folded}
 
+-- A poll that comes once the run has ended, or was cancelled, asks no source: what was one is just as it was. A run whose source may be
+-- any can keep that only by not asking.
+abbrev pub Rests : {E S : Type 0} → Option (Cause E) → S → S → Type 0
+Rests {E} ended old new = (k : Cause E) → ended ≡ Some k → new ≡ old
+
 -- its last poll answered pending
 abbrev pub HasWaited : {R A E : Type 0} → (R → Poll (Event A E) → R → Type 0) → R → Type 0
 HasWaited {R} polled r = (before : R) × polled before Pending r

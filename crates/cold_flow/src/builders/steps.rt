@@ -4,6 +4,7 @@ ghost use Rattle.std.specs.Prelude.{◌≡◌, ◌||◌, [], None, Bool, false, 
 ghost use Rattle.std.specs.Iterator.{Count, endless, IsFinite};
 ghost use Rattle.cold_flow.specs.Trace.{Trace, so_far};
 ghost use Rattle.cold_flow.specs.Poll.{Narrows, Approaches, Unless};
+ghost use Rattle.cold_flow.specs.Polled.{Rests};
 ghost use Rattle.cold_flow.specs.Steps.{answer_of, StaysPrompt};
 
 use crate::builders::scripted::Step;
@@ -82,6 +83,8 @@ impl<E: Copy, S: Steps<Fault = E>> Run for EndingRun<S, E> {
     ghost polls = { λ r. S.polls r.source };
 
     ghost prompt = { λ r. is_some r.ended || S.prompt r.source };
+
+    ghost polled = { λ old _ new. Rests old.ended old.source new.source };
 
     fn poll_next(&mut self, cx: &mut Context<'_>) -> Poll<Event<S::Item, E>> {
         if let Some(cause) = self.ended {

@@ -7,7 +7,8 @@ ghost use Rattle.cold_flow.specs.Poll.{Through, Makes, MakesExactly, IsWithinPol
 ghost use Rattle.cold_flow.specs.Laws.{Through-fixed};
 ghost use Rattle.cold_flow.specs.Finale.{with_finale, catching};
 ghost use Rattle.cold_flow.specs.FinaleLaws.{finale-monotone};
-ghost use Rattle.cold_flow.specs.Closing.{Following, given_cause, polls_left, and_one, is_open, is_prompt};
+ghost use Rattle.cold_flow.specs.Closing.{Following, given_cause, polls_left, and_one, is_open, is_prompt, answer};
+ghost use Rattle.cold_flow.specs.Polled.{Rests};
 
 use crate::apply::Apply;
 use crate::cause::Cause;
@@ -144,7 +145,7 @@ impl<T: Copy, E: Copy, S: Run<Item = T, Fault = E>, G: Apply<E, Out = Caught<T, 
 
     ghost prompt = { λ r. is_prompt r.closing (S.prompt r.source) };
 
-    ghost polled = { λ old answer new. OnPending answer (S.polled old.source Pending new.source) };
+    ghost polled = { λ old reply new. OnPending reply (S.polled old.source Pending new.source) × Rests (answer old.closing) old.source new.source };
 
     fn poll_next(&mut self, cx: &mut Context<'_>) -> Poll<Event<T, E>> {
         if let Some(cause) = self.closing.answer() {

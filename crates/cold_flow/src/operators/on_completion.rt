@@ -9,7 +9,8 @@ ghost use Rattle.cold_flow.specs.Poll.{Through, Makes, MakesExactly, Fixes, IsWi
 ghost use Rattle.cold_flow.specs.Laws.{Through-fixed};
 ghost use Rattle.cold_flow.specs.Finale.{with_finale, completing};
 ghost use Rattle.cold_flow.specs.FinaleLaws.{finale-monotone};
-ghost use Rattle.cold_flow.specs.Closing.{Following, given_cause, polls_left, and_one, is_open, is_prompt, is_after, told_cause};
+ghost use Rattle.cold_flow.specs.Closing.{Following, given_cause, polls_left, and_one, is_open, is_prompt, is_after, told_cause, answer};
+ghost use Rattle.cold_flow.specs.Polled.{Rests};
 
 use crate::apply::Apply;
 use crate::cause::Cause;
@@ -144,7 +145,7 @@ impl<T: Copy, E: Copy, S: Run<Item = T, Fault = E>, G: Apply<Cause<E>, Out = Opt
 
     ghost prompt = { λ r. is_prompt r.closing (S.prompt r.source) };
 
-    ghost polled = { λ old answer new. OnPending answer (S.polled old.source Pending new.source) };
+    ghost polled = { λ old reply new. OnPending reply (S.polled old.source Pending new.source) × Rests (answer old.closing) old.source new.source };
 
     fn poll_next(&mut self, cx: &mut Context<'_>) -> Poll<Event<T, E>> {
         if let Some(cause) = self.closing.answer() {

@@ -6,7 +6,8 @@ ghost use Rattle.futures.specs.declared.task.Poll.TheVariants.{Pending};
 ghost use Rattle.flow_terms.specs.declared.refusal.Refusal.TheVariants.{NotPositive};
 ghost use Rattle.cold_flow.specs.Trace.{take_trace};
 ghost use Rattle.cold_flow.specs.Poll.{Through, Makes, MakesExactly, IsWithinPolls};
-ghost use Rattle.cold_flow.specs.Closing.{Following, given_cause, polls_left, and_one, is_open, is_prompt};
+ghost use Rattle.cold_flow.specs.Closing.{Following, given_cause, polls_left, and_one, is_open, is_prompt, answer};
+ghost use Rattle.cold_flow.specs.Polled.{Rests};
 
 use crate::cause::Cause;
 use crate::event::Event;
@@ -102,7 +103,7 @@ impl<E: Copy, S: Run<Fault = E>> Run for TakenRun<S, E> {
 
     ghost prompt = { λ r. is_prompt r.closing (S.prompt r.source) };
 
-    ghost polled = { λ old answer new. OnPending answer (S.polled old.source Pending new.source) };
+    ghost polled = { λ old reply new. OnPending reply (S.polled old.source Pending new.source) × Rests (answer old.closing) old.source new.source };
 
     fn poll_next(&mut self, cx: &mut Context<'_>) -> Poll<Event<S::Item, E>> {
         if let Some(cause) = self.closing.answer() {

@@ -1,7 +1,7 @@
 use Rattle.std.proofs.Common.{◌≡◌, ◌∙◌, Some, None, sym, ap}
 use Rattle.cold_flow.specs.declared.operators.closing.Closing.TheVariants.{Open}
 use Rattle.cold_flow.specs.Closing.{answered}
-use Rattle.cold_flow.specs.ClosingLaws.{open_gave, open_approaches, open_closes, open_prompt}
+use Rattle.cold_flow.specs.ClosingLaws.{open_gave, open_approaches, open_closes, open_prompt, open_rests}
 use Rattle.cold_flow.specs.Finale.{completing, with_finale}
 use Rattle.cold_flow.specs.FinaleLaws.{finale_passes, finale_last, finale_ends, completing_last}
 use Rattle.cold_flow.specs.Laws.{Through-within}
@@ -75,3 +75,15 @@ returns-in-Pending-clause-prompt g c =
     let was = c.in_default.ensures.going in
     let is : c.answer.new.self ≡ Open = c.answer.ensures.closed ∙ ap answered was in
     open_prompt _ _ _ _ was is c.in-Pending.ensures.prompt
+
+pub returns-in-Ready-Value-clause-polled : goal.returns-in-Ready-Value-clause-polled
+returns-in-Ready-Value-clause-polled g c = (tt, open_rests _ _ _ c.in_default.ensures.going)
+
+pub returns-in-Some-last_value-clause-polled : goal.returns-in-Some-last_value-clause-polled
+returns-in-Some-last_value-clause-polled g c = (tt, open_rests _ _ _ c.in_default.ensures.going)
+
+pub returns-in_default-last_value-clause-polled : goal.returns-in_default-last_value-clause-polled
+returns-in_default-last_value-clause-polled g c = (tt, open_rests _ _ _ c.in_default.ensures.going)
+
+pub returns-in-Pending-clause-polled : goal.returns-in-Pending-clause-polled
+returns-in-Pending-clause-polled g c = (c.in-Pending.ensures.polled, open_rests _ _ _ c.in_default.ensures.going)

@@ -1,7 +1,7 @@
 use Rattle.std.proofs.Common.{◌≡◌, ◌∙◌, ap, arith, refl}
 use Rattle.cold_flow.specs.declared.operators.closing.Closing.TheVariants.{Open}
 use Rattle.cold_flow.specs.Closing.{answered, given_cause}
-use Rattle.cold_flow.specs.ClosingLaws.{open_gave, open_approaches, open_closes, open_prompt}
+use Rattle.cold_flow.specs.ClosingLaws.{open_gave, open_approaches, open_closes, open_prompt, open_rests}
 use Rattle.cold_flow.specs.Trace.{take_trace}
 use Rattle.cold_flow.specs.Laws.{Through-within}
 use Rattle.cold_flow.specs.TakeLaws.{take_more, take_last, take_ends}
@@ -103,3 +103,15 @@ invariant_of-self-in-Pending g c =
     let was = c.in_default.ensures.going in
     let is : c.answer.new.self ≡ Open = c.answer.ensures.closed ∙ ap answered was in
     record { positive = c.args.self.now.positive; stopped = rw is refl }
+
+pub returns-then-self-gt1-clause-polled : goal.returns-then-self-gt1-clause-polled
+returns-then-self-gt1-clause-polled g c = (tt, open_rests _ _ _ c.in_default.ensures.going)
+
+pub returns-else-self-gt1-clause-polled : goal.returns-else-self-gt1-clause-polled
+returns-else-self-gt1-clause-polled g c = (tt, open_rests _ _ _ c.in_default.ensures.going)
+
+pub returns-in-Ready-End-clause-polled : goal.returns-in-Ready-End-clause-polled
+returns-in-Ready-End-clause-polled g c = (tt, open_rests _ _ _ c.in_default.ensures.going)
+
+pub returns-in-Pending-clause-polled : goal.returns-in-Pending-clause-polled
+returns-in-Pending-clause-polled g c = (c.in-Pending.ensures.polled, open_rests _ _ _ c.in_default.ensures.going)
