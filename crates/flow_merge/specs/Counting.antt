@@ -3,7 +3,9 @@ use Rattle.std.specs.Prelude.{◌≡◌, ℕ, ◌+◌, ◌*◌, ◌<◌, ◌≤�
 use Rattle.std.proofs.Common.{arith}
 use Rattle.std.proofs.Math.Nat.{mul-le-mul_left}
 use Rattle.std.specs.Iterator.{Count, IsFinite, size, at_most, count_add, count_map, count_unless}
+use Rattle.cold_flow.specs.declared.cause.Cause.{Cause}
 use Rattle.cold_flow.specs.Poll.{IsWithinPolls}
+use Rattle.cold_flow.specs.Polled.{Rests}
 
 -- the polls that are left, and one for the end
 abbrev pub with_end : Count → Count
@@ -16,6 +18,10 @@ IsFewer old new = IsFinite old → IsFinite new × (size new < size old)
 -- a run that goes on has given no cause
 pub unended : {A : Type 0} (o : Option A) (k : A) → o ≡ None → o ≡ Some k → ⊥
 unended o k going gave = cc
+
+-- and its sources may have been asked
+pub going_rests : {E S : Type 0} (o : Option (Cause E)) (old new : S) → o ≡ None → Rests o old new
+going_rests o old new going k gave = absurd (unended o k going gave)
 
 both-true : (a b : Bool) → T a → T b → T (cond a b false)
 both-true true b h g = g

@@ -4,7 +4,7 @@ ghost use Rattle.std.specs.Prelude.{◌≡◌, ◌⊎◌, Option, None, IsSome, 
 ghost use Rattle.std.specs.Iterator.{count_add};
 ghost use Rattle.futures.specs.Poll.{OnPending};
 ghost use Rattle.futures.specs.Task.{IsArmed, Keeps};
-ghost use Rattle.cold_flow.specs.Polled.{IsNearer};
+ghost use Rattle.cold_flow.specs.Polled.{IsNearer, Rests};
 ghost use Rattle.cold_flow.specs.Poll.{Unless, Within, Fixes, IsWithinPolls};
 ghost use Rattle.flow_merge.specs.Asking.{Asks, AsksApproach};
 ghost use Rattle.flow_merge.specs.Combine.{MayCombine, OrFinished, combine_trace, result_of, answer_to, is_due, SideWaited, BothWaited};
@@ -120,7 +120,8 @@ impl<C: Copy, A: Run, B: Run<Fault = A::Fault>, G: Apply<(A::Item, B::Item), Out
     // Pending only where each side that has not finished answered so, or 64 answers gave nothing.
     ghost polled = { λ old answer new. OnPending answer (BothWaited A.polled B.polled new.left.finished new.right.finished new.left.run new.right.run
         ⊎ IsNearer 64 (count_add (side_polls old.left.finished (A.polls old.left.run)) (side_polls old.right.finished (B.polls old.right.run)))
-        (count_add (side_polls new.left.finished (A.polls new.left.run)) (side_polls new.right.finished (B.polls new.right.run)))) };
+        (count_add (side_polls new.left.finished (A.polls new.left.run)) (side_polls new.right.finished (B.polls new.right.run))))
+        × Rests old.ended old.left.run new.left.run × Rests old.ended old.right.run new.right.run };
 
     fn poll_next(&mut self, cx: &mut Context<'_>) -> Poll<Event<C, A::Fault>> {
         if let Some(cause) = self.ended {

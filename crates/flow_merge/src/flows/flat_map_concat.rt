@@ -3,7 +3,7 @@
 ghost use Rattle.std.specs.Prelude.{◌≡◌, ◌⊎◌, Option, None, IsSome, IsTrue, ◌&&◌};
 ghost use Rattle.futures.specs.Poll.{OnPending};
 ghost use Rattle.futures.specs.Task.{IsArmed, Keeps};
-ghost use Rattle.cold_flow.specs.Polled.{IsNearer};
+ghost use Rattle.cold_flow.specs.Polled.{IsNearer, Rests};
 ghost use Rattle.cold_flow.specs.Poll.{Unless, Within, IsWithinPolls};
 ghost use Rattle.std.specs.Iterator.{at_most, count_add};
 ghost use Rattle.flow_merge.specs.Asking.{Asks, AsksApproach, OnEnd, standing_stopped};
@@ -177,7 +177,8 @@ impl<
     // Pending only where the run that is to be asked answered so, or 64 answers gave nothing.
     ghost polled = { λ old answer new. OnPending answer (StandingWaited O.polled F.Running.polled new.outer new.inner
         ⊎ IsNearer 64 (count_add (rounds (O.polls old.outer) N.most) (standing_polls F.Running.polls old.inner))
-        (count_add (rounds (O.polls new.outer) N.most) (standing_polls F.Running.polls new.inner))) };
+        (count_add (rounds (O.polls new.outer) N.most) (standing_polls F.Running.polls new.inner)))
+        × Rests old.ended old.outer new.outer × Rests old.ended old.inner new.inner };
 
     fn poll_next(&mut self, cx: &mut Context<'_>) -> Poll<Event<B, E>> {
         if let Some(cause) = self.ended {

@@ -5,6 +5,7 @@ ghost use Rattle.std.specs.Iterator.{count_add};
 ghost use Rattle.futures.specs.Poll.{OnPending};
 ghost use Rattle.futures.specs.declared.task.Poll.TheVariants.{Pending};
 ghost use Rattle.cold_flow.specs.Poll.{Unless, Within, IsWithinPolls};
+ghost use Rattle.cold_flow.specs.Polled.{Rests};
 ghost use Rattle.flow_merge.specs.Zip.{MayZip, ZipsExactly};
 
 use cold_flow::{Apply, Cause, Event, Finite, Flow, Refusal, Run};
@@ -113,7 +114,8 @@ impl<C: Copy, A: Run, B: Run<Fault = A::Fault>, G: Apply<(A::Item, B::Item), Out
 
     // Pending only where the side that is to be asked answered so: the left while no value of it is held, then the right.
     ghost polled = { λ old answer new. OnPending answer (MatchOption new.held
-        (A.polled old.left Pending new.left) (λ _. B.polled old.right Pending new.right)) };
+        (A.polled old.left Pending new.left) (λ _. B.polled old.right Pending new.right))
+        × Rests old.ended old.left new.left × Rests old.ended old.right new.right };
 
     fn poll_next(&mut self, cx: &mut Context<'_>) -> Poll<Event<C, A::Fault>> {
         if let Some(cause) = self.ended {

@@ -1,5 +1,5 @@
 use Rattle.std.proofs.Common.{rules, inr}
-use Rattle.flow_merge.specs.Counting.{unended, after_question, after_wait, last_question, no_more_questions, enough_questions}
+use Rattle.flow_merge.specs.Counting.{unended, going_rests, after_question, after_wait, last_question, no_more_questions, enough_questions}
 use Rattle.flow_merge.specs.CombineLaws.{other_waited}
 use Rattle.flow_merge.proofs.flows.combine.CombinedRunRun.poll_next.Goals as goal
 
@@ -73,9 +73,19 @@ pub returns-clause-approaches : goal.returns-clause-approaches
 returns-clause-approaches g c =
     rw c.yield_now.ensures.pending (λ h. no_more_questions _ _ _ (c.turns.invariant.approaches h) c.turns-test.false)
 
+pub returns-in-Ready-Some-Value-clause-polled : goal.returns-in-Ready-Some-Value-clause-polled
+returns-in-Ready-Some-Value-clause-polled g c = (tt, going_rests _ _ _ c.turns.invariant.begun, going_rests _ _ _ c.turns.invariant.begun)
+
+pub returns-in-Ready-Some-End-clause-polled : goal.returns-in-Ready-Some-End-clause-polled
+returns-in-Ready-Some-End-clause-polled g c = (tt, going_rests _ _ _ c.turns.invariant.begun, going_rests _ _ _ c.turns.invariant.begun)
+
 pub returns-clause-polled : goal.returns-clause-polled
 returns-clause-polled g c =
-    rw c.yield_now.ensures.pending (inr (λ h. enough_questions _ _ _ (c.turns.invariant.approaches h) c.turns-test.false))
+    rw c.yield_now.ensures.pending (
+      inr (λ h. enough_questions _ _ _ (c.turns.invariant.approaches h) c.turns-test.false),
+      going_rests _ _ _ c.turns.invariant.begun,
+      going_rests _ _ _ c.turns.invariant.begun,
+    )
 
 -- A wrong body makes this false: so answered, it is refused at once.
 pub turns-smaller : goal.turns-smaller

@@ -1,5 +1,5 @@
 use Rattle.std.proofs.Common.{rules, ◌∙◌, inl, inr}
-use Rattle.flow_merge.specs.Counting.{unended, after_question, last_question, no_more_questions, enough_questions}
+use Rattle.flow_merge.specs.Counting.{unended, going_rests, after_question, last_question, no_more_questions, enough_questions}
 use Rattle.flow_merge.proofs.flows.flat_map_concat.ConcatenatedRunRun.poll_next.Goals as goal
 
 pub returns-in-Ready-Some-Value-clause-narrows : goal.returns-in-Ready-Some-Value-clause-narrows
@@ -37,8 +37,18 @@ pub returns-in-Pending-clause-approaches : goal.returns-in-Pending-clause-approa
 returns-in-Pending-clause-approaches g c =
     λ h. last_question _ _ _ _ (c.loop-asked.invariant.approaches h) c.in-Pending.ensures.approaches
 
+pub returns-in-Ready-Some-Value-clause-polled : goal.returns-in-Ready-Some-Value-clause-polled
+returns-in-Ready-Some-Value-clause-polled g c = (tt, going_rests _ _ _ c.loop-asked.invariant.begun, going_rests _ _ _ c.loop-asked.invariant.begun)
+
+pub returns-in-Ready-Some-End-clause-polled : goal.returns-in-Ready-Some-End-clause-polled
+returns-in-Ready-Some-End-clause-polled g c = (tt, going_rests _ _ _ c.loop-asked.invariant.begun, going_rests _ _ _ c.loop-asked.invariant.begun)
+
 pub returns-in-Pending-clause-polled : goal.returns-in-Pending-clause-polled
-returns-in-Pending-clause-polled g c = inl c.in-Pending.ensures.waits
+returns-in-Pending-clause-polled g c = (
+  inl c.in-Pending.ensures.waits,
+  going_rests _ _ _ c.loop-asked.invariant.begun,
+  going_rests _ _ _ c.loop-asked.invariant.begun,
+)
 
 pub loop-asked-preserved : goal.loop-asked-preserved
 loop-asked-preserved g c =
@@ -62,7 +72,11 @@ returns-clause-approaches g c =
 
 pub returns-clause-polled : goal.returns-clause-polled
 returns-clause-polled g c =
-    rw c.yield_now.ensures.pending (inr (λ h. enough_questions _ _ _ (c.loop-asked.invariant.approaches h) c.loop-asked-test.false))
+    rw c.yield_now.ensures.pending (
+      inr (λ h. enough_questions _ _ _ (c.loop-asked.invariant.approaches h) c.loop-asked-test.false),
+      going_rests _ _ _ c.loop-asked.invariant.begun,
+      going_rests _ _ _ c.loop-asked.invariant.begun,
+    )
 
 -- A wrong body makes this false: so answered, it is refused at once.
 pub returns-in-Ready-Some-End-clause-ends : goal.returns-in-Ready-Some-End-clause-ends
