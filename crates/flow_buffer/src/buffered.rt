@@ -6,11 +6,12 @@ ghost use Rattle.futures.specs.Task.{IsArmed, Keeps};
 ghost use Rattle.futures.specs.declared.task.Poll.TheVariants.{Ready, Pending as Waiting};
 ghost use Rattle.cold_flow.specs.declared.event.Event.TheVariants.{End};
 ghost use Rattle.cold_flow.specs.Poll.{Narrows, Within, end_of, after_cancel, Approaches, IsReady};
+ghost use Rattle.cold_flow.specs.Polled.{Rests};
 ghost use Rattle.flow_terms.specs.declared.fill.Fill.TheVariants.{Pending};
 ghost use Rattle.flow_buffer.specs.Buffered.{Fills, Takes, Cancels};
 ghost use Rattle.flow_buffer.specs.Contents.{Contents, taken_of, dropped_of};
 ghost use Rattle.flow_buffer.specs.Delivery.{StoreGives, store_polls};
-ghost use Rattle.flow_buffer.specs.Endings.{is_going, given};
+ghost use Rattle.flow_buffer.specs.Endings.{is_going, seen, given};
 ghost use Rattle.flow_buffer.specs.Sides.{saturated};
 ghost use Rattle.flow_buffer.specs.Stored.{Shows};
 
@@ -92,8 +93,8 @@ impl<S: Run> Run for Buffered<S> {
 
     ghost prompt = { λ r. S.prompt r.source };
 
-    // Pending only where the source answered so.
-    ghost polled = { λ old answer new. OnPending answer (S.polled old.source Waiting new.source) };
+    // Pending only where the source answered so. Once its end was seen, or the run was cancelled, it isn't asked.
+    ghost polled = { λ old answer new. OnPending answer (S.polled old.source Waiting new.source) × Rests (seen old.store.ending) old.source new.source };
 
     /// Gives the oldest held value without asking the source. Where none is held, it fills once and gives the value or the
     /// end that came; the end comes once none is held.
@@ -105,7 +106,7 @@ impl<S: Run> Run for Buffered<S> {
         ensures stays { (k : _) → given self.old.store.ending ≡ Some k → result ≡ Ready (End k) }
         ensures approaches { Approaches (store_polls self.old.store (S.polls self.old.source)) result (store_polls self.new.store (S.polls self.new.source)) }
         ensures prompt { IsTrue (S.prompt self.old.source) → IsReady result × IsTrue (S.prompt self.new.source) }
-        ensures polled { OnPending result (S.polled self.old.source Waiting self.new.source) }
+        ensures polled { OnPending result (S.polled self.old.source Waiting self.new.source) × Rests (seen self.old.store.ending) self.old.source self.new.source }
         ensures armed { OnPending result (IsArmed cx.new) }
         ensures kept { Keeps cx.old cx.new }
     {
