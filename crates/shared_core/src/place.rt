@@ -1,6 +1,6 @@
 //! The places of live subscriptions.
 
-ghost use Rattle.std.specs.Prelude.{◌≡◌, ◌+◌, ◌≤◌, ◌==◌, nat_lt, false, length, IsTrue, IfSome, IfNone, slice_get};
+ghost use Rattle.std.specs.Prelude.{if◌then◌else◌, ◌≡◌, ◌+◌, ◌≤◌, ◌==◌, nat_lt, false, length, IsTrue, IfSome, IfNone, slice_get};
 ghost use Rattle.std.specs.List.{list_any, list_all};
 ghost use Rattle.shared_core.specs.Rising.{Rises, StandsWithin};
 
@@ -11,9 +11,8 @@ pub const FEW: usize = 8;
 /// Among so few places each is looked at for a number.
 pub const LISTED: usize = 4;
 
-/// How many subscriptions are live: how they are looked at depends on it, and nothing else.
-//
 // Kept with them, since a loop over places that are known to be at most eight is written out eight times.
+/// How many subscriptions are live: how they are looked at depends on it, and nothing else.
 #[derive(Clone, Copy)]
 pub enum Crowd {
     /// At most `FEW`, of whom all are looked at.
@@ -24,7 +23,9 @@ pub enum Crowd {
 
 impl Crowd {
     /// That of so many.
-    pub fn of(count: usize) -> Crowd {
+    pub fn of(count: usize) -> Crowd
+        ensures { result ≡ (if nat_lt 8 count then Crowd.Many else Crowd.Few) }
+    {
         if count <= FEW {
             Crowd::Few
         } else {

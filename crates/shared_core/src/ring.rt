@@ -123,7 +123,7 @@ impl<T: Copy> Ring<T> {
         self.values.capacity() as u64
     }
 
-    /// How many subscriptions are live.
+    /// How many subscriptions are live, as far as it matters to how they are looked at.
     pub fn crowd(&self) -> Crowd {
         self.crowd
     }
@@ -144,9 +144,8 @@ impl<T: Copy> Ring<T> {
         }
     }
 
-    /// The same of many places in a full ring: it is known while the next number is below `room_until`.
-    //
     // Not inlined, so that an emission beside few subscriptions keeps its registers.
+    /// The same of many places in a full ring: it is known while the next number is below `room_until`.
     #[inline(never)]
     fn has_room_for_many(&mut self) -> bool
         requires { self.old.limit ≤ self.old.next_number }
@@ -226,9 +225,8 @@ impl<T: Copy> Ring<T> {
         self.find_with_gaps(number)
     }
 
-    /// The same among more than a few, where others between the first one and it may have gone.
-    //
     // Not inlined, so that a receipt without gaps keeps its registers.
+    /// The same among more than a few, where others between the first one and it may have gone.
     #[inline(never)]
     fn find_with_gaps(&self, number: u64) -> Option<usize>
         ensures found { IfSome result (λ i. (e : _) × (slice_get self.now.live i ≡ Some e) × (e.0 ≡ number)) }

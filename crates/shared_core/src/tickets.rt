@@ -92,9 +92,8 @@ fn out_listed<E: Copy>(out: &Queue<OutTicket<E>>, ticket: u64) -> Option<usize>
     None
 }
 
-/// Where the ticket with this number stands among those that are out, if it is none of the two oldest.
-//
 // Not inlined, so that a poll of one of the oldest keeps its registers.
+/// Where the ticket with this number stands among those that are out, if it is none of the two oldest.
 #[inline(never)]
 fn out_behind<E: Copy>(out: &Queue<OutTicket<E>>, ticket: u64) -> Option<usize>
     ensures found { IfSome result (λ i. (h : _) × (slice_get out.now.values i ≡ Some h) × (h.ticket ≡ ticket)) }

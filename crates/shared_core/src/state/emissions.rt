@@ -45,9 +45,8 @@ impl<T: Copy> SharedState<T> {
         self.ring.next_number() + self.waiting.len() as u64 == NUMBER_LIMIT
     }
 
-    /// What an emission comes to that begins now, beside so many.
-    //
     // Inlined, so that an emission is one function, and what follows each fate stands where it is known.
+    /// What an emission comes to that begins now, beside so many.
     #[inline(always)]
     fn fate(&mut self, crowd: Crowd) -> Fate
         ensures fate { HasFate self.old result }
@@ -192,13 +191,12 @@ impl<T: Copy> SharedState<T> {
         while self.accept_waiting() {}
     }
 
+    // Inlined wherever it is called, so that the answer needn't go through memory.
     /// Emits a value where that can be done at once: Kotlin's `tryEmit`, which answers true for `Accepted` and `Dropped`.
     ///
     /// `Full` where the emission would have to wait, and wherever somebody is live in a flow without places. Refused as `Spent`
     /// where the numbers below 2^62 are used up, with one for each emission that waits. The emitter's number has no part in the
     /// answer: the flow keeps it only with an emission that waits.
-    //
-    // Inlined wherever it is called, so that the answer needn't go through memory.
     #[inline(always)]
     pub fn try_emit(&mut self, emitter: u32, value: T) -> Result<Tried<u64>, Refusal>
         ensures { Follows (calls.try_emit emitter value) self.old result self.new }
@@ -213,9 +211,8 @@ impl<T: Copy> SharedState<T> {
         Ok(self.try_with(fate, emitter, value))
     }
 
-    /// The same beside many subscriptions.
-    //
     // Not inlined, so that an emission beside few keeps its registers.
+    /// The same beside many subscriptions.
     #[inline(never)]
     fn try_beside_many(&mut self, emitter: u32, value: T) -> Tried<u64>
         requires { self.old.next_number + waiting_in self.old < number_limit }

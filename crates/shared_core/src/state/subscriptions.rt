@@ -39,13 +39,12 @@ impl<T: Copy> SharedState<T> {
         Ok(SubId(number))
     }
 
+    // Inlined wherever it is called, so that the answer needn't go through memory.
     /// Receives the oldest value that the subscription has pending: Kotlin's `collect`, for one value. Those of its prelude
     /// come first.
     ///
     /// `Nothing` where none is pending, and `Closed` where the subscription isn't live. After a value that isn't of the prelude,
     /// emissions that wait are accepted while there is room.
-    //
-    // Inlined wherever it is called, so that the answer needn't go through memory.
     #[inline(always)]
     pub fn next(&mut self, id: SubId) -> Next<T>
         ensures { Follows (calls.next_value id.0) self.old result self.new }
