@@ -43,13 +43,21 @@ class Shape {
     if (tag === "line") return (this.left + this.right) / 2;
     if (tag === "rect") return numberOf(markup, "x") + numberOf(markup, "width") / 2;
     if (tag === "circle") return numberOf(markup, "cx");
+    if (tag === "path") return this.start.x;
     return numberOf(markup, "x") - (look === "value" ? VALUE_SHIFT : 0);
   }
 
   get row() {
     const { markup, tag } = this;
     if (tag === "line") return rowAt((numberOf(markup, "y1") + numberOf(markup, "y2")) / 2);
+    if (tag === "path") return rowAt(this.start.y);
     return rowAt(numberOf(markup, tag === "circle" ? "cy" : "y"));
+  }
+
+  /** Where a path begins. */
+  get start() {
+    const [, x, y] = this.markup.match(/"M(\d+) (\d+)/);
+    return { x: Number(x), y: Number(y) };
   }
 
   /** How far a line reaches to both sides. */

@@ -67,6 +67,7 @@ function sentenceOn(cell) {
   if (looks.includes("lost")) return `lost ${value}${number}`;
   if (looks.includes("dropped")) return `dropped ${value}`;
   if (looks.includes("full")) return `was full: ${value} isn't emitted`;
+  if (looks.includes("path")) return `answers ${cell.turn?.answer ?? value} to a tick: it takes what its upstream gives, if anything`;
   if (looks.includes("before")) return `begins to wait with ${value}`;
   return `answers ${cell.turn?.answer ?? value}`;
 }

@@ -20,7 +20,7 @@ use Rattle.marble_marks.specs.Numbers.{finished_at, takes_place, late_marks, pla
 use Rattle.marble_marks.specs.Losses.{host_met, guest_met, value_met, lost_mark, lost_at, lost_by, loss_mark, losses_of}
 use Rattle.marble_marks.specs.Replies.{reply_of}
 use Rattle.marble_marks.specs.Turns.{Asked}
-use Rattle.marble_marks.specs.Happenings.{Event, event, if_made, emits, joins, asks, said, next_kind, ticket_kind, value_kind, try_kind, cancel_kind, set_kind, compare_kind}
+use Rattle.marble_marks.specs.Happenings.{Event, event, if_made, emits, joins, asks, said, next_kind, ticket_kind, value_kind, try_kind, cancel_kind, set_kind, compare_kind, tick_kind}
 use Rattle.marble_marks.specs.Marks.{Seen, seen, marks_at, marks_of, row_marks, line_kind, shown, shown_by, names_in, row_of}
 use Rattle.marble_marks.specs.Receipts.{Receipt, receipt, receipt_in, receipts_in, receipt_at, receipt_by, receipts_of, value_said}
 
@@ -95,6 +95,12 @@ none_compared names column answer name value replies.True = refl
 none_compared names column answer name value (replies.Bad reason) = refl
 none_compared names column answer name value _ = refl
 
+none_ticked : (names : List (List ℕ)) (column : ℕ) (answer name : List ℕ) (reply : Reply) → counted names column answer name (tick_kind reply) ≡ []
+none_ticked names column answer name replies.On = refl
+none_ticked names column answer name replies.Failed = refl
+none_ticked names column answer name (replies.Bad reason) = refl
+none_ticked names column answer name _ = refl
+
 asked_counted : (names : List (List ℕ)) (column : ℕ) (answer name : List ℕ) (request : Request) (reply : Reply) →
     counted names column answer name (asks request reply) ≡ wanted names column answer (Some (commands.ask name request)) reply
 asked_counted names column answer name requested.Next reply = next_counted names column answer name reply
@@ -109,7 +115,7 @@ asked_counted names column answer name requested.Value reply = none_held names c
 asked_counted names column answer name (requested.Try value) reply = none_tried names column answer name value reply
 asked_counted names column answer name (requested.Set value) reply = none_set names column answer name value reply
 asked_counted names column answer name (requested.CompareAndSet expect value) reply = none_compared names column answer name value reply
-asked_counted names column answer name (requested.Tick moment) reply = none_said names column answer name reply
+asked_counted names column answer name (requested.Tick moment) reply = none_ticked names column answer name reply
 
 order_counted : (names : List (List ℕ)) (column : ℕ) (answer : List ℕ) (order : Option Order) (reply : Reply) →
     received names column answer (shown_by order reply) ≡ wanted names column answer order reply

@@ -86,6 +86,12 @@ abbrev pub compare_kind : ℕ → Reply → Option Kind
 compare_kind value replies.True = Some (kinds.Set value)
 compare_kind value reply = said reply
 
+-- a tick that is answered `off` takes nothing
+abbrev pub tick_kind : Reply → Option Kind
+tick_kind replies.On = Some kinds.Ticked
+tick_kind replies.Failed = Some kinds.Ticked
+tick_kind reply = said reply
+
 abbrev pub asks : Request → Reply → Option Kind
 asks requested.Next reply = next_kind reply
 asks requested.Cancel reply = cancel_kind reply
@@ -99,7 +105,7 @@ asks requested.Value reply = value_kind reply
 asks (requested.Try value) reply = try_kind value reply
 asks (requested.Set value) reply = set_kind value reply
 asks (requested.CompareAndSet expect value) reply = compare_kind value reply
-asks (requested.Tick moment) reply = said reply
+asks (requested.Tick moment) reply = tick_kind reply
 
 -- WHAT A COMMAND WITH THIS REPLY SHOWS, and for whom
 abbrev pub happening_of : Order → Reply → Option Event

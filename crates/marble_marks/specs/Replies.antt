@@ -18,5 +18,7 @@ reply_of answers.Removed = replies.Removed
 reply_of answers.Left = replies.Left
 reply_of answers.Pending = replies.Pending
 reply_of (answers.Value value) = replies.Value value
+reply_of answers.On = replies.On
+reply_of (answers.Failed fault) = replies.Failed
 reply_of (answers.BadCommand line reason) = replies.Bad reason
 reply_of answer = replies.Other

@@ -3,7 +3,7 @@
 ghost use Rattle.std.specs.Prelude.{◌≡◌};
 ghost use Rattle.std.specs.Option.{option_map};
 ghost use Rattle.script_commands.specs.Commands.{order_of, made_in, joining_in};
-ghost use Rattle.marble_marks.specs.Happenings.{happening_in, happening_of as happening_by, row_made, joins, asks, next_kind, ticket_kind, try_kind, value_kind, said};
+ghost use Rattle.marble_marks.specs.Happenings.{happening_in, happening_of as happening_by, row_made, joins, asks, next_kind, ticket_kind, try_kind, value_kind, tick_kind, said};
 
 use crate::mark::{Kind, Row};
 use crate::reply::Reply;
@@ -125,6 +125,16 @@ fn try_kind(value: u64, reply: Reply) -> Option<Kind>
     }
 }
 
+/// What a tick shows. One that is answered `off` takes nothing.
+fn tick_kind(reply: Reply) -> Option<Kind>
+    ensures { result ≡ tick_kind reply }
+{
+    match reply {
+        Reply::On | Reply::Failed => Some(Kind::Ticked),
+        _ => said(reply),
+    }
+}
+
 /// What a request shows.
 fn asks(request: Request, reply: Reply) -> Option<Kind>
     ensures { result ≡ asks request reply }
@@ -134,6 +144,7 @@ fn asks(request: Request, reply: Reply) -> Option<Kind>
         Request::Poll | Request::Withdraw => ticket_kind(reply),
         Request::Value => value_kind(reply),
         Request::Try(value) => try_kind(value, reply),
+        Request::Tick(_) => tick_kind(reply),
         Request::Cancel => match reply {
             Reply::Ok => Some(Kind::Cancelled),
             _ => said(reply),

@@ -60,6 +60,8 @@ pub enum Kind {
     Left,
     /// A subscription or a collector ends.
     Cancelled,
+    /// A tick at which a flow or a state takes what its upstream gives, if anything.
+    Ticked,
     /// Another answer, as the text says it.
     Said,
 }

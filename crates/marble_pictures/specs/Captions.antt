@@ -30,6 +30,7 @@ sign kinds.Waiting = codes "?"
 sign (kinds.AcceptedBefore value) = codes "<"
 sign kinds.Nothing = codes "."
 sign kinds.Cancelled = codes "|"
+sign kinds.Ticked = codes ">"
 sign _ = []
 
 -- what a row is for
@@ -67,4 +68,5 @@ words_of kinds.Done text = plain_answer text
 words_of kinds.Removed text = plain_answer text
 words_of kinds.Left text = plain_answer text
 words_of kinds.Cancelled text = []
+words_of kinds.Ticked text = plain_answer text
 words_of kinds.Said text = plain_answer text

@@ -1,5 +1,5 @@
 -- READ THIS FIRST: what a picture in SVG is.
-use Rattle.std.specs.Prelude.{◌≡◌, ℕ, List, [], ◌∷◌, ◌++◌, Bool, true, false, map, codes, decimal, if◌then◌else◌}
+use Rattle.std.specs.Prelude.{◌≡◌, ℕ, List, [], ◌++◌, Bool, true, false, map, codes, decimal, if◌then◌else◌}
 use Rattle.std.specs.List.{flat_map}
 use Rattle.marble_marks.specs.declared.mark.Kind.{Kind}
 use Rattle.marble_marks.specs.declared.mark.Kind.TheVariants as kinds

@@ -160,7 +160,7 @@ frame_around frame half said at = (edge_text frame half at ++ strike_text frame.
 abbrev pub frame_text : Look → List ℕ → Place → List ℕ
 frame_text frame said at = frame_around frame (half_width said) said at
 
--- ---- marks without a frame
+-- ---- marks that aren't a frame alone
 
 -- the begin of the head of a line's column
 unfoldable pub heading_text : List ℕ → Place → List ℕ
@@ -204,6 +204,20 @@ abbrev pub begun_text : Row → ℕ → List ℕ → Place → List ℕ
 begun_text (rows.State value) step said at = value_text step said at
 begun_text _ step said at = bar_text at
 
+-- an arrowhead, whose point is here
+unfoldable pub arrow_text : Place → List ℕ
+arrow_text at = codes "<path d=\"M" ++ (decimal at.x ++ (codes " " ++ (decimal at.y ++ codes "l-5-8h10z\"/>\n")))
+
+-- the answer to a tick, with what a tick is
+abbrev pub ticked_words : List ℕ → Place → List ℕ
+ticked_words said at =
+    (opening_text (codes "framed") at ++ escaped said)
+    ++ codes "<title>a tick: the flow takes what its upstream gives, if anything</title></text>\n"
+
+-- a tick: its answer in a frame, and an arrowhead that points down at it
+abbrev pub ticked_text : List ℕ → Place → List ℕ
+ticked_text said at = (edge_text (look (codes "said") 2 strikes.None) (half_width said) at ++ arrow_text (up 12 at)) ++ ticked_words said (down 4 at)
+
 abbrev pub bare_text : Kind → List ℕ → ℕ → List ℕ → Place → List ℕ
 bare_text (kinds.Line number) line step said at = head_text line said at
 bare_text (kinds.Bad number reason) line step said at = crossed_head reason line (half_width said) said at
@@ -213,6 +227,7 @@ bare_text (kinds.Set value) line step said at = value_text step said at
 bare_text (kinds.Holds value) line step said at = value_text step said at
 bare_text (kinds.Begun row) line step said at = begun_text row step said at
 bare_text kinds.Cancelled line step said at = bar_text at
+bare_text kinds.Ticked line step said at = ticked_text said at
 bare_text _ line step said at = ring_text at
 
 abbrev pub symbol_by : Option Look → Kind → List ℕ → ℕ → List ℕ → Place → List ℕ

@@ -112,6 +112,7 @@ pub(crate) fn sign(kind: Kind) -> &'static str
         Kind::Begun(_) => "o",
         Kind::Nothing => ".",
         Kind::Cancelled => "|",
+        Kind::Ticked => ">",
         _ => "",
     }
 }
@@ -163,7 +164,9 @@ pub(crate) fn push_words(text: &mut String, mark: &Mark<'_>) -> Result<(), Alloc
             text.push_str(role(row))?;
             push_plain(text, mark.text)
         }
-        Kind::Done | Kind::Removed | Kind::Left | Kind::Said => push_answer(text, mark.text),
+        Kind::Done | Kind::Removed | Kind::Left | Kind::Ticked | Kind::Said => {
+            push_answer(text, mark.text)
+        }
         Kind::Begun(row) => push_begun(text, row),
         Kind::Nothing | Kind::Waiting | Kind::Cancelled => Ok(()),
     }
@@ -207,7 +210,9 @@ pub(crate) fn words_len(mark: &Mark<'_>) -> usize
         | Kind::Received(value) => digits(value),
         Kind::Number(number) => digits(number) + 1,
         Kind::Named(row) => role(row).len() + mark.text.len(),
-        Kind::Done | Kind::Removed | Kind::Left | Kind::Said => answer_len(mark.text),
+        Kind::Done | Kind::Removed | Kind::Left | Kind::Ticked | Kind::Said => {
+            answer_len(mark.text)
+        }
         Kind::Begun(row) => begun_len(row),
         Kind::Nothing | Kind::Waiting | Kind::Cancelled => 0,
     }

@@ -3,7 +3,7 @@
 ghost use Rattle.std.specs.Prelude.{◌≡◌, ◌<◌, ◌≤◌, ◌++◌, ◌∷◌, [], IfOk, OnOk, IsTrue, length, take, string_bytes};
 ghost use Rattle.std.specs.Option.{option_map};
 ghost use Rattle.marble_pictures.specs.Captions.{words_of};
-ghost use Rattle.marble_pictures.specs.Symbols.{escaped_byte, escaped, line_text, segment_text, opening_text, said_text, half_width, falling_text, rising_text, cross_text, left_wall, right_wall, walls_text, rect_text, look_in, begun_look, look_of, strike_text, edge_text, framed_text, frame_around, frame_text, heading_text, titled_text, head_at, head_text, why_text, bad_head_at, bad_head, crossed_head, bar_text, ring_text, value_text, begun_text, bare_text, symbol_by, symbol_text};
+ghost use Rattle.marble_pictures.specs.Symbols.{escaped_byte, escaped, line_text, segment_text, opening_text, said_text, half_width, falling_text, rising_text, cross_text, left_wall, right_wall, walls_text, rect_text, look_in, begun_look, look_of, strike_text, edge_text, framed_text, frame_around, frame_text, heading_text, titled_text, head_at, head_text, why_text, bad_head_at, bad_head, crossed_head, bar_text, ring_text, value_text, begun_text, arrow_text, ticked_words, ticked_text, bare_text, symbol_by, symbol_text};
 
 use crate::caption::{plain_byte, push_numbered, push_words};
 use crate::sheet::{CHARACTER, Sheet};
@@ -535,7 +535,42 @@ fn push_begun(
     }
 }
 
-/// Adds what a mark without a frame shows.
+/// Adds an arrowhead, whose point is here.
+#[tactic(auto, unfolding(crate::specs::Symbols::arrow_text))]
+fn push_arrow(picture: &mut String, at: Place) -> Result<(), AllocError>
+    ensures { OnOk result (string_bytes picture.new ≡ string_bytes picture.old ++ arrow_text at) }
+{
+    push_numbered(picture, "<path d=\"M", at.x)?;
+    push_numbered(picture, " ", at.y)?;
+    picture.push_str("l-5-8h10z\"/>\n")
+}
+
+/// Adds the answer to a tick, with what a tick is.
+fn push_ticked_words(picture: &mut String, said: &str, at: Place) -> Result<(), AllocError>
+    ensures { OnOk result (string_bytes picture.new ≡ string_bytes picture.old ++ ticked_words said.now at) }
+{
+    push_opening(picture, "framed", at)?;
+    push_escaped(picture, said.as_bytes())?;
+    picture.push_str(
+        "<title>a tick: the flow takes what its upstream gives, if anything</title></text>\n",
+    )
+}
+
+/// Adds a tick: its answer in a frame, and an arrowhead that points down at it.
+fn push_ticked(picture: &mut String, said: &str, at: Place) -> Result<(), AllocError>
+    ensures { OnOk result (string_bytes picture.new ≡ string_bytes picture.old ++ ticked_text said.now at) }
+{
+    let frame = Frame {
+        class: "said",
+        round: 2,
+        strike: Strike::None,
+    };
+    push_edge(picture, frame, half_width(said), at)?;
+    push_arrow(picture, at.up(12))?;
+    push_ticked_words(picture, said, at.down(4))
+}
+
+/// Adds what a mark shows that isn't a frame alone.
 fn push_bare(
     picture: &mut String,
     placed: &Placed<'_>,
@@ -558,6 +593,7 @@ fn push_bare(
         Kind::Set(_) | Kind::Holds(_) => push_value(picture, placed.step, said, at),
         Kind::Begun(row) => push_begun(picture, row, placed.step, said, at),
         Kind::Cancelled => push_bar(picture, at),
+        Kind::Ticked => push_ticked(picture, said, at),
         _ => push_ring(picture, at),
     }
 }
