@@ -5,7 +5,8 @@ use crate::fault::Fault;
 use crate::values::{fold_all, list_all};
 use crate::{merges, pending, sharing};
 use cold_flow::{
-    catch_with, distinct, drop_first, failing, filter, map, on_completion, range, take, transform,
+    Flow, catch_with, distinct, drop_first, failing, filter, map, on_completion, range, take,
+    transform,
 };
 use futures::task::{Doorbell, Solo};
 use std::alloc::{AllocGlobal, Global};
@@ -35,6 +36,15 @@ fn short_chain(
     )
 }
 
+/// Three operators over these values.
+fn seldom_of<F>(task: &Solo, digest: &mut Digest, values: F, amount: u64) -> Result<(), Fault>
+where
+    F: Flow<Item = u64, Fault = u64>,
+{
+    let few = filter(map(values, Adds(amount)), IsSeldom);
+    fold_all(task, digest, take(few, u32::MAX)?)
+}
+
 /// Six operators over a range.
 fn long_chain(
     task: &Solo,
@@ -44,9 +54,7 @@ fn long_chain(
 ) -> Result<(), Fault> {
     let from = random.next() >> 20;
     let numbers = drop_first(range::<u64>(from, from.saturating_add(values)), 1000);
-    let halves = distinct(map(numbers, Halves));
-    let few = filter(map(halves, Adds(random.next())), IsSeldom);
-    fold_all(task, digest, take(few, u32::MAX)?)
+    seldom_of(task, digest, distinct(map(numbers, Halves)), random.next())
 }
 
 /// Two values for each of a range, and a last one.
@@ -115,18 +123,31 @@ fn of_one_source(
     Ok(())
 }
 
+/// Chains, flows of several sources, and shared ones.
+fn run_in<R>(
+    rt: &R,
+    task: &Solo,
+    random: &mut Random,
+    digest: &mut Digest,
+    scale: Scale,
+) -> Result<(), Fault>
+where
+    R: AllocGlobal + RandomSource + Wait,
+{
+    let alloc = rt.alloc();
+    of_one_source(alloc, task, random, digest, scale)?;
+    merges::run(alloc, task, random, digest, scale)?;
+    pending::run(alloc, task, random, digest, scale)?;
+    sharing::run(rt, task, random, digest, scale)
+}
+
 /// Runs each chain.
 pub(crate) fn run<R>(rt: &R, seed: u64, scale: Scale) -> Result<Digest, Fault>
 where
     R: AllocGlobal + RandomSource + Wait,
 {
-    let mut random = Random::new(seed);
     let mut digest = Digest::new();
-    let alloc = rt.alloc();
     let task = Solo::new(rt, Doorbell::spinning())?;
-    of_one_source(alloc, &task, &mut random, &mut digest, scale)?;
-    merges::run(alloc, &task, &mut random, &mut digest, scale)?;
-    pending::run(alloc, &task, &mut random, &mut digest, scale)?;
-    sharing::run(rt, &task, &mut random, &mut digest, scale)?;
+    run_in(rt, &task, &mut Random::new(seed), &mut digest, scale)?;
     Ok(digest)
 }

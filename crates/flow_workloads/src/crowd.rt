@@ -1,5 +1,6 @@
 //! The subscriptions of a shared flow on one thread, who come and go.
 
+use crate::edge_calls::{subscribe, subscribe_all};
 use crate::fault::Fault;
 use crate::tally::{Rest, cancelled, rested, subscribed};
 use shared_core::{Next, SharedState, SubId};
@@ -20,11 +21,9 @@ impl Crowd {
         digest: &mut Digest,
         count: u32,
     ) -> Result<Crowd, Fault> {
-        let mut ids = Vec::new(alloc);
-        for _ in 0..count {
-            let id = flow.subscribe()?;
-            subscribed(digest, id);
-            ids.push(id)?;
+        let ids = subscribe_all(alloc, flow, count)?;
+        for id in &ids {
+            subscribed(digest, *id);
         }
         Ok(Crowd { ids })
     }
@@ -69,7 +68,7 @@ impl Crowd {
         }
         let place = random.below(count) as usize;
         cancelled(digest, flow.cancel(self.ids[place]));
-        let id = flow.subscribe()?;
+        let id = subscribe(flow)?;
         subscribed(digest, id);
         self.ids[place] = id;
         Ok(())
@@ -82,17 +81,30 @@ impl Crowd {
         flow: &mut SharedState<u64>,
         digest: &mut Digest,
     ) -> Result<(), Fault> {
-        let mut left = Vec::new(alloc);
-        for (place, id) in self.ids.iter().enumerate() {
-            if place % 2 == 0 {
-                cancelled(digest, flow.cancel(*id));
-            } else {
-                left.push(*id)?;
-            }
-        }
-        self.ids = left;
+        leave_every_second(flow, &self.ids, digest);
+        self.ids = without_every_second(alloc, &self.ids)?;
         Ok(())
     }
+}
+
+/// The first of these goes, and every second one after it.
+fn leave_every_second(flow: &mut SharedState<u64>, ids: &[SubId], digest: &mut Digest) {
+    for (place, id) in ids.iter().enumerate() {
+        if place % 2 == 0 {
+            cancelled(digest, flow.cancel(*id));
+        }
+    }
+}
+
+/// The others.
+fn without_every_second(alloc: Global, ids: &[SubId]) -> Result<Vec<SubId>, Fault> {
+    let mut left = Vec::new(alloc);
+    for (place, id) in ids.iter().enumerate() {
+        if place % 2 != 0 {
+            left.push(*id)?;
+        }
+    }
+    Ok(left)
 }
 
 /// A subscription takes what is there, at most so many values.

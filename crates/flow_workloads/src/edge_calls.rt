@@ -1,4 +1,4 @@
-//! Single calls on a shared flow on one thread, each of which stays a call.
+//! Single calls on a shared flow on one thread. Those that a case repeats stay calls.
 
 use crate::fault::Fault;
 use crate::tally::{begun, given, polled, tried};
@@ -18,6 +18,11 @@ pub(crate) fn config_of(extra: u64, subscribers: u32, emits: u32) -> Config {
     }
 }
 
+/// A new subscription.
+pub(crate) fn subscribe(flow: &mut SharedState<u64>) -> Result<SubId, Fault> {
+    Ok(flow.subscribe()?)
+}
+
 /// So many new subscriptions.
 pub(crate) fn subscribe_all(
     alloc: Global,
@@ -26,7 +31,7 @@ pub(crate) fn subscribe_all(
 ) -> Result<Vec<SubId>, Fault> {
     let mut ids = Vec::new(alloc);
     for _ in 0..count {
-        ids.push(flow.subscribe()?)?;
+        ids.push(subscribe(flow)?)?;
     }
     Ok(ids)
 }
@@ -72,8 +77,8 @@ pub(crate) fn take_at(flow: &mut SharedState<u64>, ids: &[SubId], at: usize, dig
 }
 
 /// Starts an emission. Gives its ticket, where it waits.
-#[inline(never)]
-pub(crate) fn begin(
+#[inline]
+pub(crate) fn start(
     flow: &mut SharedState<u64>,
     value: u64,
     digest: &mut Digest,
@@ -84,6 +89,16 @@ pub(crate) fn begin(
         Begun::Waiting(ticket) => Ok(Some(ticket)),
         Begun::Accepted(_) | Begun::Dropped => Ok(None),
     }
+}
+
+/// The same, by a call.
+#[inline(never)]
+pub(crate) fn begin(
+    flow: &mut SharedState<u64>,
+    value: u64,
+    digest: &mut Digest,
+) -> Result<Option<Ticket>, Fault> {
+    start(flow, value, digest)
 }
 
 /// Asks for an emission.

@@ -8,57 +8,96 @@ use shared_core::{Config, Policy, SharedState};
 use std::alloc::Global;
 use workload_inputs::{Digest, Random, Scale};
 
-/// A loop of a user interface: how many subscriptions its flow has, by which policy, and how many rounds it makes.
+/// What goes on on a flow.
+#[derive(Clone, Copy)]
+enum Plot {
+    /// Each burst is taken by most.
+    Bursts,
+    /// The same, where every second subscription has gone at first, so that their numbers have gaps.
+    Thinned,
+    /// Emissions wait for a slow subscription.
+    Tickets,
+}
+
+/// A loop of a user interface: what goes on on its flow, how many subscriptions and tickets there are, by which policy, and
+/// how many rounds it makes.
 #[derive(Clone, Copy)]
 struct Loop {
+    plot: Plot,
     subscriptions: u32,
+    tickets: u32,
     policy: Policy,
     rounds: u64,
 }
 
-const LOOPS: [Loop; 7] = [
+const LOOPS: [Loop; 9] = [
     Loop {
+        plot: Plot::Bursts,
         subscriptions: 1,
+        tickets: 1,
         policy: Policy::Suspend,
         rounds: 100_000,
     },
     Loop {
+        plot: Plot::Bursts,
         subscriptions: 1,
+        tickets: 1,
         policy: Policy::DropOldest,
         rounds: 100_000,
     },
     Loop {
+        plot: Plot::Bursts,
         subscriptions: 8,
+        tickets: 1,
         policy: Policy::Suspend,
         rounds: 40_000,
     },
     Loop {
+        plot: Plot::Bursts,
         subscriptions: 8,
+        tickets: 1,
         policy: Policy::DropOldest,
         rounds: 40_000,
     },
     Loop {
+        plot: Plot::Bursts,
         subscriptions: 8,
+        tickets: 1,
         policy: Policy::DropLatest,
         rounds: 40_000,
     },
     Loop {
+        plot: Plot::Bursts,
         subscriptions: 200,
+        tickets: 1,
         policy: Policy::Suspend,
         rounds: 1_000,
     },
     Loop {
+        plot: Plot::Bursts,
         subscriptions: 200,
+        tickets: 1,
         policy: Policy::DropOldest,
         rounds: 1_000,
     },
+    Loop {
+        plot: Plot::Thinned,
+        subscriptions: 1024,
+        tickets: 1,
+        policy: Policy::DropOldest,
+        rounds: 60,
+    },
+    Loop {
+        plot: Plot::Tickets,
+        subscriptions: tickets::SUBSCRIPTIONS,
+        tickets: tickets::TICKETS,
+        policy: Policy::Suspend,
+        rounds: 600,
+    },
 ];
 
-/// How many rounds are made with very many subscriptions, whose numbers have gaps.
-const CROWDED_ROUNDS: u64 = 60;
-
 /// What a flow with so many subscriptions is made with. It keeps 16 values for newcomers.
-pub(crate) fn config_of(subscribers: u32, emits: u32, policy: Policy) -> Config {
+fn config_of(subscribers: u32, emits: u32, policy: Policy) -> Config {
     Config {
         replay: 16,
         extra: 48,
@@ -104,38 +143,50 @@ fn rounds(
     Ok(())
 }
 
-/// The rounds of one loop, on a new flow.
-fn run_loop(
-    alloc: Global,
-    each: Loop,
-    random: &mut Random,
-    digest: &mut Digest,
-    scale: Scale,
-) -> Result<(), Fault> {
-    let config = config_of(each.subscriptions, 1, each.policy);
-    let mut flow = SharedState::new(alloc, config)?;
-    let mut crowd = Crowd::of(alloc, &mut flow, digest, each.subscriptions)?;
-    rounds(&mut flow, &mut crowd, random, digest, scale.of(each.rounds))
-}
+impl Loop {
+    /// Its rounds, on a flow with this crowd.
+    fn play(
+        self,
+        alloc: Global,
+        flow: &mut SharedState<u64>,
+        crowd: &mut Crowd,
+        (random, digest): (&mut Random, &mut Digest),
+        count: u64,
+    ) -> Result<(), Fault> {
+        match self.plot {
+            Plot::Bursts => rounds(flow, crowd, random, digest, count),
+            Plot::Thinned => {
+                crowd.thin_out(alloc, flow, digest)?;
+                rounds(flow, crowd, random, digest, count)
+            }
+            Plot::Tickets => tickets::rounds(alloc, flow, crowd, (random, digest), count),
+        }
+    }
 
-/// Rounds of a flow with very many subscriptions, of which every second one has gone.
-fn run_crowded(
-    alloc: Global,
-    random: &mut Random,
-    digest: &mut Digest,
-    scale: Scale,
-) -> Result<(), Fault> {
-    let config = config_of(1024, 1, Policy::DropOldest);
-    let mut flow = SharedState::new(alloc, config)?;
-    let mut crowd = Crowd::of(alloc, &mut flow, digest, 1024)?;
-    crowd.thin_out(alloc, &mut flow, digest)?;
-    rounds(
-        &mut flow,
-        &mut crowd,
-        random,
-        digest,
-        scale.of(CROWDED_ROUNDS),
-    )
+    /// Its subscriptions come, and its rounds are made.
+    fn begin(
+        self,
+        alloc: Global,
+        flow: &mut SharedState<u64>,
+        (random, digest): (&mut Random, &mut Digest),
+        count: u64,
+    ) -> Result<(), Fault> {
+        let mut crowd = Crowd::of(alloc, flow, digest, self.subscriptions)?;
+        self.play(alloc, flow, &mut crowd, (random, digest), count)
+    }
+
+    /// The same on a new flow.
+    fn run(
+        self,
+        alloc: Global,
+        random: &mut Random,
+        digest: &mut Digest,
+        scale: Scale,
+    ) -> Result<(), Fault> {
+        let config = config_of(self.subscriptions, self.tickets, self.policy);
+        let mut flow = SharedState::new(alloc, config)?;
+        self.begin(alloc, &mut flow, (random, digest), scale.of(self.rounds))
+    }
 }
 
 /// Runs each loop.
@@ -143,9 +194,7 @@ pub(crate) fn run(alloc: Global, seed: u64, scale: Scale) -> Result<Digest, Faul
     let mut random = Random::new(seed);
     let mut digest = Digest::new();
     for each in LOOPS {
-        run_loop(alloc, each, &mut random, &mut digest, scale)?;
+        each.run(alloc, &mut random, &mut digest, scale)?;
     }
-    run_crowded(alloc, &mut random, &mut digest, scale)?;
-    tickets::run(alloc, &mut random, &mut digest, scale)?;
     Ok(digest)
 }

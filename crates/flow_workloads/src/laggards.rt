@@ -1,63 +1,73 @@
 //! Slow subscriptions among many.
 
-use crate::edge_calls::{attempt, attempt_all, config_of, subscribe_all, take};
+use crate::edge_calls::{attempt, attempt_all, subscribe_all, take};
 use crate::fault::Fault;
-use shared_core::SharedState;
+use shared_core::{SharedState, SubId};
 use std::alloc::Global;
 use workload_inputs::Digest;
 
-/// The most places that a flow may have.
-const MOST_PLACES: u64 = 65_536;
+/// How many places a flow of theirs has, the most that one may have.
+const PLACES: u64 = 65_536;
 
 /// How many values the slow ones take in each round. The others take none, so that they have room for as many.
 const VALUES: u64 = 60_000;
 
-/// The first of so many subscriptions has one place free before each emission, and the others, who came later, have room.
-pub(crate) fn one(alloc: Global, value: u64, count: u32, rounds: u64) -> Result<Digest, Fault> {
-    let mut digest = Digest::new();
-    for _ in 0..rounds {
-        beside_one(alloc, value, count, &mut digest)?;
-    }
-    Ok(digest)
+/// The others come once there is one place free, and have room for more.
+fn join_others(
+    alloc: Global,
+    flow: &mut SharedState<u64>,
+    value: u64,
+    count: u32,
+    digest: &mut Digest,
+) -> Result<(), Fault> {
+    attempt_all(flow, value, digest, PLACES - 1)?;
+    drop(subscribe_all(alloc, flow, count)?);
+    Ok(())
 }
 
-fn beside_one(alloc: Global, value: u64, count: u32, digest: &mut Digest) -> Result<(), Fault> {
-    let mut flow = SharedState::new(alloc, config_of(MOST_PLACES, count, 1))?;
-    let slow = flow.subscribe()?;
-    attempt_all(&mut flow, value, digest, MOST_PLACES - 1)?;
-    let _others = subscribe_all(alloc, &mut flow, count.saturating_sub(1))?;
+/// The first of so many subscriptions has one place free before each emission, and the others, who came later, have room.
+pub(crate) fn one(
+    alloc: Global,
+    flow: &mut SharedState<u64>,
+    ids: &[SubId],
+    (value, count): (u64, u32),
+    digest: &mut Digest,
+) -> Result<(), Fault> {
+    let [slow] = ids else {
+        return Ok(());
+    };
+    let slow = *slow;
+    join_others(alloc, flow, value, count.saturating_sub(1), digest)?;
     for _ in 0..VALUES {
-        attempt(&mut flow, value, digest)?;
-        take(&mut flow, slow, digest);
+        attempt(flow, value, digest)?;
+        take(flow, slow, digest);
     }
     Ok(())
 }
 
 /// Two of 1,024 have no place free after an emission, and take a value by turns, with a try after the first.
-pub(crate) fn two(alloc: Global, value: u64, rounds: u64) -> Result<Digest, Fault> {
-    let mut digest = Digest::new();
-    for _ in 0..rounds {
-        beside_two(alloc, value, &mut digest)?;
-    }
-    Ok(digest)
-}
-
-fn beside_two(alloc: Global, value: u64, digest: &mut Digest) -> Result<(), Fault> {
-    let mut flow = SharedState::new(alloc, config_of(MOST_PLACES, 1024, 1))?;
-    let one = flow.subscribe()?;
-    let other = flow.subscribe()?;
-    attempt_all(&mut flow, value, digest, MOST_PLACES - 1)?;
-    let _others = subscribe_all(alloc, &mut flow, 1022)?;
+pub(crate) fn two(
+    alloc: Global,
+    flow: &mut SharedState<u64>,
+    ids: &[SubId],
+    value: u64,
+    digest: &mut Digest,
+) -> Result<(), Fault> {
+    let [one, other] = ids else {
+        return Ok(());
+    };
+    let (one, other) = (*one, *other);
+    join_others(alloc, flow, value, 1022, digest)?;
     for turn in 0..VALUES {
-        attempt(&mut flow, value, digest)?;
+        attempt(flow, value, digest)?;
         let (first, second) = if turn % 2 == 0 {
             (one, other)
         } else {
             (other, one)
         };
-        take(&mut flow, first, digest);
-        attempt(&mut flow, value, digest)?;
-        take(&mut flow, second, digest);
+        take(flow, first, digest);
+        attempt(flow, value, digest)?;
+        take(flow, second, digest);
     }
     Ok(())
 }

@@ -1,57 +1,57 @@
 //! Subscriptions and tickets that are looked for where others are gone.
 
-use crate::edge_calls::{ask, attempt, attempt_all, begin, config_of, subscribe_all, take_at};
+use crate::edge_calls::{ask, attempt, attempt_all, begin, take_at};
 use crate::fault::Fault;
 use crate::tally::{cancelled, withdrawn};
-use shared_core::{SharedState, Ticket};
+use shared_core::{SharedState, SubId, Ticket};
 use std::alloc::Global;
 use workload_inputs::Digest;
 
 /// How many values are there to be taken, in each round of `front_gap`.
 const VALUES: u64 = 60_000;
 
-/// Of 1,024 the second one has gone. The third, fifth, seventh and ninth take what is there, the last of these first.
-pub(crate) fn front_gap(alloc: Global, value: u64, rounds: u64) -> Result<Digest, Fault> {
-    let mut digest = Digest::new();
-    for _ in 0..rounds {
-        take_behind_gap(alloc, value, &mut digest)?;
-    }
-    Ok(digest)
-}
-
-fn take_behind_gap(alloc: Global, value: u64, digest: &mut Digest) -> Result<(), Fault> {
-    let mut flow = SharedState::new(alloc, config_of(65_536, 1024, 1))?;
-    let ids = subscribe_all(alloc, &mut flow, 1024)?;
-    if let Some(id) = ids.get(1) {
+/// The subscription at this place goes.
+fn leave_at(flow: &mut SharedState<u64>, ids: &[SubId], at: usize, digest: &mut Digest) {
+    if let Some(id) = ids.get(at) {
         cancelled(digest, flow.cancel(*id));
     }
-    attempt_all(&mut flow, value, digest, VALUES)?;
+}
+
+/// Of 1,024 the second one has gone. The third, fifth, seventh and ninth take what is there, the last of these first.
+pub(crate) fn front_gap(
+    flow: &mut SharedState<u64>,
+    ids: &[SubId],
+    value: u64,
+    digest: &mut Digest,
+) -> Result<(), Fault> {
+    leave_at(flow, ids, 1, digest);
+    attempt_all(flow, value, digest, VALUES)?;
     for _ in 0..VALUES {
-        take_at(&mut flow, &ids, 8, digest);
-        take_at(&mut flow, &ids, 6, digest);
-        take_at(&mut flow, &ids, 4, digest);
-        take_at(&mut flow, &ids, 2, digest);
+        take_at(flow, ids, 8, digest);
+        take_at(flow, ids, 6, digest);
+        take_at(flow, ids, 4, digest);
+        take_at(flow, ids, 2, digest);
     }
     Ok(())
 }
 
 /// Of ten three are left, who take each value, the last of them first.
-pub(crate) fn gaps(alloc: Global, value: u64, rounds: u64) -> Result<Digest, Fault> {
-    let mut digest = Digest::new();
-    let mut flow = SharedState::new(alloc, config_of(64, 10, 1))?;
-    let ids = subscribe_all(alloc, &mut flow, 10)?;
-    for (at, id) in ids.iter().enumerate() {
-        if at != 0 && at != 5 && at != 9 {
-            cancelled(&mut digest, flow.cancel(*id));
-        }
+pub(crate) fn gaps(
+    flow: &mut SharedState<u64>,
+    ids: &[SubId],
+    (value, rounds): (u64, u64),
+    digest: &mut Digest,
+) -> Result<(), Fault> {
+    for at in [1, 2, 3, 4, 6, 7, 8] {
+        leave_at(flow, ids, at, digest);
     }
     for _ in 0..rounds {
-        attempt(&mut flow, value, &mut digest)?;
-        take_at(&mut flow, &ids, 9, &mut digest);
-        take_at(&mut flow, &ids, 5, &mut digest);
-        take_at(&mut flow, &ids, 0, &mut digest);
+        attempt(flow, value, digest)?;
+        take_at(flow, ids, 9, digest);
+        take_at(flow, ids, 5, digest);
+        take_at(flow, ids, 0, digest);
     }
-    Ok(digest)
+    Ok(())
 }
 
 /// Starts so many emissions, and keeps the tickets of those that wait.
@@ -70,22 +70,34 @@ fn begin_all(
     Ok(())
 }
 
-/// Of 1,024 emissions that wait the 511 after the oldest were given up, and as many begun anew. The second oldest is asked for.
-pub(crate) fn front_tickets(alloc: Global, value: u64, rounds: u64) -> Result<Digest, Fault> {
-    let mut digest = Digest::new();
-    let mut flow = SharedState::new(alloc, config_of(1, 1, 1024))?;
-    let _slow = flow.subscribe()?;
-    attempt(&mut flow, value, &mut digest)?;
-    let mut tickets = Vec::new(alloc);
-    begin_all(&mut flow, &mut tickets, value, &mut digest, 1024)?;
+/// Of 1,024 emissions that wait the 511 after the oldest are given up, and as many begun anew.
+fn open_gap(
+    flow: &mut SharedState<u64>,
+    tickets: &mut Vec<Ticket>,
+    value: u64,
+    digest: &mut Digest,
+) -> Result<(), Fault> {
+    attempt(flow, value, digest)?;
+    begin_all(flow, tickets, value, digest, 1024)?;
     for ticket in tickets.iter().skip(1).take(511) {
-        withdrawn(&mut digest, flow.cancel_emit(*ticket));
+        withdrawn(digest, flow.cancel_emit(*ticket));
     }
-    begin_all(&mut flow, &mut tickets, value, &mut digest, 511)?;
+    begin_all(flow, tickets, value, digest, 511)
+}
+
+/// The second oldest of 1,024 emissions that wait, behind a gap, is asked for. One subscription takes nothing.
+pub(crate) fn front_tickets(
+    alloc: Global,
+    flow: &mut SharedState<u64>,
+    (value, rounds): (u64, u64),
+    digest: &mut Digest,
+) -> Result<(), Fault> {
+    let mut tickets = Vec::new(alloc);
+    open_gap(flow, &mut tickets, value, digest)?;
     if let Some(second) = tickets.get(512) {
         for _ in 0..rounds {
-            ask(&mut flow, *second, &mut digest);
+            ask(flow, *second, digest);
         }
     }
-    Ok(digest)
+    Ok(())
 }

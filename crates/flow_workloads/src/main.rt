@@ -42,10 +42,9 @@ use std::thread::Threads;
 use workload::{Order, Workload};
 use workload_inputs::Scale;
 
-/// What the words of a command line ask for, the first of which is the program's own name. Nothing, where there is no other.
-fn order_in(alloc: Global, words: &[String]) -> Result<Option<Order>, WordsFault> {
-    let plain = plain_words(alloc, words)?;
-    match plain.as_slice() {
+/// What these words ask for. Nothing, where there is none.
+fn order_of(words: &[&str]) -> Result<Option<Order>, WordsFault> {
+    match words {
         [] => Ok(None),
         [name, seed] => match Order::of(name, seed) {
             Some(order) => Ok(Some(order)),
@@ -53,6 +52,12 @@ fn order_in(alloc: Global, words: &[String]) -> Result<Option<Order>, WordsFault
         },
         [_] | [_, _, _, ..] => Err(WordsFault::Usage),
     }
+}
+
+/// What the words of a command line ask for, the first of which is the program's own name.
+fn order_in(alloc: Global, words: &[String]) -> Result<Option<Order>, WordsFault> {
+    let plain = plain_words(alloc, words)?;
+    order_of(plain.as_slice())
 }
 
 /// Runs a workload, and writes its digest.

@@ -1,72 +1,59 @@
-//! Flows with one place, with none, with nobody who listens, and where the oldest value makes way.
+//! Flows with one place, with none, and where the oldest value makes way.
 
-use crate::edge_calls::{ask, attempt, attempt_all, begin, config_of, subscribe_all, take};
+use crate::edge_calls::{ask, attempt, begin, take};
 use crate::fault::Fault;
-use shared_core::{Config, Policy, SharedState};
-use std::alloc::Global;
+use shared_core::{SharedState, SubId};
 use workload_inputs::Digest;
 
-/// A flow with one place, of which so many take each value.
-pub(crate) fn one_place(
-    alloc: Global,
-    value: u64,
-    count: u32,
-    rounds: u64,
-) -> Result<Digest, Fault> {
-    let mut digest = Digest::new();
-    let mut flow = SharedState::new(alloc, config_of(1, count, 1))?;
-    let ids = subscribe_all(alloc, &mut flow, count)?;
+/// Each takes each value.
+pub(crate) fn taken_by_all(
+    flow: &mut SharedState<u64>,
+    ids: &[SubId],
+    (value, rounds): (u64, u64),
+    digest: &mut Digest,
+) -> Result<(), Fault> {
     for _ in 0..rounds {
-        attempt(&mut flow, value, &mut digest)?;
-        for id in &ids {
-            take(&mut flow, *id, &mut digest);
+        attempt(flow, value, digest)?;
+        for id in ids {
+            take(flow, *id, digest);
         }
     }
-    Ok(digest)
+    Ok(())
 }
 
-/// A flow without places: an emission is begun, so many take it, and it is done.
+/// An emission is begun, each takes it, and it is done.
 pub(crate) fn hand_over(
-    alloc: Global,
-    value: u64,
-    count: u32,
-    rounds: u64,
-) -> Result<Digest, Fault> {
-    let mut digest = Digest::new();
-    let mut flow = SharedState::new(alloc, config_of(0, count, 1))?;
-    let ids = subscribe_all(alloc, &mut flow, count)?;
+    flow: &mut SharedState<u64>,
+    ids: &[SubId],
+    (value, rounds): (u64, u64),
+    digest: &mut Digest,
+) -> Result<(), Fault> {
     for _ in 0..rounds {
-        let waiting = begin(&mut flow, value, &mut digest)?;
-        for id in &ids {
-            take(&mut flow, *id, &mut digest);
+        let waiting = begin(flow, value, digest)?;
+        for id in ids {
+            take(flow, *id, digest);
         }
         if let Some(ticket) = waiting {
-            ask(&mut flow, ticket, &mut digest);
+            ask(flow, ticket, digest);
         }
     }
-    Ok(digest)
+    Ok(())
 }
 
-/// A flow that nobody listens to.
-pub(crate) fn nobody(alloc: Global, value: u64, rounds: u64) -> Result<Digest, Fault> {
-    let mut digest = Digest::new();
-    let mut flow = SharedState::new(alloc, config_of(64, 8, 1))?;
-    attempt_all(&mut flow, value, &mut digest, rounds)?;
-    Ok(digest)
-}
-
-/// A flow where the oldest value makes way, and one that takes each.
-pub(crate) fn oldest(alloc: Global, value: u64, rounds: u64) -> Result<Digest, Fault> {
-    let mut digest = Digest::new();
-    let config = Config {
-        policy: Policy::DropOldest,
-        ..config_of(64, 1, 1)
+/// One takes each value.
+pub(crate) fn oldest(
+    flow: &mut SharedState<u64>,
+    ids: &[SubId],
+    (value, rounds): (u64, u64),
+    digest: &mut Digest,
+) -> Result<(), Fault> {
+    let [id] = ids else {
+        return Ok(());
     };
-    let mut flow = SharedState::new(alloc, config)?;
-    let id = flow.subscribe()?;
+    let id = *id;
     for _ in 0..rounds {
-        attempt(&mut flow, value, &mut digest)?;
-        take(&mut flow, id, &mut digest);
+        attempt(flow, value, digest)?;
+        take(flow, id, digest);
     }
-    Ok(digest)
+    Ok(())
 }

@@ -15,7 +15,17 @@ const STEPS: u64 = 400_000;
 /// How many flows of each shape there are.
 const FLOWS: u64 = 5;
 
-/// A source of so many steps, every other one pending, that fails at its end where that is asked for.
+/// A step, every other one pending.
+#[inline]
+fn step(random: &mut Random) -> Step<u64, u64> {
+    if random.is_one_of(1, 2) {
+        Step::Pending
+    } else {
+        Step::Value(random.below(1000))
+    }
+}
+
+/// A source of so many steps that fails at its end where that is asked for.
 fn source(
     alloc: Global,
     random: &mut Random,
@@ -24,16 +34,50 @@ fn source(
 ) -> Result<Stepped<u64, u64>, Fault> {
     let mut script = Vec::new(alloc);
     for _ in 0..steps {
-        if random.is_one_of(1, 2) {
-            script.push(Step::Pending)?;
-        } else {
-            script.push(Step::Value(random.below(1000)))?;
-        }
+        script.push(step(random))?;
     }
     if fails {
         script.push(Step::Fail(random.next()))?;
     }
     Ok(scripted(script))
+}
+
+/// One source through two operators, listed.
+fn listed(
+    alloc: Global,
+    task: &Solo,
+    random: &mut Random,
+    digest: &mut Digest,
+    steps: u64,
+) -> Result<(), Fault> {
+    let plain = source(alloc, random, steps, true)?;
+    list_all(alloc, task, digest, distinct(map(plain, Adds(5))))
+}
+
+/// A source with a range, pair by pair.
+fn zipped(
+    alloc: Global,
+    task: &Solo,
+    random: &mut Random,
+    digest: &mut Digest,
+    steps: u64,
+) -> Result<(), Fault> {
+    let left = source(alloc, random, steps, false)?;
+    let right = filter(range::<u64>(0, steps), IsSeldom);
+    fold_all(task, digest, zip(left, right, Sum))
+}
+
+/// The latest values of two sources.
+fn combined(
+    alloc: Global,
+    task: &Solo,
+    random: &mut Random,
+    digest: &mut Digest,
+    steps: u64,
+) -> Result<(), Fault> {
+    let left = source(alloc, random, steps, false)?;
+    let right = source(alloc, random, steps, true)?;
+    fold_all(task, digest, combine(left, right, Sum))
 }
 
 /// Runs each flow.
@@ -46,14 +90,9 @@ pub(crate) fn run(
 ) -> Result<(), Fault> {
     let steps = scale.of(STEPS);
     for _ in 0..FLOWS {
-        let plain = source(alloc, random, steps, true)?;
-        list_all(alloc, task, digest, distinct(map(plain, Adds(5))))?;
-        let left = source(alloc, random, steps, false)?;
-        let right = filter(range::<u64>(0, steps), IsSeldom);
-        fold_all(task, digest, zip(left, right, Sum))?;
-        let left = source(alloc, random, steps, false)?;
-        let right = source(alloc, random, steps, true)?;
-        fold_all(task, digest, combine(left, right, Sum))?;
+        listed(alloc, task, random, digest, steps)?;
+        zipped(alloc, task, random, digest, steps)?;
+        combined(alloc, task, random, digest, steps)?;
     }
     Ok(())
 }

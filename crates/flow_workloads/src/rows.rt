@@ -6,8 +6,8 @@ use marble_pictures::text_picture;
 use std::alloc::Global;
 use workload_inputs::Digest;
 
-/// Very many rows of one mark each, in the order of the rows, in one strip.
-pub(crate) fn text_rows(alloc: Global, rows: u64) -> Result<Digest, Fault> {
+/// One mark for each of so many rows, in the order of the rows, in one strip.
+fn marks_of(alloc: Global, rows: u64) -> Result<Vec<Mark<'static>>, Fault> {
     let mut marks = Vec::new(alloc);
     for row in 0..rows as usize {
         marks.push(Mark {
@@ -17,7 +17,12 @@ pub(crate) fn text_rows(alloc: Global, rows: u64) -> Result<Digest, Fault> {
             text: b"",
         })?;
     }
-    let mut digest = Digest::new();
+    Ok(marks)
+}
+
+/// The picture of very many rows is taken in.
+pub(crate) fn text_rows(alloc: Global, rows: u64, digest: &mut Digest) -> Result<(), Fault> {
+    let mut marks = marks_of(alloc, rows)?;
     digest.bytes(text_picture(alloc, &mut marks)?.as_bytes());
-    Ok(digest)
+    Ok(())
 }

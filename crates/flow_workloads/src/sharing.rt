@@ -27,15 +27,21 @@ const PLACES: Config = Config {
     first: 0,
 };
 
-/// A source of so many values, now and then pending.
+/// A step, now and then pending.
+#[inline]
+fn step(random: &mut Random) -> Step<u64, u64> {
+    if random.is_one_of(1, 24) {
+        Step::Pending
+    } else {
+        Step::Value(random.next())
+    }
+}
+
+/// A source of so many steps.
 fn source(alloc: Global, random: &mut Random, steps: u64) -> Result<Stepped<u64, u64>, Fault> {
     let mut script = Vec::new(alloc);
     for _ in 0..steps {
-        if random.is_one_of(1, 24) {
-            script.push(Step::Pending)?;
-        } else {
-            script.push(Step::Value(random.next()))?;
-        }
+        script.push(step(random))?;
     }
     Ok(scripted(script))
 }
@@ -66,7 +72,40 @@ fn polled(digest: &mut Digest, poll: Polled) {
     digest.number(u64::from(poll.reset));
 }
 
-/// A visitor comes, receives for some polls, and goes. Some polls later the next may come.
+/// A poll, so much later.
+#[inline]
+fn poll<F: Flow<Item = u64, Fault = u64>>(
+    rt: &impl Wait,
+    sharing: &mut Sharing<u64, F>,
+    cx: &mut Context<'_>,
+    (now, later): (&mut u64, u64),
+    digest: &mut Digest,
+) -> Result<(), Refusal> {
+    *now = now.wrapping_add(later);
+    polled(digest, sharing.poll(rt, *now, cx)?);
+    Ok(())
+}
+
+/// A visitor receives for some polls.
+#[inline]
+fn stay<F: Flow<Item = u64, Fault = u64>>(
+    rt: &impl Wait,
+    subscription: &mut Subscription<u64>,
+    sharing: &mut Sharing<u64, F>,
+    cx: &mut Context<'_>,
+    (now, digest): (&mut u64, &mut Digest),
+) -> Result<(), Refusal> {
+    let mut refused = Ok(());
+    for _ in 0..STAY {
+        if let Err(refusal) = poll(rt, sharing, cx, (now, 7), digest) {
+            refused = Err(refusal);
+        }
+        take(subscription, digest);
+    }
+    refused
+}
+
+/// A visitor comes, receives, and goes. Some polls later the next may come.
 fn visit<F: Flow<Item = u64, Fault = u64>>(
     rt: &impl Wait,
     flow: &mut SharedFlow<u64>,
@@ -75,21 +114,12 @@ fn visit<F: Flow<Item = u64, Fault = u64>>(
     (now, digest): (&mut u64, &mut Digest),
 ) -> Result<(), Refusal> {
     let mut subscription = flow.subscribe(rt)?;
-    let mut refused = Ok(());
-    for _ in 0..STAY {
-        *now = now.wrapping_add(7);
-        match sharing.poll(rt, *now, cx) {
-            Ok(poll) => polled(digest, poll),
-            Err(refusal) => refused = Err(refusal),
-        }
-        take(&mut subscription, digest);
-    }
+    let stayed = stay(rt, &mut subscription, sharing, cx, (now, digest));
     subscription.cancel(rt);
     for _ in 0..3 {
-        *now = now.wrapping_add(9);
-        polled(digest, sharing.poll(rt, *now, cx)?);
+        poll(rt, sharing, cx, (now, 9), digest)?;
     }
-    refused
+    stayed
 }
 
 /// So many visits of one sharing.
@@ -107,27 +137,52 @@ fn visits<F: Flow<Item = u64, Fault = u64>>(
     Ok(())
 }
 
-/// A source shared into a flow.
-fn shared<R>(
-    rt: &R,
+/// So many visits in one task.
+fn visits_in<F: Flow<Item = u64, Fault = u64>>(
+    rt: &impl Wait,
     task: &Solo,
-    random: &mut Random,
-    digest: &mut Digest,
-    started: Started,
+    flow: &mut SharedFlow<u64>,
+    sharing: &mut Sharing<u64, F>,
+    (count, digest): (u64, &mut Digest),
+) -> Result<(), Refusal> {
+    let mut cx = task.begin();
+    let visited = visits(rt, flow, sharing, &mut cx, (count, digest));
+    cx.cancel();
+    visited
+}
+
+/// A source shared into a flow.
+fn share<R>(
+    rt: &R,
+    flow: &mut SharedFlow<u64>,
+    (task, started): (&Solo, Started),
+    (random, digest): (&mut Random, &mut Digest),
     count: u64,
 ) -> Result<(), Fault>
 where
     R: AllocGlobal + Wait,
 {
     let upstream = source(rt.alloc(), random, 3000)?;
-    let mut flow = SharedFlow::new(rt.alloc(), PLACES)?;
-    let mut sharing = share_in(rt, &mut flow, upstream, started)?;
-    let mut cx = task.begin();
-    let visited = visits(rt, &mut flow, &mut sharing, &mut cx, (count, digest));
-    cx.cancel();
+    let mut sharing = share_in(rt, flow, upstream, started)?;
+    let visited = visits_in(rt, task, flow, &mut sharing, (count, digest));
     closed(digest, sharing.close(rt));
     visited?;
     Ok(())
+}
+
+/// The same with a new flow.
+fn shared<R>(
+    rt: &R,
+    task: &Solo,
+    (random, digest): (&mut Random, &mut Digest),
+    started: Started,
+    count: u64,
+) -> Result<(), Fault>
+where
+    R: AllocGlobal + Wait,
+{
+    let mut flow = SharedFlow::new(rt.alloc(), PLACES)?;
+    share(rt, &mut flow, (task, started), (random, digest), count)
 }
 
 /// Shares sources by each kind of start.
@@ -155,7 +210,7 @@ where
         Started::Eagerly,
         Started::Lazily,
     ] {
-        shared(rt, task, random, digest, started, scale.of(VISITS))?;
+        shared(rt, task, (random, digest), started, scale.of(VISITS))?;
     }
     Ok(())
 }

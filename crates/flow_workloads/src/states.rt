@@ -3,7 +3,7 @@
 use crate::fault::Fault;
 use crate::tally::given;
 use state_flow::{Collector, StateFlow, StateSeat};
-use std::alloc::AllocGlobal;
+use std::alloc::{AllocGlobal, Global};
 use std::sync::Wait;
 use std::thread;
 use std::thread::Threads;
@@ -103,6 +103,21 @@ where
     Ok(seat.value())
 }
 
+/// Bursts on a new state.
+fn run_bursts(
+    alloc: Global,
+    random: &mut Random,
+    digest: &mut Digest,
+    count: u64,
+) -> Result<(), Fault> {
+    let mut seat = StateFlow::new(alloc, 0u64, COLLECTORS + 1)?;
+    let places = Vec::with_capacity(alloc, COLLECTORS as usize)?;
+    let mut collectors = collect_all(&mut seat, places, COLLECTORS);
+    bursts(&mut seat, &mut collectors, random, digest, count);
+    cancel_all(collectors);
+    Ok(())
+}
+
 /// Runs both.
 pub(crate) fn run<R>(
     rt: &R,
@@ -113,11 +128,7 @@ pub(crate) fn run<R>(
 where
     R: AllocGlobal + Threads + Wait + Sync,
 {
-    let mut seat = StateFlow::new(rt.alloc(), 0u64, COLLECTORS + 1)?;
-    let places = Vec::with_capacity(rt.alloc(), COLLECTORS as usize)?;
-    let mut collectors = collect_all(&mut seat, places, COLLECTORS);
-    bursts(&mut seat, &mut collectors, random, digest, scale.of(BURSTS));
-    cancel_all(collectors);
+    run_bursts(rt.alloc(), random, digest, scale.of(BURSTS))?;
     // A copy, so that what comes after has the same numbers whether or not this takes one.
     let mut ahead = *random;
     digest.number(counted(rt, ahead.next(), scale.of(COUNTS))?);

@@ -1,21 +1,18 @@
 //! A slow subscription, for whose sake hundreds of emissions wait, each of which is polled.
 
 use crate::crowd::Crowd;
-use crate::events::config_of;
+use crate::edge_calls::start;
 use crate::fault::Fault;
-use crate::tally::{begun, polled, withdrawn};
-use shared_core::{Begun, Emit, Policy, SharedState, Ticket};
+use crate::tally::{polled, withdrawn};
+use shared_core::{Emit, SharedState, Ticket};
 use std::alloc::Global;
-use workload_inputs::{Digest, Random, Scale};
-
-/// How many rounds are made.
-const ROUNDS: u64 = 600;
+use workload_inputs::{Digest, Random};
 
 /// How many tickets may be out.
-const TICKETS: u32 = 512;
+pub(crate) const TICKETS: u32 = 512;
 
 /// How many subscriptions there are, of which the first is slow.
-const SUBSCRIPTIONS: u32 = 32;
+pub(crate) const SUBSCRIPTIONS: u32 = 32;
 
 /// Starts emissions until so many tickets are out.
 fn fill_up(
@@ -28,9 +25,7 @@ fn fill_up(
         if tickets.len() >= TICKETS as usize {
             break;
         }
-        let began = flow.start_emit(0, random.next())?;
-        begun(digest, began);
-        if let Begun::Waiting(ticket) = began {
+        if let Some(ticket) = start(flow, random.next(), digest)? {
             tickets.push(ticket)?;
         }
     }
@@ -61,25 +56,28 @@ fn poll_all(
     Ok(())
 }
 
-/// Runs the rounds: emissions until no ticket is left, all but the slow one take what is there, and then it takes some.
-pub(crate) fn run(
+/// All but the slow one take what is there, and before them it takes some.
+fn take_all(flow: &mut SharedState<u64>, crowd: &Crowd, random: &mut Random, digest: &mut Digest) {
+    let slow = 1 + random.below(64);
+    crowd.take_at(flow, digest, (0, slow));
+    for place in 1..SUBSCRIPTIONS {
+        crowd.take_at(flow, digest, (place as usize, 64));
+    }
+}
+
+/// Rounds of emissions until no ticket is left, after which the subscriptions take what is there.
+pub(crate) fn rounds(
     alloc: Global,
-    random: &mut Random,
-    digest: &mut Digest,
-    scale: Scale,
+    flow: &mut SharedState<u64>,
+    crowd: &Crowd,
+    (random, digest): (&mut Random, &mut Digest),
+    count: u64,
 ) -> Result<(), Fault> {
-    let config = config_of(SUBSCRIPTIONS, TICKETS, Policy::Suspend);
-    let mut flow = SharedState::new(alloc, config)?;
-    let crowd = Crowd::of(alloc, &mut flow, digest, SUBSCRIPTIONS)?;
     let mut tickets = Vec::with_capacity(alloc, TICKETS as usize)?;
-    for _ in 0..scale.of(ROUNDS) {
-        fill_up(&mut flow, &mut tickets, random, digest)?;
-        let slow = 1 + random.below(64);
-        crowd.take_at(&mut flow, digest, (0, slow));
-        for place in 1..SUBSCRIPTIONS {
-            crowd.take_at(&mut flow, digest, (place as usize, 64));
-        }
-        poll_all(alloc, &mut flow, &mut tickets, random, digest)?;
+    for _ in 0..count {
+        fill_up(flow, &mut tickets, random, digest)?;
+        take_all(flow, crowd, random, digest);
+        poll_all(alloc, flow, &mut tickets, random, digest)?;
     }
     Ok(())
 }

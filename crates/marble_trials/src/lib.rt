@@ -6,6 +6,8 @@ mod made;
 #[cfg(test)]
 mod pictures;
 #[cfg(test)]
+mod same;
+#[cfg(test)]
 mod scripts;
 #[cfg(test)]
 mod start;

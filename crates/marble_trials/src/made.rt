@@ -51,6 +51,36 @@ pub(crate) fn reason(index: usize) -> Reason {
     }
 }
 
+/// What shows this number.
+fn numbered(code: usize, number: u64) -> Kind {
+    match code {
+        0 => Kind::Line(number),
+        4 => Kind::Accepted(number),
+        5 => Kind::AcceptedBefore(number),
+        6 => Kind::Number(number),
+        7 => Kind::Lost(number),
+        8 => Kind::Dropped(number),
+        9 => Kind::Full(number),
+        10 => Kind::Set(number),
+        11 => Kind::Holds(number),
+        _ => Kind::Received(number),
+    }
+}
+
+/// What shows no number.
+fn plain(code: usize) -> Kind {
+    match code {
+        13 => Kind::Nothing,
+        14 => Kind::Waiting,
+        15 => Kind::Done,
+        16 => Kind::Removed,
+        17 => Kind::Left,
+        18 => Kind::Cancelled,
+        19 => Kind::Ticked,
+        _ => Kind::Said,
+    }
+}
+
 /// Numbers without an order, by a linear congruence.
 #[derive(Clone, Copy)]
 pub(crate) struct Dice {
@@ -71,6 +101,11 @@ impl Dice {
         (self.state >> 33) as usize % limit.max(1)
     }
 
+    /// One of these, of which there is at least one.
+    fn one_of(&mut self, all: &[usize]) -> usize {
+        all.get(self.below(all.len())).copied().unwrap_or(1)
+    }
+
     fn number(&mut self) -> u64 {
         NUMBERS.get(self.below(NUMBERS.len())).copied().unwrap_or(0)
     }
@@ -88,26 +123,11 @@ impl Dice {
 
     /// What a mark shows that isn't a name.
     fn shown(&mut self) -> Kind {
-        match self.below(20) {
-            0 => Kind::Line(self.number()),
+        match self.below(21) {
             1 => Kind::Bad(self.number(), reason(self.below(6))),
             2 | 3 => Kind::Begun(self.row()),
-            4 => Kind::Accepted(self.number()),
-            5 => Kind::AcceptedBefore(self.number()),
-            6 => Kind::Number(self.number()),
-            7 => Kind::Lost(self.number()),
-            8 => Kind::Dropped(self.number()),
-            9 => Kind::Full(self.number()),
-            10 => Kind::Set(self.number()),
-            11 => Kind::Holds(self.number()),
-            12 => Kind::Received(self.number()),
-            13 => Kind::Nothing,
-            14 => Kind::Waiting,
-            15 => Kind::Done,
-            16 => Kind::Removed,
-            17 => Kind::Left,
-            18 => Kind::Cancelled,
-            _ => Kind::Said,
+            code if code < 13 => numbered(code, self.number()),
+            code => plain(code),
         }
     }
 
@@ -116,9 +136,18 @@ impl Dice {
     }
 }
 
+/// What lists of marks are made.
+#[derive(Clone, Copy)]
+pub(crate) enum Plan {
+    /// Up to 59 marks in a few rows.
+    Any,
+    /// Few marks in many rows, the last there can be among them, or in so many columns that most strips have none.
+    Sparse,
+}
+
 /// How a list of marks is made.
 #[derive(Clone, Copy)]
-struct Plan {
+struct Shape {
     marks: usize,
     columns: usize,
     rows: usize,
@@ -130,14 +159,11 @@ struct Plan {
     has_names_anywhere: bool,
 }
 
-impl Plan {
-    fn of(dice: &mut Dice) -> Plan {
-        Plan {
+impl Shape {
+    fn any(dice: &mut Dice) -> Shape {
+        Shape {
             marks: dice.below(60),
-            columns: [1, 2, 5, 20, 50, 150]
-                .get(dice.below(6))
-                .copied()
-                .unwrap_or(1),
+            columns: dice.one_of(&[1, 2, 5, 20, 50, 150]),
             rows: dice.below(12).saturating_add(1),
             first_row: 0,
             texts: dice.below(TEXTS.len()).saturating_add(1),
@@ -145,18 +171,17 @@ impl Plan {
         }
     }
 
-    /// Few marks in many rows, the last there can be among them, or in so many columns that most strips have none.
-    fn sparse(dice: &mut Dice) -> Plan {
+    fn sparse(dice: &mut Dice) -> Shape {
         let rows = dice.below(600).saturating_add(1);
-        Plan {
+        Shape {
             marks: dice.below(24),
-            columns: [3, 60, 300].get(dice.below(3)).copied().unwrap_or(1),
+            columns: dice.one_of(&[3, 60, 300]),
             rows,
-            first_row: match dice.below(3) {
-                0 => usize::MAX.saturating_sub(rows.saturating_sub(1)),
-                1 => usize::MAX / ROW,
-                _ => 0,
-            },
+            first_row: dice.one_of(&[
+                usize::MAX.saturating_sub(rows.saturating_sub(1)),
+                usize::MAX / ROW,
+                0,
+            ]),
             texts: dice.below(TEXTS.len()).saturating_add(1),
             has_names_anywhere: dice.below(3) == 0,
         }
@@ -186,22 +211,24 @@ impl Plan {
 }
 
 impl Plan {
+    fn shape(self, dice: &mut Dice) -> Shape {
+        match self {
+            Plan::Any => Shape::any(dice),
+            Plan::Sparse => Shape::sparse(dice),
+        }
+    }
+
     /// Marks by this plan.
-    fn marks(self, alloc: Global, dice: &mut Dice) -> Result<Vec<Mark<'static>>, AllocError> {
+    pub(crate) fn marks(
+        self,
+        alloc: Global,
+        dice: &mut Dice,
+    ) -> Result<Vec<Mark<'static>>, AllocError> {
+        let shape = self.shape(dice);
         let mut marks = Vec::new(alloc);
-        for _ in 0..self.marks {
-            marks.push(self.mark(dice))?;
+        for _ in 0..shape.marks {
+            marks.push(shape.mark(dice))?;
         }
         Ok(marks)
     }
-}
-
-/// Some marks.
-pub(crate) fn made(alloc: Global, dice: &mut Dice) -> Result<Vec<Mark<'static>>, AllocError> {
-    Plan::of(dice).marks(alloc, dice)
-}
-
-/// A few marks, far apart.
-pub(crate) fn sparse(alloc: Global, dice: &mut Dice) -> Result<Vec<Mark<'static>>, AllocError> {
-    Plan::sparse(dice).marks(alloc, dice)
 }

@@ -1,12 +1,15 @@
 //! Marks of many scripts with made answers, beside those of the first form.
 
 use crate::made::{Dice, reason};
+use crate::same::have_same_places;
+use crate::scripts::Piece::{Few, Host, Number, Other, Plain};
 use crate::start;
 use marble_marks::{Mark, Said, marks};
 use marble_pictures::svg_picture;
 use script_commands::{Answer, NameHash};
-use std::alloc::{AllocError, Global};
+use std::alloc::{AllocError, AllocGlobal, Global};
 use std::fmt::Write;
+use std::random::RandomSource;
 use std::test::Fail;
 
 /// How many scripts there are.
@@ -56,6 +59,9 @@ impl Made {
                 line: self.number,
                 reason: reason(self.value as usize),
             },
+            16 => Answer::On,
+            17 => Answer::Off,
+            18 => Answer::Failed(self.value),
             _ => Answer::Closed,
         }
     }
@@ -90,76 +96,178 @@ fn codes(kind: usize) -> &'static [usize] {
         9 => &[4, 5],
         10 => &[6, 7],
         13 => &[11],
+        17 => &[16, 16, 17, 18],
         _ => &[8],
     }
 }
 
+/// A part of a line.
+#[derive(Clone, Copy)]
+enum Piece {
+    Plain(&'static str),
+    Host,
+    /// A second name.
+    Other,
+    /// A number below 3.
+    Few,
+    /// A number below 4.
+    Number,
+}
+
+/// The line of each kind, the last of which is a comment.
+const LINES: &[&[Piece]] = &[
+    &[
+        Plain("shared "),
+        Host,
+        Plain(" "),
+        Few,
+        Plain(" "),
+        Number,
+        Plain(" oldest\n"),
+    ],
+    &[Plain("state "), Host, Plain(" "), Number, Plain("\n")],
+    &[
+        Plain("sub "),
+        Host,
+        Plain(" "),
+        Other,
+        Plain(" with "),
+        Few,
+        Plain(","),
+        Number,
+        Plain("\n"),
+    ],
+    &[Plain("collect "), Host, Plain(" "), Other, Plain("\n")],
+    &[Plain("try "), Host, Plain(" "), Number, Plain("\n")],
+    &[Plain("try "), Host, Plain(" "), Number, Plain("\n")],
+    &[
+        Plain("emit "),
+        Host,
+        Plain(" "),
+        Other,
+        Plain(" "),
+        Number,
+        Plain("\n"),
+    ],
+    &[Plain("next "), Host, Plain("\n")],
+    &[Plain("next "), Host, Plain("\n")],
+    &[Plain("poll "), Host, Plain("\n")],
+    &[Plain("withdraw "), Host, Plain("\n")],
+    &[Plain("cancel "), Host, Plain("\n")],
+    &[Plain("set "), Host, Plain(" "), Number, Plain("\n")],
+    &[
+        Plain("cas "),
+        Host,
+        Plain(" "),
+        Few,
+        Plain(" "),
+        Number,
+        Plain("\n"),
+    ],
+    &[Plain("reset "), Host, Plain("\n")],
+    &[Plain("sub "), Host, Plain(" "), Other, Plain("\n")],
+    &[Plain("value "), Host, Plain("\n")],
+    &[Plain("tick "), Host, Plain(" "), Number, Plain("\n")],
+    &[Plain("# "), Host, Plain("\n")],
+];
+
+/// What stands in a line for the pieces that aren't plain.
+#[derive(Clone, Copy)]
+struct Filling {
+    host: &'static str,
+    other: &'static str,
+    few: usize,
+    number: usize,
+}
+
+impl Filling {
+    fn new(dice: &mut Dice, size: Size) -> Filling {
+        Filling {
+            host: name(dice, size),
+            other: name(dice, size),
+            few: dice.below(3),
+            number: dice.below(4),
+        }
+    }
+
+    fn push_to(self, script: &mut String, piece: Piece) -> Result<(), AllocError> {
+        let number = match piece {
+            Plain(plain) => return script.push_str(plain),
+            Host => return script.push_str(self.host),
+            Other => return script.push_str(self.other),
+            Few => self.few,
+            Number => self.number,
+        };
+        write!(script, "{number}")
+    }
+}
+
+/// Adds these pieces.
+fn push_pieces(script: &mut String, filling: Filling, pieces: &[Piece]) -> Result<(), AllocError> {
+    for piece in pieces {
+        filling.push_to(script, *piece)?;
+    }
+    Ok(())
+}
+
 /// Adds a line of this kind.
-fn push_line(
-    script: &mut String,
-    dice: &mut Dice,
-    size: Size,
-    kind: usize,
-) -> Result<(), AllocError> {
-    let host = name(dice, size);
-    let other = name(dice, size);
-    let few = dice.below(3);
-    let number = dice.below(4);
-    match kind {
-        0 => write!(script, "shared {host} {few} {number} oldest\n"),
-        1 => write!(script, "state {host} {number}\n"),
-        2 => write!(script, "sub {host} {other} with {few},{number}\n"),
-        3 => write!(script, "collect {host} {other}\n"),
-        4 | 5 => write!(script, "try {host} {number}\n"),
-        6 => write!(script, "emit {host} {other} {number}\n"),
-        7 | 8 => write!(script, "next {host}\n"),
-        9 => write!(script, "poll {host}\n"),
-        10 => write!(script, "withdraw {host}\n"),
-        11 => write!(script, "cancel {host}\n"),
-        12 => write!(script, "set {host} {number}\n"),
-        13 => write!(script, "cas {host} {few} {number}\n"),
-        14 => write!(script, "reset {host}\n"),
-        15 => write!(script, "sub {host} {other}\n"),
-        16 => write!(script, "value {host}\n"),
-        _ => write!(script, "# {host}\n"),
+fn push_line(script: &mut String, filling: Filling, kind: usize) -> Result<(), AllocError> {
+    match LINES.get(kind) {
+        Some(line) => push_pieces(script, filling, line),
+        None => Ok(()),
+    }
+}
+
+/// A code of an answer for a line of this kind, mostly a usual one.
+fn code_for(dice: &mut Dice, kind: usize) -> usize {
+    let usual = codes(kind);
+    if dice.below(8) == 0 {
+        dice.below(19)
+    } else {
+        usual.get(dice.below(usual.len())).copied().unwrap_or(0)
+    }
+}
+
+/// The answer to this line, of this kind, where it has one.
+fn answer_for(dice: &mut Dice, line: usize, kind: usize) -> Option<Made> {
+    let code = code_for(dice, kind);
+    if kind < 18 && dice.below(12) > 0 {
+        Some(Made {
+            number: (line as u64).saturating_add(1),
+            code,
+            value: dice.below(9) as u64,
+        })
+    } else {
+        None
+    }
+}
+
+impl Answered {
+    /// Adds a line, and its answer, where it has one.
+    fn push_line(&mut self, dice: &mut Dice, size: Size, line: usize) -> Result<(), AllocError> {
+        let kind = dice.below(19);
+        push_line(&mut self.script, Filling::new(dice, size), kind)?;
+        if let Some(made) = answer_for(dice, line, kind) {
+            self.answers.push(made)?;
+        }
+        Ok(())
     }
 }
 
 /// A script with answers.
 fn make_answered(alloc: Global, dice: &mut Dice, size: Size) -> Result<Answered, AllocError> {
-    let mut script = String::new(alloc);
-    let mut answers = Vec::new(alloc);
     let count = match size {
         Size::Short => dice.below(80),
         Size::Long => dice.below(200).saturating_add(400),
     };
+    let mut made = Answered {
+        script: String::new(alloc),
+        answers: Vec::new(alloc),
+    };
     for line in 0..count {
-        let kind = dice.below(18);
-        push_line(&mut script, dice, size, kind)?;
-        let usual = codes(kind);
-        let code = if dice.below(8) == 0 {
-            dice.below(16)
-        } else {
-            usual.get(dice.below(usual.len())).copied().unwrap_or(0)
-        };
-        if kind < 17 && dice.below(12) > 0 {
-            answers.push(Made {
-                number: (line as u64).saturating_add(1),
-                code,
-                value: dice.below(9) as u64,
-            })?;
-        }
+        made.push_line(dice, size, line)?;
     }
-    Ok(Answered { script, answers })
-}
-
-/// Whether two lists have marks of the same places and texts in the same order.
-fn have_same_places(ones: &[Mark<'_>], others: &[Mark<'_>]) -> bool {
-    let mut same = ones.len() == others.len();
-    for (one, other) in ones.iter().zip(others) {
-        same = same && one.column == other.column && one.row == other.row && one.text == other.text;
-    }
-    same
+    Ok(made)
 }
 
 /// The answers, for the marks as they are made now.
@@ -180,40 +288,82 @@ fn said_first(alloc: Global, answers: &[Made]) -> Result<Vec<start::Said>, Alloc
     Ok(said)
 }
 
-/// Whether both forms make the same marks of a script, in the same order.
-fn have_same_marks(alloc: Global, hash: NameHash, made: &Answered) -> Result<bool, AllocError> {
-    let script = made.script.as_bytes();
+/// Whether two lists of marks, which are put in the order of their rows, give the same picture.
+fn have_same_picture(
+    alloc: Global,
+    ones: &mut Vec<Mark<'_>>,
+    others: &mut Vec<Mark<'_>>,
+) -> Result<bool, AllocError> {
+    let one = svg_picture(alloc, ones)?;
+    let other = svg_picture(alloc, others)?;
+    Ok(one.as_str() == other.as_str())
+}
+
+/// Whether two lists have the same marks in the same order.
+fn are_same(
+    alloc: Global,
+    ones: &mut Vec<Mark<'_>>,
+    others: &mut Vec<Mark<'_>>,
+) -> Result<bool, AllocError> {
+    let same = have_same_places(ones, others);
+    Ok(same && have_same_picture(alloc, ones, others)?)
+}
+
+/// Whether both forms make the same marks of a script, in the same order, with these answers.
+fn have_same_marks(
+    alloc: Global,
+    hash: NameHash,
+    script: &[u8],
+    ones_said: &[Said],
+    others_said: &[start::Said],
+) -> Result<bool, AllocError> {
     if script.len() > 1048576 {
         return Ok(false);
     }
+    let mut ones = marks(alloc, hash, script, ones_said)?;
+    let mut others = start::marks(alloc, script, others_said)?;
+    are_same(alloc, &mut ones, &mut others)
+}
+
+/// Whether both forms make the same marks of a script with its answers.
+fn is_same(alloc: Global, hash: NameHash, made: &Answered) -> Result<bool, AllocError> {
     let ones_said = said_now(alloc, &made.answers)?;
     let others_said = said_first(alloc, &made.answers)?;
-    let mut ones = marks(alloc, hash, script, &ones_said)?;
-    let mut others = start::marks(alloc, script, &others_said)?;
-    let same = have_same_places(&ones, &others);
-    let one = svg_picture(alloc, &mut ones)?;
-    let other = svg_picture(alloc, &mut others)?;
-    Ok(same && one.as_str() == other.as_str())
+    have_same_marks(
+        alloc,
+        hash,
+        made.script.as_bytes(),
+        &ones_said,
+        &others_said,
+    )
+}
+
+/// The first of so many scripts of which both forms don't make the same marks.
+fn first_other<R>(rt: &R, size: Size, count: u64) -> Result<Option<u64>, AllocError>
+where
+    R: AllocGlobal + RandomSource,
+{
+    for seed in 0..count {
+        let made = make_answered(rt.alloc(), &mut Dice::new(seed), size)?;
+        if !is_same(rt.alloc(), NameHash::new(rt), &made)? {
+            return Ok(Some(seed));
+        }
+    }
+    Ok(None)
 }
 
 /// Marks are what they were.
 #[test]
 fn marks_are_what_they_were(rt: HostRuntime) -> Result<(), Fail> {
-    for seed in 0..SCRIPTS {
-        let made = make_answered(rt.alloc(), &mut Dice::new(seed), Size::Short)?;
-        let same = have_same_marks(rt.alloc(), NameHash::new(&rt), &made)?;
-        assert!(rt; same, "script {seed}");
-    }
+    let other = first_other(&rt, Size::Short, SCRIPTS)?;
+    assert_eq!(rt; other, None);
     Ok(())
 }
 
 /// Marks of long scripts with many names are what they were.
 #[test]
 fn marks_of_many_names_are_what_they_were(rt: HostRuntime) -> Result<(), Fail> {
-    for seed in 0..LONG_SCRIPTS {
-        let made = make_answered(rt.alloc(), &mut Dice::new(seed), Size::Long)?;
-        let same = have_same_marks(rt.alloc(), NameHash::new(&rt), &made)?;
-        assert!(rt; same, "script {seed}");
-    }
+    let other = first_other(&rt, Size::Long, LONG_SCRIPTS)?;
+    assert_eq!(rt; other, None);
     Ok(())
 }

@@ -68,6 +68,7 @@ pub(crate) fn sign(kind: Kind) -> &'static str {
         Kind::Begun(_) => "o",
         Kind::Nothing => ".",
         Kind::Cancelled => "|",
+        Kind::Ticked => ">",
         _ => "",
     }
 }
@@ -110,7 +111,9 @@ fn push_words(text: &mut String, mark: &Mark<'_>) -> Result<(), AllocError> {
             text.push_str(role(row))?;
             push_plain(text, mark.text)
         }
-        Kind::Done | Kind::Removed | Kind::Left | Kind::Said => push_answer(text, mark.text),
+        Kind::Done | Kind::Removed | Kind::Left | Kind::Ticked | Kind::Said => {
+            push_answer(text, mark.text)
+        }
         Kind::Begun(row) => push_begun(text, row),
         Kind::Nothing | Kind::Waiting | Kind::Cancelled => Ok(()),
     }

@@ -106,6 +106,14 @@ fn try_kind(value: u64, reply: Reply) -> Option<Kind> {
     }
 }
 
+/// What a tick shows. One that is answered `off` takes nothing.
+fn tick_kind(reply: Reply) -> Option<Kind> {
+    match reply {
+        Reply::On | Reply::Failed => Some(Kind::Ticked),
+        _ => said(reply),
+    }
+}
+
 /// What a request shows.
 fn asks(request: Request, reply: Reply) -> Option<Kind> {
     match request {
@@ -113,6 +121,7 @@ fn asks(request: Request, reply: Reply) -> Option<Kind> {
         Request::Poll | Request::Withdraw => ticket_kind(reply),
         Request::Value => value_kind(reply),
         Request::Try(value) => try_kind(value, reply),
+        Request::Tick(_) => tick_kind(reply),
         Request::Cancel => match reply {
             Reply::Ok => Some(Kind::Cancelled),
             _ => said(reply),

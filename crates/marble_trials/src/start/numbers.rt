@@ -117,7 +117,7 @@ fn add_numbers_on(
     for act in all {
         if takes_place(all, name, act.deed) {
             add_place(marks, all, row, number, *act)?;
-            number += 1;
+            number = number.saturating_add(1);
         }
     }
     Ok(())

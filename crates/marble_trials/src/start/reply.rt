@@ -19,6 +19,10 @@ pub(crate) enum Reply {
     Left,
     Pending,
     Value(u64),
+    /// A source is being collected.
+    On,
+    /// A source has failed.
+    Failed,
     /// The line is a bad command, for this reason.
     Bad(Reason),
     /// Something else.
@@ -40,6 +44,8 @@ impl Reply {
             Answer::Left => Reply::Left,
             Answer::Pending => Reply::Pending,
             Answer::Value(value) => Reply::Value(*value),
+            Answer::On => Reply::On,
+            Answer::Failed(_) => Reply::Failed,
             Answer::BadCommand { reason, .. } => Reply::Bad(*reason),
             _ => Reply::Other,
         }

@@ -1,12 +1,13 @@
 //! What marks look like.
 
 use crate::start::caption::{caption, plain_byte};
+use crate::start::piece::Piece::{Number, Text};
+use crate::start::piece::push_pieces;
 use crate::start::sheet::{CHARACTER, Sheet};
 use crate::start::steps::{LOWEST, Place};
 use marble_marks::{Kind, Mark, Row};
 use script_commands::Reason;
 use std::alloc::{AllocError, Global};
-use std::fmt::Write;
 
 /// A line from one place to another.
 #[derive(Clone, Copy)]
@@ -71,11 +72,21 @@ pub(crate) fn push_escaped(picture: &mut String, bytes: &[u8]) -> Result<(), All
 
 /// Adds a line.
 fn push_line(picture: &mut String, class: &str, from: Place, to: Place) -> Result<(), AllocError> {
-    let Place { x: x1, y: y1 } = from;
-    let Place { x: x2, y: y2 } = to;
-    write!(
+    push_pieces(
         picture,
-        "<line class=\"{class}\" x1=\"{x1}\" y1=\"{y1}\" x2=\"{x2}\" y2=\"{y2}\"/>\n"
+        &[
+            Text("<line class=\""),
+            Text(class),
+            Text("\" x1=\""),
+            Number(from.x),
+            Text("\" y1=\""),
+            Number(from.y),
+            Text("\" x2=\""),
+            Number(to.x),
+            Text("\" y2=\""),
+            Number(to.y),
+            Text("\"/>\n"),
+        ],
     )
 }
 
@@ -88,8 +99,18 @@ impl Segment {
 
 /// Adds the begin of a text at this place.
 fn push_opening(picture: &mut String, class: &str, at: Place) -> Result<(), AllocError> {
-    let Place { x, y } = at;
-    write!(picture, "<text class=\"{class}\" x=\"{x}\" y=\"{y}\">")
+    push_pieces(
+        picture,
+        &[
+            Text("<text class=\""),
+            Text(class),
+            Text("\" x=\""),
+            Number(at.x),
+            Text("\" y=\""),
+            Number(at.y),
+            Text("\">"),
+        ],
+    )
 }
 
 /// Adds a text at this place.
@@ -140,10 +161,21 @@ fn push_rect(
     width: usize,
     round: usize,
 ) -> Result<(), AllocError> {
-    let Place { x, y } = corner;
-    write!(
+    push_pieces(
         picture,
-        "<rect class=\"{class}\" x=\"{x}\" y=\"{y}\" width=\"{width}\" height=\"22\" rx=\"{round}\"/>\n"
+        &[
+            Text("<rect class=\""),
+            Text(class),
+            Text("\" x=\""),
+            Number(corner.x),
+            Text("\" y=\""),
+            Number(corner.y),
+            Text("\" width=\""),
+            Number(width),
+            Text("\" height=\"22\" rx=\""),
+            Number(round),
+            Text("\"/>\n"),
+        ],
     )
 }
 
@@ -207,11 +239,8 @@ fn push_frame(picture: &mut String, frame: Frame, said: &str, at: Place) -> Resu
 
 /// Adds the begin of the head of a line's column.
 fn push_heading(picture: &mut String, said: &str, at: Place) -> Result<(), AllocError> {
-    let Place { x, y } = at;
-    write!(
-        picture,
-        "<text class=\"head\" x=\"{x}\" y=\"{y}\">{said}<title>"
-    )
+    push_opening(picture, "head", at)?;
+    push_pieces(picture, &[Text(said), Text("<title>")])
 }
 
 /// Adds the head of a line's column, with the line's text to it, at this place.
@@ -243,8 +272,14 @@ fn push_crossed_head(
     push_cross(picture, at, half)?;
     push_heading(picture, said, at.down(4))?;
     push_escaped(picture, line)?;
-    let why = reason.sentence();
-    write!(picture, "&#10;bad command: {why}</title></text>\n")
+    push_pieces(
+        picture,
+        &[
+            Text("&#10;bad command: "),
+            Text(reason.sentence()),
+            Text("</title></text>\n"),
+        ],
+    )
 }
 
 /// The frame of the begin of a row, where it has one.
@@ -309,8 +344,16 @@ fn push_bar(picture: &mut String, at: Place) -> Result<(), AllocError> {
 
 /// Adds a small ring.
 fn push_ring(picture: &mut String, at: Place) -> Result<(), AllocError> {
-    let Place { x, y } = at;
-    write!(picture, "<circle cx=\"{x}\" cy=\"{y}\" r=\"4\"/>\n")
+    push_pieces(
+        picture,
+        &[
+            Text("<circle cx=\""),
+            Number(at.x),
+            Text("\" cy=\""),
+            Number(at.y),
+            Text("\" r=\"4\"/>\n"),
+        ],
+    )
 }
 
 /// Adds a value of a state, so many steps above its lowest.
@@ -333,7 +376,24 @@ fn push_begun(
     }
 }
 
-/// Adds what a mark without a frame shows.
+/// Adds a tick: its answer in a frame, with what a tick is, and an arrowhead that points down at it.
+fn push_ticked(picture: &mut String, said: &str, at: Place) -> Result<(), AllocError> {
+    let frame = Frame {
+        class: "said",
+        round: 2,
+        strike: Strike::None,
+    };
+    push_edge(picture, frame, half_width(said), at)?;
+    let Place { x, y } = at.up(12);
+    write!(picture, "<path d=\"M{x} {y}l-5-8h10z\"/>\n")?;
+    push_opening(picture, "framed", at.down(4))?;
+    push_escaped(picture, said.as_bytes())?;
+    picture.push_str(
+        "<title>a tick: the flow takes what its upstream gives, if anything</title></text>\n",
+    )
+}
+
+/// Adds what a mark shows that isn't a frame alone.
 fn push_bare(
     picture: &mut String,
     placed: &Placed<'_>,
@@ -354,6 +414,7 @@ fn push_bare(
         Kind::Set(_) | Kind::Holds(_) => push_value(picture, placed.step, said, at),
         Kind::Begun(row) => push_begun(picture, row, placed.step, said, at),
         Kind::Cancelled => push_bar(picture, at),
+        Kind::Ticked => push_ticked(picture, said, at),
         _ => push_ring(picture, at),
     }
 }
