@@ -91,17 +91,14 @@ where
     folded(rt, "cold-zip", zip(numbers, numbers, Sum), elements)
 }
 
-/// Starts the flow and adds up all that it gives.
+/// Adds up all that the flow gives.
 fn folded<R, F>(rt: &R, scenario: &'static str, flow: F, elements: u64) -> Result<Figure, Fault>
 where
     R: Clock + AllocGlobal + RandomSource,
     F: Flow<Item = u64, Fault = u64>,
 {
     let task = Solo::new(rt, Doorbell::spinning())?;
-    let start = now(rt);
-    let folding = fold(flow.start()?, 0, Sum);
-    let total = sum_of(&task, folding).ok_or(Fault::WrongTotal(scenario))?;
-    let nanoseconds = nanoseconds_since(rt, start)?;
+    let (total, nanoseconds) = timed_sum(rt, &task, flow)?;
     Ok(Figure {
         part: Part::Cold,
         scenario,
@@ -109,12 +106,23 @@ where
         unit: Unit::Nanoseconds,
         operations: elements,
         nanoseconds,
-        total,
+        total: total.ok_or(Fault::WrongTotal(scenario))?,
     })
 }
 
-/// Polls until the fold is ready, and gives the sum where the flow finished.
+/// Starts the flow and adds up all that it gives. The sum, where it finished, and the nanoseconds of it.
+fn timed_sum<R: Clock, F: Flow<Item = u64, Fault = u64>>(
+    rt: &R,
+    task: &Solo,
+    flow: F,
+) -> Result<(Option<u64>, u64), Fault> {
+    let start = now(rt);
+    let total = sum_of(task, fold(flow.start()?, 0, Sum));
+    Ok((total, nanoseconds_since(rt, start)?))
+}
+
 // Kept apart, as each measured loop: so the code of one doesn't move that of another.
+/// Polls until the fold is ready, and gives the sum where the flow finished.
 #[inline(never)]
 fn sum_of<U: Run<Item = u64, Fault = u64>>(
     task: &Solo,

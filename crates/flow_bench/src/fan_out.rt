@@ -1,42 +1,178 @@
-//! A fan-out between threads, by whichever flow: to how many, and what it reports.
+//! A fan-out between threads, where no value is lost: one emits, and one, two or four others take every value.
 
 use crate::config::config_of;
+use crate::elapsed::{nanoseconds_since, now};
 use crate::fault::Fault;
+use crate::pause::Pause;
 use crate::report::report;
+use crate::sides::Emits;
+use crate::{lane_fan_out, shared_fan_out};
 use bench_figures::{Figure, Part, Size, Unit};
 use cold_flow::Policy;
 use shared_core::Config;
+use std::alloc::AllocGlobal;
+use std::random::RandomSource;
+use std::rt::Clock;
+use std::sync::Wait;
+use std::thread::{Threads, for_each_mut, join_mut};
 
 /// Each scenario, with its number of readers.
-pub(crate) const SCENARIOS: [(&'static str, u32); 3] = [
+const SCENARIOS: [(&'static str, u32); 3] = [
     ("fan-out-n1", 1),
     ("fan-out-n2", 2),
     ("fan-out-n4", 4),
 ];
 
-/// What the flow is made with.
-pub(crate) fn fan_out_config(readers: u32) -> Config {
-    config_of(readers, 1024, Policy::Suspend)
+/// A reader that takes values in a thread of its own, up to an end.
+pub(crate) trait Drains<U> {
+    fn drain<R: Clock + Wait>(&mut self, rt: &R, end: U);
 }
 
-/// Reports how long so many values took to all readers, from the number of those that came in order and the nanoseconds of it.
-pub(crate) fn report_fan_out<R: Print>(
+pub(crate) trait InOrder {
+    /// How many values came to it, where they came in order.
+    fn in_order(&self) -> u64;
+}
+
+/// What came to all readers.
+#[derive(Clone, Copy)]
+pub(crate) struct FannedOut {
+    /// How many values came in order.
+    total: u64,
+    /// From the start of the first thread to the end of the last one.
+    nanoseconds: u64,
+}
+
+/// By which flow it is measured.
+#[derive(Clone, Copy)]
+enum Engine {
+    Lane,
+    Shared,
+}
+
+impl Engine {
+    fn part(self) -> Part {
+        match self {
+            Engine::Lane => Part::Lane,
+            Engine::Shared => Part::Shared,
+        }
+    }
+
+    /// How many values are emitted: fewer to subscriptions, which sleep.
+    fn values(self) -> u64 {
+        match self {
+            Engine::Lane => 5_000_000,
+            Engine::Shared => 2_000_000,
+        }
+    }
+
+    /// What came to the readers of a new flow.
+    fn fanned_out<R>(self, rt: &R, config: Config, values: u64) -> Result<FannedOut, Fault>
+    where
+        R: Clock + AllocGlobal + RandomSource + Threads + Wait + Sync,
+    {
+        match self {
+            Engine::Lane => lane_fan_out::fanned_out(rt, config, values),
+            Engine::Shared => shared_fan_out::fanned_out(rt, config, values),
+        }
+    }
+}
+
+/// Makes the measurement by each flow.
+pub(crate) fn measure<R>(rt: &R, size: Size) -> Result<(), Fault>
+where
+    R: Clock + Print + AllocGlobal + RandomSource + Threads + Wait + Sync,
+{
+    measure_by(rt, Engine::Lane, size)?;
+    measure_by(rt, Engine::Shared, size)
+}
+
+/// Makes it with 1, 2 and 4 readers.
+fn measure_by<R>(rt: &R, engine: Engine, size: Size) -> Result<(), Fault>
+where
+    R: Clock + Print + AllocGlobal + RandomSource + Threads + Wait + Sync,
+{
+    let values = size.of(engine.values());
+    for (scenario, readers) in SCENARIOS {
+        let config = config_of(readers, 1024, Policy::Suspend);
+        let fanned_out = engine.fanned_out(rt, config, values)?;
+        let figure = Figure {
+            part: engine.part(),
+            scenario,
+            name: "values",
+            unit: Unit::MillionsASecond,
+            operations: values,
+            nanoseconds: fanned_out.nanoseconds,
+            total: fanned_out.total,
+        };
+        report(rt, figure, values.wrapping_mul(u64::from(readers)), size)?;
+    }
+    Ok(())
+}
+
+/// Emits so many values, while each reader takes them.
+pub(crate) fn fan_out<R, E, L>(
     rt: &R,
-    part: Part,
-    (scenario, readers): (&'static str, u32),
-    size: Size,
+    emitter: &mut E,
+    readers: &mut Vec<L>,
     values: u64,
-    (total, nanoseconds): (u64, u64),
-) -> Result<(), Fault> {
-    let figure = Figure {
-        part,
-        scenario,
-        name: "values",
-        unit: Unit::MillionsASecond,
-        operations: values,
+) -> Result<FannedOut, Fault>
+where
+    R: Clock + Threads + Wait + Sync,
+    E: Emits + Send,
+    L: Drains<u64> + InOrder + Send,
+{
+    let start = now(rt);
+    join_mut(
+        rt,
+        &mut || feed(rt, emitter, values),
+        &mut || drain_all(rt, readers, values),
+    );
+    let nanoseconds = nanoseconds_since(rt, start)?;
+    Ok(FannedOut {
+        total: sum_in_order(readers.as_slice()),
         nanoseconds,
-        total,
-    };
-    let wanted = values.wrapping_mul(u64::from(readers));
-    report(rt, figure, wanted, size)
+    })
+}
+
+/// Emits the numbers from 0 to below `values`. Where there is no room it doesn't sleep, but tries again.
+#[inline(never)]
+fn feed<R: Wait, E: Emits>(rt: &R, emitter: &mut E, values: u64) {
+    let mut next: u64 = 0;
+    let mut pause = Pause::new();
+    for _ in rt.forever() {
+        if next >= values {
+            break;
+        }
+        if emitter.emit(rt, next) {
+            next = next.wrapping_add(1);
+            pause = Pause::new();
+        } else {
+            pause.wait();
+        }
+    }
+}
+
+/// Each reader takes the values in a thread of its own.
+pub(crate) fn drain_all<R, L, U>(rt: &R, readers: &mut Vec<L>, end: U)
+where
+    R: Clock + Threads + Wait + Sync,
+    L: Drains<U> + Send,
+    U: Copy + Sync,
+{
+    let threads = readers.len().max(1);
+    for_each_mut(
+        rt,
+        readers.as_mut_slice(),
+        threads,
+        &|_, reader: &mut L| reader.drain(rt, end),
+    );
+}
+
+/// How many values came in order to all readers.
+fn sum_in_order<L: InOrder>(readers: &[L]) -> u64 {
+    let mut total: u64 = 0;
+    for reader in readers {
+        total = total.wrapping_add(reader.in_order());
+    }
+    total
 }

@@ -8,7 +8,7 @@ use std::io;
 use thiserror::Error;
 
 /// Why the program ends early. The name is that of a scenario.
-#[derive(Debug, Drop, Error)]
+#[derive(Clone, Copy, Debug, Error)]
 pub enum Fault {
     /// What arrived isn't what was sent.
     #[error("wrong total at {0}")]

@@ -3,10 +3,14 @@
 ghost use Rattle.shared_lane.specs.Readers.{IsReaderOf};
 ghost use Rattle.shared_lane.specs.Sequencers.{IsSequencerOf};
 
+use crate::fan_out::InOrder;
+use crate::sides::{Admits, Emits, Ends};
 use cold_flow::Refusal;
 use shared_core::Tried;
 use shared_lane::{Lane, Reader, Sequencer, Taken};
-use std::alloc::{Allocator, Global};
+use std::alloc::{AllocGlobal, Global};
+use std::random::RandomSource;
+use std::sync::Wait;
 
 /// A sequencer with its lane.
 #[derive(Drop)]
@@ -16,7 +20,7 @@ pub(crate) struct LaneSequencer<'a> {
     ghost fits: { IsSequencerOf lane.now sequencer },
 }
 
-/// A reader with its lane. It must be closed.
+/// A reader with its lane.
 pub(crate) struct LaneReader<'a> {
     lane: &'a Lane<Global>,
     reader: Reader,
@@ -34,24 +38,7 @@ impl<'a> LaneSequencer<'a> {
         LaneSequencer { lane, sequencer }
     }
 
-    /// So many readers, or fewer where one is refused.
-    pub(crate) fn admit_all(
-        &mut self,
-        mut readers: Vec<LaneReader<'a>>,
-        count: u32,
-    ) -> Vec<LaneReader<'a>> {
-        for _ in 0..count {
-            let Ok(reader) = self.admit() else {
-                break;
-            };
-            if let Err(refused) = readers.push(reader) {
-                refused.value.close();
-            }
-        }
-        readers
-    }
-
-    fn admit(&mut self) -> Result<LaneReader<'a>, Refusal> {
+    fn try_admit(&mut self) -> Result<LaneReader<'a>, Refusal> {
         let reader = self.sequencer.admit(self.lane)?;
         Ok(LaneReader {
             lane: self.lane,
@@ -61,18 +48,29 @@ impl<'a> LaneSequencer<'a> {
         })
     }
 
-    #[inline]
-    pub(crate) fn try_emit(&mut self, word: u64) -> Result<Tried<u64>, Refusal> {
-        self.sequencer.try_emit(self.lane, 0, word)
-    }
-
     /// The number of the next emission.
     pub(crate) fn next_number(&self) -> u64 {
         self.sequencer.next_number()
     }
 }
 
-impl<'a> LaneReader<'a> {
+impl Emits for LaneSequencer<'_> {
+    #[inline]
+    fn emit<R: Wait>(&mut self, _rt: &R, value: u64) -> bool {
+        matches!(
+            self.sequencer.try_emit(self.lane, 0, value),
+            Ok(Tried::Accepted(_))
+        )
+    }
+}
+
+impl<'a> Admits<LaneReader<'a>> for LaneSequencer<'a> {
+    fn admit<R: AllocGlobal + RandomSource + Wait>(&mut self, _rt: &R) -> Option<LaneReader<'a>> {
+        self.try_admit().ok()
+    }
+}
+
+impl LaneReader<'_> {
     #[inline]
     pub(crate) fn try_next(&mut self) -> Taken<u64> {
         self.reader.try_next(self.lane)
@@ -85,8 +83,10 @@ impl<'a> LaneReader<'a> {
     pub(crate) fn dropped(&self) -> u64 {
         self.reader.dropped()
     }
+}
 
-    pub(crate) fn close(self) {
+impl Ends for LaneReader<'_> {
+    fn end<R: Wait>(self, _rt: &R) {
         let LaneReader {
             lane,
             reader,
@@ -97,10 +97,8 @@ impl<'a> LaneReader<'a> {
     }
 }
 
-/// Each reader is closed.
-pub(crate) fn close_all(mut readers: Vec<LaneReader<'_>>) {
-    while let Some(reader) = readers.pop() {
-        reader.close();
+impl InOrder for LaneReader<'_> {
+    fn in_order(&self) -> u64 {
+        self.in_order
     }
-    readers.destroy_empty();
 }

@@ -3,19 +3,22 @@
 
 use crate::config::config_of;
 use crate::elapsed::{nanoseconds_since, now};
+use crate::fan_out::{Drains, drain_all};
 use crate::fault::Fault;
-use crate::lane_ends::{LaneReader, LaneSequencer, close_all};
+use crate::lane_ends::{LaneReader, LaneSequencer};
 use crate::pause::Pause;
 use crate::report::{report, report_share};
+use crate::sides::{Emits, admit_all, end_all};
 use bench_figures::{Figure, Part, Share, Size, Unit};
 use cold_flow::Policy;
-use shared_core::{Config, Tried};
+use shared_core::Config;
 use shared_lane::{Lane, Taken};
 use std::alloc::AllocGlobal;
+use std::random::RandomSource;
 use std::rt::Clock;
 use std::sync::Wait;
 use std::sync::atomic::{AtomicBool, Ordering};
-use std::thread::{Threads, for_each_mut, join_mut};
+use std::thread::{Threads, join_mut};
 
 /// How many values are emitted.
 const VALUES: u64 = 2_000_000;
@@ -36,7 +39,7 @@ struct Counts {
 /// Makes the measurement with 1, 2 and 4 readers.
 pub(crate) fn measure<R>(rt: &R, size: Size) -> Result<(), Fault>
 where
-    R: Clock + Print + AllocGlobal + Threads + Wait + Sync,
+    R: Clock + Print + AllocGlobal + RandomSource + Threads + Wait + Sync,
 {
     for (scenario, readers) in [("lossy-n1", 1), ("lossy-n2", 2), ("lossy-n4", 4)] {
         losses(rt, scenario, readers, size)?;
@@ -47,7 +50,7 @@ where
 /// Reports what the emissions cost, what was received, and which share that was.
 fn losses<R>(rt: &R, scenario: &'static str, readers: u32, size: Size) -> Result<(), Fault>
 where
-    R: Clock + Print + AllocGlobal + Threads + Wait + Sync,
+    R: Clock + Print + AllocGlobal + RandomSource + Threads + Wait + Sync,
 {
     let values = size.of(VALUES);
     let sent = values.wrapping_mul(u64::from(readers));
@@ -97,7 +100,7 @@ fn kept(scenario: &'static str, counts: Counts, sent: u64) -> Share {
 /// Counts with a new lane.
 fn measured<R>(rt: &R, config: Config, values: u64) -> Result<Counts, Fault>
 where
-    R: Clock + AllocGlobal + Threads + Wait + Sync,
+    R: Clock + AllocGlobal + RandomSource + Threads + Wait + Sync,
 {
     let (lane, sequencer) = Lane::new(rt.alloc(), config)?;
     // Not beside the sequencer, which each emission changes.
@@ -110,17 +113,22 @@ where
 fn counted_with<R>(
     rt: &R,
     sequencer: &mut LaneSequencer<'_>,
-    count: u32,
+    readers: u32,
     values: u64,
 ) -> Result<Counts, Fault>
 where
-    R: Clock + AllocGlobal + Threads + Wait + Sync,
+    R: Clock + AllocGlobal + RandomSource + Threads + Wait + Sync,
 {
-    let places = Vec::with_capacity(rt.alloc(), count as usize)?;
-    let mut readers = sequencer.admit_all(places, count);
+    let mut readers = admit_all(rt, sequencer, readers)?;
     let counts = run(rt, sequencer, &mut readers, values);
-    close_all(readers);
+    end_all(rt, readers);
     counts
+}
+
+impl Drains<&AtomicBool> for LaneReader<'_> {
+    fn drain<R: Clock + Wait>(&mut self, rt: &R, end: &AtomicBool) {
+        self.in_order = drain(rt, self, end);
+    }
 }
 
 /// Emits while the readers take, and counts.
@@ -167,45 +175,31 @@ fn counts_of(
 }
 
 /// Emits the numbers from 1 to `values`, and then says that it is over. Gives the nanoseconds of it.
-fn feed(
-    rt: &impl Clock,
+fn feed<R: Clock + Wait>(
+    rt: &R,
     sequencer: &mut LaneSequencer<'_>,
     values: u64,
     over: &AtomicBool,
 ) -> Result<u64, Fault> {
     let start = now(rt);
-    emit_all(sequencer, values);
+    emit_all(rt, sequencer, values);
     over.store(true, Ordering::SeqCst);
     nanoseconds_since(rt, start)
 }
 
 #[inline(never)]
-fn emit_all(sequencer: &mut LaneSequencer<'_>, values: u64) {
+fn emit_all<R: Wait>(rt: &R, sequencer: &mut LaneSequencer<'_>, values: u64) {
     let mut last: u64 = 0;
     for _ in 0..values {
-        if let Ok(Tried::Accepted(_)) = sequencer.try_emit(last.wrapping_add(1)) {
+        if sequencer.emit(rt, last.wrapping_add(1)) {
             last = last.wrapping_add(1);
         }
     }
 }
 
-/// Each reader takes values in a thread of its own.
-fn drain_all<R>(rt: &R, readers: &mut Vec<LaneReader<'_>>, over: &AtomicBool)
-where
-    R: Threads + Wait + Sync,
-{
-    let threads = readers.len().max(1);
-    for_each_mut(
-        rt,
-        readers.as_mut_slice(),
-        threads,
-        &|_, reader: &mut LaneReader<'_>| reader.in_order = drain(rt, reader, over),
-    );
-}
-
 /// Takes values until nothing is left once the emissions are over, and gives their number, if they rose.
 #[inline(never)]
-fn drain(rt: &impl Wait, reader: &mut LaneReader<'_>, over: &AtomicBool) -> u64 {
+fn drain<R: Wait>(rt: &R, reader: &mut LaneReader<'_>, over: &AtomicBool) -> u64 {
     let mut last: u64 = 0;
     let mut taken: u64 = 0;
     let mut rising = true;

@@ -2,8 +2,7 @@
 
 use crate::fault::Fault;
 use crate::{
-    chains, core_receipts, lane_fan_out, lane_lossy, lane_receipts, script_lines, shared_fan_out,
-    shared_receipts, split_values, state_alone, state_threads,
+    chains, fan_out, lane_lossy, receipts, script_lines, split_values, state_alone, state_threads,
 };
 use bench_figures::Size;
 use std::alloc::AllocGlobal;
@@ -63,15 +62,8 @@ impl Scenario {
         R: Clock + Print + AllocGlobal + RandomSource + Threads + Wait + Sync,
     {
         match self {
-            Scenario::Receipts => {
-                core_receipts::measure(rt, size)?;
-                shared_receipts::measure(rt, size)?;
-                lane_receipts::measure(rt, size)
-            }
-            Scenario::FanOut => {
-                lane_fan_out::measure(rt, size)?;
-                shared_fan_out::measure(rt, size)
-            }
+            Scenario::Receipts => receipts::measure(rt, size),
+            Scenario::FanOut => fan_out::measure(rt, size),
             Scenario::Lossy => lane_lossy::measure(rt, size),
             Scenario::State => {
                 state_alone::measure(rt, size)?;

@@ -1,16 +1,18 @@
 //! A state flow between threads: one sets without pause, and one or two others ask without pause.
 
 use crate::elapsed::{nanoseconds_since, now};
+use crate::fan_out::{Drains, drain_all};
 use crate::fault::Fault;
 use crate::report::report;
+use crate::sides::{Admits, Ends, admit_all};
 use crate::state_alone::timed_sets;
 use bench_figures::{Figure, Part, Size, Unit};
 use state_flow::{StateFlow, StateSeat};
 use std::alloc::AllocGlobal;
+use std::random::RandomSource;
 use std::rt::Clock;
 use std::sync::Wait;
-use std::thread;
-use std::thread::Threads;
+use std::thread::{Threads, join_mut};
 
 /// How many values are set.
 const SETS: u64 = 2_000_000;
@@ -32,63 +34,103 @@ struct Given {
     last: Option<u64>,
 }
 
+/// A collector's thread.
+#[derive(Drop)]
+struct Asking {
+    /// None, once it asked.
+    seat: Option<StateSeat<u64>>,
+    given: Given,
+    /// None, where the clock can't be read.
+    nanoseconds: Option<u64>,
+}
+
 /// Makes the measurement with one collector and with two.
 pub(crate) fn measure<R>(rt: &R, size: Size) -> Result<(), Fault>
 where
-    R: Clock + Print + AllocGlobal + Threads + Wait + Sync,
+    R: Clock + Print + AllocGlobal + RandomSource + Threads + Wait + Sync,
 {
-    let sets = size.of(SETS);
-    one_collector(rt, size, sets)?;
-    two_collectors(rt, size, sets)
+    for (scenario, collectors) in [("state-c1", 1), ("state-c2", 2)] {
+        let (set, asked) = measured(rt, collectors, size.of(SETS))?;
+        report_both(rt, scenario, size, set, asked)?;
+    }
+    Ok(())
 }
 
-/// One thread sets, and one asks.
-fn one_collector<R>(rt: &R, size: Size, sets: u64) -> Result<(), Fault>
+/// What one thread set, and so many others asked. The asks of all are one figure.
+fn measured<R>(rt: &R, collectors: u32, sets: u64) -> Result<(Work, Work), Fault>
 where
-    R: Clock + Print + AllocGlobal + Threads + Wait + Sync,
+    R: Clock + AllocGlobal + RandomSource + Threads + Wait + Sync,
 {
-    let mut writer = StateFlow::new(rt.alloc(), 0u64, 2)?;
-    let reader = writer.take_seat(0)?;
-    let (set, asked) = thread::join(
-        rt,
-        move || write(rt, writer, sets),
-        move || collect(rt, reader, sets),
-    );
-    report_both(rt, "state-c1", size, set?, asked?)
+    // A seat for the thread that sets, too.
+    let mut writer = StateFlow::new(rt.alloc(), 0u64, collectors.saturating_add(1))?;
+    let mut asking = admit_all(rt, &mut writer, collectors)?;
+    let set = set_and_ask(rt, &mut writer, &mut asking, sets)?;
+    Ok((set, work_of(asking.as_slice(), collectors)?))
 }
 
-/// One thread sets, and two ask. The asks of both are one figure.
-fn two_collectors<R>(rt: &R, size: Size, sets: u64) -> Result<(), Fault>
-where
-    R: Clock + Print + AllocGlobal + Threads + Wait + Sync,
-{
-    let mut writer = StateFlow::new(rt.alloc(), 0u64, 3)?;
-    let one = writer.take_seat(0)?;
-    let two = writer.take_seat(0)?;
-    let (set, asked) = thread::join(
-        rt,
-        move || write(rt, writer, sets),
-        move || collect_both(rt, one, two, sets),
-    );
-    report_both(rt, "state-c2", size, set?, asked?)
-}
-
-/// Two threads ask.
-fn collect_both<R>(
+/// One thread sets, and the others ask. What was set.
+fn set_and_ask<R>(
     rt: &R,
-    one: StateSeat<u64>,
-    two: StateSeat<u64>,
-    last: u64,
+    writer: &mut StateSeat<u64>,
+    asking: &mut Vec<Asking>,
+    sets: u64,
 ) -> Result<Work, Fault>
 where
     R: Clock + Threads + Wait + Sync,
 {
-    let (one, two) = thread::join(
+    let (set, ()) = join_mut(
         rt,
-        move || collect(rt, one, last),
-        move || collect(rt, two, last),
+        &mut || write(rt, writer, sets),
+        &mut || drain_all(rt, asking, sets),
     );
-    Ok(both(one?, two?))
+    set
+}
+
+impl Admits<Asking> for StateSeat<u64> {
+    fn admit<R: AllocGlobal + RandomSource + Wait>(&mut self, _rt: &R) -> Option<Asking> {
+        let seat = self.take_seat(0).ok()?;
+        Some(Asking {
+            seat: Some(seat),
+            given: Given {
+                asks: 0,
+                last: None,
+            },
+            nanoseconds: None,
+        })
+    }
+}
+
+impl Ends for Asking {
+    fn end<R: Wait>(self, _rt: &R) {}
+}
+
+impl Drains<u64> for Asking {
+    /// Asks until that value came.
+    fn drain<R: Clock + Wait>(&mut self, rt: &R, end: u64) {
+        let Some(seat) = self.seat.take() else {
+            return;
+        };
+        let start = now(rt);
+        self.given = ask_up_to(rt, seat, end);
+        self.nanoseconds = nanoseconds_since(rt, start).ok();
+    }
+}
+
+/// The work of so many collectors, as one. Its last value is 0 where one of them was refused.
+fn work_of(asking: &[Asking], collectors: u32) -> Result<Work, Fault> {
+    let is_whole = asking.len() == collectors as usize;
+    let mut work = Work {
+        operations: 0,
+        nanoseconds: 0,
+        last: if is_whole { u64::MAX } else { 0 },
+    };
+    for one in asking {
+        let nanoseconds = one.nanoseconds.ok_or(Fault::Host)?;
+        work.operations = work.operations.wrapping_add(one.given.asks);
+        work.nanoseconds = work.nanoseconds.wrapping_add(nanoseconds);
+        work.last = work.last.min(one.given.last.unwrap_or(0));
+    }
+    Ok(work)
 }
 
 /// Reports what the one thread set, and what the others asked. The last value of both is the number of the sets.
@@ -100,7 +142,7 @@ fn report_both<R>(
     asked: Work,
 ) -> Result<(), Fault>
 where
-    R: Clock + Print + AllocGlobal,
+    R: Print,
 {
     let sets = size.of(SETS);
     report(rt, figure_of(scenario, "set", set), sets, size)?;
@@ -119,33 +161,13 @@ fn figure_of(scenario: &'static str, name: &'static str, work: Work) -> Figure {
     }
 }
 
-/// The work of two threads, as one.
-fn both(one: Work, two: Work) -> Work {
-    Work {
-        operations: one.operations.wrapping_add(two.operations),
-        nanoseconds: one.nanoseconds.wrapping_add(two.nanoseconds),
-        last: one.last.min(two.last),
-    }
-}
-
 /// Sets the numbers from 1 to `sets`.
-fn write(rt: &impl Clock, mut seat: StateSeat<u64>, sets: u64) -> Result<Work, Fault> {
-    let (last, nanoseconds) = timed_sets(rt, &mut seat, sets)?;
+fn write(rt: &impl Clock, seat: &mut StateSeat<u64>, sets: u64) -> Result<Work, Fault> {
+    let (last, nanoseconds) = timed_sets(rt, seat, sets)?;
     Ok(Work {
         operations: sets,
         nanoseconds,
         last,
-    })
-}
-
-/// Asks until the last value came.
-fn collect<R: Clock + Wait>(rt: &R, seat: StateSeat<u64>, last: u64) -> Result<Work, Fault> {
-    let start = now(rt);
-    let given = ask_up_to(rt, seat, last);
-    Ok(Work {
-        operations: given.asks,
-        nanoseconds: nanoseconds_since(rt, start)?,
-        last: given.last.unwrap_or(0),
     })
 }
 

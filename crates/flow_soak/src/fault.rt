@@ -6,7 +6,7 @@ use std::io;
 use thiserror::Error;
 
 /// Why the program ends early.
-#[derive(Debug, Drop, Error)]
+#[derive(Clone, Copy, Debug, Error)]
 pub enum Fault {
     /// The receipts of one emitter, or what one party received, didn't rise; or a value was dropped under a policy that
     /// drops none.

@@ -1,42 +1,34 @@
 //! Numbers that look random.
 
 use crate::fault::Fault;
+use rand_core::{Rng, SeedableRng};
+use rand_xoshiro::Xoshiro256PlusPlus;
 use std::random::RandomSource;
 
-#[derive(Clone, Copy)]
+#[derive(Drop)]
 pub(crate) struct Random {
-    state: u64,
+    numbers: Xoshiro256PlusPlus,
 }
 
 impl Random {
     /// Another seed in each run.
     pub(crate) fn new(rt: &impl RandomSource) -> Result<Random, Fault> {
-        let mut bytes = [0u8; 8];
-        rt.fill_bytes(&mut bytes)?;
+        let mut seed = [0u8; 32];
+        rt.fill_bytes(&mut seed)?;
         Ok(Random {
-            state: u64::from_le_bytes(bytes) | 1,
+            numbers: Xoshiro256PlusPlus::from_seed(seed),
         })
-    }
-
-    fn next(&mut self) -> u64 {
-        let mut state = self.state;
-        state ^= state.wrapping_shl(13);
-        state ^= state >> 7;
-        state ^= state.wrapping_shl(17);
-        self.state = state;
-        state
     }
 
     /// A number below the bound, or 0.
     pub(crate) fn below(&mut self, bound: u64) -> u64 {
-        (self.next() >> 11) % bound.max(1)
+        self.numbers.next_u64() % bound.max(1)
     }
 
     /// Others, for another thread.
     pub(crate) fn split(&mut self) -> Random {
-        let first = self.next();
         Random {
-            state: first.wrapping_mul(0x9E37_79B9_7F4A_7C15) | 1,
+            numbers: self.numbers.fork(),
         }
     }
 }

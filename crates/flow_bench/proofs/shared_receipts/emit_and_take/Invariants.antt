@@ -1,5 +1,0 @@
-use Rattle.std.proofs.Common.{◌≡◌, None}
-use Rattle.flow_bench.proofs.shared_receipts.emit_and_take.Given as goal
-
-abbrev pub invariant-loop : goal.invariant-loop
-invariant-loop g l = l.emitter.ticket ≡ None

@@ -1,0 +1,40 @@
+//! A shared flow for threads: its one emitter, and its subscriptions.
+
+ghost use Rattle.std.specs.Prelude.{◌≡◌, None};
+
+use crate::fault::Fault;
+use crate::sides::{Emits, Ends};
+use shared_core::Tried;
+use shared_flow::{Emitter, SharedFlow, Subscription};
+use std::sync::Wait;
+
+/// An emitter that has nothing in flight. It must be closed.
+pub(crate) struct IdleEmitter {
+    emitter: Emitter<u64>,
+    ghost idle: { emitter.ticket ≡ None },
+}
+
+impl IdleEmitter {
+    pub(crate) fn of<R: Wait>(rt: &R, flow: &mut SharedFlow<u64>) -> Result<IdleEmitter, Fault> {
+        let emitter = flow.emitter(rt, 0)?;
+        Ok(IdleEmitter { emitter })
+    }
+
+    pub(crate) fn close<R: Wait>(self, rt: &R) {
+        let IdleEmitter { emitter } = self;
+        let _idle = emitter.close(rt);
+    }
+}
+
+impl Emits for IdleEmitter {
+    #[inline]
+    fn emit<R: Wait>(&mut self, rt: &R, value: u64) -> bool {
+        matches!(self.emitter.try_emit(rt, value), Ok(Tried::Accepted(_)))
+    }
+}
+
+impl Ends for Subscription<u64> {
+    fn end<R: Wait>(self, rt: &R) {
+        self.cancel(rt);
+    }
+}
