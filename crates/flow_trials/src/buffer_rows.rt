@@ -1,13 +1,13 @@
 //! Buffers, in one task and between two threads.
 
 use crate::meeting::Meeting;
-use crate::tools::{Differences, WAIT, stepped};
+use crate::sources::{Counts, NEVER, Source};
+use crate::tools::{Trial, WAIT};
 use cold_flow::{Cause, Event, Flow, Policy, Refusal, Run, Step, range};
 use flow_buffer::{Buffer, Buffered, Drain, Feed, Fill, agree, buffer, conflate, split};
 use futures::task::{Context, Poll};
 use futures::test::MockTask;
 use std::alloc::{AllocGlobal, Global};
-use std::process::Abort;
 use std::random::RandomSource;
 use std::sync::Wait;
 use std::test::Fail;
@@ -177,30 +177,26 @@ fn buffered<F: Flow>(alloc: Global, flow: F, keeps: &Keeps) -> Result<Buffer<F>,
     }
 }
 
-/// Makes the row's commands on a buffer behind the flow.
-fn compare_row<F: Flow<Item = u64, Fault = u64>>(
-    differences: &mut Differences,
-    alloc: Global,
-    task: &MockTask,
-    flow: F,
-    row: &Row<'_>,
-) -> Result<(), Fail> {
-    let mut buffered = buffered(alloc, flow, &row.keeps)?.start()?;
-    let lines = answered(task, &mut buffered, row.lines);
-    differences.compare(row.name, lines, row.lines.len())?;
-    differences.compare(row.name, buffered.taken_count(), row.taken)?;
-    differences.compare(row.name, buffered.dropped_count(), row.dropped)
+/// Makes the row's commands on a buffer behind its steps.
+fn compare_row(trial: &mut Trial, row: &Row<'_>) -> Result<(), Fail> {
+    let counts = Counts::new(NEVER);
+    let source = Source {
+        steps: row.steps,
+        counts: &counts,
+    };
+    let mut buffered = buffered(trial.alloc, source, &row.keeps)?.start()?;
+    let lines = answered(&trial.task, &mut buffered, row.lines);
+    let found = (lines, buffered.taken_count(), buffered.dropped_count());
+    trial.compare(row.name, found, (row.lines.len(), row.taken, row.dropped))
 }
 
 #[test]
 fn buffers_in_one_task(rt: HostRuntime) -> Result<(), Fail> {
-    let task = MockTask::new(&rt)?;
-    let mut all = Differences::none(rt.alloc());
+    let mut trial = Trial::new(&rt)?;
     for row in ROWS {
-        let flow = stepped(rt.alloc(), row.steps)?;
-        compare_row(&mut all, rt.alloc(), &task, &flow, row)?;
+        compare_row(&mut trial, row)?;
     }
-    all.assert_none(&rt);
+    trial.assert_none(&rt);
     Ok(())
 }
 
@@ -351,24 +347,27 @@ fn told(wanted: Option<u64>, number: u64) -> Option<u64> {
 
 fn compare_split<R: Threads + Wait + RandomSource + AllocGlobal + Sync>(
     rt: &R,
-    differences: &mut Differences,
+    trial: &mut Trial,
     row: &Split<'_>,
 ) -> Result<(), Fail> {
     let (dropped, all) = split_numbers(rt, row.bound, row.policy)?;
     let whole = (all.rising, all.end, all.count.saturating_add(dropped));
-    differences.compare(row.name, whole, (true, Some(Cause::Finished), row.bound))?;
-    differences.compare(row.name, told(row.dropped, dropped), row.dropped)?;
-    differences.compare(row.name, told(row.first, all.first), row.first)?;
-    differences.compare(row.name, told(row.last, all.last), row.last)
+    trial.compare(row.name, whole, (true, Some(Cause::Finished), row.bound))?;
+    let found = (
+        told(row.dropped, dropped),
+        told(row.first, all.first),
+        told(row.last, all.last),
+    );
+    trial.compare(row.name, found, (row.dropped, row.first, row.last))
 }
 
 #[test]
 fn splits_between_two_threads(rt: HostRuntime) -> Result<(), Fail> {
-    let mut differences = Differences::none(rt.alloc());
+    let mut trial = Trial::new(&rt)?;
     for row in SPLITS {
-        compare_split(&rt, &mut differences, row)?;
+        compare_split(&rt, &mut trial, row)?;
     }
-    differences.assert_none(&rt);
+    trial.assert_none(&rt);
     Ok(())
 }
 
@@ -614,35 +613,39 @@ fn taken_turns<U: Run<Item = u64, Fault = u64>>(
     turns.len()
 }
 
-fn compare_turns<F: Flow<Item = u64, Fault = u64>>(
-    rt: &impl Wait,
-    alloc: Global,
-    differences: &mut Differences,
-    task: &MockTask,
-    flow: F,
-    row: &Turns<'_>,
-) -> Result<(), Fail> {
-    let (mut feed, mut drain) = split(alloc, flow, row.capacity, row.policy)?;
-    let count = taken_turns(rt, task, &mut feed, &mut drain, row.turns);
+/// How many of these events the drain gives, from the first on.
+fn rest_of(rt: &impl Wait, drain: &mut Drain<u64, u64>, events: &[Event<u64, u64>]) -> usize {
+    for (number, event) in events.iter().enumerate() {
+        if drain.next(rt) != *event {
+            return number;
+        }
+    }
+    events.len()
+}
+
+fn compare_turns(rt: &impl Wait, trial: &mut Trial, row: &Turns<'_>) -> Result<(), Fail> {
+    let counts = Counts::new(NEVER);
+    let source = Source {
+        steps: row.steps,
+        counts: &counts,
+    };
+    let (mut feed, mut drain) = split(trial.alloc, source, row.capacity, row.policy)?;
+    let turns = taken_turns(rt, &trial.task, &mut feed, &mut drain, row.turns);
     let dropped = feed.dropped_count();
     feed.cancel(rt);
-    differences.compare(row.name, count, row.turns.len())?;
-    differences.compare(row.name, dropped, row.dropped)?;
-    for event in row.rest {
-        differences.compare(row.name, drain.next(rt), *event)?;
-    }
-    differences.compare(row.name, drain.taken_count(), row.taken)
+    let rest = rest_of(rt, &mut drain, row.rest);
+    let found = (turns, rest, dropped, drain.taken_count());
+    let wanted = (row.turns.len(), row.rest.len(), row.dropped, row.taken);
+    trial.compare(row.name, found, wanted)
 }
 
 #[test]
 fn turns_of_a_split(rt: HostRuntime) -> Result<(), Fail> {
-    let task = MockTask::new(&rt)?;
-    let mut all = Differences::none(rt.alloc());
+    let mut trial = Trial::new(&rt)?;
     for row in TURNED {
-        let flow = stepped(rt.alloc(), row.steps)?;
-        compare_turns(&rt, rt.alloc(), &mut all, &task, &flow, row)?;
+        compare_turns(&rt, &mut trial, row)?;
     }
-    all.assert_none(&rt);
+    trial.assert_none(&rt);
     Ok(())
 }
 

@@ -1,20 +1,16 @@
 //! Cold flows of one source poll by poll: the worked examples, each end once with ample memory, and what the callers give.
 ghost use Rattle.std.specs.Prelude.{◌≡◌, nat_lt, ⊤};
 
-use crate::tools::{
-    Add, CANCELLED, ENDED, Polling, Sum, assert_list, assert_poll, assert_polls, assert_same,
-    listed,
-};
+use crate::sources::{Counts, NEVER, Source};
+use crate::tools::{Add, CANCELLED, ENDED, Polling, Sum, Trial};
 use cold_callers::{chain, mapped_list, taken_down};
 use cold_flow::{
-    Apply, Cause, Collected, Collecting, Event, First, Flow, Folding, Refusal, Run, collect,
-    filter, first, fold, on_completion, range,
+    Apply, Cause, Collected, Collecting, Event, First, Flow, Folding, Run, Step, collect, filter,
+    first, fold, on_completion, range,
 };
 use futures::task::Poll;
-use futures::test::MockTask;
-use std::alloc::{AllocError, Global};
+use std::alloc::AllocError;
 use std::cell::Cell;
-use std::process::Abort;
 use std::test::Fail;
 
 #[derive(Copy)]
@@ -77,75 +73,71 @@ const SECOND_VALUE: Polling = Poll::Ready(Event::Value(2));
 const LAST_VALUE: Polling = Poll::Ready(Event::Value(9));
 
 // Where nothing is found in 64 values a poll yields, three times for 199.
-#[test]
-fn filter_yields(rt: HostRuntime) -> Result<(), Fail> {
+fn compare_filter(trial: &mut Trial) -> Result<(), Fail> {
     const FOUND: Polling = Poll::Ready(Event::Value(199));
     const ANSWERS: &[Polling] = &[Poll::Pending, Poll::Pending, Poll::Pending, FOUND, ENDED];
-    let task = MockTask::new(&rt)?;
     let mut run = filter(range::<u64>(0, 200), IsAbove(198)).start()?;
-    assert_polls(&rt, &task, &mut run, ANSWERS);
-    Ok(())
+    trial.compare_polls("filter", &mut run, ANSWERS)
 }
 
-// Are these the numbers from 0 up?
-fn counts_up(values: &[u64]) -> bool {
+// How many numbers from 0 up these are, where they are no others.
+fn counted_up(values: &[u64]) -> Option<usize> {
     for (index, value) in values.iter().enumerate() {
         if *value != index as u64 {
-            return false;
+            return None;
         }
     }
-    true
+    Some(values.len())
 }
 
-// The collection is ready with so many numbers from 0 up.
-fn assert_counted<R: Run<Item = u64, Fault = u64>>(
-    rt: &impl Abort,
-    task: &MockTask,
+// How many numbers from 0 up one poll of the collection hands out, with the end. None where it waits, and has woken its task.
+fn polled_once<R: Run<Item = u64, Fault = u64>>(
+    trial: &Trial,
     gathering: &mut Collecting<R>,
-    count: usize,
-) -> Result<(), Fail> {
-    let Poll::Ready(list) = task.enter(|cx| gathering.poll(cx)) else {
-        return Err(Fail::from("it waits"));
-    };
-    let Collected { values, cause } = list?;
-    assert_same(rt, "values", values.len(), count);
-    assert!(rt; counts_up(values.as_slice()));
-    assert_same(rt, "cause", cause, Cause::Finished);
-    Ok(())
+) -> Result<Option<(Option<usize>, Cause<u64>)>, Fail> {
+    match trial.task.enter(|cx| gathering.poll(cx)) {
+        Poll::Ready(list) => {
+            let Collected { values, cause } = list?;
+            Ok(Some((counted_up(values.as_slice()), cause)))
+        }
+        Poll::Pending if trial.task.is_woken() => Ok(None),
+        Poll::Pending => Err(Fail::from("nothing wakes the task")),
+    }
 }
 
 // A collection of 130 numbers takes 64 of them a poll. Once it has handed them out it has none.
-fn assert_collects<R: Run<Item = u64, Fault = u64>>(
-    rt: &impl Abort,
-    task: &MockTask,
+fn compare_collection<R: Run<Item = u64, Fault = u64>>(
+    trial: &mut Trial,
     mut gathering: Collecting<R>,
 ) -> Result<(), Fail> {
-    for count in [64, 128] {
-        assert!(rt; task.enter(|cx| gathering.poll(cx)).is_pending());
-        assert!(rt; task.is_woken());
-        assert_same(rt, "values so far", gathering.so_far().len(), count);
+    for (ready, so_far) in [
+        (None, 64),
+        (None, 128),
+        (Some((Some(130), Cause::Finished)), 0),
+        (Some((Some(0), Cause::Finished)), 0),
+    ] {
+        let polled = polled_once(trial, &mut gathering)?;
+        let found = (polled, gathering.so_far().len());
+        trial.compare("a collection", found, (ready, so_far))?;
     }
-    assert_counted(rt, task, &mut gathering, 130)?;
-    assert!(rt; gathering.so_far().is_empty());
-    assert_counted(rt, task, &mut gathering, 0)
+    Ok(())
 }
 
 #[test]
-fn collect_takes_64_values_a_poll(rt: HostRuntime) -> Result<(), Fail> {
-    let task = MockTask::new(&rt)?;
-    assert_collects(
-        &rt,
-        &task,
-        collect(rt.alloc(), range::<u64>(0, 130).start()?),
-    )
+fn polls_take_64_values(rt: HostRuntime) -> Result<(), Fail> {
+    let mut trial = Trial::new(&rt)?;
+    compare_filter(&mut trial)?;
+    let run = range::<u64>(0, 130).start()?;
+    compare_collection(&mut trial, collect(rt.alloc(), run))?;
+    trial.assert_none(&rt);
+    Ok(())
 }
 
-// Polls of a list whose completion action gives a last value, if any; what the action noted after them and how often it was asked;
+// Polls of a source whose completion action gives a last value, if any; what the action noted after them and how often it was asked;
 // and the polls and the note after a cancel, by which it was asked once.
 struct Completion<'a> {
     name: &'a str,
-    values: &'a [u64],
-    fault: Option<u64>,
+    steps: &'a [Step<u64, u64>],
     last: Option<u64>,
     polls: &'a [Polling],
     noted: Option<Cause<u64>>,
@@ -157,8 +149,7 @@ struct Completion<'a> {
 const COMPLETIONS: &[Completion<'_>] = &[
     Completion {
         name: "completion_action",
-        values: &[1, 2],
-        fault: None,
+        steps: &[Step::Value(1), Step::Value(2)],
         last: Some(9),
         polls: &[FIRST_VALUE, SECOND_VALUE, LAST_VALUE, ENDED, ENDED],
         noted: Some(Cause::Finished),
@@ -168,8 +159,7 @@ const COMPLETIONS: &[Completion<'_>] = &[
     },
     Completion {
         name: "completion_action, cancelled after a value",
-        values: &[1, 2],
-        fault: None,
+        steps: &[Step::Value(1), Step::Value(2)],
         last: Some(9),
         polls: &[FIRST_VALUE],
         noted: None,
@@ -179,8 +169,7 @@ const COMPLETIONS: &[Completion<'_>] = &[
     },
     Completion {
         name: "a cancel after the last value keeps the cause that was noted",
-        values: &[1],
-        fault: None,
+        steps: &[Step::Value(1)],
         last: Some(9),
         polls: &[FIRST_VALUE, LAST_VALUE],
         noted: Some(Cause::Finished),
@@ -190,8 +179,7 @@ const COMPLETIONS: &[Completion<'_>] = &[
     },
     Completion {
         name: "cancelled before any poll",
-        values: &[1],
-        fault: None,
+        steps: &[Step::Value(1)],
         last: Some(9),
         polls: &[],
         noted: None,
@@ -201,8 +189,7 @@ const COMPLETIONS: &[Completion<'_>] = &[
     },
     Completion {
         name: "cancelled after the only value",
-        values: &[1],
-        fault: None,
+        steps: &[Step::Value(1)],
         last: Some(9),
         polls: &[FIRST_VALUE],
         noted: None,
@@ -212,8 +199,7 @@ const COMPLETIONS: &[Completion<'_>] = &[
     },
     Completion {
         name: "finished with a last value",
-        values: &[1],
-        fault: None,
+        steps: &[Step::Value(1)],
         last: Some(9),
         polls: &[FIRST_VALUE, LAST_VALUE, ENDED, ENDED],
         noted: Some(Cause::Finished),
@@ -223,8 +209,7 @@ const COMPLETIONS: &[Completion<'_>] = &[
     },
     Completion {
         name: "finished without one",
-        values: &[1],
-        fault: None,
+        steps: &[Step::Value(1)],
         last: None,
         polls: &[FIRST_VALUE, ENDED, ENDED],
         noted: Some(Cause::Finished),
@@ -234,8 +219,7 @@ const COMPLETIONS: &[Completion<'_>] = &[
     },
     Completion {
         name: "failed",
-        values: &[1],
-        fault: Some(5),
+        steps: &[Step::Value(1), Step::Fail(5)],
         last: Some(9),
         polls: &[FIRST_VALUE, FAILED, FAILED],
         noted: Some(Cause::Failed(5)),
@@ -246,122 +230,121 @@ const COMPLETIONS: &[Completion<'_>] = &[
 ];
 
 // From the end on the action was asked once, however often the run is cancelled and polled then.
-fn assert_completed<R: Run<Item = u64, Fault = u64>>(
-    rt: &impl Abort,
-    task: &MockTask,
+fn compare_end<R: Run<Item = u64, Fault = u64>>(
+    trial: &mut Trial,
     run: &mut R,
     asks: &Cell<u32>,
     row: &Completion<'_>,
-) {
-    assert_same(rt, row.name, asks.get(), row.asks);
+) -> Result<(), Fail> {
     for _cancel in 0..2 {
         run.cancel();
-        assert_same(rt, row.name, asks.get(), 1);
-        assert_poll(rt, task, run, &row.end);
-        assert_same(rt, row.name, asks.get(), 1);
+        let cancelled = asks.get();
+        let (polled, is_awake) = trial.next(run);
+        let found = (cancelled, &polled, is_awake, asks.get());
+        trial.compare(row.name, found, (1, &row.end, true, 1))?;
     }
+    Ok(())
 }
 
-fn assert_completion<F: Flow<Item = u64, Fault = u64>>(
-    rt: &impl Abort,
-    task: &MockTask,
-    source: F,
-    row: &Completion<'_>,
-) -> Result<(), Refusal> {
+fn compare_completion(trial: &mut Trial, row: &Completion<'_>) -> Result<(), Fail> {
+    let counts = Counts::new(NEVER);
+    let source = Source {
+        steps: row.steps,
+        counts: &counts,
+    };
     let asks = Cell::new(0);
     let action = Asked {
         asks: &asks,
         last: row.last,
     };
     let mut run = on_completion(source, action).start()?;
-    assert_same(rt, row.name, run.noted(), None);
-    assert_polls(rt, task, &mut run, row.polls);
-    assert_same(rt, row.name, run.noted(), row.noted);
-    assert_completed(rt, task, &mut run, &asks, row);
-    assert_same(rt, row.name, run.noted(), row.noted_then);
-    Ok(())
+    let at_first = run.noted();
+    trial.compare_polls(row.name, &mut run, row.polls)?;
+    let found = (at_first, run.noted(), asks.get());
+    trial.compare(row.name, found, (None, row.noted, row.asks))?;
+    compare_end(trial, &mut run, &asks, row)?;
+    trial.compare(row.name, run.noted(), row.noted_then)
 }
 
 #[test]
 fn completion_actions_are_asked_once(rt: HostRuntime) -> Result<(), Fail> {
-    let task = MockTask::new(&rt)?;
+    let mut trial = Trial::new(&rt)?;
     for row in COMPLETIONS {
-        let source = listed(rt.alloc(), row.values, row.fault)?;
-        assert_completion(&rt, &task, source, row)?;
+        compare_completion(&mut trial, row)?;
     }
+    trial.assert_none(&rt);
     Ok(())
 }
 
-// A sum is ready in the second poll, and given again.
-fn assert_sum<R: Run<Item = u64, Fault = u64>>(
-    rt: &impl Abort,
-    task: &MockTask,
+// A sum is ready in the second poll, whose first has woken the task, and given again.
+fn compare_sum<R: Run<Item = u64, Fault = u64>>(
+    trial: &mut Trial,
     mut folding: Folding<R, u64, Sum>,
     sum: u64,
-) {
-    const NAME: &str = "poll of a sum";
-    assert_same(rt, NAME, task.enter(|cx| folding.poll(cx)), Poll::Pending);
-    assert!(rt; task.is_woken());
-    for _poll in 0..2 {
-        let polled = task.enter(|cx| folding.poll(cx));
-        assert_same(rt, NAME, polled, Poll::Ready((sum, Cause::Finished)));
+) -> Result<(), Fail> {
+    let ready = Some((sum, Cause::Finished));
+    for wanted in [None, ready, ready] {
+        let found = match trial.task.enter(|cx| folding.poll(cx)) {
+            Poll::Ready(given) => Some(given),
+            Poll::Pending if trial.task.is_woken() => None,
+            Poll::Pending => return Err(Fail::from("nothing wakes the task")),
+        };
+        trial.compare("a fold", found, wanted)?;
     }
-}
-
-#[test]
-fn a_fold_gives_the_sum(rt: HostRuntime) -> Result<(), Fail> {
-    let task = MockTask::new(&rt)?;
-    let folding = fold(range::<u64>(1, 101).start()?, 0, Sum);
-    assert_sum(&rt, &task, folding, 5050);
     Ok(())
 }
 
 // A first value, or the cause that came instead, is given again.
-fn assert_first<R: Run<Item = u64, Fault = u64>>(
-    rt: &impl Abort,
-    task: &MockTask,
+fn compare_first<R: Run<Item = u64, Fault = u64>>(
+    trial: &mut Trial,
     mut first: First<R>,
     answer: Result<u64, Cause<u64>>,
-) {
+) -> Result<(), Fail> {
     for _poll in 0..2 {
-        let polled = task.enter(|cx| first.poll(cx));
-        assert_same(rt, "poll of a first value", polled, Poll::Ready(answer));
+        let polled = trial.task.enter(|cx| first.poll(cx));
+        trial.compare("a first value", polled, Poll::Ready(answer))?;
     }
+    Ok(())
 }
 
 #[test]
-fn first_values(rt: HostRuntime) -> Result<(), Fail> {
-    const FIRSTS: &[(&[u64], Option<u64>, Result<u64, Cause<u64>>)] = &[
-        (&[7, 8], None, Ok(7)),
-        (&[], Some(3), Err(Cause::Failed(3))),
+fn a_fold_and_first_values(rt: HostRuntime) -> Result<(), Fail> {
+    const FIRSTS: &[(&[Step<u64, u64>], Result<u64, Cause<u64>>)] = &[
+        (&[Step::Value(7), Step::Value(8)], Ok(7)),
+        (&[Step::Fail(3)], Err(Cause::Failed(3))),
     ];
-    let task = MockTask::new(&rt)?;
-    for (values, fault, answer) in FIRSTS {
-        let source = listed(rt.alloc(), values, *fault)?;
-        assert_first(&rt, &task, first(source.start()?), *answer);
+    let mut trial = Trial::new(&rt)?;
+    let counts = Counts::new(NEVER);
+    let folding = fold(range::<u64>(1, 101).start()?, 0, Sum);
+    compare_sum(&mut trial, folding, 5050)?;
+    for (steps, answer) in FIRSTS {
+        let source = Source {
+            steps,
+            counts: &counts,
+        };
+        compare_first(&mut trial, first(source.start()?), *answer)?;
     }
+    trial.assert_none(&rt);
     Ok(())
 }
 
-// What the caller of `take` gives, over a flow of its own.
+// What the callers of `take`, over a flow of its own, of five operators and of a map give.
 #[test]
-fn a_flow_of_ones_own(rt: HostRuntime) -> Result<(), Fail> {
+fn callers_of_operators(rt: HostRuntime) -> Result<(), Fail> {
     let alloc = rt.alloc();
-    let task = MockTask::new(&rt)?;
-    let list = task.enter(|cx| taken_down(alloc, 5, 3, cx))?;
-    assert_list(&rt, &list, &[5, 4, 3], Cause::Finished);
-    Ok(())
-}
-
-// What the callers of five operators and of a map give.
-#[test]
-fn chains_of_operators(rt: HostRuntime) -> Result<(), Fail> {
-    let alloc = rt.alloc();
-    let task = MockTask::new(&rt)?;
-    let list = task.enter(|cx| chain::<u64, Add, IsAbove>(alloc, 9, Add(2), IsAbove(5), cx))?;
-    assert_list(&rt, &list, &[6, 7, 8], Cause::Finished);
+    let mut trial = Trial::new(&rt)?;
+    let list = trial.task.enter(|cx| taken_down(alloc, 5, 3, cx))?;
+    trial.compare_list("taken_down", &list, &[5, 4, 3], Cause::Finished)?;
+    let list = trial.task.enter(|cx| chain::<u64, Add, IsAbove>(alloc, 9, Add(2), IsAbove(5), cx))?;
+    trial.compare_list("chain", &list, &[6, 7, 8], Cause::Finished)?;
     let values = [1, 2].to_vec(alloc)?;
-    let list = task.enter(move |cx| mapped_list::<u64, u64, u64, Add>(alloc, values, Add(1), cx))?;
-    assert_list(&rt, &list, &[2, 3], Cause::Finished);
+    let list = trial.task.enter(move |cx| mapped_list::<u64, u64, u64, Add>(
+        alloc,
+        values,
+        Add(1),
+        cx,
+    ))?;
+    trial.compare_list("mapped_list", &list, &[2, 3], Cause::Finished)?;
+    trial.assert_none(&rt);
     Ok(())
 }

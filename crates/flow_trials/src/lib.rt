@@ -8,6 +8,8 @@ mod buffer_rows;
 #[cfg(test)]
 mod cancel_rows;
 #[cfg(test)]
+mod checks;
+#[cfg(test)]
 mod cold_rows;
 #[cfg(test)]
 mod meeting;
@@ -16,7 +18,11 @@ mod memory_rows;
 #[cfg(test)]
 mod merge_rows;
 #[cfg(test)]
+mod operators;
+#[cfg(test)]
 mod refused_rows;
+#[cfg(test)]
+mod sources;
 #[cfg(test)]
 mod tools;
 #[cfg(test)]

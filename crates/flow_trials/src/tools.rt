@@ -1,9 +1,7 @@
-//! Tools of the tests: functions as values, flows of lists and of steps and their polls, and what a table says that didn't come.
+//! Tools of the tests: functions as values, polls, and what a table says that didn't come.
 ghost use Rattle.std.specs.Prelude.{◌≡◌, ◌+◌, ◌%◌, ◌^◌, ◌==◌, if◌then◌else◌, ⊤};
 
-use cold_flow::{
-    Apply, Cause, Collected, Event, Listed, Run, Step, Stepped, failing, of, scripted,
-};
+use cold_flow::{Apply, Cause, Collected, Event, Run, Step};
 use futures::task::Poll;
 use futures::test::MockTask;
 use std::alloc::{AllocError, AllocGlobal, Global};
@@ -118,59 +116,33 @@ impl<F: Copy> Apply<u64> for Pick<F> {
     }
 }
 
-/// The flow of a list. Where there is a fault, it fails with that at its end.
-pub(crate) fn listed(
-    alloc: Global,
-    values: &[u64],
-    fault: Option<u64>,
-) -> Result<Listed<u64, u64>, AllocError> {
-    let values = values.to_vec(alloc)?;
-    match fault {
-        Some(fault) => Ok(failing(values, fault)),
-        None => Ok(of(values)),
-    }
-}
-
 /// A step that waits.
 pub(crate) const WAIT: Step<u64, u64> = Step::Pending;
 
-/// The flow of these steps.
-pub(crate) fn stepped(
-    alloc: Global,
-    steps: &[Step<u64, u64>],
-) -> Result<Stepped<u64, u64>, AllocError> {
-    Ok(scripted(steps.to_vec(alloc)?))
-}
-
 /// A task that is polled by hand. It is made once more where memory was refused, as under `rt try --test --fail-alloc N`.
-pub(crate) fn task_made<R: RandomSource + AllocGlobal>(rt: &R) -> Result<MockTask, Fail> {
+fn task_made<R: RandomSource + AllocGlobal>(rt: &R) -> Result<MockTask, Fail> {
     match MockTask::new(rt) {
         Ok(task) => Ok(task),
         Err(_) => Ok(MockTask::new(rt)?),
     }
 }
 
-/// Fails with this name where what was found isn't what was wanted.
-pub(crate) fn assert_same<T: PartialEq + Debug + Drop>(
-    rt: &impl Abort,
-    name: &str,
-    found: T,
-    wanted: T,
-) {
-    assert_eq!(rt; found, wanted, "{name}");
-}
-
-/// What came otherwise than a table says, a line for each. The rows after a wrong one are run all the same.
+/// What a test has: memory, a task that is polled by hand, and what came otherwise than its table says, a line for each. The rows
+/// after a wrong one are run all the same.
 #[derive(Drop)]
-pub struct Differences {
+pub struct Trial {
+    pub alloc: Global,
+    pub task: MockTask,
     lines: String,
 }
 
-impl Differences {
-    pub(crate) fn none(alloc: Global) -> Differences {
-        Differences {
-            lines: String::new(alloc),
-        }
+impl Trial {
+    pub(crate) fn new<R: RandomSource + AllocGlobal>(rt: &R) -> Result<Trial, Fail> {
+        Ok(Trial {
+            alloc: rt.alloc(),
+            task: task_made(rt)?,
+            lines: String::new(rt.alloc()),
+        })
     }
 
     /// Notes it under this name where what was found isn't what was wanted.
@@ -186,21 +158,43 @@ impl Differences {
         Ok(())
     }
 
+    /// Compares a list and the cause of its end.
+    pub(crate) fn compare_list<T: Copy + PartialEq + Debug, E: Copy + PartialEq + Debug>(
+        &mut self,
+        name: &str,
+        list: &Collected<T, E>,
+        values: &[T],
+        cause: Cause<E>,
+    ) -> Result<(), Fail> {
+        let found = (list.values.as_slice(), list.cause);
+        self.compare(name, found, (values, cause))
+    }
+
+    /// One poll of a run, and whether it woke the task where it is pending.
+    pub(crate) fn next<R: Run<Item = u64, Fault = u64>>(&self, run: &mut R) -> (Polling, bool) {
+        let polled = self.task.enter(|cx| run.poll_next(cx));
+        let is_awake = polled.is_ready() || self.task.is_woken();
+        (polled, is_awake)
+    }
+
+    /// Polls a run, and compares the answers. A poll that is pending has woken its task.
+    pub(crate) fn compare_polls<R: Run<Item = u64, Fault = u64>>(
+        &mut self,
+        name: &str,
+        run: &mut R,
+        answers: &[Polling],
+    ) -> Result<(), Fail> {
+        for answer in answers {
+            let (polled, is_awake) = self.next(run);
+            self.compare(name, (&polled, is_awake), (answer, true))?;
+        }
+        Ok(())
+    }
+
     /// Fails with all that was noted, where something was.
     pub(crate) fn assert_none(&self, rt: &impl Abort) {
         assert!(rt; self.lines.is_empty(), "{}", self.lines);
     }
-}
-
-/// Fails where a list isn't of these values, or ended by another cause.
-pub(crate) fn assert_list<T: Copy + PartialEq + Debug, E: Copy + PartialEq + Debug>(
-    rt: &impl Abort,
-    list: &Collected<T, E>,
-    values: &[T],
-    cause: Cause<E>,
-) {
-    assert_eq!(rt; list.values.as_slice(), values);
-    assert_eq!(rt; list.cause, cause);
 }
 
 /// What a poll of a run gives.
@@ -211,31 +205,3 @@ pub(crate) const ENDED: Polling = Poll::Ready(Event::End(Cause::Finished));
 
 /// The end of a run that was cancelled.
 pub(crate) const CANCELLED: Polling = Poll::Ready(Event::End(Cause::Cancelled));
-
-/// One poll.
-pub(crate) fn next<R: Run<Item = u64, Fault = u64>>(task: &MockTask, run: &mut R) -> Polling {
-    task.enter(|cx| run.poll_next(cx))
-}
-
-/// Polls a run, and compares the answer. A poll that is pending has woken its task.
-pub(crate) fn assert_poll<R: Run<Item = u64, Fault = u64>>(
-    rt: &impl Abort,
-    task: &MockTask,
-    run: &mut R,
-    answer: &Polling,
-) {
-    assert_eq!(rt; next(task, run), *answer);
-    assert!(rt; answer.is_ready() || task.is_woken());
-}
-
-/// The same of several polls.
-pub(crate) fn assert_polls<R: Run<Item = u64, Fault = u64>>(
-    rt: &impl Abort,
-    task: &MockTask,
-    run: &mut R,
-    answers: &[Polling],
-) {
-    for answer in answers {
-        assert_poll(rt, task, run, answer);
-    }
-}

@@ -5,18 +5,16 @@ ghost use Rattle.std.specs.Iterator.{at_most};
 ghost use Rattle.cold_flow.specs.declared.builders.unfold.Unfolded.TheVariants.{Next};
 ghost use Rattle.flow_trials.specs.Uncancelled.{AnyTrace};
 
-use crate::tools::{Add, CANCELLED, Differences, ENDED, Polling, assert_list, assert_same, next};
+use crate::tools::{Add, CANCELLED, ENDED, Polling, Trial};
 use cold_callers::{gathered_halves, mapped_halves, repeated_list};
 use cold_flow::{
     Apply, Cause, Collected, Collecting, EndingRun, Event, Finite, FiniteSteps, Flow, Refusal, Run,
     Step, Steps, Unfolded, collect, take, to_list, unfold,
 };
 use futures::task::Poll;
-use futures::test::MockTask;
-use std::alloc::{AllocError, Global};
+use std::alloc::AllocError;
 use std::cell::Cell;
 use std::fmt::Debug;
-use std::process::Abort;
 use std::test::Fail;
 
 // Gives a number that is below a limit, and goes on with its double. It counts how often it is asked.
@@ -201,44 +199,33 @@ const DOUBLED: &[Doubled<'_>] = &[
 
 // Compares what one poll gathered with a whole list.
 fn compare_gathered<E: Copy + PartialEq + Debug>(
-    differences: &mut Differences,
+    trial: &mut Trial,
     name: &str,
     gathered: Poll<Result<Collected<u64, E>, Refusal>>,
     values: &[u64],
     cause: Cause<E>,
 ) -> Result<(), Fail> {
     match gathered {
-        Poll::Ready(list) => {
-            let list = list?;
-            differences.compare(name, list.values.as_slice(), values)?;
-            differences.compare(name, list.cause, cause)
-        }
-        Poll::Pending => differences.compare(name, "it waits", "it ends"),
+        Poll::Ready(list) => trial.compare_list(name, &list?, values, cause),
+        Poll::Pending => trial.compare(name, "it waits", "it ends"),
     }
 }
 
 // Compares what one poll of a collection of the flow gathers with a whole list.
 fn compare_collected<E: Copy + PartialEq + Debug, F: Flow<Item = u64, Fault = E>>(
-    differences: &mut Differences,
-    alloc: Global,
-    task: &MockTask,
+    trial: &mut Trial,
     name: &str,
     flow: &F,
     values: &[u64],
     cause: Cause<E>,
 ) -> Result<(), Fail> {
-    let mut gathering = collect(alloc, flow.start()?);
-    let gathered = task.enter(|cx| gathering.poll(cx));
-    compare_gathered(differences, name, gathered, values, cause)
+    let mut gathering = collect(trial.alloc, flow.start()?);
+    let gathered = trial.task.enter(|cx| gathering.poll(cx));
+    compare_gathered(trial, name, gathered, values, cause)
 }
 
 // Two starts of a row's flow. Each begins with its state: both give the same, and ask as often.
-fn compare_row(
-    differences: &mut Differences,
-    alloc: Global,
-    task: &MockTask,
-    row: &Doubled<'_>,
-) -> Result<(), Fail> {
+fn compare_row(trial: &mut Trial, row: &Doubled<'_>) -> Result<(), Fail> {
     let asked = Cell::new(0);
     let step = Doubling {
         limit: row.limit,
@@ -248,44 +235,34 @@ fn compare_row(
     let flow = unfold(row.from, step);
     for _start in 0..2 {
         asked.set(0);
-        compare_collected(
-            differences,
-            alloc,
-            task,
-            row.name,
-            &flow,
-            row.values,
-            row.cause,
-        )?;
-        differences.compare(row.name, asked.get(), row.asked)?;
+        compare_collected(trial, row.name, &flow, row.values, row.cause)?;
+        trial.compare(row.name, asked.get(), row.asked)?;
     }
     Ok(())
 }
 
 #[test]
 fn unfolds_give_what_their_steps_answer(rt: HostRuntime) -> Result<(), Fail> {
-    let task = MockTask::new(&rt)?;
-    let mut differences = Differences::none(rt.alloc());
+    let mut trial = Trial::new(&rt)?;
     for row in DOUBLED {
-        compare_row(&mut differences, rt.alloc(), &task, row)?;
+        compare_row(&mut trial, row)?;
     }
-    differences.assert_none(&rt);
+    trial.assert_none(&rt);
     Ok(())
 }
 
 // Polls a run. Compares each answer, and how often its step was asked until then. A poll that is pending has woken its task.
 fn compare_polls<R: Run<Item = u64, Fault = u64>>(
-    differences: &mut Differences,
-    task: &MockTask,
+    trial: &mut Trial,
     name: &str,
     run: &mut R,
     asked: &Cell<u32>,
     polls: &[(Polling, u32)],
 ) -> Result<(), Fail> {
     for (answer, count) in polls {
-        differences.compare(name, &next(task, run), answer)?;
-        differences.compare(name, answer.is_ready() || task.is_woken(), true)?;
-        differences.compare(name, asked.get(), *count)?;
+        let (polled, is_awake) = trial.next(run);
+        let found = (&polled, is_awake, asked.get());
+        trial.compare(name, found, (answer, true, *count))?;
     }
     Ok(())
 }
@@ -299,20 +276,17 @@ struct Polled<'a> {
 
 // Polls a run and cancels it. From then on its step is asked no more.
 fn compare_cancelled<R: Run<Item = u64, Fault = u64>>(
-    differences: &mut Differences,
-    task: &MockTask,
+    trial: &mut Trial,
     run: &mut R,
     asked: &Cell<u32>,
     row: &Polled<'_>,
 ) -> Result<(), Fail> {
-    compare_polls(differences, task, row.name, run, asked, row.polls)?;
+    compare_polls(trial, row.name, run, asked, row.polls)?;
     run.cancel();
     let count = asked.get();
-    for _poll in 0..2 {
-        let end = [(Poll::Ready(Event::End(row.cancelled)), count)];
-        compare_polls(differences, task, row.name, run, asked, &end)?;
-    }
-    Ok(())
+    let end = Event::End(row.cancelled);
+    let polls = [(Poll::Ready(end), count), (Poll::Ready(end), count)];
+    compare_polls(trial, row.name, run, asked, &polls)
 }
 
 // A doubling of 1: where it ends and how, and the polls of its run.
@@ -363,8 +337,7 @@ const UNFOLDS: &[Unfolds<'_>] = &[
 
 #[test]
 fn unfolds_ask_one_step_a_poll(rt: HostRuntime) -> Result<(), Fail> {
-    let task = MockTask::new(&rt)?;
-    let mut differences = Differences::none(rt.alloc());
+    let mut trial = Trial::new(&rt)?;
     for row in UNFOLDS {
         let asked = Cell::new(0);
         let step = Doubling {
@@ -373,93 +346,70 @@ fn unfolds_ask_one_step_a_poll(rt: HostRuntime) -> Result<(), Fail> {
             asked: &asked,
         };
         let mut run = unfold(1u64, step).start()?;
-        compare_cancelled(&mut differences, &task, &mut run, &asked, &row.polled)?;
+        compare_cancelled(&mut trial, &mut run, &asked, &row.polled)?;
     }
-    differences.assert_none(&rt);
+    trial.assert_none(&rt);
     Ok(())
 }
 
 // Two runs of one flow, side by side. Each has a state of its own, and a cancel of one leaves the other going.
 fn compare_side_by_side<F: Flow<Item = u64, Fault = u64>>(
-    all: &mut Differences,
-    task: &MockTask,
-    flow: F,
+    trial: &mut Trial,
+    flow: &F,
     asked: &Cell<u32>,
 ) -> Result<(), Fail> {
     let mut left = flow.start()?;
     let mut right = flow.start()?;
-    compare_polls(all, task, "left", &mut left, asked, &[(ONE, 1), (TWO, 2)])?;
-    compare_polls(all, task, "right", &mut right, asked, &[(ONE, 3)])?;
+    compare_polls(trial, "left", &mut left, asked, &[(ONE, 1), (TWO, 2)])?;
+    compare_polls(trial, "right", &mut right, asked, &[(ONE, 3)])?;
     left.cancel();
     let on = [(TWO, 4), (FOUR, 5), (ENDED, 6)];
-    compare_polls(all, task, "right goes on", &mut right, asked, &on)?;
-    compare_polls(
-        all,
-        task,
-        "left is over",
-        &mut left,
-        asked,
-        &[(CANCELLED, 6)],
-    )
+    compare_polls(trial, "right goes on", &mut right, asked, &on)?;
+    compare_polls(trial, "left is over", &mut left, asked, &[(CANCELLED, 6)])
 }
 
-#[test]
-fn runs_of_an_unfold_stand_side_by_side(rt: HostRuntime) -> Result<(), Fail> {
-    let task = MockTask::new(&rt)?;
-    let mut all = Differences::none(rt.alloc());
-    let asked = Cell::new(0);
-    let step = Doubling {
-        limit: 5,
-        end: FINISH,
-        asked: &asked,
-    };
-    compare_side_by_side(&mut all, &task, unfold(1u64, step), &asked)?;
-    all.assert_none(&rt);
-    Ok(())
-}
-
-// One poll of a collection takes the 64 powers of two, and waits.
-fn assert_endless<R: Run<Item = u64, Fault = u64>>(
-    rt: &impl Abort,
-    task: &MockTask,
+// One poll of a collection takes the 64 powers of two, and waits, with its task woken.
+fn compare_endless<R: Run<Item = u64, Fault = u64>>(
+    trial: &mut Trial,
     mut gathering: Collecting<R>,
-) {
+    asked: &Cell<u32>,
+) -> Result<(), Fail> {
     const GREATEST_POWER: u64 = 0x8000_0000_0000_0000;
-    assert!(rt; task.enter(|cx| gathering.poll(cx)).is_pending());
-    assert!(rt; task.is_woken());
-    assert_same(rt, "values", gathering.so_far().len(), 64);
-    let last = gathering.so_far().last().copied();
-    assert_same(rt, "last value", last, Some(GREATEST_POWER));
+    let is_pending = trial.task.enter(|cx| gathering.poll(cx)).is_pending();
+    let waits = is_pending && trial.task.is_woken();
+    let so_far = gathering.so_far();
+    let found = (waits, so_far.len(), so_far.last().copied(), asked.get());
+    trial.compare("endless", found, (true, 64, Some(GREATEST_POWER), 64))
 }
 
-// Doubling without an end: the powers of two that fit, and then 0 for good.
+// Doubling without an end: the powers of two that fit, and then 0 for good. One that ends, by two runs.
 #[test]
-fn unfolds_without_an_end(rt: HostRuntime) -> Result<(), Fail> {
-    let alloc = rt.alloc();
-    let task = MockTask::new(&rt)?;
+fn unfolds_without_an_end_and_side_by_side(rt: HostRuntime) -> Result<(), Fail> {
+    let mut trial = Trial::new(&rt)?;
     let asked = Cell::new(0);
-    let step = Doubling {
+    let mut step = Doubling {
         limit: u64::MAX,
         end: FINISH,
         asked: &asked,
     };
     let flow = unfold(1u64, step);
-    assert_endless(&rt, &task, collect(alloc, flow.start()?));
-    assert_same(&rt, "steps", asked.get(), 64);
+    let gathering = collect(trial.alloc, flow.start()?);
+    compare_endless(&mut trial, gathering, &asked)?;
     asked.set(0);
-    let mut all = Differences::none(alloc);
     let taken = take(flow, 3)?;
+    let values = &[1, 2, 4];
     compare_collected(
-        &mut all,
-        alloc,
-        &task,
+        &mut trial,
         "a take of three",
         &taken,
-        &[1, 2, 4],
+        values,
         Cause::Finished,
     )?;
-    all.compare("steps of them", asked.get(), 3)?;
-    all.assert_none(&rt);
+    trial.compare("steps of them", asked.get(), 3)?;
+    asked.set(0);
+    step.limit = 5;
+    compare_side_by_side(&mut trial, &unfold(1u64, step), &asked)?;
+    trial.assert_none(&rt);
     Ok(())
 }
 
@@ -489,28 +439,9 @@ const PAUSES: &[Polled<'_>] = &[
     },
 ];
 
-#[test]
-fn steps_of_ones_own_may_wait(rt: HostRuntime) -> Result<(), Fail> {
-    let task = MockTask::new(&rt)?;
-    let mut differences = Differences::none(rt.alloc());
-    for row in PAUSES {
-        let asked = Cell::new(0);
-        let source = Pausing {
-            left: 5,
-            asked: &asked,
-        };
-        let mut run = source.start()?;
-        compare_cancelled(&mut differences, &task, &mut run, &asked, row)?;
-    }
-    differences.assert_none(&rt);
-    Ok(())
-}
-
 // `to_list` asks again at once; a collection waits with its task. Both starts begin anew.
-fn assert_waits<F: Flow<Item = u64, Fault = u64>>(
-    rt: &impl Abort,
-    alloc: Global,
-    task: &MockTask,
+fn compare_waits<F: Flow<Item = u64, Fault = u64>>(
+    trial: &mut Trial,
     source: F,
     asked: &Cell<u32>,
 ) -> Result<(), Fail>
@@ -518,32 +449,39 @@ where
     F::Running: Finite,
 {
     const VALUES: &[u64] = &[4, 2, 0];
+    const NAME: &str = "steps of one's own";
+    let alloc = trial.alloc;
     let run = source.start()?;
-    let list = task.enter(move |cx| to_list(alloc, run, cx))?;
-    assert_list(rt, &list, VALUES, Cause::Finished);
-    assert_same(rt, "steps", asked.get(), 6);
+    let list = trial.task.enter(move |cx| to_list(alloc, run, cx))?;
+    trial.compare_list(NAME, &list, VALUES, Cause::Finished)?;
+    trial.compare(NAME, asked.get(), 6)?;
     let mut gathering = collect(alloc, source.start()?);
     for count in [1, 2] {
-        assert!(rt; task.enter(|cx| gathering.poll(cx)).is_pending());
-        assert!(rt; task.is_woken());
-        assert_same(rt, "values so far", gathering.so_far().len(), count);
+        let is_pending = trial.task.enter(|cx| gathering.poll(cx)).is_pending();
+        let waits = is_pending && trial.task.is_woken();
+        let found = (waits, gathering.so_far().len());
+        trial.compare(NAME, found, (true, count))?;
     }
-    let Poll::Ready(list) = task.enter(|cx| gathering.poll(cx)) else {
-        return Err(Fail::from("it waits"));
-    };
-    assert_list(rt, &list?, VALUES, Cause::Finished);
-    Ok(())
+    let gathered = trial.task.enter(|cx| gathering.poll(cx));
+    compare_gathered(trial, NAME, gathered, VALUES, Cause::Finished)
 }
 
 #[test]
-fn steps_of_ones_own_are_listed(rt: HostRuntime) -> Result<(), Fail> {
-    let task = MockTask::new(&rt)?;
+fn steps_of_ones_own_may_wait(rt: HostRuntime) -> Result<(), Fail> {
+    let mut trial = Trial::new(&rt)?;
     let asked = Cell::new(0);
     let source = Pausing {
         left: 5,
         asked: &asked,
     };
-    assert_waits(&rt, rt.alloc(), &task, source, &asked)
+    compare_waits(&mut trial, source, &asked)?;
+    for row in PAUSES {
+        asked.set(0);
+        let mut run = source.start()?;
+        compare_cancelled(&mut trial, &mut run, &asked, row)?;
+    }
+    trial.assert_none(&rt);
+    Ok(())
 }
 
 // A number, its half and so on, and these with 1 added.
@@ -582,48 +520,54 @@ const HALVED: &[Halved<'_>] = &[
 ];
 
 // What the callers of `unfold` give.
-#[test]
-fn halves(rt: HostRuntime) -> Result<(), Fail> {
-    let alloc = rt.alloc();
-    let task = MockTask::new(&rt)?;
-    let mut all = Differences::none(alloc);
-    for row in HALVED {
-        let gathered = task.enter(|cx| gathered_halves(alloc, row.number, cx));
-        compare_gathered(&mut all, row.name, gathered, row.values, Cause::Finished)?;
-        let mapped = mapped_halves(row.number, Add(1));
-        let (name, more) = (row.name, row.more);
-        compare_collected(&mut all, alloc, &task, name, &mapped, more, Cause::Finished)?;
+fn compare_halves(trial: &mut Trial, row: &Halved<'_>) -> Result<(), Fail> {
+    let alloc = trial.alloc;
+    let gathered = trial
+        .task
+        .enter(|cx| gathered_halves(alloc, row.number, cx));
+    compare_gathered(trial, row.name, gathered, row.values, Cause::Finished)?;
+    let mapped = mapped_halves(row.number, Add(1));
+    compare_collected(trial, row.name, &mapped, row.more, Cause::Finished)
+}
+
+// How many halves one poll gathers of a number. None where it waits, and has woken its task.
+fn count_of_halves(trial: &Trial, number: u64) -> Result<Option<usize>, Fail> {
+    let alloc = trial.alloc;
+    match trial.task.enter(|cx| gathered_halves(alloc, number, cx)) {
+        Poll::Ready(list) => Ok(Some(list?.values.len())),
+        Poll::Pending if trial.task.is_woken() => Ok(None),
+        Poll::Pending => Err(Fail::from("nothing wakes the task")),
     }
-    all.assert_none(&rt);
-    Ok(())
 }
 
 // A number of 63 bits has 63 halves, and its end comes in the poll that gathers them; after 64 the poll yields.
 #[test]
-fn halves_of_great_numbers(rt: HostRuntime) -> Result<(), Fail> {
+fn halves(rt: HostRuntime) -> Result<(), Fail> {
     const OF_63_BITS: u64 = 0x7fff_ffff_ffff_ffff;
     const OF_64_BITS: u64 = 0x8000_0000_0000_0000;
-    let alloc = rt.alloc();
-    let task = MockTask::new(&rt)?;
-    match task.enter(|cx| gathered_halves(alloc, OF_63_BITS, cx)) {
-        Poll::Ready(list) => assert_same(&rt, "values", list?.values.len(), 63),
-        Poll::Pending => return Err(Fail::from("it waits")),
+    let mut trial = Trial::new(&rt)?;
+    for row in HALVED {
+        compare_halves(&mut trial, row)?;
     }
-    let gathered = task.enter(|cx| gathered_halves(alloc, OF_64_BITS, cx));
-    assert!(rt; gathered.is_pending());
-    assert!(rt; task.is_woken());
+    for (number, wanted) in [(OF_63_BITS, Some(63)), (OF_64_BITS, None)] {
+        let found = count_of_halves(&trial, number)?;
+        trial.compare("halves of a great number", found, wanted)?;
+    }
+    trial.assert_none(&rt);
     Ok(())
 }
 
 // What the caller of a source by its steps gives.
 #[test]
 fn repeated_values(rt: HostRuntime) -> Result<(), Fail> {
-    const SEVENS: &[u64] = &[7, 7, 7];
     let alloc = rt.alloc();
-    let task = MockTask::new(&rt)?;
-    for times in [0, 3] {
-        let list = task.enter(|cx| repeated_list(alloc, 7u64, times, cx))?;
-        assert_list(&rt, &list, &SEVENS[..times as usize], Cause::Finished);
+    let mut trial = Trial::new(&rt)?;
+    for (times, sevens) in [(0, [].as_slice()), (3, [7, 7, 7].as_slice())] {
+        let list = trial
+            .task
+            .enter(|cx| repeated_list(alloc, 7u64, times, cx))?;
+        trial.compare_list("repeated_list", &list, sevens, Cause::Finished)?;
     }
+    trial.assert_none(&rt);
     Ok(())
 }

@@ -19,7 +19,7 @@ use rows::{ROWS, Row};
 use script_commands::ScriptObject;
 use std::alloc::{AllocError, AllocGlobal, Global};
 use std::io;
-use std::process::Abort;
+use std::io::{Read, Write};
 use std::random::RandomSource;
 use std::sync::Wait;
 use std::test::Fail;
@@ -34,6 +34,16 @@ const TEXT: &[u8] =
 
 /// Each script has the same answers with either.
 const ENGINES: [Engine; 2] = [Engine::Core, Engine::Lane];
+
+/// Runs a script, and says how it ended: as `run_script`, without its contract.
+fn run<H: Wait + RandomSource + AllocGlobal, R: Read, W: Write>(
+    rt: &H,
+    reader: &mut R,
+    writer: &mut W,
+    engine: Engine,
+) -> Result<(), ScriptFault> {
+    run_script(rt, reader, writer, engine)
+}
 
 /// What a script answers.
 fn answers<'r, H: Wait + RandomSource + AllocGlobal>(
@@ -55,6 +65,15 @@ fn answers<'r, H: Wait + RandomSource + AllocGlobal>(
     Ok(text)
 }
 
+/// The same without a contract, so that no proof of a caller reads one.
+fn answered(
+    rt: &(impl Wait + RandomSource + AllocGlobal),
+    engine: Engine,
+    script: &[u8],
+) -> Result<Vec<u8>, Fail> {
+    answers(rt, engine, script)
+}
+
 /// The text with an end of line at each ` ; ` and at its end.
 fn lines_of(alloc: Global, text: &str) -> Result<String, AllocError> {
     let mut lines = text.replace(alloc, " ; ", "\n")?;
@@ -71,9 +90,8 @@ fn compare_row(
 ) -> Result<(), Fail> {
     let script = lines_of(rt.alloc(), row.script)?;
     let want = lines_of(rt.alloc(), row.answers)?;
-    let text = answers(rt, engine, script.as_bytes())?;
-    let name = format!(in rt.alloc(); "{} on {engine:?}", row.name)?;
-    differences.compare_text(name.as_str(), &text, want.as_bytes())
+    let text = answered(rt, engine, script.as_bytes())?;
+    differences.compare_text(row.name, engine, &text, want.as_bytes())
 }
 
 #[test]
@@ -84,32 +102,6 @@ fn each_row_gives_its_answers(rt: HostRuntime) -> Result<(), Fail> {
         compare_row(&rt, &mut differences, Engine::Lane, row)?;
     }
     differences.assert_none(&rt);
-    Ok(())
-}
-
-/// Compares what each script answers on this engine, and names a wrong one by its text.
-fn compare_answers(
-    rt: &(impl Wait + RandomSource + AllocGlobal),
-    differences: &mut Differences,
-    engine: Engine,
-    lines: &[(&[u8], &[u8])],
-) -> Result<(), Fail> {
-    for (script, want) in lines {
-        let text = answers(rt, engine, script)?;
-        differences.compare_text(str::from_utf8(script)?, &text, want)?;
-    }
-    Ok(())
-}
-
-/// Fails where a script has other answers, on either engine.
-fn assert_answers(
-    rt: &(impl Abort + Wait + RandomSource + AllocGlobal),
-    lines: &[(&[u8], &[u8])],
-) -> Result<(), Fail> {
-    let mut differences = Differences::none(rt.alloc());
-    compare_answers(rt, &mut differences, Engine::Core, lines)?;
-    compare_answers(rt, &mut differences, Engine::Lane, lines)?;
-    differences.assert_none(rt);
     Ok(())
 }
 
@@ -179,9 +171,38 @@ const LINES: &[(&[u8], &[u8])] = &[
     ),
 ];
 
+/// Compares what each script answers on this engine, and names a wrong one by its text.
+fn compare_answers(
+    rt: &(impl Wait + RandomSource + AllocGlobal),
+    differences: &mut Differences,
+    engine: Engine,
+    lines: &[(&[u8], &[u8])],
+) -> Result<(), Fail> {
+    for (script, want) in lines {
+        let text = answered(rt, engine, script)?;
+        differences.compare_text(str::from_utf8(script)?, engine, &text, want)?;
+    }
+    Ok(())
+}
+
+/// All forms of lines, and the scripts of each subject.
 #[test]
-fn each_form_of_a_line_is_answered(rt: HostRuntime) -> Result<(), Fail> {
-    assert_answers(&rt, LINES)
+fn each_script_of_a_table_is_answered(rt: HostRuntime) -> Result<(), Fail> {
+    let mut differences = Differences::none(rt.alloc());
+    for lines in [
+        LINES,
+        buffers::LINES,
+        sharings::LINES,
+        pipes::WORKED,
+        pipes::ONE_SOURCE,
+        pipes::SEVERAL_SOURCES,
+        pipes::BAD_COMMANDS,
+    ] {
+        compare_answers(&rt, &mut differences, Engine::Core, lines)?;
+        compare_answers(&rt, &mut differences, Engine::Lane, lines)?;
+    }
+    differences.assert_none(&rt);
+    Ok(())
 }
 
 #[test]
@@ -213,136 +234,151 @@ fn push_long_line(script: &mut Vec<u8>, len: usize) -> Result<(), Fail> {
 
 #[test]
 fn a_line_has_at_most_1024_bytes(rt: HostRuntime) -> Result<(), Fail> {
+    const WANT: &[u8] = b"ok\n0\nline 3: bad command\n";
+    let mut differences = Differences::none(rt.alloc());
     let mut script = Vec::new(rt.alloc());
     script.extend_from_slice(b"shared f 0 1 suspend\n")?;
     push_long_line(&mut script, 1024)?;
     push_long_line(&mut script, 1025)?;
     for engine in ENGINES {
-        let text = answers(&rt, engine, &script)?;
-        assert_eq!(rt;
-            text.as_slice(),
-            b"ok\n0\nline 3: bad command\n".as_slice(),
-            "on {engine:?}"
-        );
+        let text = answered(&rt, engine, &script)?;
+        differences.compare_text("long lines", engine, &text, WANT)?;
     }
+    differences.assert_none(&rt);
     Ok(())
 }
 
 /// How a reader fails.
 const KINDS: [io::ErrorKind; 2] = [io::ErrorKind::TimedOut, io::ErrorKind::Interrupted];
 
-/// Runs the script from a reader, and compares the end and the text.
-fn assert_read(
-    rt: &(impl Abort + Wait + RandomSource + AllocGlobal),
-    mut tap: Tap<'_>,
+/// Runs the script from a reader of at most so many bytes a read, which fails at this read, and compares the end and the text.
+fn compare_read(
+    rt: &(impl Wait + RandomSource + AllocGlobal),
+    differences: &mut Differences,
+    tap: &mut Tap<'_>,
     engine: Engine,
+    fails_at: usize,
     want: Result<(), ScriptFault>,
-    name: &str,
-) {
-    let text_wanted = match want {
-        Ok(()) => TEXT,
-        Err(_) => b"".as_slice(),
-    };
+) -> Result<(), Fail> {
     let mut text = Vec::new(rt.alloc());
-    let ran = run_script(rt, &mut tap, &mut text, engine);
-    assert_eq!(rt; ran, want, "{name} on {engine:?}");
-    assert_eq!(rt; text.as_slice(), text_wanted, "{name} on {engine:?}");
+    let ran = run(rt, tap, &mut text, engine);
+    differences.compare("a failing read", (fails_at, ran), (fails_at, want))?;
+    let answered = if want.is_ok() { TEXT } else { b"".as_slice() };
+    differences.compare_text("after a failing read", engine, &text, answered)
 }
 
 /// Each read fails of a reader that gives at most so many bytes a read, the last one, which finds the end, too. There is
 /// none after that.
-fn assert_reads(
-    rt: &(impl Abort + Wait + RandomSource + AllocGlobal),
+fn compare_reads(
+    rt: &(impl Wait + RandomSource + AllocGlobal),
+    differences: &mut Differences,
     engine: Engine,
     most: usize,
     reads: usize,
+    kind: io::ErrorKind,
 ) -> Result<(), Fail> {
-    for kind in KINDS {
-        for fails_at in 1..=reads.saturating_add(1) {
-            let want = if fails_at <= reads {
-                Err(ScriptFault::Read)
-            } else {
-                Ok(())
-            };
-            let name = format!(in rt.alloc(); "{most} bytes a read, read {fails_at} fails")?;
-            let tap = Tap::new(SCRIPT, most, fails_at, kind);
-            assert_read(rt, tap, engine, want, name.as_str());
-        }
+    for fails_at in 1..=reads.saturating_add(1) {
+        let mut tap = Tap::new(SCRIPT, most, fails_at, kind);
+        let want = if fails_at <= reads {
+            Err(ScriptFault::Read)
+        } else {
+            Ok(())
+        };
+        compare_read(rt, differences, &mut tap, engine, fails_at, want)?;
     }
     Ok(())
 }
 
 #[test]
 fn a_failing_read_writes_nothing(rt: HostRuntime) -> Result<(), Fail> {
+    let singly = SCRIPT.len() + 1;
+    let at_once = SCRIPT.len().div_ceil(100).saturating_add(1);
+    let mut differences = Differences::none(rt.alloc());
     for engine in ENGINES {
-        assert_reads(&rt, engine, 1, SCRIPT.len() + 1)?;
-        assert_reads(
-            &rt,
-            engine,
-            100,
-            SCRIPT.len().div_ceil(100).saturating_add(1),
-        )?;
+        for kind in KINDS {
+            compare_reads(&rt, &mut differences, engine, 1, singly, kind)?;
+            compare_reads(&rt, &mut differences, engine, 100, at_once, kind)?;
+        }
     }
+    differences.assert_none(&rt);
     Ok(())
 }
 
-/// Runs the script into a sink that fails at this byte, and compares what it took with this front of the answers.
-fn assert_front(
-    rt: &(impl Abort + Wait + RandomSource + AllocGlobal),
+/// Runs the script into a sink that fails at this byte, and compares the end, and what it took with this front of the answers.
+fn compare_write(
+    rt: &(impl Wait + RandomSource + AllocGlobal),
+    differences: &mut Differences,
     engine: Engine,
     fails_at: usize,
     failure: Failure,
-    front: &[u8],
-) {
+    wanted: (Result<(), ScriptFault>, &[u8]),
+) -> Result<(), Fail> {
+    let (end, front) = wanted;
     let mut sink = Sink::new(rt.alloc(), fails_at, failure);
     let mut script = SCRIPT;
-    let ran = run_script(rt, &mut script, &mut sink, engine);
-    assert_eq!(rt; ran, Err(ScriptFault::Write), "at {fails_at} on {engine:?}");
-    assert_eq!(rt; sink.taken(), front, "at {fails_at} on {engine:?}");
+    let ran = run(rt, &mut script, &mut sink, engine);
+    let (found, wanted) = ((failure, fails_at, ran), (failure, fails_at, end));
+    differences.compare("a failing write", found, wanted)?;
+    differences.compare_text("after a failing write", engine, sink.taken(), front)
 }
 
 #[test]
 fn a_failing_write_leaves_a_front_of_the_text(rt: HostRuntime) -> Result<(), Fail> {
+    let mut differences = Differences::none(rt.alloc());
     for failure in [Failure::Error, Failure::Interrupted, Failure::Nothing] {
         for fails_at in 1..TEXT.len() + 1 {
             let front = TEXT.get(..fails_at - 1).ok_or("the text is longer")?;
-            assert_front(&rt, Engine::Core, fails_at, failure, front);
-            assert_front(&rt, Engine::Lane, fails_at, failure, front);
+            let wanted = (Err(ScriptFault::Write), front);
+            compare_write(
+                &rt,
+                &mut differences,
+                Engine::Core,
+                fails_at,
+                failure,
+                wanted,
+            )?;
+            compare_write(
+                &rt,
+                &mut differences,
+                Engine::Lane,
+                fails_at,
+                failure,
+                wanted,
+            )?;
         }
     }
+    differences.assert_none(&rt);
     Ok(())
 }
 
-/// A sink that fails after all was written, or never.
+/// Sinks that fail never, after all was written, or at the flush.
 #[test]
-fn short_writes_leave_the_whole_text(rt: HostRuntime) -> Result<(), Fail> {
+fn a_late_failure_leaves_the_whole_text(rt: HostRuntime) -> Result<(), Fail> {
+    let mut differences = Differences::none(rt.alloc());
     for engine in ENGINES {
-        for fails_at in [0, TEXT.len() + 1] {
-            let mut sink = Sink::new(rt.alloc(), fails_at, Failure::Nothing);
-            let mut script = SCRIPT;
-            let ran = run_script(&rt, &mut script, &mut sink, engine);
-            assert_eq!(rt; ran, Ok(()));
-            assert_eq!(rt; sink.taken(), TEXT);
+        for (fails_at, failure, end) in [
+            (0, Failure::Nothing, Ok(())),
+            (TEXT.len() + 1, Failure::Nothing, Ok(())),
+            (0, Failure::Flush, Err(ScriptFault::Write)),
+        ] {
+            compare_write(
+                &rt,
+                &mut differences,
+                engine,
+                fails_at,
+                failure,
+                (end, TEXT),
+            )?;
         }
     }
-    Ok(())
-}
-
-#[test]
-fn a_failing_flush_leaves_the_whole_text(rt: HostRuntime) -> Result<(), Fail> {
-    for engine in ENGINES {
-        let mut sink = Sink::new(rt.alloc(), 0, Failure::Flush);
-        let mut script = SCRIPT;
-        let ran = run_script(&rt, &mut script, &mut sink, engine);
-        assert_eq!(rt; ran, Err(ScriptFault::Write));
-        assert_eq!(rt; sink.taken(), TEXT);
-    }
+    differences.assert_none(&rt);
     Ok(())
 }
 
 /// Runs a script of so many bytes in one comment, which writes nothing.
-fn assert_length(
-    rt: &(impl Abort + Wait + RandomSource + AllocGlobal),
+fn compare_length(
+    rt: &(impl Wait + RandomSource + AllocGlobal),
+    differences: &mut Differences,
     engine: Engine,
     len: usize,
     want: Result<(), ScriptFault>,
@@ -353,18 +389,20 @@ fn assert_length(
     }
     let mut text = Vec::new(rt.alloc());
     let mut rest = script.as_slice();
-    let ran = run_script(rt, &mut rest, &mut text, engine);
-    assert_eq!(rt; ran, want, "{len} bytes on {engine:?}");
-    assert_eq!(rt; text.len(), 0, "{len} bytes on {engine:?}");
-    Ok(())
+    let ran = run(rt, &mut rest, &mut text, engine);
+    differences.compare("a long script", (len, ran), (len, want))?;
+    differences.compare_text("a long script", engine, &text, b"")
 }
 
 #[test]
 fn a_script_past_the_limit_is_too_long(rt: HostRuntime) -> Result<(), Fail> {
+    let mut differences = Differences::none(rt.alloc());
     for engine in ENGINES {
-        assert_length(&rt, engine, 1_048_576, Ok(()))?;
-        assert_length(&rt, engine, 1_048_577, Err(ScriptFault::TooLong))?;
+        compare_length(&rt, &mut differences, engine, 1_048_576, Ok(()))?;
+        let too_long = Err(ScriptFault::TooLong);
+        compare_length(&rt, &mut differences, engine, 1_048_577, too_long)?;
     }
+    differences.assert_none(&rt);
     Ok(())
 }
 
@@ -379,7 +417,7 @@ fn tens_of_thousands_of_names_are_found_fast(rt: HostRuntime) -> Result<(), Fail
         want.push_str("accepted\n")?;
     }
     for engine in ENGINES {
-        let text = answers(&rt, engine, script.as_bytes())?;
+        let text = answered(&rt, engine, script.as_bytes())?;
         assert_eq!(rt; text.as_slice() == want.as_bytes(), true, "on {engine:?}");
     }
     Ok(())

@@ -1,5 +1,6 @@
 //! Tools of the tests: what is made once more, and what a table says that didn't come.
 
+use flow_script::Engine;
 use std::alloc::{AllocError, Global};
 use std::fmt::Debug;
 use std::process::Abort;
@@ -41,14 +42,17 @@ impl Differences {
         Ok(())
     }
 
-    /// The same of texts.
+    /// The same of texts, on this engine.
     pub(crate) fn compare_text(
         &mut self,
         name: &str,
+        engine: Engine,
         found: &[u8],
         wanted: &[u8],
     ) -> Result<(), Fail> {
-        self.compare(name, str::from_utf8(found)?, str::from_utf8(wanted)?)
+        let found = (engine, str::from_utf8(found)?);
+        let wanted = (engine, str::from_utf8(wanted)?);
+        self.compare(name, found, wanted)
     }
 
     /// Fails with all that was noted, where something was.

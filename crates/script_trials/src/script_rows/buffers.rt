@@ -1,10 +1,7 @@
 //! Buffers of a script: the rows that are worked out by hand, and the places where a line of a buffer may go wrong.
 
-use super::assert_answers;
-use std::test::Fail;
-
 /// Lines, and how they are answered.
-const LINES: &[(&[u8], &[u8])] = &[
+pub(super) const LINES: &[(&[u8], &[u8])] = &[
     // buffers_oldest
     (
         b"buffer b 2 oldest of 1,2,3,p,4\nfill b\nfill b\nfill b\nnext b\nfill b\nnext b\nnext b\nnext b\nfill b\n",
@@ -56,8 +53,3 @@ const LINES: &[(&[u8], &[u8])] = &[
         b"ok\ntook\ntook\ndropped\nvalue 0\nvalue 1\nvalue 3\n",
     ),
 ];
-
-#[test]
-fn each_buffer_is_answered(rt: HostRuntime) -> Result<(), Fail> {
-    assert_answers(&rt, LINES)
-}

@@ -1,7 +1,7 @@
 //! Scripts that are cut after each byte. The whole lines before the cut are answered as without it, and what is left of
 //! the next one has an answer of its own.
 
-use super::{ENGINES, SCRIPT, TEXT, answers};
+use super::{ENGINES, SCRIPT, TEXT, answered};
 use crate::tools::Differences;
 use flow_script::Engine;
 use std::alloc::AllocGlobal;
@@ -66,7 +66,7 @@ fn is_answered(
     row: &Row,
     front: &[u8],
 ) -> Result<bool, Fail> {
-    let text = answers(rt, engine, front)?;
+    let text = answered(rt, engine, front)?;
     let whole = ends_of_lines(front);
     let want = first_lines(row.answers, whole);
     let is_cut = !front.is_empty() && !front.ends_with(b"\n");

@@ -2,9 +2,9 @@
 //! with 4, or the end for want of memory, the lines written are those of ample memory; once more, all are.
 
 use super::rows::{FIRST_PATH, Row, SHARE_WHILE_SUBSCRIBED, STATE_CONFLATES};
-use super::{ENGINES, lines_of};
+use super::{ENGINES, lines_of, run};
 use crate::tools::{Differences, made_again};
-use flow_script::{Engine, ScriptFault, run_script};
+use flow_script::{Engine, ScriptFault};
 use std::alloc::{AllocGlobal, Global};
 use std::process::Abort;
 use std::random::RandomSource;
@@ -76,6 +76,18 @@ fn lines_again(alloc: Global, text: &str) -> Result<String, Fail> {
     Ok(made_again(&|| lines_of(alloc, text))?)
 }
 
+/// Runs the script, and how that ended. The text is what it wrote.
+fn written(
+    rt: &(impl Wait + RandomSource + AllocGlobal),
+    engine: Engine,
+    script: &[u8],
+    text: &mut Vec<u8>,
+) -> Result<(), ScriptFault> {
+    text.clear();
+    let mut rest = script;
+    run(rt, &mut rest, text, engine)
+}
+
 /// Runs the script once, and once more where it wasn't answered whole. Whether the first answers agree with those of ample
 /// memory, and the last are these.
 fn is_answered(
@@ -86,15 +98,12 @@ fn is_answered(
 ) -> Result<(bool, bool), Fail> {
     let alloc = rt.alloc();
     let mut text = made_again(&|| Vec::with_capacity(alloc, ROOM))?;
-    let mut first = script;
-    let ran = run_script(rt, &mut first, &mut text, engine);
+    let ran = written(rt, engine, script, &mut text);
     let agreed = agrees(ran, &text, want);
     if ran == Ok(()) && text.as_slice() == want {
         return Ok((agreed, true));
     }
-    text.clear();
-    let mut second = script;
-    let ran = run_script(rt, &mut second, &mut text, engine);
+    let ran = written(rt, engine, script, &mut text);
     Ok((agreed, ran == Ok(()) && text.as_slice() == want))
 }
 

@@ -1,10 +1,7 @@
 //! Sharings of a script: the places where a line may go wrong, and what no worked row shows.
 
-use super::assert_answers;
-use std::test::Fail;
-
 /// Lines, and how they are answered.
-const LINES: &[(&[u8], &[u8])] = &[
+pub(super) const LINES: &[(&[u8], &[u8])] = &[
     // What shares a source is a kind of its own.
     (
         b"share f 1 0 suspend eager of 1\ntry f 1\nemit f e 1\nreset f\nset f 1\ncas f 0 1\nvalue f\ncollect f c\nfill f\nnext f\ncancel f\nshare f 1 0 suspend eager of 1\nshared f 1 0 suspend\ncache f\ncount f\n",
@@ -56,8 +53,3 @@ const LINES: &[(&[u8], &[u8])] = &[
         b"ok\noff\nok\non\nvalue 1\non\nvalue 2\nok\non\non\noff\nvalue 2\noff\nvalue 2\noff\nvalue 0\nok\non\nvalue 1\nvalue 1\n",
     ),
 ];
-
-#[test]
-fn each_sharing_is_answered(rt: HostRuntime) -> Result<(), Fail> {
-    assert_answers(&rt, LINES)
-}

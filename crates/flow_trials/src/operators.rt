@@ -1,0 +1,172 @@
+//! Operators over three sources, and what is compared of their runs.
+ghost use Rattle.std.specs.Prelude.{◌≡◌, ⊤};
+
+use crate::checks::{Check, Judged, Three, compare_flow};
+use crate::cold_rows::Asked;
+use crate::sources::{Counts, Source};
+use crate::tools::{Pick, Sum, Trial};
+use cold_flow::{
+    Apply, Caught, Flow, Policy, Step, catch_with, distinct, on_completion, range, take,
+};
+use flow_buffer::{buffer, conflate};
+use flow_merge::{combine, flat_map_concat, flat_map_merge, zip};
+use std::alloc::{AllocError, AllocGlobal};
+use std::cell::Cell;
+use std::process::Abort;
+use std::random::RandomSource;
+use std::test::Fail;
+
+/// Any failure becomes a given answer.
+#[derive(Copy)]
+struct Answer(Caught<u64, u64>);
+
+impl Clone for Answer {
+    ghost is_clone = { λ function copy. copy ≡ function };
+
+    ghost is_infallible = { λ _. ⊤ };
+
+    fn clone(&self) -> Result<Self, AllocError> {
+        Ok(*self)
+    }
+}
+
+impl Apply<u64> for Answer {
+    type Out = Caught<u64, u64>;
+
+    ghost gives = { λ f _. f.0 };
+
+    fn apply(&self, _argument: u64) -> Caught<u64, u64> {
+        self.0
+    }
+}
+
+/// An operator over the first source, or over several.
+pub(crate) enum Operator {
+    Completion,
+    Catch,
+    /// Two values, none of them the same as the one before.
+    TakeDistinct,
+    /// With two places.
+    Buffer,
+    Conflate,
+    Zip,
+    Combine,
+    /// The inner flow is the second source for the value 0, and the third for any other.
+    Concat,
+    /// The same, by so many workers.
+    Merge(u32),
+    /// A merge of so many inner flows by so many workers: the first source, the second, and from then on the third.
+    Turns(u64, u32),
+}
+
+/// Compares an operator over one source.
+fn compare_one<F: Flow<Item = u64, Fault = u64> + Copy>(
+    trial: &mut Trial,
+    operator: &Operator,
+    one: F,
+    judged: &Judged<'_>,
+) -> Result<(), Fail> {
+    match operator {
+        Operator::Catch => compare_flow(trial, judged, catch_with(one, Answer(Caught::Last(9)))),
+        Operator::TakeDistinct => compare_flow(trial, judged, take(distinct(one), 2)?),
+        Operator::Conflate => compare_flow(trial, judged, conflate(trial.alloc, one)),
+        Operator::Buffer => {
+            let held = buffer(trial.alloc, one, 2, Policy::Suspend)?;
+            compare_flow(trial, judged, held)
+        }
+        _ => {
+            let asks = Cell::new(0);
+            let action = Asked {
+                asks: &asks,
+                last: Some(9),
+            };
+            compare_flow(trial, judged, on_completion(one, action))
+        }
+    }
+}
+
+/// Compares an operator over these sources.
+pub(crate) fn compare_operator<F: Flow<Item = u64, Fault = u64> + Copy>(
+    trial: &mut Trial,
+    operator: &Operator,
+    sources: (F, F, F),
+    judged: &Judged<'_>,
+) -> Result<(), Fail> {
+    let (one, two, three) = sources;
+    let inner = Pick {
+        zero: two,
+        one: three,
+        other: three,
+    };
+    match operator {
+        Operator::Zip => compare_flow(trial, judged, zip(one, two, Sum)),
+        Operator::Combine => compare_flow(trial, judged, combine(one, two, Sum)),
+        Operator::Concat => compare_flow(trial, judged, flat_map_concat(one, inner)),
+        Operator::Merge(workers) => {
+            let merged = flat_map_merge(trial.alloc, one, inner, *workers)?;
+            compare_flow(trial, judged, merged)
+        }
+        Operator::Turns(flows, workers) => {
+            let inner = Pick {
+                zero: one,
+                one: two,
+                other: three,
+            };
+            let merged = flat_map_merge(trial.alloc, range::<u64>(0, *flows), inner, *workers)?;
+            compare_flow(trial, judged, merged)
+        }
+        _ => compare_one(trial, operator, one, judged),
+    }
+}
+
+/// An operator over sources of these steps, before how many starts of each one finds no memory, and what is compared.
+pub(crate) struct Case<'a> {
+    pub name: &'a str,
+    pub operator: Operator,
+    pub sources: [&'a [Step<u64, u64>]; 3],
+    pub before: (u32, u32, u32),
+    pub check: Check<'a>,
+}
+
+fn compare_case(trial: &mut Trial, case: &Case<'_>) -> Result<(), Fail> {
+    let (first, second, third) = case.before;
+    let counts = Three {
+        one: Counts::new(first),
+        two: Counts::new(second),
+        three: Counts::new(third),
+    };
+    let [one, two, three] = case.sources;
+    let sources = (
+        Source {
+            steps: one,
+            counts: &counts.one,
+        },
+        Source {
+            steps: two,
+            counts: &counts.two,
+        },
+        Source {
+            steps: three,
+            counts: &counts.three,
+        },
+    );
+    let judged = Judged {
+        name: case.name,
+        check: &case.check,
+        counts: &counts,
+    };
+    compare_operator(trial, &case.operator, sources, &judged)
+}
+
+/// Fails where a case isn't as its table says.
+pub(crate) fn assert_cases<R: Abort + RandomSource + AllocGlobal>(
+    rt: &R,
+    cases: &[Case<'_>],
+) -> Result<(), Fail> {
+    let mut trial = Trial::new(rt)?;
+    for case in cases {
+        compare_case(&mut trial, case)?;
+    }
+    trial.assert_none(rt);
+    Ok(())
+}
