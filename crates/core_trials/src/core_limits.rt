@@ -1,6 +1,7 @@
 //! A shared flow at its limits: the most places, subscribers and emissions in flight that a config may ask for, a long list of
 //! calls, and the callers that have the headline. Each value is the number of its emission.
 
+use crate::core_rows::{Exchange, is_replied};
 use crate::tools::assert_same;
 use cold_flow::{Policy, Refusal};
 use list_callers::{offer_and_take, run_new_flow};
@@ -8,7 +9,6 @@ use shared_core::{
     Begun, Call, Config, Emit, Next, Reply, SharedState, SubId, Ticket, Tried, Withdrawn,
 };
 use std::alloc::{AllocError, Global};
-use std::process::Abort;
 use std::test::Fail;
 
 const PLACES: u64 = 65_536;
@@ -35,122 +35,123 @@ const ONE_PLACE: Config = Config {
     first: 0,
 };
 
-/// How many of the seats are given, from the first one on, as they should be.
-fn seats_given(flow: &mut SharedState<u64>) -> u64 {
-    for number in 0..SEATS {
-        if flow.subscribe() != Ok(SubId(number)) {
-            return number;
-        }
-    }
-    SEATS
+/// A call, which is made many times, with the numbers from 0 on.
+enum Many {
+    Subscribe,
+    Try,
+    Start,
+    Next,
+    Cancel,
 }
 
-/// How many of the places are filled, from the first one on, as they should be.
-fn places_filled(flow: &mut SharedState<u64>) -> u64 {
-    for number in 0..PLACES {
-        if flow.try_emit(0, number) != Ok(Tried::Accepted(number)) {
-            return number;
+impl Many {
+    /// The call with this number, and its reply.
+    fn exchange(&self, number: u64) -> Exchange {
+        match self {
+            Many::Subscribe => (Call::Subscribe, Reply::Sub(Ok(SubId(number)))),
+            Many::Try => (
+                Call::Try(0, number),
+                Reply::Tried(Ok(Tried::Accepted(number))),
+            ),
+            Many::Start => (
+                Call::Start(0, PLACES.saturating_add(number)),
+                Reply::Begun(Ok(Begun::Waiting(Ticket(number)))),
+            ),
+            Many::Next => (Call::Next(SubId(number)), Reply::Next(Next::Value(0))),
+            Many::Cancel => (Call::Cancel(SubId(number)), Reply::Cancelled(true)),
         }
     }
-    PLACES
 }
 
-/// How many of the emissions wait, from the first one on, as they should.
-fn emissions_held(flow: &mut SharedState<u64>) -> u64 {
-    for number in 0..SEATS {
-        if flow.start_emit(0, PLACES + number) != Ok(Begun::Waiting(Ticket(number))) {
-            return number;
+/// What is done with a flow, and what has to come of it.
+enum Line {
+    Each(Many, u64),
+    Once(Exchange),
+    /// How many values are pending for a subscription.
+    Pending(SubId, u64),
+    /// The first and the last value of the replay cache, which is as long as it may be.
+    Cache(u64, u64),
+}
+
+const LINES: &[Line] = &[
+    // All seats are taken and all places of each, and as many emissions wait as may.
+    Line::Each(Many::Subscribe, SEATS),
+    Line::Once((Call::Subscribe, Reply::Sub(Err(Refusal::SubscribersFull)))),
+    Line::Each(Many::Try, PLACES),
+    Line::Once((Call::Try(0, PLACES), Reply::Tried(Ok(Tried::Full)))),
+    Line::Each(Many::Start, SEATS),
+    Line::Once((
+        Call::Start(0, PLACES),
+        Reply::Begun(Err(Refusal::EmitsFull)),
+    )),
+    Line::Once((Call::Count, Reply::Count(SEATS as u32))),
+    Line::Pending(SubId(SEATS - 1), PLACES),
+    Line::Cache(1, PLACES - 1),
+    // Room comes with the last receipt, and the oldest emission that waits takes it.
+    Line::Each(Many::Next, SEATS),
+    Line::Once((Call::Poll(Ticket(0)), Reply::Emit(Emit::Done(PLACES)))),
+    Line::Once((Call::Poll(Ticket(1)), Reply::Emit(Emit::Waiting))),
+    Line::Cache(2, PLACES),
+    // Once nobody is live, all that wait are accepted.
+    Line::Each(Many::Cancel, SEATS),
+    Line::Once((
+        Call::Poll(Ticket(SEATS - 1)),
+        Reply::Emit(Emit::Done(PLACES + SEATS - 1)),
+    )),
+    Line::Once((
+        Call::Withdraw(Ticket(1)),
+        Reply::Withdrawn(Withdrawn::Left(PLACES + 1)),
+    )),
+    Line::Once((Call::Subscribe, Reply::Sub(Ok(SubId(SEATS))))),
+    Line::Pending(SubId(SEATS), PLACES - 1),
+    Line::Once((
+        Call::Next(SubId(SEATS)),
+        Reply::Next(Next::Value(SEATS + 1)),
+    )),
+];
+
+/// Whether so many calls are replied to as they should be.
+fn are_replied(flow: &mut SharedState<u64>, many: &Many, count: u64) -> bool {
+    for number in 0..count {
+        if !is_replied(flow, &many.exchange(number)) {
+            return false;
         }
     }
-    SEATS
+    true
 }
 
-/// How many of the subscriptions, from the first one on, receive the first value.
-fn first_received(flow: &mut SharedState<u64>) -> u64 {
-    for number in 0..SEATS {
-        if flow.next(SubId(number)) != Next::Value(0) {
-            return number;
-        }
-    }
-    SEATS
-}
-
-/// How many of the subscriptions, from the first one on, are ended as they should be.
-fn seats_ended(flow: &mut SharedState<u64>) -> u64 {
-    for number in 0..SEATS {
-        if !flow.cancel(SubId(number)) {
-            return number;
-        }
-    }
-    SEATS
-}
-
-/// The first and the last value of the replay cache, where it is as long as it may be.
-fn ends_of_cache(flow: &SharedState<u64>) -> Option<(u64, u64)> {
+/// Whether the replay cache is as long as it may be, from this value to that.
+fn caches(flow: &SharedState<u64>, first: u64, last: u64) -> bool {
     if flow.replay_len() != PLACES - 1 {
-        return None;
+        return false;
     }
-    Some((flow.replay_at(0), flow.replay_at(PLACES - 2)))
+    flow.replay_at(0) == first && flow.replay_at(PLACES - 2) == last
 }
 
-// All seats are taken and all places of each, and as many emissions wait as may.
-fn fill(rt: &impl Abort, flow: &mut SharedState<u64>) {
-    assert_same(rt, "seats", seats_given(flow), SEATS);
-    assert_same(
-        rt,
-        "one seat more",
-        flow.subscribe(),
-        Err(Refusal::SubscribersFull),
-    );
-    assert_same(rt, "places", places_filled(flow), PLACES);
-    assert_same(
-        rt,
-        "one place more",
-        flow.try_emit(0, PLACES),
-        Ok(Tried::Full),
-    );
-    assert_same(rt, "emissions", emissions_held(flow), SEATS);
-    assert_same(
-        rt,
-        "one emission more",
-        flow.start_emit(0, PLACES),
-        Err(Refusal::EmitsFull),
-    );
-    assert_same(rt, "live", u64::from(flow.subscription_count()), SEATS);
-    assert_same(rt, "pending", flow.pending(SubId(SEATS - 1)), PLACES);
-    assert_same(rt, "cache", ends_of_cache(flow), Some((1, PLACES - 1)));
+fn is_so(flow: &mut SharedState<u64>, line: &Line) -> bool {
+    match line {
+        Line::Each(many, count) => are_replied(flow, many, *count),
+        Line::Once(exchange) => is_replied(flow, exchange),
+        Line::Pending(id, count) => flow.pending(*id) == *count,
+        Line::Cache(first, last) => caches(flow, *first, *last),
+    }
+}
+
+/// The number of the first line that was answered otherwise, or of all lines where none was.
+fn answered(flow: &mut SharedState<u64>, lines: &[Line]) -> usize {
+    for (number, line) in lines.iter().enumerate() {
+        if !is_so(flow, line) {
+            return number;
+        }
+    }
+    lines.len()
 }
 
 #[test]
 fn limits_are_reached(rt: HostRuntime) -> Result<(), Fail> {
     let mut flow = SharedState::new(rt.alloc(), MOST)?;
-    fill(&rt, &mut flow);
-    // Room comes with the last receipt, and the oldest emission that waits takes it.
-    assert_same(&rt, "receipts", first_received(&mut flow), SEATS);
-    let (first, second) = (flow.poll_emit(Ticket(0)), flow.poll_emit(Ticket(1)));
-    assert_same(&rt, "the first emission", first, Emit::Done(PLACES));
-    assert_same(&rt, "the second emission", second, Emit::Waiting);
-    assert_same(&rt, "cache then", ends_of_cache(&flow), Some((2, PLACES)));
-    // Once nobody is live, all that wait are accepted.
-    assert_same(&rt, "ends", seats_ended(&mut flow), SEATS);
-    let last = flow.poll_emit(Ticket(SEATS - 1));
-    assert_same(
-        &rt,
-        "the last emission",
-        last,
-        Emit::Done(PLACES + SEATS - 1),
-    );
-    let left = flow.cancel_emit(Ticket(1));
-    assert_same(&rt, "one withdrawn", left, Withdrawn::Left(PLACES + 1));
-    let newcomer = flow.subscribe();
-    assert_same(&rt, "a newcomer", newcomer, Ok(SubId(SEATS)));
-    assert_same(&rt, "its values", flow.pending(SubId(SEATS)), PLACES - 1);
-    assert_same(
-        &rt,
-        "its first value",
-        flow.next(SubId(SEATS)),
-        Next::Value(SEATS + 1),
-    );
+    let count = answered(&mut flow, LINES);
+    assert_same(&rt, "lines answered", count, LINES.len());
     Ok(())
 }
 

@@ -33,7 +33,7 @@ const HANDING_OVER: Config = Config {
 };
 
 /// A call, and its reply.
-type Exchange = (Call<u64>, Reply<u64>);
+pub(crate) type Exchange = (Call<u64>, Reply<u64>);
 
 /// The calls of a new flow with their replies, and its replay cache after them.
 struct Row<'a> {
@@ -325,10 +325,16 @@ fn reply_to(flow: &mut SharedState<u64>, call: Call<u64>) -> Reply<u64> {
     }
 }
 
+/// Whether the flow replies to the call as it should.
+pub(crate) fn is_replied(flow: &mut SharedState<u64>, exchange: &Exchange) -> bool {
+    let (call, reply) = *exchange;
+    reply_to(flow, call) == reply
+}
+
 /// How many of the calls, from the first on, were replied to as they should be.
 fn replied(flow: &mut SharedState<u64>, exchanges: &[Exchange]) -> usize {
-    for (index, (call, reply)) in exchanges.iter().enumerate() {
-        if reply_to(flow, *call) != *reply {
+    for (index, exchange) in exchanges.iter().enumerate() {
+        if !is_replied(flow, exchange) {
             return index;
         }
     }

@@ -108,40 +108,22 @@ fn admitted(rt: &impl Abort, lane: &Lane<Global>, sequencer: &mut Sequencer<Glob
     sequencer.admit(lane).expect(rt, "a reader")
 }
 
-// Makes a call, and compares its answer.
-fn assert_exchange(
-    rt: &impl Abort,
+// Makes a call. Whether it was answered so.
+fn is_answered(
     lane: &Lane<Global>,
     sequencer: &mut Sequencer<Global>,
     reader: &mut Reader,
-    name: &str,
     exchange: &Exchange,
-)
+) -> bool
     requires { IsSequencerOf lane.now sequencer.old × IsReaderOf lane.now reader.old }
     ensures { IsSequencerOf lane.now sequencer.new × IsReaderOf lane.now reader.new }
 {
     match exchange {
-        Exchange::Try(word, answer) => {
-            assert_same(
-                rt,
-                name,
-                sequencer.try_emit(lane, EMITTER, *word),
-                Ok(*answer),
-            );
-        }
-        Exchange::Start(word, answer) => {
-            assert_same(
-                rt,
-                name,
-                sequencer.start_emit(lane, EMITTER, *word),
-                Ok(*answer),
-            );
-        }
-        Exchange::Scan(answer) => assert_same(rt, name, sequencer.scan(lane), *answer),
-        Exchange::Poll(ticket, answer) => {
-            assert_same(rt, name, sequencer.poll_emit(lane, *ticket), *answer);
-        }
-        Exchange::Next(answer) => assert_same(rt, name, reader.try_next(lane), *answer),
+        Exchange::Try(word, answer) => sequencer.try_emit(lane, EMITTER, *word) == Ok(*answer),
+        Exchange::Start(word, answer) => sequencer.start_emit(lane, EMITTER, *word) == Ok(*answer),
+        Exchange::Scan(answer) => sequencer.scan(lane) == *answer,
+        Exchange::Poll(ticket, answer) => sequencer.poll_emit(lane, *ticket) == *answer,
+        Exchange::Next(answer) => reader.try_next(lane) == *answer,
     }
 }
 
@@ -158,7 +140,8 @@ fn assert_life(
     ensures { IsSequencerOf lane.now sequencer.new × IsReaderOf lane.now reader.new }
 {
     for exchange in life.exchanges {
-        assert_exchange(rt, lane, sequencer, reader, name, exchange);
+        let same = is_answered(lane, sequencer, reader, exchange);
+        assert_same(rt, name, same, true);
     }
     let found = (reader.start(), reader.received(), reader.dropped());
     assert_same(rt, name, found, (life.start, life.received, life.dropped));

@@ -11,7 +11,6 @@ use shared_lane::{Lane, Reader, Sequencer, Taken};
 use std::alloc::{AllocGlobal, Global};
 use std::process::Abort;
 use std::sync::atomic::{AtomicBool, Ordering};
-use std::test::Fail;
 use std::thread::{Threads, for_each_mut, join_mut, yield_now};
 
 /// How many readers there are.
@@ -284,7 +283,7 @@ const RUNS: &[Run] = &[
     },
 ];
 
-fn assert_run<R>(rt: &R, run: &Run) -> Result<(), Fail>
+fn assert_run<R>(rt: &R, run: &Run)
 where
     R: AllocGlobal + Threads + Abort + Sync,
 {
@@ -296,23 +295,21 @@ where
         emits: 3,
         first: 0,
     };
-    let (lane, sequencer) = Lane::new(rt.alloc(), config).map_err(|refusal| refusal.number())?;
-    let places = Vec::with_capacity(rt.alloc(), READERS)?;
+    let (lane, sequencer) = Lane::new(rt.alloc(), config).expect(rt, "a lane");
     let mut stage = Stage {
         lane: &lane,
         sequencer,
     };
+    let places = Vec::with_capacity(rt.alloc(), READERS).expect(rt, "room");
     let mut readers = admit_all(rt, &mut stage, places);
     let emitted = run_all(rt, &mut stage, &mut readers, run.words);
     assert_each(rt, readers, run);
     assert_same(rt, "all words were emitted", emitted, true);
-    Ok(())
 }
 
 #[test]
-fn lane_three_emitters(rt: HostRuntime) -> Result<(), Fail> {
+fn lane_three_emitters(rt: HostRuntime) {
     for run in RUNS {
-        assert_run(&rt, run)?;
+        assert_run(&rt, run);
     }
-    Ok(())
 }

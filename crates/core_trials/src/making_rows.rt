@@ -1,12 +1,11 @@
 //! Refusals at making: which one comes first, want of memory last; and what is made, and replied, in heaps that are too small.
 
-use crate::tools::{Differences, assert_same};
+use crate::tools::Differences;
 use linked_list_allocator::LocalHeap;
 use shared_core::{Call, Config, Policy, Refusal, SharedState};
 use shared_lane::Lane;
 use state_flow::StateFlow;
 use std::alloc::Global;
-use std::process::Abort;
 use std::test::Fail;
 
 const PLAIN: Config = Config {
@@ -85,11 +84,8 @@ fn refusals_at_making_come_in_order(rt: HostRuntime) -> Result<(), Fail> {
     // There is room for nothing in it.
     let heap = LocalHeap::new(rt.alloc(), 16)?;
     for row in ROWS {
-        let refusals = (
-            flow_refusal(rt.alloc(), row.config),
-            lane_refusal(&heap, row.config),
-        );
-        differences.compare(row.name, refusals, (row.refusal, row.refusal))?;
+        differences.compare(row.name, flow_refusal(rt.alloc(), row.config), row.refusal)?;
+        differences.compare(row.name, lane_refusal(&heap, row.config), row.refusal)?;
     }
     differences.compare("a lane without memory", lane_refusal(&heap, PLAIN), 4)?;
     for (seats, refusal) in [(0, 3), (1_025, 3), (1, 4)] {
@@ -108,48 +104,68 @@ enum Made {
 
 const EACH: &[Made] = &[Made::Lane, Made::State, Made::Replies];
 
+// Makes a state, and takes a seat of it.
+fn seated_in(heap: &LocalHeap) -> Result<(), Refusal> {
+    let mut seat = StateFlow::new(heap, 0u64, 2)?;
+    let _second = seat.take_seat(0)?;
+    Ok(())
+}
+
 // Runs two calls, of which none is made where there is no room for their replies.
 fn replied_in(heap: &LocalHeap, flow: &mut SharedState<u64>) -> Result<(), Refusal> {
     let mut replies = Vec::new(heap);
     flow.run(&[Call::Subscribe, Call::Count], &mut replies)
 }
 
-fn made_in(heap: &LocalHeap, flow: &mut SharedState<u64>, made: &Made) -> Result<(), Refusal> {
-    match made {
-        Made::Lane => {
-            Lane::new(heap, PLAIN)?;
-        }
-        Made::State => {
-            StateFlow::new(heap, 0u64, 2)?.take_seat(0)?;
-        }
-        Made::Replies => replied_in(heap, flow)?,
+/// The number of a refusal, 0 where there is none.
+fn number_of(ended: Result<(), Refusal>) -> u8 {
+    match ended {
+        Ok(()) => 0,
+        Err(refusal) => refusal.number(),
     }
-    Ok(())
 }
 
-// Each heap has one block more than the one before, so that each allocation, from the first to the last, is the refused one.
-fn assert_made_at_last(rt: &impl Abort, alloc: Global, made: &Made) -> Result<(), Fail> {
-    let mut was_refused = false;
+fn refusal_in(heap: &LocalHeap, flow: &mut SharedState<u64>, made: &Made) -> u8 {
+    match made {
+        Made::Lane => lane_refusal(heap, PLAIN),
+        Made::State => number_of(seated_in(heap)),
+        Made::Replies => number_of(replied_in(heap, flow)),
+    }
+}
+
+/// The same in a heap with so many blocks, and how much of it is used after the call.
+fn refusal_within(
+    alloc: Global,
+    blocks: usize,
+    flow: &mut SharedState<u64>,
+    made: &Made,
+) -> Result<(u8, usize), Fail> {
+    let heap = LocalHeap::new(alloc, 16 * blocks.min(64))?;
+    let refusal = refusal_in(&heap, flow, made);
+    Ok((refusal, heap.used()))
+}
+
+// Each heap has one block more than the one before, so that each allocation, from the first to the last, is the refused one. Says
+// whether each call before the last was refused for want of memory, and each left its heap, and a refused one the flow, as it was.
+fn is_made_at_last(alloc: Global, made: &Made) -> Result<bool, Fail> {
     let mut flow = SharedState::new(alloc, PLAIN)?;
     for blocks in 1..64usize {
-        let heap = LocalHeap::new(alloc, 16 * blocks)?;
-        assert_same(rt, "subscriptions before", flow.subscription_count(), 0);
-        let ended = made_in(&heap, &mut flow, made);
-        assert_same(rt, "heap after the call", heap.used(), 0);
-        if ended.is_ok() {
-            assert!(rt; was_refused);
-            return Ok(());
+        if flow.subscription_count() != 0 {
+            return Ok(false);
         }
-        assert_same(rt, "refusal", ended, Err(Refusal::NoMemory));
-        was_refused = true;
+        match refusal_within(alloc, blocks, &mut flow, made)? {
+            (0, 0) => return Ok(blocks > 1),
+            (4, 0) => {}
+            _ => return Ok(false),
+        }
     }
-    Err(Fail::from("never made"))
+    Ok(false)
 }
 
 #[test]
 fn want_of_memory_is_answered(rt: HostRuntime) -> Result<(), Fail> {
     for made in EACH {
-        assert_made_at_last(&rt, rt.alloc(), made)?;
+        assert!(rt; is_made_at_last(rt.alloc(), made)?);
     }
     Ok(())
 }

@@ -7,7 +7,6 @@ use futures::task::Poll;
 use futures::test::MockTask;
 use hot_callers::{Dimmer, Light, asked_twice};
 use state_flow::{Collector, StateFlow, StateSeat};
-use std::test::Fail;
 use std::thread;
 
 /// The number of the refusal of a further seat, or 0 where there is one.
@@ -78,7 +77,7 @@ fn answered(
 }
 
 #[test]
-fn state_conflates(rt: HostRuntime) -> Result<(), Fail> {
+fn state_conflates(rt: HostRuntime) {
     const LINES: &[Line] = &[
         Line::Ask(Some(0)),
         Line::Set(1),
@@ -95,19 +94,28 @@ fn state_conflates(rt: HostRuntime) -> Result<(), Fail> {
         Line::Value(5),
         Line::Poll(Some(5)),
     ];
-    let task = MockTask::new(&rt)?;
-    let mut seat = StateFlow::new(rt.alloc(), 0u64, 2)?;
-    let mut collector = seat.take_seat(0)?.collect();
+    let task = MockTask::new(&rt).expect(&rt, "a task");
+    let mut seat = StateFlow::new(rt.alloc(), 0u64, 2).expect(&rt, "a state");
+    let mut collector = seat.take_seat(0).expect(&rt, "a seat").collect();
     let count = answered(&task, &mut seat, &mut collector, LINES);
     drop(collector.cancel());
     assert_same(&rt, "lines answered", count, LINES.len());
-    Ok(())
+}
+
+// Sets a value. What the seat has, and a collector after it.
+fn set_and_collected(mut seat: StateSeat<u32>, value: u32) -> (u32, Option<u32>) {
+    seat.set(value);
+    let set = seat.value();
+    let mut collector = seat.collect();
+    let next = collector.try_next();
+    drop(collector.cancel());
+    (set, next)
 }
 
 #[test]
-fn two_writers_one_state(rt: HostRuntime) -> Result<(), Fail> {
-    let mut one = StateFlow::new(rt.alloc(), 0u32, 2)?;
-    let mut two = one.take_seat(0)?;
+fn two_writers_one_state(rt: HostRuntime) {
+    let mut one = StateFlow::new(rt.alloc(), 0u32, 2).expect(&rt, "a state");
+    let mut two = one.take_seat(0).expect(&rt, "a seat");
     let ((mut one, first), (mut two, second)) = thread::join(
         &rt,
         move || {
@@ -121,20 +129,17 @@ fn two_writers_one_state(rt: HostRuntime) -> Result<(), Fail> {
     );
     assert!(rt; first != second);
     let winner = if first { 1 } else { 2 };
+    let words = (one.value(), two.value());
     assert_same(
         &rt,
         "the winner's word in both seats",
-        (one.value(), two.value()),
+        words,
         (winner, winner),
     );
     one.give_back(two);
     assert_same(&rt, "spare seats", one.spare(), 1);
-    one.set(5);
-    assert_same(&rt, "value", one.value(), 5);
-    let mut collector = one.collect();
-    assert_same(&rt, "next value", collector.try_next(), Some(5));
-    drop(collector.cancel());
-    Ok(())
+    let set = set_and_collected(one, 5);
+    assert_same(&rt, "value, and next value", set, (5, Some(5)));
 }
 
 // Each taken seat begins to collect.
@@ -174,42 +179,40 @@ fn take_seats(
     Ok(seats)
 }
 
+// What the only collector has, and how many collect while it does and after it.
+fn last_collects(seat: &mut StateSeat<u64>, last: StateSeat<u64>) -> (Option<u64>, u32, u32) {
+    let mut collector = last.collect();
+    let value = collector.try_next();
+    let count = seat.collectors();
+    drop(collector.cancel());
+    (value, count, seat.collectors())
+}
+
 #[test]
-fn seats_full(rt: HostRuntime) -> Result<(), Fail> {
-    let mut seat = StateFlow::new(rt.alloc(), 0u64, 9)?;
-    let first = seat.take_seat(0)?;
-    let others = take_seats(&mut seat, Vec::new(rt.alloc()), 7)?;
-    let collectors = Vec::with_capacity(rt.alloc(), 7)?;
+fn seats_full(rt: HostRuntime) {
+    let mut seat = StateFlow::new(rt.alloc(), 0u64, 9).expect(&rt, "a state");
+    let first = seat.take_seat(0).expect(&rt, "a seat");
+    let others = take_seats(&mut seat, Vec::new(rt.alloc()), 7).expect(&rt, "seats");
+    let collectors = Vec::with_capacity(rt.alloc(), 7).expect(&rt, "room");
     let first = first.collect();
     let collectors = all_collect(others, collectors);
-    assert_same(&rt, "collectors made", collectors.len(), 7);
-    assert_same(
-        &rt,
-        "refusal of a tenth seat",
-        refused_seat(&mut seat, 0),
-        5,
-    );
-    assert_same(&rt, "collectors", seat.collectors(), 8);
+    let made = collectors.len();
+    let refusal = refused_seat(&mut seat, 0);
+    let most = seat.collectors();
     seat.give_back(first.cancel());
-    assert_same(
-        &rt,
-        "collectors after one is given back",
-        seat.collectors(),
-        7,
-    );
+    let fewer = seat.collectors();
     let ninth = seat.take_seat(0);
     cancel_all(collectors);
-    let mut ninth = ninth?.collect();
-    assert_same(&rt, "the ninth's value", ninth.try_next(), Some(0));
+    let after = last_collects(&mut seat, ninth.expect(&rt, "a ninth"));
+    assert_same(&rt, "collectors made", made, 7);
+    assert_same(&rt, "refusal of a tenth seat", refusal, 5);
     assert_same(
         &rt,
-        "collectors after the others are cancelled",
-        seat.collectors(),
-        1,
+        "collectors, and after one is given back",
+        (most, fewer),
+        (8, 7),
     );
-    drop(ninth.cancel());
-    assert_same(&rt, "collectors at the end", seat.collectors(), 0);
-    Ok(())
+    assert_same(&rt, "the ninth", after, (Some(0), 1, 0));
 }
 
 /// The last value that is set where threads collect.
@@ -242,26 +245,25 @@ fn collect_to_last(seat: StateSeat<u64>) -> (bool, u64) {
 }
 
 #[test]
-fn three_threads_collect_what_one_sets(rt: HostRuntime) -> Result<(), Fail> {
-    let mut setter = StateFlow::new(rt.alloc(), 0u64, 4)?;
-    let seats = take_seats(&mut setter, Vec::new(rt.alloc()), 3)?;
+fn three_threads_collect_what_one_sets(rt: HostRuntime) {
+    let mut setter = StateFlow::new(rt.alloc(), 0u64, 4).expect(&rt, "a state");
+    let seats = take_seats(&mut setter, Vec::new(rt.alloc()), 3).expect(&rt, "seats");
     // Where no thread can be had, the last is called first.
     let (collected, ()) = thread::join(
         &rt,
         || thread::map_vec(&rt, seats, &collect_to_last),
         || set_up_to_last(&mut setter),
     );
-    let collected = collected?;
+    let collected = collected.expect(&rt, "what they collected");
     assert_eq!(rt; collected.as_slice(), [(true, LAST + 1); 3].as_slice());
     assert_eq!(rt; setter.collectors(), 0);
-    Ok(())
 }
 
 // A type of the caller's own is a value. A collector's first ask gives the value.
 #[test]
-fn callers_of_a_state(rt: HostRuntime) -> Result<(), Fail> {
-    let mut seat = StateFlow::new(rt.alloc(), Light::Off, 2)?;
-    let mut collector = seat.take_seat(0)?.collect();
+fn callers_of_a_state(rt: HostRuntime) {
+    let mut seat = StateFlow::new(rt.alloc(), Light::Off, 2).expect(&rt, "a state");
+    let mut collector = seat.take_seat(0).expect(&rt, "a seat").collect();
     let mut dimmer = Dimmer::new(seat);
     assert_same(&rt, "first value", collector.try_next(), Some(Light::Off));
     assert_same(&rt, "collectors told", dimmer.switch(Light::On), 1);
@@ -269,14 +271,12 @@ fn callers_of_a_state(rt: HostRuntime) -> Result<(), Fail> {
     assert_same(&rt, "third ask", collector.try_next(), None);
     drop(collector.cancel());
     assert_same(&rt, "collectors left", dimmer.switch(Light::Off), 0);
-    Ok(())
 }
 
 #[test]
-fn a_second_ask_has_nothing(rt: HostRuntime) -> Result<(), Fail> {
-    let seat = StateFlow::new(rt.alloc(), 7u64, 1)?;
+fn a_second_ask_has_nothing(rt: HostRuntime) {
+    let seat = StateFlow::new(rt.alloc(), 7u64, 1).expect(&rt, "a state");
     let (collector, first, second) = asked_twice(seat);
     assert_eq!(rt; (first, second), (Some(7), None));
     drop(collector.cancel());
-    Ok(())
 }

@@ -3,6 +3,8 @@
 #![tactic(auto)]
 
 #[cfg(test)]
+mod ledger;
+#[cfg(test)]
 mod meeting;
 #[cfg(test)]
 mod memory_rows;
@@ -35,6 +37,6 @@ mod waiting_looks;
 #[cfg(test)]
 mod waiting_rows;
 #[cfg(test)]
-mod waiting_together;
+mod waiting_scenes;
 #[cfg(test)]
 mod when;

@@ -3,7 +3,7 @@
 //! it gives the same answer. So each test passes with ample memory, and whichever allocation is refused. The calls of a
 //! shared flow between threads stand in `shared_memory.rt`.
 
-use crate::tools::{Differences, made_again, task_made};
+use crate::tools::{assert_same, made_again, task_made};
 use cold_flow::{Flow, Policy, Refusal, Step, Stepped, scripted};
 use flow_sharing::{Polled, Sharing, Started, StateSharing, share_in, state_in};
 use futures::test::MockTask;
@@ -12,7 +12,6 @@ use shared_flow::SharedFlow;
 use state_flow::{StateFlow, StateSeat};
 use std::alloc::{AllocError, Global};
 use std::sync::Wait;
-use std::test::Fail;
 
 /// A flow of the values 1 and 2, made again where it is refused. Its start takes memory.
 fn one_and_two(alloc: Global) -> Result<Stepped<u64, u64>, AllocError> {
@@ -56,42 +55,32 @@ fn run_again(
     Some(flow.run(calls, replies))
 }
 
-/// Compares the replies to the calls, which are run once more where that was refused.
-fn compare_replies(
-    differences: &mut Differences,
-    flow: &mut SharedState<u64>,
-    replies: &mut Vec<Reply<u64>>,
-) -> Result<(), Fail> {
-    const CALLS: &[Call<u64>] = &[Call::Subscribe, Call::Try(1, 7), Call::Next(SubId(0))];
-    const REPLIES: &[Reply<u64>] = &[
-        Reply::Reset,
-        Reply::Sub(Ok(SubId(0))),
-        Reply::Tried(Ok(Tried::Accepted(0))),
-        Reply::Next(Next::Value(7)),
-    ];
-    let ran = run_again(flow, CALLS, replies);
-    differences.compare("run", ran, Some(Ok(())))?;
-    differences.compare("replies", replies.as_slice(), REPLIES)
-}
+const CALLS: &[Call<u64>] = &[Call::Subscribe, Call::Try(1, 7), Call::Next(SubId(0))];
+
+/// What stood in the list of replies before, and the replies to the calls.
+const REPLIES: &[Reply<u64>] = &[
+    Reply::Reset,
+    Reply::Sub(Ok(SubId(0))),
+    Reply::Tried(Ok(Tried::Accepted(0))),
+    Reply::Next(Next::Value(7)),
+];
 
 /// A list with one reply, made again where it is refused.
 fn one_reply(alloc: Global) -> Result<Vec<Reply<u64>>, AllocError> {
-    const REPLIES: &[Reply<u64>] = &[Reply::Reset];
-    match REPLIES.to_vec(alloc) {
-        Err(_) => REPLIES.to_vec(alloc),
+    const FIRST: &[Reply<u64>] = &[Reply::Reset];
+    match FIRST.to_vec(alloc) {
+        Err(_) => FIRST.to_vec(alloc),
         replies => replies,
     }
 }
 
-/// What stood in the list of replies before stays.
 #[test]
-fn new_flows_and_runs_of_calls_take_memory(rt: HostRuntime) -> Result<(), Fail> {
-    let mut all = Differences::none(rt.alloc());
-    let mut replies = one_reply(rt.alloc())?;
-    let mut flow = made(rt.alloc())?;
-    compare_replies(&mut all, &mut flow, &mut replies)?;
-    all.assert_none(&rt);
-    Ok(())
+fn new_flows_and_runs_of_calls_take_memory(rt: HostRuntime) {
+    let mut replies = one_reply(rt.alloc()).expect(&rt, "a reply");
+    let mut flow = made(rt.alloc()).expect(&rt, "a flow");
+    let ran = run_again(&mut flow, CALLS, &mut replies);
+    assert_same(&rt, "run", ran, Some(Ok(())));
+    assert_same(&rt, "replies", replies.as_slice(), REPLIES);
 }
 
 /// The answer to a poll at this moment that turns sharing on, where nobody subscribes.
@@ -180,18 +169,15 @@ fn taken_again(
 }
 
 #[test]
-fn states_take_memory(rt: HostRuntime) -> Result<(), Fail> {
+fn states_take_memory(rt: HostRuntime) {
     const BEFORE: (u32, u32, u64) = (3, 0, 3);
-    let mut all = Differences::none(rt.alloc());
-    let mut seat = seat_made(rt.alloc(), 4)?;
-    all.compare("StateFlow::new", shown(&mut seat), BEFORE)?;
+    let mut seat = seat_made(rt.alloc(), 4).expect(&rt, "a state");
+    assert_same(&rt, "StateFlow::new", shown(&mut seat), BEFORE);
     let spare = match taken_again(&mut seat, BEFORE) {
         Some(Ok(other)) => Some((other.spare(), seat.spare())),
         _ => None,
     };
-    all.compare("take_seat", spare, Some((1, 1)))?;
-    all.assert_none(&rt);
-    Ok(())
+    assert_same(&rt, "take_seat", spare, Some((1, 1)));
 }
 
 /// Whether a flow that is shared is turned on by its first poll.
@@ -207,29 +193,18 @@ fn shared<F: Flow<Item = u64, Fault = u64> + Copy>(
     Ok(turned)
 }
 
-/// Compares the replay cache, for which there is room.
-fn compare_cache(
-    rt: &impl Wait,
-    differences: &mut Differences,
-    flow: &mut SharedFlow<u64>,
-    cache: &mut Vec<u64>,
-) -> Result<(), Fail> {
-    flow.replay_cache_into(rt, cache)?;
-    differences.compare("the cache", cache.as_slice(), [1, 2].as_slice())
-}
-
 #[test]
-fn sharings_take_memory(rt: HostRuntime) -> Result<(), Fail> {
-    let task = task_made(&rt)?;
-    let mut all = Differences::none(rt.alloc());
-    let mut cache = made_again(&|| Vec::with_capacity(rt.alloc(), 2))?;
-    let mut flow = flow_made(rt.alloc())?;
-    let upstream = one_and_two(rt.alloc())?;
-    let turned = shared(&rt, &task, &mut flow, &upstream)?;
-    all.compare("share_in and its first poll", turned, true)?;
-    compare_cache(&rt, &mut all, &mut flow, &mut cache)?;
-    all.assert_none(&rt);
-    Ok(())
+fn sharings_take_memory(rt: HostRuntime) {
+    let task = task_made(&rt);
+    let cache = made_again(&|| Vec::with_capacity(rt.alloc(), 2));
+    let mut cache = cache.expect(&rt, "room for the cache");
+    let mut flow = flow_made(rt.alloc()).expect(&rt, "a flow");
+    let upstream = one_and_two(rt.alloc()).expect(&rt, "an upstream");
+    let turned = shared(&rt, &task, &mut flow, &upstream);
+    let added = flow.replay_cache_into(&rt, &mut cache);
+    assert_same(&rt, "share_in and its first poll", turned, Ok(true));
+    assert_same(&rt, "the cache's call", added, Ok(()));
+    assert_same(&rt, "the cache", cache.as_slice(), [1, 2].as_slice());
 }
 
 /// Whether a state that a flow sets is so from the first poll on, and its value then.
@@ -245,12 +220,15 @@ fn set_from<F: Flow<Item = u64, Fault = u64>>(
 }
 
 #[test]
-fn sharings_of_states_take_memory(rt: HostRuntime) -> Result<(), Fail> {
-    let task = task_made(&rt)?;
-    let mut all = Differences::none(rt.alloc());
-    let upstream = one_and_two(rt.alloc())?;
-    let set = set_from(&task, seat_made(rt.alloc(), 1)?, &upstream);
-    all.compare("state_in, its first poll and the state", set, (true, 2))?;
-    all.assert_none(&rt);
-    Ok(())
+fn sharings_of_states_take_memory(rt: HostRuntime) {
+    let task = task_made(&rt);
+    let upstream = one_and_two(rt.alloc()).expect(&rt, "an upstream");
+    let seat = seat_made(rt.alloc(), 1).expect(&rt, "a state");
+    let set = set_from(&task, seat, &upstream);
+    assert_same(
+        &rt,
+        "state_in, its first poll and the state",
+        set,
+        (true, 2),
+    );
 }

@@ -10,7 +10,6 @@ use shared_flow::{Emitter, SharedFlow, Subscription};
 use std::alloc::AllocGlobal;
 use std::process::Abort;
 use std::sync::Wait;
-use std::test::Fail;
 
 // Whether nobody subscribes, and these values are in the replay cache.
 fn is_unchanged<R: Wait + AllocGlobal>(rt: &R, flow: &mut SharedFlow<u64>, values: &[u64]) -> bool {
@@ -125,21 +124,18 @@ fn assert_subscribed<R: Wait + Abort + AllocGlobal>(
 }
 
 // The replay cache is added to a list that has one value, and room for no other.
-fn assert_cached<R: Wait + Abort + AllocGlobal>(
-    rt: &R,
-    flow: &mut SharedFlow<u64>,
-) -> Result<(), Fail> {
+fn assert_cached<R: Wait + Abort + AllocGlobal>(rt: &R, flow: &mut SharedFlow<u64>) {
     let alloc = rt.alloc();
-    let mut cache = made_again(&|| Vec::with_capacity(alloc, 1))?;
-    cache.push(4)?;
+    let room = made_again(&|| Vec::with_capacity(alloc, 1));
+    let mut cache = room.expect(rt, "room for a value");
+    cache.push(4).expect(rt, "room for a value");
     let added = cache_added(rt, flow, &mut cache);
     assert_same(rt, "the cache's call", added, Ok(()));
     assert_same(rt, "cache", cache.as_slice(), [4, 5, 6].as_slice());
-    Ok(())
 }
 
 #[test]
-fn what_was_refused_for_want_of_memory_is_as_before(rt: HostRuntime) -> Result<(), Fail> {
+fn what_was_refused_for_want_of_memory_is_as_before(rt: HostRuntime) {
     let mut flow = flow_made(&rt).expect(&rt, "a flow");
     let mut emitter = emitter_made(&rt, &mut flow, &[]).expect(&rt, "an emitter");
     assert_accepted(&rt, &mut emitter);
@@ -147,5 +143,5 @@ fn what_was_refused_for_want_of_memory_is_as_before(rt: HostRuntime) -> Result<(
     assert_subscribed(&rt, &mut flow, &mut other);
     let idle = matches!(emitter.close(&rt), Withdrawn::Gone);
     assert_same(&rt, "the emitter was idle at its close", idle, true);
-    assert_cached(&rt, &mut other)
+    assert_cached(&rt, &mut other);
 }

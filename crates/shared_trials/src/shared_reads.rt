@@ -4,15 +4,16 @@ ghost use Rattle.std.specs.Prelude.{◌≡◌, None, IfSome, ⊤};
 ghost use Rattle.shared_flow.specs.Parties.{OfFlow};
 ghost use Rattle.shared_lane.specs.Readers.{IsReceiptOf};
 
-use crate::shared_rows::{PLAIN, three_accepted};
+use crate::shared_rows::PLAIN;
 use crate::shared_stage::Answer::{
-    Accepted, Done, NotMade, Nothing, Pending, Subscribed, Value, Waiting,
+    Accepted, Done, Gone, NotMade, Nothing, Pending, Subscribed, Value, Waiting,
 };
-use crate::shared_stage::Call::{Ask, Emit, Subscribe, Try};
-use crate::shared_stage::{Answer, Emitting, Listening};
+use crate::shared_stage::Call::{Ask, Close, Emit, Next, Subscribe, Try};
+use crate::shared_stage::Party::{A, First, Second};
+use crate::shared_stage::{Answer, Emitting, Line, Listening, Stage};
 use crate::tools::assert_same;
 use shared_core::{Config, Tried};
-use shared_flow::{Emitter, Held, Met, Parker, Prelude, Receipt, SharedFlow, Subscription, Taken};
+use shared_flow::{Emitter, Held, Parker, Prelude, Receipt, SharedFlow, Subscription, Taken};
 use state_flow::{StateFlow, StateSeat};
 use std::alloc::{AllocError, AllocGlobal};
 use std::process::Abort;
@@ -63,11 +64,25 @@ fn look_at(held: &Held<'_, u64>) -> Shown {
     }
 }
 
+// Fails where not all lines of the stage were answered as they say.
+fn assert_played<R: Wait + Abort>(rt: &R, stage: &mut Stage, lines: &[Line]) {
+    assert_same(rt, "lines", stage.play(rt, lines), lines.len());
+}
+
 /// How far the thread that keeps the lock is, and the one that receives.
 #[derive(Drop)]
 struct Signals {
     is_held: AtomicBool,
     is_over: AtomicBool,
+}
+
+impl Signals {
+    fn new() -> Signals {
+        Signals {
+            is_held: AtomicBool::new(false),
+            is_over: AtomicBool::new(false),
+        }
+    }
 }
 
 // Waits until a thread has said how far it is, and says whether it has.
@@ -98,16 +113,12 @@ fn keep_lock(
 
 // Takes three values while the lock is kept, and looks for a fourth.
 fn take_four(listening: &mut Listening, signals: &Signals) -> [Answer; 4] {
-    let answers = if was_set(&signals.is_held) {
-        [
-            listening.take(),
-            listening.take(),
-            listening.take(),
-            listening.take(),
-        ]
-    } else {
-        [NotMade; 4]
-    };
+    let mut answers = [NotMade; 4];
+    if was_set(&signals.is_held) {
+        for answer in answers.iter_mut() {
+            *answer = listening.take();
+        }
+    }
     signals.is_over.store(true, Ordering::SeqCst);
     answers
 }
@@ -122,91 +133,106 @@ fn emit_fourth(rt: &impl Wait, emitting: &mut Emitting, signals: &Signals) -> An
 }
 
 // A thread takes what is there while another keeps the lock and a third waits for it.
-#[test]
-fn readers_pass_a_held_lock(rt: HostRuntime) -> Result<(), Fail> {
-    let mut flow = SharedFlow::new(rt.alloc(), KEEPS_TWO)?;
-    let signals = Signals {
-        is_held: AtomicBool::new(false),
-        is_over: AtomicBool::new(false),
-    };
-    let mut listening = Listening::new(&rt);
-    let subscribed = listening.perform(&rt, &mut flow, Subscribe);
-    let mut emitting = three_accepted(&rt, &mut flow, 1);
+fn assert_taken<R: Wait + Threads + Abort + Sync>(
+    rt: &R,
+    flow: &mut SharedFlow<u64>,
+    listening: &mut Listening,
+    emitting: &mut Emitting,
+) {
+    let signals = Signals::new();
     let (kept, (taken, fourth)) = thread::join(
-        &rt,
-        || keep_lock(&rt, &mut flow, &signals),
+        rt,
+        || keep_lock(rt, flow, &signals),
         || thread::join(
-            &rt,
-            || take_four(&mut listening, &signals),
-            || emit_fourth(&rt, &mut emitting, &signals),
+            rt,
+            || take_four(listening, &signals),
+            || emit_fourth(rt, emitting, &signals),
         ),
     );
-    let received = listening.next(&rt);
-    let idle = emitting.close(&rt);
-    listening.leave(&rt);
     let wanted = Shown {
         count: 1,
         cache: Some([2, 3]),
     };
-    assert_same(&rt, "what was shown", kept, (wanted, wanted, true));
-    assert_same(
-        &rt,
-        "values without the lock",
-        taken,
-        [Value(1), Value(2), Value(3), Nothing],
-    );
-    assert_same(
-        &rt,
-        "after the release",
-        (subscribed, fourth, received, idle),
-        (Subscribed, Accepted(3), Value(4), true),
-    );
-    Ok(())
+    assert_same(rt, "what was shown", kept, (wanted, wanted, true));
+    let values = [Value(1), Value(2), Value(3), Nothing];
+    assert_same(rt, "values without the lock", taken, values);
+    assert_same(rt, "after the release", fourth, Accepted(3));
 }
 
-// An emission waited before, and was let in and asked for. So a receipt takes no lock any more: with it, it would wait for good.
 #[test]
-fn a_ready_poll_passes_a_held_lock(rt: HostRuntime) -> Result<(), Fail> {
-    let mut flow = SharedFlow::new(rt.alloc(), KEEPS_TWO)?;
-    let mut listening = Listening::new(&rt);
-    let subscribed = listening.perform(&rt, &mut flow, Subscribe);
-    let first = three_accepted(&rt, &mut flow, 1);
-    let mut second = Emitting::new(&rt, &mut flow, 2);
-    let begun = second.perform(&rt, Emit(4));
-    let received = listening.next(&rt);
-    let done = second.perform(&rt, Ask);
-    let held = flow.hold(&rt);
+fn readers_pass_a_held_lock(rt: HostRuntime) {
+    let mut stage = Stage::new(&rt, KEEPS_TWO);
+    let before = [
+        (A, Subscribe, Subscribed),
+        (First, Try(1), Accepted(0)),
+        (First, Try(2), Accepted(1)),
+        (First, Try(3), Accepted(2)),
+    ];
+    assert_played(&rt, &mut stage, &before);
+    assert_taken(&rt, &mut stage.flow, &mut stage.a, &mut stage.first);
+    assert_played(
+        &rt,
+        &mut stage,
+        &[(A, Next, Value(4)), (First, Close, Gone)],
+    );
+    stage.leave(&rt);
+}
+
+// With the lock it would wait for good.
+fn assert_polled<R: Wait + Abort>(rt: &R, flow: &mut SharedFlow<u64>, listening: &mut Listening) {
+    let held = flow.hold(rt);
     let before = look_at(&held);
     let passed = [
-        listening.next(&rt),
+        listening.next(rt),
         listening.take(),
-        listening.next(&rt),
+        listening.next(rt),
         listening.take(),
     ];
     let after = look_at(&held);
-    held.release(&rt);
-    let pending = listening.next(&rt);
-    let idle = (first.close(&rt), second.close(&rt));
-    listening.leave(&rt);
+    held.release(rt);
     let wanted = Shown {
         count: 1,
         cache: Some([3, 4]),
     };
-    assert_same(
-        &rt,
-        "before",
-        (subscribed, begun, received, done),
-        (Subscribed, Waiting, Value(1), Done(3)),
-    );
-    assert_same(&rt, "what was shown", (before, after), (wanted, wanted));
-    assert_same(
-        &rt,
-        "values without the lock",
-        passed,
-        [Value(2), Value(3), Value(4), Nothing],
-    );
-    assert_same(&rt, "after", (pending, idle), (Pending, (true, true)));
-    Ok(())
+    assert_same(rt, "what was shown at first", before, wanted);
+    assert_same(rt, "what was shown at last", after, wanted);
+    let values = [Value(2), Value(3), Value(4), Nothing];
+    assert_same(rt, "values without the lock", passed, values);
+}
+
+// An emission waited before, and was let in and asked for. So a receipt takes no lock any more.
+#[test]
+fn a_ready_poll_passes_a_held_lock(rt: HostRuntime) {
+    let mut stage = Stage::new(&rt, KEEPS_TWO);
+    let before = [
+        (A, Subscribe, Subscribed),
+        (First, Try(1), Accepted(0)),
+        (First, Try(2), Accepted(1)),
+        (First, Try(3), Accepted(2)),
+        (Second, Emit(4), Waiting),
+        (A, Next, Value(1)),
+        (Second, Ask, Done(3)),
+    ];
+    assert_played(&rt, &mut stage, &before);
+    assert_polled(&rt, &mut stage.flow, &mut stage.a);
+    let after = [
+        (A, Next, Pending),
+        (First, Close, Gone),
+        (Second, Close, Gone),
+    ];
+    assert_played(&rt, &mut stage, &after);
+    stage.leave(&rt);
+}
+
+// What a subscription takes, and its start and its counts after that.
+fn taken_and_counted(subscription: &mut Subscription<u64>) -> (Taken<u64>, [u64; 3]) {
+    let taken = subscription.try_next();
+    let counts = [
+        subscription.start(),
+        subscription.received(),
+        subscription.dropped(),
+    ];
+    (taken, counts)
 }
 
 // The values of a prelude come first, and no count counts them. With the lock `next` would wait for good.
@@ -230,38 +256,22 @@ fn a_prelude_passes_a_held_lock(rt: HostRuntime) -> Result<(), Fail> {
     let second = subscription.next(&rt, &mut parker);
     let met = held.meet(&mut subscription);
     held.release(&rt);
-    let third = subscription.try_next();
-    let counts = (
-        subscription.start(),
-        subscription.received(),
-        subscription.dropped(),
-    );
-    let last = (subscription.try_next(), subscription.try_next());
-    let received = subscription.received();
+    let third = taken_and_counted(&mut subscription);
+    let value = taken_and_counted(&mut subscription);
+    let last = taken_and_counted(&mut subscription);
     subscription.cancel(&rt);
-    let idle = emitting.close(&rt);
-    assert_same(&rt, "the cache", accepted, Accepted(10));
-    assert_same(
-        &rt,
-        "the prelude",
-        (first, second, third),
-        (Taken::Value(7), Ok(8), Taken::Value(9)),
-    );
-    let wanted = Met {
-        accepted: 1,
-        received: 0,
-        dropped: 0,
-    };
-    assert_same(&rt, "met", met, wanted);
-    assert_same(&rt, "start, received, dropped", counts, (10, 0, 0));
-    assert_same(
-        &rt,
-        "the flow's value",
-        last,
-        (Taken::Value(1), Taken::Nothing),
-    );
-    assert_same(&rt, "received at last", received, 1);
-    assert!(rt; idle);
+    emitting.leave(&rt);
+    let same = [
+        accepted == Accepted(10),
+        first == Taken::Value(7),
+        second == Ok(8),
+        third == (Taken::Value(9), [10, 0, 0]),
+        value == (Taken::Value(1), [10, 1, 0]),
+        last == (Taken::Nothing, [10, 1, 0]),
+    ];
+    assert_same(&rt, "which answers and counts are right", same, [true; 6]);
+    let found = (met.accepted, met.received, met.dropped);
+    assert_same(&rt, "accepted, received, dropped", found, (1, 0, 0));
     Ok(())
 }
 
@@ -276,39 +286,10 @@ fn receipt_of(rt: &impl Wait, emitter: &mut Emitter<u64>, value: u64) -> Option<
     }
 }
 
-// Hears of an emission, and takes a value at once.
-fn take_told(subscription: &mut Subscription<u64>, receipt: &mut Receipt) -> Taken<u64>
-    requires { OfFlow subscription.old.party (λ name. IsReceiptOf name.lane receipt.old) }
-{
-    subscription.told(receipt);
-    subscription.try_next()
-}
-
-// A subscription that is lent to another thread is told of a value there, and takes it.
-fn assert_seen<R>(rt: &R, value: u64)
-where
-    R: Wait + Threads + Abort + AllocGlobal + Sync,
-{
-    let config = Config { extra: 1, ..PLAIN };
-    let mut flow = SharedFlow::new(rt.alloc(), config).expect(rt, "a flow");
-    let mut emitter = flow.emitter(rt, 1).expect(rt, "an emitter");
-    let mut subscription = flow.subscribe(rt).expect(rt, "a subscription");
-    let mut receipt = receipt_of(rt, &mut emitter, value).expect(rt, "a receipt");
-    let (taken, ()) = thread::join(rt, || take_told(&mut subscription, &mut receipt), || ());
-    subscription.cancel(rt);
-    let _idle = emitter.close(rt);
-    assert_same(
-        rt,
-        "the receipt",
-        (receipt.emitter(), receipt.number()),
-        (1, 0),
-    );
-    assert_same(rt, "the value", taken, Taken::Value(value));
-}
-
 /// What was answered while the lock was kept.
 #[derive(Debug, Drop, PartialEq)]
 struct Answered {
+    was_held: bool,
     taken: [Taken<u64>; 2],
     start: u64,
     received: u64,
@@ -318,19 +299,23 @@ struct Answered {
     value: u64,
 }
 
-// Makes each call that takes no lock.
+// Makes each call that takes no lock, once the lock is kept, which is then given back.
 fn call_all(
     subscription: &mut Subscription<u64>,
     receipt: &mut Receipt,
     seat: &mut StateSeat<u64>,
+    signals: &Signals,
 ) -> Answered
     requires { OfFlow subscription.old.party (λ name. IsReceiptOf name.lane receipt.old) }
 {
+    let was_held = was_set(&signals.is_held);
     subscription.told(receipt);
     let taken = [subscription.try_next(), subscription.try_next()];
     seat.set(5);
     let was_equal = seat.compare_and_set(5, 6);
+    signals.is_over.store(true, Ordering::SeqCst);
     Answered {
+        was_held,
         taken,
         start: subscription.start(),
         received: subscription.received(),
@@ -340,64 +325,48 @@ fn call_all(
     }
 }
 
-// The same once the lock is kept, which is then given back. `None` where it isn't kept in time.
-fn call_all_while_held(
-    subscription: &mut Subscription<u64>,
-    receipt: &mut Receipt,
-    seat: &mut StateSeat<u64>,
-    signals: &Signals,
-) -> Option<Answered>
-    requires { OfFlow subscription.old.party (λ name. IsReceiptOf name.lane receipt.old) }
+// A subscription that is lent to another thread is told of a value there, and takes it.
+fn assert_seen<R>(rt: &R, seat: &mut StateSeat<u64>, value: u64)
+where
+    R: Wait + Threads + Abort + AllocGlobal + Sync,
 {
-    if !was_set(&signals.is_held) {
-        return None;
-    }
-    let answered = call_all(subscription, receipt, seat);
-    signals.is_over.store(true, Ordering::SeqCst);
-    Some(answered)
-}
-
-// A thread makes each call that takes no lock while another keeps it, on a subscription and on a state.
-#[test]
-fn all_that_takes_no_lock_passes_a_held_one(rt: HostRuntime) -> Result<(), Fail> {
-    let mut seat = StateFlow::new(rt.alloc(), 0u64, 1).map_err(|refusal| refusal.number())?;
     let config = Config {
         extra: 1,
         first: 10,
         ..PLAIN
     };
-    let mut flow = SharedFlow::new(rt.alloc(), config)?;
-    let signals = Signals {
-        is_held: AtomicBool::new(false),
-        is_over: AtomicBool::new(false),
-    };
-    let mut emitter = flow.emitter(&rt, 1).expect(&rt, "an emitter");
-    let mut subscription = flow.subscribe(&rt).expect(&rt, "a subscription");
-    let mut receipt = receipt_of(&rt, &mut emitter, 9).expect(&rt, "a receipt");
-    let (kept, answered) = thread::join(
-        &rt,
-        || keep_lock(&rt, &mut flow, &signals),
-        || call_all_while_held(&mut subscription, &mut receipt, &mut seat, &signals),
+    let signals = Signals::new();
+    let mut flow = SharedFlow::new(rt.alloc(), config).expect(rt, "a flow");
+    let mut emitter = flow.emitter(rt, 1).expect(rt, "an emitter");
+    let mut subscription = flow.subscribe(rt).expect(rt, "a subscription");
+    let mut receipt = receipt_of(rt, &mut emitter, value).expect(rt, "a receipt");
+    let ((_, _, is_over), answered) = thread::join(
+        rt,
+        || keep_lock(rt, &mut flow, &signals),
+        || call_all(&mut subscription, &mut receipt, seat, &signals),
     );
-    subscription.cancel(&rt);
-    let _idle = emitter.close(&rt);
+    subscription.cancel(rt);
+    let _idle = emitter.close(rt);
     let wanted = Answered {
-        taken: [Taken::Value(9), Taken::Nothing],
+        was_held: true,
+        taken: [Taken::Value(value), Taken::Nothing],
         start: 10,
         received: 1,
         dropped: 0,
         was_equal: true,
         value: 6,
     };
-    let (_, _, is_over) = kept;
-    assert_same(&rt, "while the lock was kept", answered, Some(wanted));
-    assert!(rt; is_over);
-    Ok(())
+    assert_same(rt, "while the lock was kept", answered, wanted);
+    let named = (receipt.emitter(), receipt.number(), is_over);
+    assert_same(rt, "the receipt", named, (1, 10, true));
 }
 
+// A thread makes each call that takes no lock while another keeps it, on a subscription and on a state.
 #[test]
-fn told_reader_sees_value(rt: HostRuntime) {
+fn all_that_takes_no_lock_passes_a_held_one(rt: HostRuntime) -> Result<(), Fail> {
+    let mut seat = StateFlow::new(rt.alloc(), 0u64, 1)?;
     for value in 9..109 {
-        assert_seen(&rt, value);
+        assert_seen(&rt, &mut seat, value);
     }
+    Ok(())
 }

@@ -2,7 +2,7 @@
 
 ghost use Rattle.std.specs.Prelude.{◌≡◌, ⊤};
 
-use cold_flow::Policy;
+use cold_flow::{Policy, Refusal};
 use futures::task::Poll;
 use futures::test::MockTask;
 use shared_core::{Begun, Config, Tried, Withdrawn};
@@ -42,10 +42,14 @@ pub enum Call {
     Emit(u64),
     Ask,
     TakeBack,
+    /// An emitter's end.
+    Close,
     Subscribe,
     Next,
     /// A `try_next`, for which no lock is taken.
     Take,
+    /// A subscription's start, and how many values it received and lost.
+    Counts,
     Cancel,
 }
 
@@ -78,6 +82,7 @@ pub enum Answer {
     Reset,
     Count(u32),
     Subscribed,
+    Counts(u64, u64, u64),
     Cancelled,
     // The receipt was another emitter's.
     Foreign,
@@ -134,9 +139,9 @@ impl Watcher {
     }
 }
 
-/// An emitter, and the task that polls it.
+/// An emitter up to its end, and the task that polls it.
 pub struct Emitting {
-    emitter: Emitter<u64>,
+    emitter: Option<Emitter<u64>>,
     id: u32,
     watcher: Watcher,
 }
@@ -148,7 +153,7 @@ impl Emitting {
         id: u32,
     ) -> Emitting {
         Emitting {
-            emitter: flow.emitter(rt, id).expect(rt, "an emitter"),
+            emitter: Some(flow.emitter(rt, id).expect(rt, "an emitter")),
             id,
             watcher: Watcher::new(rt),
         }
@@ -156,11 +161,12 @@ impl Emitting {
 
     pub(crate) fn perform(&mut self, rt: &impl Wait, call: Call) -> Answer {
         match call {
-            Call::Try(value) => self.attempt(rt, value),
-            Call::Emit(value) => self.emit(rt, value),
             Call::Ask => self.ask(rt),
-            Call::TakeBack => self.withdraw(rt),
-            _ => Answer::NotMade,
+            Call::Close => self.close(rt),
+            _ => match &mut self.emitter {
+                Some(emitter) => made(rt, emitter, self.id, call),
+                None => Answer::NotMade,
+            },
         }
     }
 
@@ -169,45 +175,10 @@ impl Emitting {
         self.watcher.wakes()
     }
 
-    // The answer with the number of a receipt, which has to be this emitter's.
-    fn received(&self, receipt: &Receipt, answer: Answer) -> Answer {
-        if receipt.emitter() == self.id {
-            answer
-        } else {
-            Answer::Foreign
-        }
-    }
-
-    fn attempt(&mut self, rt: &impl Wait, value: u64) -> Answer {
-        if self.emitter.in_flight() {
-            return Answer::NotMade;
-        }
-        match self.emitter.try_emit(rt, value) {
-            Ok(Tried::Accepted(receipt)) => {
-                self.received(&receipt, Answer::Accepted(receipt.number()))
-            }
-            Ok(Tried::Dropped) => Answer::Dropped,
-            Ok(Tried::Full) => Answer::Full,
-            Err(refusal) => Answer::Refused(refusal.number()),
-        }
-    }
-
-    fn emit(&mut self, rt: &impl Wait, value: u64) -> Answer {
-        if self.emitter.in_flight() {
-            return Answer::NotMade;
-        }
-        match self.emitter.start_emit(rt, value) {
-            Ok(Begun::Accepted(receipt)) => {
-                self.received(&receipt, Answer::Accepted(receipt.number()))
-            }
-            Ok(Begun::Dropped) => Answer::Dropped,
-            Ok(Begun::Waiting(())) => Answer::Waiting,
-            Err(refusal) => Answer::Refused(refusal.number()),
-        }
-    }
-
     fn ask(&mut self, rt: &impl Wait) -> Answer {
-        let emitter = &mut self.emitter;
+        let Some(emitter) = &mut self.emitter else {
+            return Answer::NotMade;
+        };
         let polled = self.watcher.task.enter(|cx| {
             if !emitter.in_flight() {
                 return None;
@@ -217,36 +188,81 @@ impl Emitting {
         match polled {
             None => Answer::NotMade,
             Some(Poll::Pending) => Answer::Pending,
-            Some(Poll::Ready(receipt)) => self.received(&receipt, Answer::Done(receipt.number())),
+            Some(Poll::Ready(receipt)) => {
+                received(&receipt, self.id, Answer::Done(receipt.number()))
+            }
         }
-    }
-
-    fn withdraw(&mut self, rt: &impl Wait) -> Answer {
-        match self.emitter.cancel_emit(rt) {
-            Withdrawn::Removed => Answer::Removed,
-            Withdrawn::Left(receipt) => self.received(&receipt, Answer::Left(receipt.number())),
-            Withdrawn::Gone => Answer::Gone,
-        }
-    }
-
-    /// Ends the emitter, and says whether it had nothing in flight.
-    pub(crate) fn close(self, rt: &impl Wait) -> bool {
-        self.end(rt) == Answer::Gone
     }
 
     /// Ends the emitter, and says what became of its emission.
-    pub(crate) fn end(self, rt: &impl Wait) -> Answer {
+    pub(crate) fn close(&mut self, rt: &impl Wait) -> Answer {
+        match self.emitter.take() {
+            Some(emitter) => withdrawn(emitter.close(rt), self.id),
+            None => Answer::NotMade,
+        }
+    }
+
+    /// Ends the emitter, where it hasn't ended before.
+    pub(crate) fn leave(self, rt: &impl Wait) {
         let Emitting {
             emitter,
-            id,
+            id: _,
             watcher: _,
         } = self;
-        match emitter.close(rt) {
-            Withdrawn::Removed => Answer::Removed,
-            Withdrawn::Left(receipt) if receipt.emitter() == id => Answer::Left(receipt.number()),
-            Withdrawn::Left(_) => Answer::Foreign,
-            Withdrawn::Gone => Answer::Gone,
+        if let Some(emitter) = emitter {
+            emitter.close(rt);
         }
+    }
+}
+
+// The answer with the number of a receipt, which has to be that of the emitter with this id.
+fn received(receipt: &Receipt, id: u32, answer: Answer) -> Answer {
+    if receipt.emitter() == id {
+        answer
+    } else {
+        Answer::Foreign
+    }
+}
+
+/// What became of an emission of the emitter with this id.
+pub(crate) fn withdrawn(withdrawn: Withdrawn<Receipt>, id: u32) -> Answer {
+    match withdrawn {
+        Withdrawn::Removed => Answer::Removed,
+        Withdrawn::Left(receipt) => received(&receipt, id, Answer::Left(receipt.number())),
+        Withdrawn::Gone => Answer::Gone,
+    }
+}
+
+fn tried(tried: Result<Tried<Receipt>, Refusal>, id: u32) -> Answer {
+    match tried {
+        Ok(Tried::Accepted(receipt)) => received(&receipt, id, Answer::Accepted(receipt.number())),
+        Ok(Tried::Dropped) => Answer::Dropped,
+        Ok(Tried::Full) => Answer::Full,
+        Err(refusal) => Answer::Refused(refusal.number()),
+    }
+}
+
+fn begun(begun: Result<Begun<Receipt, ()>, Refusal>, id: u32) -> Answer {
+    match begun {
+        Ok(Begun::Accepted(receipt)) => received(&receipt, id, Answer::Accepted(receipt.number())),
+        Ok(Begun::Dropped) => Answer::Dropped,
+        Ok(Begun::Waiting(())) => Answer::Waiting,
+        Err(refusal) => Answer::Refused(refusal.number()),
+    }
+}
+
+// A call of an emitter for which no task is needed.
+fn made(rt: &impl Wait, emitter: &mut Emitter<u64>, id: u32, call: Call) -> Answer {
+    if let Call::TakeBack = call {
+        return withdrawn(emitter.cancel_emit(rt), id);
+    }
+    if emitter.in_flight() {
+        return Answer::NotMade;
+    }
+    match call {
+        Call::Try(value) => tried(emitter.try_emit(rt, value), id),
+        Call::Emit(value) => begun(emitter.start_emit(rt, value), id),
+        _ => Answer::NotMade,
     }
 }
 
@@ -274,12 +290,13 @@ impl Listening {
             Call::Subscribe => self.subscribe(rt, flow),
             Call::Next => self.next(rt),
             Call::Take => self.take(),
+            Call::Counts => self.counts(),
             Call::Cancel => self.cancel(rt),
             _ => Answer::NotMade,
         }
     }
 
-    pub(crate) fn subscribe(&mut self, rt: &impl Wait, flow: &mut SharedFlow<u64>) -> Answer {
+    fn subscribe(&mut self, rt: &impl Wait, flow: &mut SharedFlow<u64>) -> Answer {
         if self.subscription.is_some() {
             return Answer::NotMade;
         }
@@ -316,6 +333,13 @@ impl Listening {
         }
     }
 
+    fn counts(&self) -> Answer {
+        match &self.subscription {
+            Some(it) => Answer::Counts(it.start(), it.received(), it.dropped()),
+            None => Answer::NotMade,
+        }
+    }
+
     fn cancel(&mut self, rt: &impl Wait) -> Answer {
         match self.subscription.take() {
             None => Answer::NotMade,
@@ -338,29 +362,33 @@ impl Listening {
     }
 }
 
-/// A flow, its emitters with the ids 1, 2 and 3, and two subscriptions, which begin with `Subscribe`.
-struct Stage {
-    flow: SharedFlow<u64>,
-    first: Emitting,
+/// A flow, its emitters with the ids 1, 2 and 7, of which the third is of another owner, and two subscriptions, which begin with
+/// `Subscribe`.
+pub struct Stage {
+    pub flow: SharedFlow<u64>,
+    other: SharedFlow<u64>,
+    pub first: Emitting,
     second: Emitting,
     third: Emitting,
-    a: Listening,
+    pub a: Listening,
     b: Listening,
 }
 
 impl Stage {
-    fn new<R: Wait + Abort + RandomSource + AllocGlobal>(rt: &R, config: Config) -> Stage {
+    pub(crate) fn new<R: Wait + Abort + RandomSource + AllocGlobal>(
+        rt: &R,
+        config: Config,
+    ) -> Stage {
         let mut flow = SharedFlow::new(rt.alloc(), config).expect(rt, "a flow");
-        let first = Emitting::new(rt, &mut flow, 1);
-        let second = Emitting::new(rt, &mut flow, 2);
-        let third = Emitting::new(rt, &mut flow, 3);
+        let mut other = flow.dup(rt).expect(rt, "another owner");
         Stage {
-            flow,
-            first,
-            second,
-            third,
+            first: Emitting::new(rt, &mut flow, 1),
+            second: Emitting::new(rt, &mut flow, 2),
+            third: Emitting::new(rt, &mut other, 7),
             a: Listening::new(rt),
             b: Listening::new(rt),
+            flow,
+            other,
         }
     }
 
@@ -397,8 +425,8 @@ impl Stage {
         ]
     }
 
-    // The number of the first line that was answered otherwise, or of all lines where none was.
-    fn play(&mut self, rt: &impl Wait, lines: &[Line]) -> usize {
+    /// The number of the first line that was answered otherwise, or of all lines where none was.
+    pub(crate) fn play(&mut self, rt: &impl Wait, lines: &[Line]) -> usize {
         for (number, line) in lines.iter().enumerate() {
             let (party, call, answer) = *line;
             if self.perform(rt, party, call) != answer {
@@ -408,8 +436,8 @@ impl Stage {
         lines.len()
     }
 
-    // The same, where the wakes so far are compared after each line.
-    fn watch(&mut self, rt: &impl Wait, lines: &[(Line, [u32; 5])]) -> usize {
+    /// The same, where after each line the wakes of A, B, First, Second and Third so far are compared too.
+    pub(crate) fn watch(&mut self, rt: &impl Wait, lines: &[(Line, [u32; 5])]) -> usize {
         for (number, line) in lines.iter().enumerate() {
             let ((party, call, answer), wakes) = *line;
             if self.perform(rt, party, call) != answer || self.wakes() != wakes {
@@ -419,55 +447,36 @@ impl Stage {
         lines.len()
     }
 
-    // Adds the replay cache to `cache`, and ends all.
-    fn leave<R: Wait + Abort>(self, rt: &R, cache: &mut Vec<u64>) {
+    /// Whether the replay cache has these values.
+    pub(crate) fn caches<R: Wait + AllocGlobal>(&mut self, rt: &R, values: &[u64]) -> bool {
+        caches(rt, &mut self.flow, values)
+    }
+
+    /// Ends all.
+    pub(crate) fn leave(self, rt: &impl Wait) {
         let Stage {
-            mut flow,
+            flow: _,
+            other: _,
             first,
             second,
             third,
             a,
             b,
         } = self;
-        flow.replay_cache_into(rt, cache)
-            .expect(rt, "memory for the cache");
         a.leave(rt);
         b.leave(rt);
-        first.close(rt);
-        second.close(rt);
-        third.close(rt);
+        first.leave(rt);
+        second.leave(rt);
+        third.leave(rt);
     }
 }
 
-/// How many lines were answered as they say, up to the first that wasn't, and the replay cache at the end.
-#[derive(Drop)]
-pub struct Outcome {
-    pub lines: usize,
-    pub cache: Vec<u64>,
-}
-
-/// Plays the lines over a new flow.
-pub(crate) fn played<R: Wait + Abort + RandomSource + AllocGlobal>(
+/// Whether a flow's replay cache has these values.
+pub(crate) fn caches<R: Wait + AllocGlobal>(
     rt: &R,
-    config: Config,
-    lines: &[Line],
-) -> Outcome {
-    let mut stage = Stage::new(rt, config);
-    let lines = stage.play(rt, lines);
+    flow: &mut SharedFlow<u64>,
+    values: &[u64],
+) -> bool {
     let mut cache = Vec::new(rt.alloc());
-    stage.leave(rt, &mut cache);
-    Outcome { lines, cache }
-}
-
-/// The same, where after each line the wakes of A, B, First, Second and Third so far are compared too.
-pub(crate) fn watched<R: Wait + Abort + RandomSource + AllocGlobal>(
-    rt: &R,
-    config: Config,
-    lines: &[(Line, [u32; 5])],
-) -> Outcome {
-    let mut stage = Stage::new(rt, config);
-    let lines = stage.watch(rt, lines);
-    let mut cache = Vec::new(rt.alloc());
-    stage.leave(rt, &mut cache);
-    Outcome { lines, cache }
+    flow.replay_cache_into(rt, &mut cache).is_ok() && cache.as_slice() == values
 }

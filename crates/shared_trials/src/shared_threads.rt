@@ -4,6 +4,7 @@
 ghost use Rattle.futures.specs.Poll.{OnPending};
 ghost use Rattle.futures.specs.Task.{IsArmed};
 
+use crate::ledger::{Heard, Said};
 use crate::shared_stage::config;
 use crate::tools::assert_same;
 use cold_flow::Policy;
@@ -28,8 +29,23 @@ const TURNS: u32 = 100_000;
 /// How many threads there are at most.
 const THREADS: usize = 8;
 
-/// The values of the emitter with the id 0 begin at 0, those of the next one here, and those of a third at twice this.
-const APART: u64 = 1_000_000;
+// A task that is ready to be polled.
+fn task_of<R: Abort + RandomSource + AllocGlobal>(rt: &R) -> Queue {
+    let task = Queue::new(rt, Doorbell::parking()).expect(rt, "a task");
+    task.add().expect(rt, "a place in it").schedule();
+    task
+}
+
+fn tasks_of<R>(rt: &R, count: usize) -> Result<Vec<Queue>, Fail>
+where
+    R: Abort + RandomSource + AllocGlobal,
+{
+    let mut tasks = Vec::new(rt.alloc());
+    for _ in 0..count {
+        tasks.push(task_of(rt))?;
+    }
+    Ok(tasks)
+}
 
 /// What the threads of a test share.
 #[derive(Drop)]
@@ -47,25 +63,14 @@ struct Stage {
 }
 
 impl Stage {
-    fn new<R: RandomSource + AllocGlobal>(
-        rt: &R,
-        threads: usize,
-        emitting: u64,
-        is_open: bool,
-    ) -> Result<Stage, Fail> {
-        let mut tasks = Vec::new(rt.alloc());
-        for _ in 0..threads {
-            let task = Queue::new(rt, Doorbell::parking())?;
-            task.add()?.schedule();
-            tasks.push(task)?;
-        }
-        Ok(Stage {
+    fn new(tasks: Vec<Queue>, emitting: u64, is_open: bool) -> Stage {
+        Stage {
             tasks,
             come: AtomicUsize::new(0),
             emitting: AtomicU64::new(emitting),
             is_open: AtomicBool::new(is_open),
             has_left: AtomicBool::new(false),
-        })
+        }
     }
 
     // No thread sleeps any more.
@@ -255,19 +260,13 @@ impl Party {
 /// An emitter. It emits rising values, at least so many.
 struct Emitting {
     emitter: Emitter<u64>,
-    id: u32,
-    value: u64,
+    said: Said,
     emitted: u64,
     least: u64,
     /// Whether it goes on after that until a subscription has left.
     goes_on: bool,
     /// Whether an emission may be dropped.
     drops: bool,
-    accepted: u64,
-    /// The number of the last receipt.
-    last: Option<u64>,
-    /// Each receipt was this emitter's, with a number above the one before.
-    rises: bool,
 }
 
 impl Emitting {
@@ -281,15 +280,11 @@ impl Emitting {
     ) -> Party {
         Party::Emitting(Emitting {
             emitter: flow.emitter(rt, id).expect(rt, "an emitter"),
-            id,
-            value: u64::from(id).wrapping_mul(APART),
+            said: Said::by(id),
             emitted: 0,
             least,
             goes_on,
             drops: policy == Policy::DropLatest,
-            accepted: 0,
-            last: None,
-            rises: true,
         })
     }
 
@@ -299,7 +294,6 @@ impl Emitting {
 
     // The value is emitted. One that only goes on until a subscription has left gives that time.
     fn go_on(&mut self) {
-        self.value = self.value.saturating_add(1);
         self.emitted = self.emitted.saturating_add(1);
         if self.emitted > self.least {
             for _ in 0..100 {
@@ -310,23 +304,16 @@ impl Emitting {
 
     // Takes the receipt of the value, and says whether the numbers rise so far.
     fn take(&mut self, receipt: &Receipt) -> bool {
-        let number = receipt.number();
-        let is_later = match self.last {
-            None => true,
-            Some(before) => number > before,
-        };
-        self.rises = self.rises && is_later && receipt.emitter() == self.id;
-        self.last = Some(number);
-        self.accepted = self.accepted.saturating_add(1);
         self.go_on();
-        self.rises
+        self.said.take(receipt)
     }
 
     fn poll<R: Wait>(&mut self, rt: &R, cx: &mut Context<'_>) -> Poll<bool>
         ensures { OnPending result (IsArmed cx.new) }
     {
         if !self.emitter.in_flight() {
-            match self.emitter.start_emit(rt, self.value) {
+            let value = self.said.value(self.emitted);
+            match self.emitter.start_emit(rt, value) {
                 Ok(Begun::Accepted(receipt)) => return Poll::Ready(self.take(&receipt)),
                 Ok(Begun::Waiting(())) => {}
                 Ok(Begun::Dropped) => {
@@ -346,21 +333,17 @@ impl Emitting {
         let is_done = self.is_done(stage);
         let Emitting {
             emitter,
-            id: _,
-            value: _,
+            said,
             emitted,
             least: _,
             goes_on: _,
             drops: _,
-            accepted,
-            last: _,
-            rises,
         } = self;
         let is_idle = matches!(emitter.close(rt), Withdrawn::Gone);
         Outcome {
-            count: accepted,
-            dropped: emitted.saturating_sub(accepted),
-            rises,
+            count: said.accepted,
+            dropped: emitted.saturating_sub(said.accepted),
+            rises: said.rises,
             is_whole: true,
             is_done: is_done && is_idle,
         }
@@ -371,11 +354,7 @@ impl Emitting {
 struct Listening {
     subscription: Option<Subscription<u64>>,
     most: u64,
-    received: u64,
-    /// The value of each emitter that comes next where none is lost.
-    next: [u64; 3],
-    rises: bool,
-    is_whole: bool,
+    heard: Heard,
 }
 
 impl Listening {
@@ -383,22 +362,8 @@ impl Listening {
         Party::Listening(Listening {
             subscription: Some(flow.subscribe(rt).expect(rt, "a subscription")),
             most,
-            received: 0,
-            next: [0, APART, 2 * APART],
-            rises: true,
-            is_whole: true,
+            heard: Heard::nothing(),
         })
-    }
-
-    fn note(&mut self, value: u64) {
-        self.received = self.received.saturating_add(1);
-        let Some(next) = self.next.get_mut((value / APART) as usize) else {
-            self.rises = false;
-            return;
-        };
-        self.rises = self.rises && value >= *next;
-        self.is_whole = self.is_whole && value == *next;
-        *next = value.saturating_add(1);
     }
 
     fn poll<R: Wait>(&mut self, rt: &R, stage: &Stage, cx: &mut Context<'_>) -> Poll<bool>
@@ -410,11 +375,11 @@ impl Listening {
         let Poll::Ready(value) = subscription.poll_next(rt, cx) else {
             return Poll::Pending;
         };
-        self.note(value);
-        if self.received >= self.most {
+        let rises = self.heard.note(value);
+        if self.heard.received >= self.most {
             self.leave(rt, stage);
         }
-        Poll::Ready(self.rises)
+        Poll::Ready(rises)
     }
 
     fn leave(&mut self, rt: &impl Wait, stage: &Stage) {
@@ -424,54 +389,51 @@ impl Listening {
         stage.has_left.store(true, Ordering::SeqCst);
     }
 
-    // Takes what is pending, and says how many values were dropped in all.
-    fn drain(&mut self) -> u64 {
-        for _ in 0..TURNS {
-            let Some(subscription) = &mut self.subscription else {
-                return 0;
-            };
-            match subscription.try_next() {
-                Taken::Value(value) => self.note(value),
-                Taken::Nothing => return subscription.dropped(),
-                Taken::Overtaken => {}
-            }
-        }
-        0
-    }
-
     fn end(self, rt: &impl Wait) -> Outcome {
-        let mut listening = self;
-        let is_done = listening.subscription.is_none();
-        let dropped = listening.drain();
         let Listening {
             subscription,
             most: _,
-            received,
-            next: _,
-            rises,
-            is_whole,
-        } = listening;
-        if let Some(subscription) = subscription {
-            subscription.cancel(rt);
-        }
+            mut heard,
+        } = self;
+        let is_done = subscription.is_none();
+        let dropped = match subscription {
+            Some(subscription) => drained(rt, subscription, &mut heard),
+            None => 0,
+        };
         Outcome {
-            count: received,
+            count: heard.received,
             dropped,
-            rises,
-            is_whole,
+            rises: heard.rises,
+            is_whole: heard.is_whole,
             is_done,
         }
     }
 }
 
+// Takes what is pending, ends the subscription, and says how many values were dropped in all.
+fn drained(rt: &impl Wait, mut subscription: Subscription<u64>, heard: &mut Heard) -> u64 {
+    for _ in 0..TURNS {
+        match subscription.try_next() {
+            Taken::Value(value) => {
+                heard.note(value);
+            }
+            Taken::Nothing => break,
+            Taken::Overtaken => {}
+        }
+    }
+    let dropped = subscription.dropped();
+    subscription.cancel(rt);
+    dropped
+}
+
 // One party for each part. One for which there is no place is ended.
-fn joined<R: Wait + Abort>(
+fn joined<R: Wait + Abort + AllocGlobal>(
     rt: &R,
     stage: &Stage,
     flow: &mut SharedFlow<u64>,
     scene: &Scene<'_>,
-    mut parties: Vec<Party>,
 ) -> Vec<Party> {
+    let mut parties = Vec::new(rt.alloc());
     for part in scene.parts {
         if let Err(refused) = parties.push(Party::of(rt, flow, part, scene.policy)) {
             refused.value.end(rt, stage);
@@ -481,12 +443,8 @@ fn joined<R: Wait + Abort>(
 }
 
 // Ends each party, the last one first, and adds what it came to.
-fn end_all(
-    rt: &impl Wait,
-    stage: &Stage,
-    mut parties: Vec<Party>,
-    mut outcomes: Vec<Outcome>,
-) -> Vec<Outcome> {
+fn end_all<R: Wait + AllocGlobal>(rt: &R, stage: &Stage, mut parties: Vec<Party>) -> Vec<Outcome> {
+    let mut outcomes = Vec::new(rt.alloc());
     while let Some(party) = parties.pop() {
         let _is_added = outcomes.push(party.end(rt, stage));
     }
@@ -509,14 +467,13 @@ fn played<R>(rt: &R, scene: &Scene<'_>) -> Result<(Vec<Outcome>, u32), Fail>
 where
     R: Wait + Threads + Abort + RandomSource + AllocGlobal + Sync,
 {
-    let count = scene.parts.len();
-    let outcomes = Vec::with_capacity(rt.alloc(), count)?;
-    let stage = Stage::new(rt, count, scene.emitters(), scene.is_open)?;
-    let mut flow = SharedFlow::new(rt.alloc(), config(0, scene.extra, scene.policy))?;
-    let places = Vec::with_capacity(rt.alloc(), count)?;
-    let mut parties = joined(rt, &stage, &mut flow, scene, places);
+    let tasks = tasks_of(rt, scene.parts.len())?;
+    let stage = Stage::new(tasks, scene.emitters(), scene.is_open);
+    let config = config(0, scene.extra, scene.policy);
+    let mut flow = SharedFlow::new(rt.alloc(), config).expect(rt, "a flow");
+    let mut parties = joined(rt, &stage, &mut flow, scene);
     stage.run_all(rt, &mut parties);
-    let outcomes = end_all(rt, &stage, parties, outcomes);
+    let outcomes = end_all(rt, &stage, parties);
     Ok((outcomes, flow.subscription_count(rt)))
 }
 

@@ -5,17 +5,12 @@ use crate::shared_stage::Answer::{
     Accepted, Cancelled, Count, Done, Dropped, Full, Left, Nothing, Pending, Removed, Reset,
     Subscribed, Value, Waiting,
 };
-use crate::shared_stage::Call::{Ask, Cancel, Emit, Next, Subscribe, Take, TakeBack, Try};
+use crate::shared_stage::Call::{Ask, Cancel, Close, Emit, Next, Subscribe, Take, TakeBack, Try};
 use crate::shared_stage::Party::{A, B, First, Owner, Second, Third};
-use crate::shared_stage::{Answer, Call, Emitting, Line, Listening, watched};
-use crate::tools::{Differences, assert_same};
+use crate::shared_stage::{Call, Line, Stage};
+use crate::tools::Differences;
 use cold_flow::Policy;
 use shared_core::Config;
-use shared_flow::SharedFlow;
-use std::alloc::AllocGlobal;
-use std::process::Abort;
-use std::random::RandomSource;
-use std::sync::Wait;
 use std::test::Fail;
 
 /// The calls on a new flow with their answers, and the wakes so far after each.
@@ -351,48 +346,44 @@ const ROWS: &[Row<'_>] = &[
             ((A, Next, Pending), [1, 0, 0, 0, 0]),
         ],
     },
+    // The next emission that waits finds the bed.
+    Row {
+        name: "who is closed while it waits leaves the bed",
+        config: ONE_BED,
+        lines: &[
+            ((A, Subscribe, Subscribed), [0, 0, 0, 0, 0]),
+            ((First, Try(0), Accepted(0)), [0, 0, 0, 0, 0]),
+            ((First, Emit(1), Waiting), [0, 0, 0, 0, 0]),
+            ((First, Ask, Pending), [0, 0, 0, 0, 0]),
+            ((First, Close, Removed), [0, 0, 1, 0, 0]),
+            ((Second, Emit(2), Waiting), [0, 0, 1, 0, 0]),
+            ((Second, Ask, Pending), [0, 0, 1, 0, 0]),
+        ],
+    },
+    Row {
+        name: "who is closed after it was let in leaves the bed",
+        config: ONE_BED,
+        lines: &[
+            ((A, Subscribe, Subscribed), [0, 0, 0, 0, 0]),
+            ((First, Try(0), Accepted(0)), [0, 0, 0, 0, 0]),
+            ((First, Emit(1), Waiting), [0, 0, 0, 0, 0]),
+            ((First, Ask, Pending), [0, 0, 0, 0, 0]),
+            ((A, Take, Value(0)), [0, 0, 0, 0, 0]),
+            ((First, Close, Left(1)), [0, 0, 1, 0, 0]),
+            ((Second, Emit(2), Waiting), [0, 0, 1, 0, 0]),
+            ((Second, Ask, Pending), [0, 0, 1, 0, 0]),
+        ],
+    },
 ];
-
-// What became of an emission that slept when its emitter was closed, where a value before it was taken without the lock, or not;
-// and how often the next emission was woken, which sleeps.
-fn closed<R>(rt: &R, is_taken: bool) -> (Answer, Answer, u32)
-where
-    R: Wait + Abort + RandomSource + AllocGlobal,
-{
-    let mut flow = SharedFlow::new(rt.alloc(), ONE_BED).expect(rt, "a flow");
-    let mut first = Emitting::new(rt, &mut flow, 1);
-    let mut second = Emitting::new(rt, &mut flow, 2);
-    let mut a = Listening::new(rt);
-    a.subscribe(rt, &mut flow);
-    first.perform(rt, Try(0));
-    first.perform(rt, Emit(1));
-    first.perform(rt, Ask);
-    if is_taken {
-        a.take();
-    }
-    let ended = first.end(rt);
-    second.perform(rt, Emit(2));
-    let asked = second.perform(rt, Ask);
-    let wakes = second.wakes();
-    second.close(rt);
-    a.leave(rt);
-    (ended, asked, wakes)
-}
-
-#[test]
-fn who_is_closed_leaves_the_bed(rt: HostRuntime) {
-    let removed = closed(&rt, false);
-    assert_same(&rt, "it waited", removed, (Removed, Pending, 0));
-    let left = closed(&rt, true);
-    assert_same(&rt, "it was let in", left, (Left(1), Pending, 0));
-}
 
 #[test]
 fn calls_wake(rt: HostRuntime) -> Result<(), Fail> {
     let mut differences = Differences::none(rt.alloc());
     for row in ROWS {
-        let watched = watched(&rt, row.config, row.lines);
-        differences.compare(row.name, watched.lines, row.lines.len())?;
+        let mut stage = Stage::new(&rt, row.config);
+        let lines = stage.watch(&rt, row.lines);
+        stage.leave(&rt);
+        differences.compare(row.name, lines, row.lines.len())?;
     }
     differences.assert_none(&rt);
     Ok(())

@@ -4,15 +4,15 @@ use crate::scarce::{Scarce, Source};
 use crate::shared_rows::PLAIN;
 use crate::shared_stage::Answer::{Cancelled, Gone, Left, Pending, Removed, Subscribed, Value};
 use crate::shared_stage::Call::{Cancel, Next, Subscribe};
-use crate::shared_stage::{Answer, Call, Listening};
+use crate::shared_stage::{Answer, Call, Listening, caches, withdrawn};
 use crate::ticks::Tick;
 use crate::tools::Differences;
 use crate::when::When;
 use cold_flow::{Cause, Flow, Refusal, Step};
 use flow_sharing::{Sharing, share_in};
 use futures::test::MockTask;
-use shared_core::{Config, Withdrawn};
-use shared_flow::{Receipt, SharedFlow};
+use shared_core::Config;
+use shared_flow::SharedFlow;
 use std::alloc::AllocGlobal;
 use std::cell::Cell;
 use std::process::Abort;
@@ -272,18 +272,13 @@ struct Stage {
 }
 
 impl Stage {
-    fn caches<R: Wait + AllocGlobal>(&mut self, rt: &R, values: &[u64]) -> bool {
-        let mut cache = Vec::new(rt.alloc());
-        self.flow.replay_cache_into(rt, &mut cache).is_ok() && cache.as_slice() == values
-    }
-
     /// A call of the subscription or a look at the cache. Nothing else is such a line.
     fn is_answered<R: Wait + AllocGlobal>(&mut self, rt: &R, line: &Line<'_>) -> bool {
         match line {
             Line::Call(call, answer) => {
                 self.listening.perform(rt, &mut self.flow, *call) == *answer
             }
-            Line::Cache(values) => self.caches(rt, values),
+            Line::Cache(values) => caches(rt, &mut self.flow, values),
             _ => false,
         }
     }
@@ -344,16 +339,6 @@ impl Stage {
     }
 }
 
-/// What became of the emission of a sharing, whose emitter is 0.
-fn closed_with(withdrawn: Withdrawn<Receipt>) -> Answer {
-    match withdrawn {
-        Withdrawn::Gone => Gone,
-        Withdrawn::Removed => Removed,
-        Withdrawn::Left(receipt) if receipt.emitter() == 0 => Left(receipt.number()),
-        Withdrawn::Left(_) => Answer::Foreign,
-    }
-}
-
 fn compare_row<R, F: Flow<Item = u64, Fault = u64>>(
     rt: &R,
     differences: &mut Differences,
@@ -364,7 +349,7 @@ where
     R: Wait + Abort + RandomSource + AllocGlobal,
 {
     let mut stage = Stage {
-        flow: SharedFlow::new(rt.alloc(), row.config)?,
+        flow: SharedFlow::new(rt.alloc(), row.config).expect(rt, "a flow"),
         listening: Listening::new(rt),
         task: MockTask::new(rt).expect(rt, "a task"),
         latest: 0,
@@ -372,7 +357,7 @@ where
     let made = share_in(rt, &mut stage.flow, upstream, row.when.started());
     let mut sharing = made.expect(rt, "a sharing");
     let lines = stage.shared(rt, &mut sharing, row.lines);
-    let closed = closed_with(sharing.close(rt));
+    let closed = withdrawn(sharing.close(rt), 0);
     let rest = stage.answered(rt, row.rest);
     stage.leave(rt);
     differences.compare(row.name, lines, row.lines.len())?;

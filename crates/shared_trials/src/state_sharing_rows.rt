@@ -10,6 +10,7 @@ use futures::test::MockTask;
 use state_flow::{Collector, StateFlow, StateSeat};
 use std::alloc::AllocGlobal;
 use std::cell::Cell;
+use std::process::Abort;
 use std::random::RandomSource;
 use std::test::Fail;
 
@@ -252,21 +253,19 @@ impl Stage {
     }
 }
 
-fn compare_row<R: RandomSource + AllocGlobal, F: Flow<Item = u64, Fault = u64>>(
+fn compare_row<R: Abort + RandomSource + AllocGlobal, F: Flow<Item = u64, Fault = u64>>(
     rt: &R,
     differences: &mut Differences,
     upstream: F,
     row: &Row<'_>,
 ) -> Result<(), Fail> {
-    let task = MockTask::new(rt)?;
-    let mut seat = StateFlow::new(rt.alloc(), 3u64, 3)?;
-    let shared = seat.take_seat(0)?;
-    let idle = Some(seat.take_seat(0)?);
+    let mut seat = StateFlow::new(rt.alloc(), 3u64, 3).expect(rt, "a state");
+    let shared = seat.take_seat(0).expect(rt, "a seat for the sharing");
     let mut stage = Stage {
+        idle: Some(seat.take_seat(0).expect(rt, "a seat for the collector")),
         seat,
-        idle,
         collector: None,
-        task,
+        task: MockTask::new(rt).expect(rt, "a task"),
         latest: 0,
     };
     let mut sharing = state_in(shared, row.initial, upstream, row.when.started());

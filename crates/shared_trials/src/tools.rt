@@ -18,10 +18,10 @@ pub(crate) fn made_again<T, F: Fn() -> Result<T, AllocError>>(call: &F) -> Resul
 }
 
 /// A task that is polled by hand. It too is made once more where memory was refused.
-pub(crate) fn task_made<R: RandomSource + AllocGlobal>(rt: &R) -> Result<MockTask, Fail> {
+pub(crate) fn task_made<R: Abort + RandomSource + AllocGlobal>(rt: &R) -> MockTask {
     match MockTask::new(rt) {
-        Ok(task) => Ok(task),
-        Err(_) => Ok(MockTask::new(rt)?),
+        Ok(task) => task,
+        Err(_) => MockTask::new(rt).expect(rt, "a task"),
     }
 }
 

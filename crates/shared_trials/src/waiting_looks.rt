@@ -109,8 +109,8 @@ impl Scene {
             parker: _,
         } = self;
         waiting.cancel(rt);
-        first.close(rt);
-        second.close(rt);
+        first.leave(rt);
+        second.leave(rt);
         drop(flow);
     }
 }
