@@ -1,6 +1,6 @@
 //! The marks and the pictures as they were made before they were made faster, to compare with: names and acts are looked up
 //! one after another, `text_picture` goes over all marks for each strip, `svg_picture` over all for each row, and each
-//! caption is a text of its own. They do what they did, but are cut so that it costs less to prove that they are safe.
+//! caption is a text of its own.
 
 mod caption;
 mod deed;
@@ -10,7 +10,6 @@ mod line;
 mod loss;
 mod marking;
 mod numbers;
-mod piece;
 mod reply;
 mod said;
 mod sheet;

@@ -1,5 +1,7 @@
 //! Makes the marks of a picture.
 
+ghost use Rattle.std.specs.Prelude.{◌≤◌, length};
+
 use crate::start::deed::acts;
 use crate::start::happening::{Happening, happening_of};
 use crate::start::ledger::losses_in;
@@ -39,12 +41,14 @@ fn names_in<'a>(alloc: Global, turns: &[Turn<'a>]) -> Result<Vec<&'a [u8]>, Allo
 
 /// The row of a name.
 pub(crate) fn row_of(names: &[&[u8]], name: &[u8]) -> usize {
-    for (index, known) in names.iter().enumerate() {
+    let mut row = 1;
+    for known in names {
         if *known == name {
-            return index.saturating_add(1);
+            return row;
         }
+        row += 1;
     }
-    names.len().saturating_add(1)
+    row
 }
 
 /// The mark at the head of a line's column.
@@ -102,27 +106,6 @@ fn marks_in<'a>(
     Ok(marks)
 }
 
-/// Adds the marks of what more than one of these lines tells.
-fn add_told(
-    alloc: Global,
-    marks: &mut Vec<Mark<'_>>,
-    names: &[&[u8]],
-    turns: &[Turn<'_>],
-) -> Result<(), AllocError> {
-    let acts = acts(alloc, turns)?;
-    add_numbers(marks, names, &acts)?;
-    let losses = losses_in(alloc, turns)?;
-    add_losses(marks, names, &acts, &losses)
-}
-
-/// The marks of these lines.
-fn marks_of<'a>(alloc: Global, turns: &[Turn<'a>]) -> Result<Vec<Mark<'a>>, AllocError> {
-    let names = names_in(alloc, turns)?;
-    let mut marks = marks_in(alloc, &names, turns)?;
-    add_told(alloc, &mut marks, &names, turns)?;
-    Ok(marks)
-}
-
 /// The marks of a script with these answers, each to the line with its number, in their order. First come the
 /// marks of what each answer shows by itself, in the order of the lines; then those of the emissions' numbers, and of the
 /// values that made way.
@@ -130,7 +113,15 @@ pub(crate) fn marks<'a>(
     alloc: Global,
     script: &'a [u8],
     answers: &'a [Said],
-) -> Result<Vec<Mark<'a>>, AllocError> {
+) -> Result<Vec<Mark<'a>>, AllocError>
+    requires { length script.now ≤ 1048576 }
+{
     let turns = turns(alloc, script, answers)?;
-    marks_of(alloc, &turns)
+    let names = names_in(alloc, &turns)?;
+    let acts = acts(alloc, &turns)?;
+    let losses = losses_in(alloc, &turns)?;
+    let mut marks = marks_in(alloc, &names, &turns)?;
+    add_numbers(&mut marks, &names, &acts)?;
+    add_losses(&mut marks, &names, &acts, &losses)?;
+    Ok(marks)
 }

@@ -117,7 +117,7 @@ fn add_numbers_on(
     for act in all {
         if takes_place(all, name, act.deed) {
             add_place(marks, all, row, number, *act)?;
-            number = number.saturating_add(1);
+            number += 1;
         }
     }
     Ok(())

@@ -1,13 +1,12 @@
 //! A picture as SVG.
 
 use crate::start::caption::caption;
-use crate::start::piece::Piece::{Number, Text};
-use crate::start::piece::push_pieces;
 use crate::start::sheet::Sheet;
 use crate::start::symbol::{Placed, Segment, push_escaped, push_symbol};
 use crate::start::ways::{placed, ways};
 use marble_marks::{Kind, Mark};
 use std::alloc::{AllocError, Global};
+use std::fmt::Write;
 
 /// The colours, told apart by those who see few of them too, and how text is set.
 const STYLE: &str = "<style>
@@ -42,21 +41,10 @@ const SHEET: &str = "<rect class=\"sheet\" width=\"100%\" height=\"100%\"/>\n";
 
 /// Adds the head.
 fn push_head(picture: &mut String, width: usize, height: usize) -> Result<(), AllocError> {
-    push_pieces(
+    let names = "//www.w3.org/2000/svg";
+    write!(
         picture,
-        &[
-            Text("<svg xmlns=\"http:"),
-            Text("//www.w3.org/2000/svg"),
-            Text("\" width=\""),
-            Number(width),
-            Text("\" height=\""),
-            Number(height),
-            Text("\" viewBox=\"0 0 "),
-            Number(width),
-            Text(" "),
-            Number(height),
-            Text("\" role=\"img\" aria-labelledby=\"title about\">\n"),
-        ],
+        "<svg xmlns=\"http:{names}\" width=\"{width}\" height=\"{height}\" viewBox=\"0 0 {width} {height}\" role=\"img\" aria-labelledby=\"title about\">\n"
     )
 }
 
@@ -103,10 +91,11 @@ fn push_about(alloc: Global, picture: &mut String, marks: &[Mark<'_>]) -> Result
 fn push_front(
     alloc: Global,
     picture: &mut String,
-    sheet: Sheet,
+    width: usize,
+    height: usize,
     marks: &[Mark<'_>],
 ) -> Result<(), AllocError> {
-    push_head(picture, sheet.width(), sheet.height())?;
+    push_head(picture, width, height)?;
     push_about(alloc, picture, marks)?;
     picture.push_str(STYLE)?;
     picture.push_str(SHEET)
@@ -133,29 +122,46 @@ fn push_symbols(
     Ok(())
 }
 
-/// Adds lines and marks.
-fn push_rows(
+/// Adds the whole picture.
+fn push_all(
     alloc: Global,
     picture: &mut String,
-    sheet: Sheet,
+    width: usize,
+    height: usize,
     marks: &[Mark<'_>],
+    sheet: Sheet,
+    segments: &[Segment],
+    placed: &[Placed<'_>],
 ) -> Result<(), AllocError> {
-    push_segments(picture, &ways(alloc, sheet, marks)?)?;
-    push_symbols(alloc, picture, sheet, &placed(alloc, sheet, marks)?)
+    push_front(alloc, picture, width, height, marks)?;
+    push_segments(picture, segments)?;
+    push_symbols(alloc, picture, sheet, placed)?;
+    picture.push_str("</svg>\n")
 }
 
-/// Adds the picture of these marks, which stand in the order of their rows.
-fn push_all(alloc: Global, picture: &mut String, marks: &[Mark<'_>]) -> Result<(), AllocError> {
+/// The picture of these marks, which stand in the order of their rows.
+fn drawn(alloc: Global, marks: &[Mark<'_>]) -> Result<String, AllocError> {
     let sheet = Sheet::of(alloc, marks)?;
-    push_front(alloc, picture, sheet, marks)?;
-    push_rows(alloc, picture, sheet, marks)?;
-    picture.push_str("</svg>\n")
+    let segments = ways(alloc, sheet, marks)?;
+    let placed = placed(alloc, sheet, marks)?;
+    let width = sheet.width();
+    let height = sheet.height();
+    let mut picture = String::new(alloc);
+    push_all(
+        alloc,
+        &mut picture,
+        width,
+        height,
+        marks,
+        sheet,
+        segments.as_slice(),
+        placed.as_slice(),
+    )?;
+    Ok(picture)
 }
 
 /// The picture of these marks as SVG. They are put in the order of their rows.
 pub fn svg_picture(alloc: Global, marks: &mut Vec<Mark<'_>>) -> Result<String, AllocError> {
     marks.sort_by_key(|mark| (mark.row, mark.column))?;
-    let mut picture = String::new(alloc);
-    push_all(alloc, &mut picture, marks)?;
-    Ok(picture)
+    drawn(alloc, marks)
 }

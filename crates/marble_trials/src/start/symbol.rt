@@ -1,13 +1,12 @@
 //! What marks look like.
 
 use crate::start::caption::{caption, plain_byte};
-use crate::start::piece::Piece::{Number, Text};
-use crate::start::piece::push_pieces;
 use crate::start::sheet::{CHARACTER, Sheet};
 use crate::start::steps::{LOWEST, Place};
 use marble_marks::{Kind, Mark, Row};
 use script_commands::Reason;
 use std::alloc::{AllocError, Global};
+use std::fmt::Write;
 
 /// A line from one place to another.
 #[derive(Clone, Copy)]
@@ -72,21 +71,11 @@ pub(crate) fn push_escaped(picture: &mut String, bytes: &[u8]) -> Result<(), All
 
 /// Adds a line.
 fn push_line(picture: &mut String, class: &str, from: Place, to: Place) -> Result<(), AllocError> {
-    push_pieces(
+    let Place { x: x1, y: y1 } = from;
+    let Place { x: x2, y: y2 } = to;
+    write!(
         picture,
-        &[
-            Text("<line class=\""),
-            Text(class),
-            Text("\" x1=\""),
-            Number(from.x),
-            Text("\" y1=\""),
-            Number(from.y),
-            Text("\" x2=\""),
-            Number(to.x),
-            Text("\" y2=\""),
-            Number(to.y),
-            Text("\"/>\n"),
-        ],
+        "<line class=\"{class}\" x1=\"{x1}\" y1=\"{y1}\" x2=\"{x2}\" y2=\"{y2}\"/>\n"
     )
 }
 
@@ -99,18 +88,8 @@ impl Segment {
 
 /// Adds the begin of a text at this place.
 fn push_opening(picture: &mut String, class: &str, at: Place) -> Result<(), AllocError> {
-    push_pieces(
-        picture,
-        &[
-            Text("<text class=\""),
-            Text(class),
-            Text("\" x=\""),
-            Number(at.x),
-            Text("\" y=\""),
-            Number(at.y),
-            Text("\">"),
-        ],
-    )
+    let Place { x, y } = at;
+    write!(picture, "<text class=\"{class}\" x=\"{x}\" y=\"{y}\">")
 }
 
 /// Adds a text at this place.
@@ -161,21 +140,10 @@ fn push_rect(
     width: usize,
     round: usize,
 ) -> Result<(), AllocError> {
-    push_pieces(
+    let Place { x, y } = corner;
+    write!(
         picture,
-        &[
-            Text("<rect class=\""),
-            Text(class),
-            Text("\" x=\""),
-            Number(corner.x),
-            Text("\" y=\""),
-            Number(corner.y),
-            Text("\" width=\""),
-            Number(width),
-            Text("\" height=\"22\" rx=\""),
-            Number(round),
-            Text("\"/>\n"),
-        ],
+        "<rect class=\"{class}\" x=\"{x}\" y=\"{y}\" width=\"{width}\" height=\"22\" rx=\"{round}\"/>\n"
     )
 }
 
@@ -239,8 +207,11 @@ fn push_frame(picture: &mut String, frame: Frame, said: &str, at: Place) -> Resu
 
 /// Adds the begin of the head of a line's column.
 fn push_heading(picture: &mut String, said: &str, at: Place) -> Result<(), AllocError> {
-    push_opening(picture, "head", at)?;
-    push_pieces(picture, &[Text(said), Text("<title>")])
+    let Place { x, y } = at;
+    write!(
+        picture,
+        "<text class=\"head\" x=\"{x}\" y=\"{y}\">{said}<title>"
+    )
 }
 
 /// Adds the head of a line's column, with the line's text to it, at this place.
@@ -272,14 +243,8 @@ fn push_crossed_head(
     push_cross(picture, at, half)?;
     push_heading(picture, said, at.down(4))?;
     push_escaped(picture, line)?;
-    push_pieces(
-        picture,
-        &[
-            Text("&#10;bad command: "),
-            Text(reason.sentence()),
-            Text("</title></text>\n"),
-        ],
-    )
+    let why = reason.sentence();
+    write!(picture, "&#10;bad command: {why}</title></text>\n")
 }
 
 /// The frame of the begin of a row, where it has one.
@@ -344,16 +309,8 @@ fn push_bar(picture: &mut String, at: Place) -> Result<(), AllocError> {
 
 /// Adds a small ring.
 fn push_ring(picture: &mut String, at: Place) -> Result<(), AllocError> {
-    push_pieces(
-        picture,
-        &[
-            Text("<circle cx=\""),
-            Number(at.x),
-            Text("\" cy=\""),
-            Number(at.y),
-            Text("\" r=\"4\"/>\n"),
-        ],
-    )
+    let Place { x, y } = at;
+    write!(picture, "<circle cx=\"{x}\" cy=\"{y}\" r=\"4\"/>\n")
 }
 
 /// Adds a value of a state, so many steps above its lowest.
@@ -393,7 +350,7 @@ fn push_ticked(picture: &mut String, said: &str, at: Place) -> Result<(), AllocE
     )
 }
 
-/// Adds what a mark shows that isn't a frame alone.
+/// Adds what a mark without a frame shows.
 fn push_bare(
     picture: &mut String,
     placed: &Placed<'_>,

@@ -123,10 +123,7 @@ pub fn text_picture(alloc: Global, marks: &mut Vec<Mark<'_>>) -> Result<String, 
     let last = last_column(marks);
     let mut picture = String::new(alloc);
     let mut first = 1;
-    for _ in 0..last {
-        if first > last {
-            break;
-        }
+    while first <= last {
         let end = first.saturating_add(columns).min(last.saturating_add(1));
         let strip = Strip {
             first,

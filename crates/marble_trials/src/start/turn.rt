@@ -1,5 +1,7 @@
 //! The lines of a script that have an answer, each with its answer.
 
+ghost use Rattle.std.specs.Prelude.{◌≤◌, length};
+
 use crate::start::said::Said;
 use script_commands::{Answer, Command};
 use script_words::{Lines, Words};
@@ -39,20 +41,19 @@ pub(crate) fn turns<'a>(
     alloc: Global,
     script: &'a [u8],
     answers: &'a [Said],
-) -> Result<Vec<Turn<'a>>, AllocError> {
+) -> Result<Vec<Turn<'a>>, AllocError>
+    requires { length script.now ≤ 1048576 }
+{
     let mut turns = Vec::new(alloc);
     let mut lines = Lines::new(script);
+    let mut number: u64 = 0;
     let mut left = answers;
-    // No line is without a byte.
-    for index in 0..script.len() {
-        let Some(line) = lines.next() else {
-            break;
-        };
-        let number = (index as u64).saturating_add(1);
+    while let Some(line) = lines.next() {
+        number += 1;
         if let Some((said, rest)) = split_said(left, number) {
             left = rest;
             turns.push(Turn {
-                column: turns.len().saturating_add(1),
+                column: turns.len() + 1,
                 number,
                 line,
                 command: command_in(line),
