@@ -2,21 +2,9 @@
 
 use crate::fault::Fault;
 use crate::tally::{begun, given, polled, tried};
-use shared_core::{Begun, Config, Next, Policy, SharedState, SubId, Ticket};
+use shared_core::{Begun, Next, SharedState, SubId, Ticket};
 use std::alloc::Global;
 use workload_inputs::Digest;
-
-/// What a flow without a replay cache is made with.
-pub(crate) fn config_of(extra: u64, subscribers: u32, emits: u32) -> Config {
-    Config {
-        replay: 0,
-        extra,
-        policy: Policy::Suspend,
-        subscribers,
-        emits,
-        first: 0,
-    }
-}
 
 /// A new subscription.
 pub(crate) fn subscribe(flow: &mut SharedState<u64>) -> Result<SubId, Fault> {
@@ -66,13 +54,6 @@ pub(crate) fn take(flow: &mut SharedState<u64>, id: SubId, digest: &mut Digest) 
     match flow.next(id) {
         Next::Value(value) => given(digest, Some(value)),
         Next::Nothing | Next::Closed => given(digest, None),
-    }
-}
-
-/// The subscription at this place takes one value.
-pub(crate) fn take_at(flow: &mut SharedState<u64>, ids: &[SubId], at: usize, digest: &mut Digest) {
-    if let Some(id) = ids.get(at) {
-        take(flow, *id, digest);
     }
 }
 

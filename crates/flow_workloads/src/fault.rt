@@ -14,6 +14,9 @@ pub enum Fault {
     /// A flow ended otherwise than by its end.
     #[error("ended early")]
     Ended,
+    /// A call was answered otherwise than a case needs it.
+    #[error("answered otherwise")]
+    Otherwise,
     #[error("out of memory")]
     NoMemory,
     /// A line can't be written.

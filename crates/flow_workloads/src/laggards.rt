@@ -1,8 +1,8 @@
 //! Slow subscriptions among many.
 
-use crate::edge_calls::{attempt, attempt_all, subscribe_all, take};
+use crate::edge_calls::{attempt, attempt_all, subscribe, subscribe_all, take};
 use crate::fault::Fault;
-use shared_core::{SharedState, SubId};
+use shared_core::SharedState;
 use std::alloc::Global;
 use workload_inputs::Digest;
 
@@ -29,14 +29,10 @@ fn join_others(
 pub(crate) fn one(
     alloc: Global,
     flow: &mut SharedState<u64>,
-    ids: &[SubId],
     (value, count): (u64, u32),
     digest: &mut Digest,
 ) -> Result<(), Fault> {
-    let [slow] = ids else {
-        return Ok(());
-    };
-    let slow = *slow;
+    let slow = subscribe(flow)?;
     join_others(alloc, flow, value, count.saturating_sub(1), digest)?;
     for _ in 0..VALUES {
         attempt(flow, value, digest)?;
@@ -45,19 +41,16 @@ pub(crate) fn one(
     Ok(())
 }
 
-/// Two of 1,024 have no place free after an emission, and take a value by turns, with a try after the first.
+/// The first two of so many have no place free after an emission, and take a value by turns, with a try after the first.
 pub(crate) fn two(
     alloc: Global,
     flow: &mut SharedState<u64>,
-    ids: &[SubId],
-    value: u64,
+    (value, count): (u64, u32),
     digest: &mut Digest,
 ) -> Result<(), Fault> {
-    let [one, other] = ids else {
-        return Ok(());
-    };
-    let (one, other) = (*one, *other);
-    join_others(alloc, flow, value, 1022, digest)?;
+    let one = subscribe(flow)?;
+    let other = subscribe(flow)?;
+    join_others(alloc, flow, value, count.saturating_sub(2), digest)?;
     for turn in 0..VALUES {
         attempt(flow, value, digest)?;
         let (first, second) = if turn % 2 == 0 {

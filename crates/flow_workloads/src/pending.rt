@@ -42,42 +42,39 @@ fn source(
     Ok(scripted(script))
 }
 
-/// One source through two operators, listed.
-fn listed(
+/// What the sources of a flow are made of.
+#[derive(Drop)]
+struct Sources<'a> {
     alloc: Global,
-    task: &Solo,
-    random: &mut Random,
-    digest: &mut Digest,
+    random: &'a mut Random,
     steps: u64,
-) -> Result<(), Fault> {
-    let plain = source(alloc, random, steps, true)?;
-    list_all(alloc, task, digest, distinct(map(plain, Adds(5))))
 }
 
-/// A source with a range, pair by pair.
-fn zipped(
-    alloc: Global,
-    task: &Solo,
-    random: &mut Random,
-    digest: &mut Digest,
-    steps: u64,
-) -> Result<(), Fault> {
-    let left = source(alloc, random, steps, false)?;
-    let right = filter(range::<u64>(0, steps), IsSeldom);
-    fold_all(task, digest, zip(left, right, Sum))
-}
+impl Sources<'_> {
+    /// The next one, which fails at its end where that is asked for.
+    fn next(&mut self, fails: bool) -> Result<Stepped<u64, u64>, Fault> {
+        source(self.alloc, self.random, self.steps, fails)
+    }
 
-/// The latest values of two sources.
-fn combined(
-    alloc: Global,
-    task: &Solo,
-    random: &mut Random,
-    digest: &mut Digest,
-    steps: u64,
-) -> Result<(), Fault> {
-    let left = source(alloc, random, steps, false)?;
-    let right = source(alloc, random, steps, true)?;
-    fold_all(task, digest, combine(left, right, Sum))
+    /// One through two operators, listed.
+    fn listed(&mut self, task: &Solo, digest: &mut Digest) -> Result<(), Fault> {
+        let plain = self.next(true)?;
+        list_all(self.alloc, task, digest, distinct(map(plain, Adds(5))))
+    }
+
+    /// One with a range, pair by pair.
+    fn zipped(&mut self, task: &Solo, digest: &mut Digest) -> Result<(), Fault> {
+        let left = self.next(false)?;
+        let right = filter(range::<u64>(0, self.steps), IsSeldom);
+        fold_all(task, digest, zip(left, right, Sum))
+    }
+
+    /// The latest values of two.
+    fn combined(&mut self, task: &Solo, digest: &mut Digest) -> Result<(), Fault> {
+        let left = self.next(false)?;
+        let right = self.next(true)?;
+        fold_all(task, digest, combine(left, right, Sum))
+    }
 }
 
 /// Runs each flow.
@@ -88,11 +85,15 @@ pub(crate) fn run(
     digest: &mut Digest,
     scale: Scale,
 ) -> Result<(), Fault> {
-    let steps = scale.of(STEPS);
+    let mut sources = Sources {
+        alloc,
+        random,
+        steps: scale.of(STEPS),
+    };
     for _ in 0..FLOWS {
-        listed(alloc, task, random, digest, steps)?;
-        zipped(alloc, task, random, digest, steps)?;
-        combined(alloc, task, random, digest, steps)?;
+        sources.listed(task, digest)?;
+        sources.zipped(task, digest)?;
+        sources.combined(task, digest)?;
     }
     Ok(())
 }
