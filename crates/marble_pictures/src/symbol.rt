@@ -52,8 +52,10 @@ struct Frame {
     strike: Strike,
 }
 
+// Inlined, so that a text of which every second character has a name costs no call for each.
 /// Adds a character as SVG wants it: what has a meaning there by its name, and a question mark for a byte that is no
 /// printable character of ASCII. It says whether the byte stands for itself.
+#[inline(always)]
 fn push_escaped_byte(picture: &mut String, byte: u8) -> Result<bool, AllocError>
     ensures { OnOk result (string_bytes picture.new ≡ string_bytes picture.old ++ escaped_byte byte) }
 {
@@ -122,6 +124,7 @@ fn push_front(picture: &mut String, front: &[u8]) -> Result<(), AllocError>
 fn push_up_to_run<'a>(picture: &mut String, bytes: &'a [u8]) -> Result<&'a [u8], AllocError>
     ensures front { IfOk result (λ left. string_bytes picture.new ++ escaped left.now ≡ string_bytes picture.old ++ escaped bytes.now) }
     ensures shorter { IfOk result (λ left. 0 < length bytes.now → length left.now < length bytes.now) }
+    ensures within { IfOk result (λ left. length left.now ≤ length bytes.now) }
 {
     let mut left = bytes;
     let mut run = 0;
@@ -138,16 +141,16 @@ fn push_up_to_run<'a>(picture: &mut String, bytes: &'a [u8]) -> Result<&'a [u8],
     Ok(left)
 }
 
-/// Adds a text as SVG wants it: byte by byte, but what is left of a long run of bytes that stand for themselves together.
+/// Adds a text as SVG wants it: what stands for itself at its front together, as most texts do whole, then byte by byte up to the
+/// next long run of bytes that do, and so on.
 pub(crate) fn push_escaped(picture: &mut String, bytes: &[u8]) -> Result<(), AllocError>
     ensures { OnOk result (string_bytes picture.new ≡ string_bytes picture.old ++ escaped bytes.now) }
 {
     let mut left = bytes;
     while !left.is_empty() {
-        let run = push_up_to_run(picture, left)?;
-        let (front, back) = run.split_at(plain_front(run));
+        let (front, back) = left.split_at(plain_front(left));
         push_front(picture, front)?;
-        left = back;
+        left = push_up_to_run(picture, back)?;
     }
     Ok(())
 }
