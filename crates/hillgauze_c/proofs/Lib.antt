@@ -1,0 +1,4 @@
+mod AsBox
+mod Handled
+mod HandleSteps
+mod Making

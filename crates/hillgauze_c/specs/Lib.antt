@@ -1,0 +1,9 @@
+pub mod Replies
+pub mod Ownership
+pub mod Lends
+pub mod Rows
+pub mod Kinds
+pub mod Makes
+pub mod SharedCalls
+pub mod LaneCalls
+pub mod StateCalls

@@ -1,0 +1,7 @@
+//! What C calls.
+
+mod collector;
+mod lane;
+mod reader;
+mod shared;
+mod state;

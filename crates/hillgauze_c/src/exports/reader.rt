@@ -1,0 +1,80 @@
+//! A lane's reader.
+ghost use Rattle.shared_lane.specs.Readers.{received_count, lost_count};
+ghost use Rattle.hillgauze_c.specs.Replies.{taken_reply};
+ghost use Rattle.hillgauze_c.specs.Kinds.{IsFreed, Told, reader_of};
+ghost use Rattle.hillgauze_c.specs.LaneCalls.{OnReader, TookAndStayed, Tells, began_at};
+
+use crate::handle::Handle;
+use crate::reply::{NULL_HANDLE, OTHER_KIND, Reply};
+use std::alloc::Global;
+
+/// Takes the reader's next value.
+#[unsafe(no_mangle)]
+pub extern "C" fn hillgauze_reader_try_next(reader: &mut Handle) -> Reply
+    ensures { OnReader (Told taken_reply TookAndStayed) reader.old.object result reader.new.object }
+{
+    let Some(object) = reader.lend() else {
+        return Reply::refused(NULL_HANDLE);
+    };
+    let Some(reading) = object.reader() else {
+        return Reply::refused(OTHER_KIND);
+    };
+    Reply::of_taking(reading.try_next())
+}
+
+/// The number of the emission at which the reader began.
+#[unsafe(no_mangle)]
+pub extern "C" fn hillgauze_reader_start(reader: &mut Handle) -> Reply
+    ensures { OnReader (Tells began_at) reader.old.object result reader.new.object }
+{
+    let Some(object) = reader.lend() else {
+        return Reply::refused(NULL_HANDLE);
+    };
+    let Some(reading) = object.reader() else {
+        return Reply::refused(OTHER_KIND);
+    };
+    Reply::of_count(reading.start())
+}
+
+/// How many values the reader received.
+#[unsafe(no_mangle)]
+pub extern "C" fn hillgauze_reader_received(reader: &mut Handle) -> Reply
+    ensures { OnReader (Tells received_count) reader.old.object result reader.new.object }
+{
+    let Some(object) = reader.lend() else {
+        return Reply::refused(NULL_HANDLE);
+    };
+    let Some(reading) = object.reader() else {
+        return Reply::refused(OTHER_KIND);
+    };
+    Reply::of_count(reading.received())
+}
+
+/// How many values were dropped for the reader.
+#[unsafe(no_mangle)]
+pub extern "C" fn hillgauze_reader_dropped(reader: &mut Handle) -> Reply
+    ensures { OnReader (Tells lost_count) reader.old.object result reader.new.object }
+{
+    let Some(object) = reader.lend() else {
+        return Reply::refused(NULL_HANDLE);
+    };
+    let Some(reading) = object.reader() else {
+        return Reply::refused(OTHER_KIND);
+    };
+    Reply::of_count(reading.dropped())
+}
+
+/// Ends the reader: what it owns closes its cursor where it is dropped.
+#[unsafe(no_mangle)]
+pub extern "C" fn hillgauze_reader_close(alloc: Global, reader: &mut Handle) -> Reply
+    ensures { IsFreed reader_of reader.old.object result reader.new.object }
+{
+    let Some(object) = reader.lend() else {
+        return Reply::refused(NULL_HANDLE);
+    };
+    let Some(_own) = object.reader() else {
+        return Reply::refused(OTHER_KIND);
+    };
+    reader.clear(alloc);
+    Reply::done()
+}
