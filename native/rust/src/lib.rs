@@ -1,0 +1,60 @@
+//! Kotlin's hot flows, whose every call is proved, as safe Rust types over a static library.
+//!
+//! | | What it is | Kotlin |
+//! |---|---|---|
+//! | [`SharedState`] | a shared flow on one thread | `MutableSharedFlow` |
+//! | [`Sequencer`], [`Reader`] | a lane: one emits, many receive, on threads of their own | the same, and `collect` |
+//! | [`StateSeat`], [`Collector`] | a value that threads share | `MutableStateFlow`, `collect` |
+//!
+//! Values are [`Word`]s: `Copy`, and no larger than 64 bits. A call that can't be done says so by a [`Refusal`].
+//!
+//! # A slow reader
+//! A reader has as many places as `replay` and `extra` say together. Where they are taken, the [`Policy`] of the lane
+//! decides: the emission waits, the reader loses its oldest value, or the new value is dropped.
+//!
+//! ```
+//! use hillgauze::{Config, Policy, Sequencer, Tried};
+//!
+//! let config = Config { extra: 2, policy: Policy::DropOldest, ..Config::default() };
+//! let mut sequencer = Sequencer::new(config)?;
+//! let mut reader = sequencer.admit()?;
+//! for value in 1..=5u32 {
+//!     assert!(matches!(sequencer.try_emit(0, value)?, Tried::Accepted(_)));
+//! }
+//! assert_eq!(reader.by_ref().collect::<Vec<_>>(), [4, 5]);
+//! let closed = reader.close();
+//! assert_eq!((closed.received, closed.dropped), (2, 3));
+//! # Ok::<(), hillgauze::Refusal>(())
+//! ```
+//!
+//! # What is proved, and what isn't
+//! What each call of the library does is proved, up to the C boundary, for every order of calls and every timing of
+//! threads. This crate is plain Rust, and isn't proved: its types see to it that a handle is live, of its kind and used
+//! by one call at a time; that no sleeper misses a wake-up is argued in `sleepers.rs`, and tested.
+#![deny(missing_docs)]
+#![deny(unsafe_op_in_unsafe_fn)]
+
+mod answers;
+mod collector;
+mod config;
+mod raw;
+mod reader;
+mod refusal;
+mod reply;
+mod sequencer;
+mod shared_state;
+mod sleepers;
+mod state_seat;
+mod waiting;
+mod word;
+
+pub use answers::{Begun, Closed, Emit, Next, SubId, Taken, Ticket, Tried, Withdrawn};
+pub use collector::Collector;
+pub use config::{Config, Policy};
+pub use reader::Reader;
+pub use refusal::Refusal;
+pub use sequencer::Sequencer;
+pub use shared_state::SharedState;
+pub use state_seat::StateSeat;
+pub use waiting::RecvTimeoutError;
+pub use word::Word;

@@ -1,0 +1,166 @@
+//! A shared flow on one thread.
+
+use crate::answers::{Begun, Emit, Next, SubId, Ticket, Tried, Withdrawn};
+use crate::config::Config;
+use crate::raw::{self, Handle, RawConfig};
+use crate::refusal::Refusal;
+use crate::word::Word;
+use std::fmt;
+use std::marker::PhantomData;
+
+/// The words that the library is handed of a prelude: one more than it takes, so that it is the one to refuse.
+const PRELUDE: usize = 17;
+
+/// A shared flow on one thread: Kotlin's `MutableSharedFlow`, with each of its suspensions an answer that the caller
+/// sees.
+///
+/// An accepted emission gets the next number. Its value joins the replay cache, and is pending for each live
+/// subscription until that receives or loses it. It never completes, takes all its memory when it is made, and wakes
+/// nobody.
+///
+/// ```
+/// use hillgauze::{Config, Next, SharedState, Tried};
+///
+/// let mut flow = SharedState::new(Config { replay: 1, extra: 1, ..Config::default() })?;
+/// assert_eq!(flow.try_emit(0, 7)?, Tried::Accepted(0));
+/// let late = flow.subscribe()?;
+/// assert_eq!(flow.try_emit(0, 8)?, Tried::Accepted(1));
+/// assert_eq!(flow.try_emit(0, 9)?, Tried::Full);
+/// assert_eq!(flow.next(late), Next::Value(7));
+/// assert_eq!(flow.next(late), Next::Value(8));
+/// assert_eq!(flow.next(late), Next::Nothing);
+/// # Ok::<(), hillgauze::Refusal>(())
+/// ```
+pub struct SharedState<T: Word> {
+    handle: Handle<raw::Shared>,
+    values: PhantomData<T>,
+}
+
+impl<T: Word> SharedState<T> {
+    /// A flow without subscriptions: `MutableSharedFlow(replay, extraBufferCapacity, onBufferOverflow)`.
+    ///
+    /// Refused, in this order: `TooLarge`, `PolicyNeedsBuffer`, `BadLimit`, `NoMemory`.
+    pub fn new(config: Config) -> Result<SharedState<T>, Refusal> {
+        let handle = Handle::null();
+        let config = RawConfig::of(config);
+        // SAFETY: the handle is null, and both pointers are good for the call.
+        unsafe { raw::hillgauze_shared_new(handle.at(), &config) }
+            .granted()?
+            .done();
+        Ok(SharedState {
+            handle,
+            values: PhantomData,
+        })
+    }
+
+    /// Emits a value where that can be done at once: Kotlin's `tryEmit`, with three answers.
+    ///
+    /// `Full` (under `Suspend` alone) where the emission would have to wait, and wherever somebody is live in a flow
+    /// without places; `Dropped` under `DropLatest` alone. Refused as `Spent` where the numbers are used up. The
+    /// emitter's number has no part in the answer.
+    pub fn try_emit(&mut self, emitter: u32, value: T) -> Result<Tried, Refusal> {
+        // SAFETY: the handle is live, and no other call has it.
+        let reply =
+            unsafe { raw::hillgauze_shared_try_emit(self.handle.at(), emitter, value.to_word()) };
+        Ok(reply.granted()?.tried())
+    }
+
+    /// Begins an emission: Kotlin's `emit`, up to where it suspends.
+    ///
+    /// `Waiting` gives a ticket for an emission that isn't finished. It is out until `poll_emit` answers `Done` or
+    /// `cancel_emit` takes it back. Refused as `Spent` where the numbers of emissions or of tickets are used up, then
+    /// as `EmitsFull` where a ticket is needed and each is out.
+    pub fn start_emit(&mut self, emitter: u32, value: T) -> Result<Begun, Refusal> {
+        // SAFETY: the handle is live, and no other call has it.
+        let reply =
+            unsafe { raw::hillgauze_shared_start_emit(self.handle.at(), emitter, value.to_word()) };
+        Ok(reply.granted()?.begun())
+    }
+
+    /// Asks whether an emission is finished: Kotlin's `emit`, where it resumes. `Done` takes the ticket back.
+    pub fn poll_emit(&mut self, ticket: Ticket) -> Emit {
+        // SAFETY: the handle is live, and no other call has it.
+        unsafe { raw::hillgauze_shared_poll_emit(self.handle.at(), ticket.0) }.emit()
+    }
+
+    /// Gives an emission up and takes its ticket back: Kotlin's `emit`, cancelled while it is suspended.
+    pub fn cancel_emit(&mut self, ticket: Ticket) -> Withdrawn {
+        // SAFETY: the handle is live, and no other call has it.
+        unsafe { raw::hillgauze_shared_cancel_emit(self.handle.at(), ticket.0) }.withdrawn()
+    }
+
+    /// A new subscription, which begins at the oldest value of the replay cache: Kotlin's `collect`, as it begins.
+    ///
+    /// Refused as `Spent` where the numbers of subscriptions are used up, then as `SubscribersFull`.
+    pub fn subscribe(&mut self) -> Result<SubId, Refusal> {
+        // SAFETY: the handle is live, and no other call has it.
+        let reply = unsafe { raw::hillgauze_shared_subscribe(self.handle.at()) };
+        Ok(SubId(reply.granted()?.made()))
+    }
+
+    /// A new subscription, which receives these values before all others, and alone: Kotlin's `onSubscription`.
+    ///
+    /// Refused as `PreludeTooLong` where there are over 16, then as `subscribe` is.
+    pub fn subscribe_with(&mut self, prelude: &[T]) -> Result<SubId, Refusal> {
+        let mut words = [0; PRELUDE];
+        let count = prelude.len().min(PRELUDE);
+        for (word, value) in words.iter_mut().zip(prelude) {
+            *word = value.to_word();
+        }
+        // SAFETY: the handle is live, no other call has it, and there are at least `count` words.
+        let reply = unsafe {
+            raw::hillgauze_shared_subscribe_with(self.handle.at(), words.as_ptr(), count)
+        };
+        Ok(SubId(reply.granted()?.made()))
+    }
+
+    /// Receives the oldest value that the subscription has pending: Kotlin's `collect`, for one value. After it
+    /// emissions that wait are accepted while there is room.
+    pub fn next(&mut self, subscription: SubId) -> Next<T> {
+        // SAFETY: the handle is live, and no other call has it.
+        unsafe { raw::hillgauze_shared_next(self.handle.at(), subscription.0) }.next()
+    }
+
+    /// Ends a subscription and gives up what it has pending: Kotlin's `collect`, cancelled. Answers whether it was
+    /// live.
+    pub fn cancel(&mut self, subscription: SubId) -> bool {
+        // SAFETY: the handle is live, and no other call has it.
+        unsafe { raw::hillgauze_shared_cancel(self.handle.at(), subscription.0) }.was_live()
+    }
+
+    /// How many values the subscription has pending; 0 where it isn't live.
+    pub fn pending(&self, subscription: SubId) -> u64 {
+        // SAFETY: the handle is live, and no other call has it.
+        unsafe { raw::hillgauze_shared_pending(self.handle.at(), subscription.0) }.count()
+    }
+
+    /// How many subscriptions are live: Kotlin's `subscriptionCount`, as a plain number.
+    pub fn subscription_count(&self) -> u32 {
+        // SAFETY: the handle is live, and no other call has it.
+        unsafe { raw::hillgauze_shared_count(self.handle.at()) }.small_count()
+    }
+
+    /// Empties the replay cache: Kotlin's `resetReplayCache`. Subscriptions keep what they have pending.
+    pub fn reset_replay(&mut self) {
+        // SAFETY: the handle is live, and no other call has it.
+        unsafe { raw::hillgauze_shared_reset(self.handle.at()) }.done();
+    }
+
+    /// How many values the replay cache holds.
+    pub fn replay_len(&self) -> u64 {
+        // SAFETY: the handle is live, and no other call has it.
+        unsafe { raw::hillgauze_shared_cache_len(self.handle.at()) }.count()
+    }
+
+    /// The value of the replay cache at an index, counted from the oldest on: one of Kotlin's `replayCache`.
+    pub fn replay_at(&self, index: u64) -> Option<T> {
+        // SAFETY: the handle is live, and no other call has it.
+        unsafe { raw::hillgauze_shared_cache_at(self.handle.at(), index) }.value()
+    }
+}
+
+impl<T: Word> fmt::Debug for SharedState<T> {
+    fn fmt(&self, f: &mut fmt::Formatter<'_>) -> fmt::Result {
+        f.debug_struct("SharedState").finish_non_exhaustive()
+    }
+}

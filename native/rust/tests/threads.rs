@@ -1,0 +1,313 @@
+//! Flows between threads: nothing is lost, received twice or out of order, and nobody sleeps for good.
+
+use hillgauze::{
+    Closed, Collector, Config, Policy, Reader, RecvTimeoutError, Sequencer, StateSeat, Taken,
+    Tried, Word,
+};
+use std::future::{poll_fn, Future};
+use std::pin::pin;
+use std::sync::{Arc, Mutex};
+use std::task::{Context, Poll, Wake, Waker};
+use std::thread::{self, Thread};
+use std::time::Duration;
+
+const VALUES: u64 = 1_000_000;
+
+/// Far more than any of these waits takes.
+const LONG: Duration = Duration::from_secs(60);
+
+fn lane(policy: Policy, extra: u64) -> Sequencer<u64> {
+    Sequencer::new(Config {
+        extra,
+        policy,
+        ..Config::default()
+    })
+    .unwrap()
+}
+
+/// Emits a value, and answers its number; waits for room, and answers nothing where the value was dropped.
+fn emit(sequencer: &mut Sequencer<u64>, value: u64) -> Option<u64> {
+    loop {
+        match sequencer.try_emit(0, value).unwrap() {
+            Tried::Accepted(number) => return Some(number),
+            Tried::Dropped => return None,
+            Tried::Full => thread::yield_now(),
+        }
+    }
+}
+
+/// All that the reader receives until the end, by sleeping.
+fn slept(mut reader: Reader<u64>) -> (Vec<u64>, Closed) {
+    let mut values = Vec::new();
+    while let Some(value) = reader.recv() {
+        values.push(value);
+    }
+    (values, reader.close())
+}
+
+/// All that the reader receives until the last value, by asking without end.
+fn asked(mut reader: Reader<u64>, last: u64) -> (Vec<u64>, Closed) {
+    let mut values = Vec::new();
+    while values.last() != Some(&last) {
+        match reader.try_next() {
+            Taken::Value(value) => values.push(value),
+            Taken::Nothing => thread::yield_now(),
+            Taken::Overtaken => {}
+        }
+    }
+    (values, reader.close())
+}
+
+/// What a sequencer on this thread accepted of a million values and one last value, and what two readers on threads of
+/// their own received.
+fn three_threads(policy: Policy) -> (Vec<u64>, [(Vec<u64>, Closed); 2]) {
+    let mut sequencer = lane(policy, 64);
+    let sleeping = sequencer.admit().unwrap();
+    let asking = sequencer.admit().unwrap();
+    let sleeping = thread::spawn(|| slept(sleeping));
+    let asking = thread::spawn(|| asked(asking, VALUES));
+    let mut accepted: Vec<u64> = (0..VALUES)
+        .filter(|&value| emit(&mut sequencer, value).is_some())
+        .collect();
+    while emit(&mut sequencer, VALUES).is_none() {
+        thread::yield_now();
+    }
+    accepted.push(VALUES);
+    drop(sequencer);
+    (accepted, [sleeping.join().unwrap(), asking.join().unwrap()])
+}
+
+#[test]
+fn nothing_is_lost_where_emissions_wait() {
+    let (accepted, received) = three_threads(Policy::Suspend);
+    assert_eq!(accepted.len() as u64, VALUES + 1);
+    for (values, closed) in received {
+        assert!(values == accepted, "a reader received something else");
+        assert_eq!(
+            closed,
+            Closed {
+                start: 0,
+                received: VALUES + 1,
+                dropped: 0
+            }
+        );
+    }
+}
+
+#[test]
+fn what_is_accepted_is_received_where_the_latest_are_dropped() {
+    let (accepted, received) = three_threads(Policy::DropLatest);
+    for (values, closed) in received {
+        assert!(values == accepted, "a reader received something else");
+        assert_eq!(closed.received, accepted.len() as u64);
+        assert_eq!(closed.dropped, 0);
+    }
+}
+
+#[test]
+fn each_value_is_received_or_dropped_where_the_oldest_are() {
+    let (accepted, received) = three_threads(Policy::DropOldest);
+    assert_eq!(accepted.len() as u64, VALUES + 1);
+    for (values, closed) in received {
+        assert!(
+            values.windows(2).all(|pair| pair[0] < pair[1]),
+            "a reader received out of order"
+        );
+        assert_eq!(values.last(), Some(&VALUES));
+        assert_eq!(closed.received, values.len() as u64);
+        assert_eq!(closed.received + closed.dropped, VALUES + 1);
+    }
+}
+
+/// Emits a thousand values that tell whose they are.
+fn emit_as(emitter: u64, sequencer: &Mutex<Sequencer<u64>>) {
+    for value in 0..1000 {
+        emit(&mut sequencer.lock().unwrap(), emitter * 1000 + value);
+    }
+}
+
+fn assert_all_rising(values: &[u64]) {
+    assert_eq!(values.len(), 3000);
+    for emitter in 0..3 {
+        let own = values.iter().filter(|&value| value / 1000 == emitter);
+        assert!(own.is_sorted(), "emitter {emitter}");
+    }
+}
+
+/// Three emitters share a sequencer under a lock. Four readers receive all that they emit, each emitter's values rising.
+#[test]
+fn lane_three_emitters() {
+    let mut sequencer = lane(Policy::Suspend, 8);
+    let readers = [(); 4].map(|()| sequencer.admit().unwrap());
+    let readers = readers.map(|reader| thread::spawn(|| slept(reader)));
+    let sequencer = Mutex::new(sequencer);
+    thread::scope(|scope| {
+        let shared = &sequencer;
+        (0..3).for_each(|emitter| drop(scope.spawn(move || emit_as(emitter, shared))));
+    });
+    drop(sequencer);
+    for reader in readers {
+        assert_all_rising(&reader.join().unwrap().0);
+    }
+}
+
+#[test]
+fn of_two_writers_one_wins() {
+    for _ in 0..1000 {
+        let mut one = StateSeat::new(0u64, 2).unwrap();
+        let mut two = one.take_seat(0).unwrap();
+        let two = thread::spawn(move || (two.compare_and_set(0, 2), two));
+        let first = one.compare_and_set(0, 1);
+        let (second, two) = two.join().unwrap();
+        assert_ne!(first, second);
+        let winner = if first { 1 } else { 2 };
+        assert_eq!((one.value(), two.value()), (winner, winner));
+    }
+}
+
+/// Two threads count one state up, and a third collects it: what it gets rises, and ends with the last value.
+#[test]
+fn two_threads_count_one_state_up() {
+    let mut one = StateSeat::new(0u64, 3).unwrap();
+    let mut two = one.take_seat(0).unwrap();
+    let mut collector = one.take_seat(0).unwrap().collect();
+    let collecting = thread::spawn(move || {
+        let mut values = Vec::new();
+        while let Some(value) = collector.recv() {
+            values.push(value);
+        }
+        values
+    });
+    let counting = thread::spawn(move || count_up(&mut two));
+    count_up(&mut one);
+    counting.join().unwrap();
+    assert_eq!(one.value(), 200_000);
+    drop(one);
+    let values = collecting.join().unwrap();
+    assert!(
+        values.windows(2).all(|pair| pair[0] < pair[1]),
+        "a value came again"
+    );
+    assert_eq!(values.last(), Some(&200_000));
+}
+
+fn count_up(seat: &mut StateSeat<u64>) {
+    (0..100_000).for_each(|_| add_one(seat));
+}
+
+fn add_one(seat: &mut StateSeat<u64>) {
+    loop {
+        let value = seat.value();
+        if seat.compare_and_set(value, value + 1) {
+            return;
+        }
+    }
+}
+
+#[test]
+fn a_wait_with_a_limit_ends() {
+    let mut sequencer = lane(Policy::Suspend, 1);
+    let mut reader = sequencer.admit().unwrap();
+    assert_eq!(
+        reader.recv_timeout(Duration::ZERO),
+        Err(RecvTimeoutError::Timeout)
+    );
+    assert_eq!(
+        reader.recv_timeout(Duration::from_millis(20)),
+        Err(RecvTimeoutError::Timeout)
+    );
+    emit(&mut sequencer, 7);
+    assert_eq!(reader.recv_timeout(Duration::MAX), Ok(7));
+    drop(sequencer);
+    assert_eq!(
+        reader.recv_timeout(Duration::MAX),
+        Err(RecvTimeoutError::Ended)
+    );
+}
+
+/// A thread that sleeps for a task, for a long time at most.
+struct Sleeping(Thread);
+
+impl Wake for Sleeping {
+    fn wake(self: Arc<Self>) {
+        self.0.unpark();
+    }
+}
+
+/// Runs a future on this thread. Where it is pending nothing but a wake-up has it polled again.
+fn block_on<T>(future: impl Future<Output = T>) -> T {
+    let mut future = pin!(future);
+    let waker = Waker::from(Arc::new(Sleeping(thread::current())));
+    let mut context = Context::from_waker(&waker);
+    loop {
+        match future.as_mut().poll(&mut context) {
+            Poll::Ready(value) => return value,
+            Poll::Pending => {
+                let slept = std::time::Instant::now();
+                thread::park_timeout(LONG);
+                assert!(slept.elapsed() < LONG, "nobody woke the task");
+            }
+        }
+    }
+}
+
+fn next<T: Word>(reader: &mut Reader<T>) -> Option<T> {
+    block_on(poll_fn(|context| reader.poll_next(context)))
+}
+
+/// Sends back each turn that comes.
+fn answer(mut turns: Reader<u64>, mut answers: Sequencer<u64>) {
+    while let Some(turn) = next(&mut turns) {
+        emit(&mut answers, turn);
+    }
+}
+
+/// Two threads hand a number to and fro, and each sleeps until the other has emitted. A wake-up that is lost ends the
+/// test.
+#[test]
+fn no_wake_up_is_lost_between_two() {
+    let (mut turns, mut answers) = (lane(Policy::Suspend, 1), lane(Policy::Suspend, 1));
+    let (asked, mut answered) = (turns.admit().unwrap(), answers.admit().unwrap());
+    let answering = thread::spawn(|| answer(asked, answers));
+    for turn in 0..50_000 {
+        emit(&mut turns, turn);
+        assert_eq!(next(&mut answered), Some(turn));
+    }
+    drop(turns);
+    answering.join().unwrap();
+}
+
+/// Counts in a state each turn that it hears.
+fn count_turns(mut turns: Reader<u64>, mut heard: StateSeat<u64>) {
+    while let Ok(_turn) = turns.recv_timeout(LONG) {
+        add_one(&mut heard);
+    }
+}
+
+/// Waits until a state has reached a number.
+fn wait_for(count: u64, seat: &StateSeat<u64>, collector: &mut Collector<u64>) {
+    let mut found = seat.value();
+    while found < count {
+        found = collector.recv_timeout(LONG).expect("a listener slept on");
+    }
+}
+
+/// The same by threads that spin before they sleep: three hear each turn of a lane, and count that in a state.
+#[test]
+fn no_wake_up_is_lost_among_many() {
+    let mut turns = lane(Policy::Suspend, 1);
+    let mut heard = StateSeat::new(0u64, 5).unwrap();
+    let mut collector = heard.take_seat(0).unwrap().collect();
+    let listening = [(); 3].map(|()| {
+        let (reader, seat) = (turns.admit().unwrap(), heard.take_seat(0).unwrap());
+        thread::spawn(|| count_turns(reader, seat))
+    });
+    for turn in 1..=20_000 {
+        emit(&mut turns, turn);
+        wait_for(3 * turn, &heard, &mut collector);
+    }
+    drop(turns);
+    for listener in listening {
+        listener.join().unwrap();
+    }
+}
