@@ -43,6 +43,7 @@ impl Reading {
         Reading { lane, reader }
     }
 
+    /// Takes the next value.
     pub fn try_next(&mut self) -> Taken<u64>
         ensures same { IsSameReader self.old self.new }
         ensures taken { TookNext self.old result self.new }
@@ -50,18 +51,21 @@ impl Reading {
         self.reader.try_next(&self.lane)
     }
 
+    /// The number of the emission at which it began.
     pub fn start(&self) -> u64
         ensures { result ≡ self.now.start }
     {
         self.reader.start()
     }
 
+    /// How many values it received.
     pub fn received(&self) -> u64
         ensures { result ≡ received_count self.now }
     {
         self.reader.received()
     }
 
+    /// How many values were dropped for it, as far as it has seen.
     pub fn dropped(&self) -> u64
         ensures { result ≡ lost_count self.now }
     {

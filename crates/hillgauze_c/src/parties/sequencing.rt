@@ -48,6 +48,7 @@ impl Sequencing {
         Ok(Sequencing { lane, sequencer })
     }
 
+    /// Emits where there is room.
     pub fn try_emit(&mut self, emitter: u32, word: u64) -> Result<Tried<u64>, Refusal>
         ensures same { IsSameSequencer self.old self.new }
         ensures refused { IfErr result (λ e. AfterScan self.old (λ m. RefusedTry m e self.new)) }
@@ -56,6 +57,7 @@ impl Sequencing {
         self.sequencer.try_emit(&self.lane, emitter, word)
     }
 
+    /// Begins an emission.
     pub fn start_emit(&mut self, emitter: u32, word: u64) -> Result<Begun<u64, Ticket>, Refusal>
         ensures same { IsSameSequencer self.old self.new }
         ensures refused { IfErr result (λ e. AfterScan self.old (λ m. RefusedStart m e self.new)) }
@@ -64,6 +66,7 @@ impl Sequencing {
         self.sequencer.start_emit(&self.lane, emitter, word)
     }
 
+    /// Asks about an emission with a ticket.
     pub fn poll_emit(&mut self, ticket: Ticket) -> Emit
         ensures same { IsSameSequencer self.old self.new }
         ensures polled { PolledOn self.old ticket.0 result self.new }
@@ -71,12 +74,14 @@ impl Sequencing {
         self.sequencer.poll_emit(&self.lane, ticket)
     }
 
+    /// Takes a ticket back.
     pub fn cancel_emit(&mut self, ticket: Ticket) -> Withdrawn<u64>
         ensures { WithdrawnFrom self.old ticket.0 result self.new }
     {
         self.sequencer.cancel_emit(&self.lane, ticket)
     }
 
+    /// Lets in emissions that wait.
     pub fn scan(&mut self) -> u32
         ensures same { IsSameSequencer self.old self.new }
         ensures settled { Settled result self.old self.new }
@@ -85,6 +90,7 @@ impl Sequencing {
         self.sequencer.scan(&self.lane)
     }
 
+    /// How many readers there are, as this call finds them.
     pub fn live(&mut self) -> u32
         ensures only { OnlyLoaded self.old self.new }
         ensures count { Counted self.old result self.new }
@@ -102,18 +108,21 @@ impl Sequencing {
         Ok(Reading::over(lane, reader))
     }
 
+    /// Empties the replay cache.
     pub fn reset_replay(&mut self)
         ensures { self.new ≡ record self.old { cache = [] } }
     {
         self.sequencer.reset_replay();
     }
 
+    /// How many values the replay cache holds.
     pub fn replay_len(&self) -> u64
         ensures { result ≡ length self.now.cache }
     {
         self.sequencer.replay_len()
     }
 
+    /// The value of the replay cache at this index from the oldest one on.
     pub fn replay_at(&self, index: u64) -> u64
         requires { index < length self.now.cache }
         ensures { slice_get self.now.cache index ≡ Some result }
