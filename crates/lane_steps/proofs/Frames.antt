@@ -1,5 +1,5 @@
 -- What a step leaves as it was.
-use Rattle.std.proofs.Common.{◌≡◌, ◌≢◌, ◌⊎◌, ℕ, false, ◌+◌, ◌<◌, List, ◌++◌, length, get_or, set, sym, refl, ap, ◌∙◌, subst, ⊎_elim, arith, length-set, append_assoc, get_or-set_other, get_or-set_same}
+use Rattle.std.proofs.Common.{◌≡◌, ◌≢◌, ℕ, ◌+◌, ◌<◌, List, ◌++◌, length, get_or, set, sym, refl, ap, ◌∙◌, subst, ⊎_elim, arith, length-set, append_assoc, get_or-set_other, get_or-set_same}
 use mathlib.Core.Logic.{dite}
 use mathlib.Core.Option.{some}
 use native.Mathlib.Decide.{ℕ_discrete}
@@ -11,7 +11,7 @@ use Rattle.lane_steps.specs.declared.view.Shape.{Shape}
 use Rattle.lane_steps.specs.declared.view.Reading.{Reading}
 use Rattle.lane_steps.specs.declared.view.View.{View}
 use Rattle.lane_steps.specs.Layout.{cursor_word, cell_word}
-use Rattle.lane_steps.specs.Law.{Begins, Place, PlaceOk, QuitOk, WasOpenedAgain, SeatOk, Law}
+use Rattle.lane_steps.specs.Law.{Begins, Place, PlaceOk, QuitOk, IsOver, SeatOk, Law}
 use Rattle.lane_steps.proofs.Apart.{cursor_is_no_tail, cursors_differ, cell_is_no_cursor, cursor_within}
 
 abbrev pick : {A : Type 0} {P : Type 0} → Dec P → A → A → A
@@ -47,14 +47,13 @@ pub begins_more : {A : Type 0} (xs start : List A) (more : List A) → Begins xs
 begins_more xs start more b = (b.0 ++ more, ap (λ l. l ++ more) b.1 ∙ append_assoc start b.0 more)
 
 -- what a seat closed stays closed, or was opened again, where a place changes in a way that it may
-pub quit_stays : (key : Shape) (place : ℕ → Place) (p : ℕ) (pl : Place) (j : ℕ) (rd : Reading)
-    → (((place p).is_open ≡ false) ⊎ WasOpenedAgain j (place p) → (pl.is_open ≡ false) ⊎ WasOpenedAgain j pl) → QuitOk key j place rd → QuitOk key j (put place p pl) rd
-quit_stays key place p pl j rd stays was h = let o = was h in let G : Place → Type 0 = λ z. (z.is_open ≡ false) ⊎ WasOpenedAgain j z in (
+pub quit_stays : (key : Shape) (place : ℕ → Place) (p : ℕ) (pl : Place) (rd : Reading) → (IsOver rd (place p) → IsOver rd pl) → QuitOk key place rd → QuitOk key (put place p pl) rd
+quit_stays key place p pl rd stays was h = let o = was h in let over : IsOver rd (place rd.place) = o.2 in (
   o.0,
   o.1,
   dite (ℕ_discrete rd.place p)
-      (λ e. subst G (sym (put_here place p pl) ∙ ap (put place p pl) (sym e)) (stays (subst (λ (z : ℕ). G (place z)) e o.2)))
-      (λ ne. subst G (sym (put_else place p pl rd.place ne)) o.2),
+      (λ e. subst (IsOver rd) (sym (put_here place p pl) ∙ ap (put place p pl) (sym e)) (stays (subst (λ (z : ℕ). IsOver rd (place z)) e over)))
+      (λ ne. subst (IsOver rd) (sym (put_else place p pl rd.place ne)) over),
 )
 
 module _ {S : Type 0} (key : Shape) where

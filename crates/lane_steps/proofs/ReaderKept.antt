@@ -1,5 +1,5 @@
 -- The reader's steps keep the law.
-use Rattle.std.proofs.Common.{◌≡◌, ◌≢◌, ◌⊎◌, inl, ℕ, suc, ◌+◌, ◌-◌, ◌<◌, eqb, Bool, true, false, List, [], ◌∷◌, ◌++◌, length, replicate, get_or, sym, refl, ap, ◌∙◌, subst, ⊎_elim, arith, length-append, eq-eqb, ne_eqb}
+use Rattle.std.proofs.Common.{◌≡◌, ◌≢◌, inl, ℕ, suc, ◌+◌, ◌-◌, ◌<◌, eqb, Bool, true, false, List, [], ◌∷◌, ◌++◌, length, replicate, get_or, sym, refl, ap, ◌∙◌, subst, ⊎_elim, arith, length-append, eq-eqb, ne_eqb}
 use mathlib.Core.Logic.{dite}
 use mathlib.Core.Option.{some, none}
 use native.Mathlib.Decide.{ℕ_discrete}
@@ -13,7 +13,7 @@ use Rattle.lane_steps.specs.declared.view.Sequencing.{Sequencing}
 use Rattle.lane_steps.specs.declared.view.Reading.{Reading}
 use Rattle.lane_steps.specs.declared.view.View.{View}
 use Rattle.lane_steps.specs.Layout.{cursor_word, cell_word}
-use Rattle.lane_steps.specs.Law.{Entry, closed, Begins, HasWord, Place, cursor, PlaceOk, KnownOk, SequencerOk, ReaderOk, SeatOk, WasOpenedAgain, Law}
+use Rattle.lane_steps.specs.Law.{Entry, closed, Begins, HasWord, Place, cursor, PlaceOk, KnownOk, SequencerOk, ReaderOk, SeatOk, IsOver, Law}
 use Rattle.lane_steps.specs.Steps.{position, next_number, got, found_at, picked_up, ended, noticed, picked, took, looked, quit}
 use Rattle.lane_steps.proofs.Lists.{which, not_both, there, begins_self, begins_length, begins_at, none_lost, one_more, lost_none}
 use Rattle.lane_steps.proofs.Frames.{put, put_here, put_else, quit_stays, unmoved, place_step}
@@ -38,6 +38,7 @@ module _ (key : Shape) where
     live = ok.live;
     handed = ok.handed;
     seat = ok.seat;
+    opening = ok.opening;
     start = ok.start;
     story = (0, found_story log j r pl ok ∙ ap (λ (z : ℕ). (r.story ++ replicate (z - position r) false) ++ replicate 0 false) (sym is));
     picked = λ e. not_both false e refl;
@@ -103,7 +104,7 @@ module _ (key : Shape) where
             seen = ok.seen;
             told = ok.told;
             sequencing = ok.sequencing;
-            reading = λ _. (own.0, record { inside = own.1.inside; live = own.1.live; handed = own.1.handed; seat = own.1.seat; start = own.1.start; story = own.1.story; picked = λ _. (omega arith, has) });
+            reading = λ _. (own.0, record { inside = own.1.inside; live = own.1.live; handed = own.1.handed; seat = own.1.seat; opening = own.1.opening; start = own.1.start; story = own.1.story; picked = λ _. (omega arith, has) });
             quit = λ h. not_both rd.active act (ok.quit h).0;
           },
           (refl, refl),
@@ -111,7 +112,7 @@ module _ (key : Shape) where
 
     -- the other seats, at a step of the reader of the place p
     pub others_stay : (s : State S View) (r : Law key s) (p me : ℕ) (pl : Place) → (r.place p).holder ≡ me → ((k : Known) → KnownOk k (r.place p) → KnownOk k pl)
-        → ((j : ℕ) → ((r.place p).is_open ≡ false) ⊎ WasOpenedAgain j (r.place p) → (pl.is_open ≡ false) ⊎ WasOpenedAgain j pl) → (j : ℕ) (v : View) → j ≢ me → get_elem? s.views j ≡ some v → SeatOk key r.log r.flying r.entry (put r.place p pl) r.sequencer j v
+        → ((rd : Reading) → IsOver rd (r.place p) → IsOver rd pl) → (j : ℕ) (v : View) → j ≢ me → get_elem? s.views j ≡ some v → SeatOk key r.log r.flying r.entry (put r.place p pl) r.sequencer j v
     others_stay s r p me pl holds stays leaves j v other at = let ok = r.each_seat j v at in record {
       seen = ok.seen;
       told = ok.told;
@@ -119,7 +120,7 @@ module _ (key : Shape) where
       reading = λ act. let o = ok.reading act in dite (ℕ_discrete v.reading.place p)
           (λ same. absurd (other (sym o.1.seat ∙ (ap (λ (z : ℕ). (r.place z).holder) same ∙ holds))))
           (λ ne. (o.0, subst (ReaderOk key r.log j v.reading) (sym (put_else r.place p pl v.reading.place ne)) o.1));
-      quit = quit_stays key r.place p pl j v.reading (leaves j) ok.quit;
+      quit = quit_stays key r.place p pl v.reading (leaves v.reading) ok.quit;
     }
 
     -- a load by the reader that finds its cursor
@@ -155,6 +156,7 @@ module _ (key : Shape) where
         let longer : length pl'.story ≡ length pl.story + 1 = length-append pl.story (true ∷ []) in
         let stays : (k : Known) → KnownOk k pl → KnownOk k pl' = λ k was. record {
           shut = was.shut;
+          opening = was.opening;
           start = was.start;
           floor = λ o. let f = was.floor o in omega arith;
           lost = λ o. was.lost o ∙ sym (lost_none pl.start pl.story);
@@ -188,6 +190,7 @@ module _ (key : Shape) where
                     live = own.1.live;
                     handed = own.1.handed;
                     seat = own.1.seat;
+                    opening = own.1.opening;
                     start = own.1.start;
                     story = (0, ap (λ (l : List Bool). l ++ true ∷ []) (own.1.story.1 ∙ (ap (λ (z : ℕ). rd.story ++ replicate z false) none_lost' ∙ append-nil rd.story)) ∙ sym (append-nil (rd.story ++ true ∷ [])));
                     picked = λ e. not_both false e refl;
@@ -220,8 +223,10 @@ module _ (key : Shape) where
     pub quits : (slots id i : ℕ) (me : Me S View) → me.0.reading.active ≡ true → i ≡ cursor_word me.0.reading.place → Allows (Law key) slots id me i (λ _. closed) (λ _. quit (step slots i closed 0 none) me closed)
     quits slots id i me act word s r deep at small = let v : View = me.0 in let rd : Reading = v.reading in let own = mine s r id v at act in let pl : Place = r.place rd.place in let ok = r.each_seat id v at in
         let pl' : Place = record pl { is_open = false } in let w : View = record v { reading = ended rd } in
+        let over : (z : Place) → z.opening ≡ rd.opening → IsOver rd (record z { is_open = false }) = λ z is. (omega arith, inl refl) in
         let stays : (k : Known) → KnownOk k pl → KnownOk k pl' = λ k was. record {
           shut = λ _. refl;
+          opening = was.opening;
           start = was.start;
           floor = was.floor;
           lost = was.lost;
@@ -247,8 +252,8 @@ module _ (key : Shape) where
                 told = ok.told;
                 sequencing = sequencer_stays r.log r.flying r.entry r.place r.sequencer id rd.place pl' v stays ok.sequencing;
                 reading = λ e. not_both false e refl;
-                quit = λ _. (refl, own.1.inside, subst (λ (z : Place). (z.is_open ≡ false) ⊎ WasOpenedAgain id z) (sym (put_here r.place rd.place pl')) (inl refl));
+                quit = λ _. (refl, own.1.inside, subst (IsOver rd) (sym (put_here r.place rd.place pl')) (over pl own.1.opening));
               }
-              (others_stay s r rd.place id pl' own.1.seat stays (λ _ _. inl refl))),
+              (others_stay s r rd.place id pl' own.1.seat stays (λ _ was. (was.0, inl refl)))),
           (refl, refl),
         )

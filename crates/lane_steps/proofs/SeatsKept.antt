@@ -1,5 +1,5 @@
 -- The law at making, where seats are split and joined, and where sequencer and reader meet.
-use Rattle.std.proofs.Common.{◌≡◌, ◌≢◌, ◌⊎◌, ℕ, zero, suc, ◌+◌, ◌-◌, ◌*◌, ◌%◌, ◌<◌, ◌≤◌, eqb, cond, Bool, true, false, List, [], ◌∷◌, ◌++◌, length, replicate, take, drop, get_or, set, sym, refl, ap, ◌∙◌, subst, ⊎_elim, inl, inr, arith, length-append, length-set}
+use Rattle.std.proofs.Common.{◌≡◌, ◌≢◌, ◌⊎◌, ℕ, zero, suc, ◌+◌, ◌-◌, ◌*◌, ◌%◌, ◌<◌, ◌≤◌, eqb, cond, Bool, true, false, List, [], ◌∷◌, ◌++◌, length, replicate, take, drop, get_or, set, sym, refl, ap, ◌∙◌, subst, ⊎_elim, arith, length-append, eq-eqb, ne_eqb}
 use mathlib.Core.Logic.{dite}
 use mathlib.Core.Option.{some, none, some-ne-none, some-injective}
 use native.Mathlib.Decide.{ℕ_discrete}
@@ -12,9 +12,9 @@ use Rattle.lane_steps.specs.declared.view.Sequencing.{Sequencing}
 use Rattle.lane_steps.specs.declared.view.Reading.{Reading}
 use Rattle.lane_steps.specs.declared.view.View.{View}
 use Rattle.lane_steps.specs.Layout.{cursor_word, width}
-use Rattle.lane_steps.specs.Law.{Entry, closed, Begins, Place, cursor, lost, PlaceOk, KnownOk, ReaderOk, SeatOk, Law, shut_place, opening_view, no_sequencing}
-use Rattle.lane_steps.specs.Steps.{known_from, next_number, known_of, with_known, found_at, handed_out, new_reader, receipt_of, without_reader, only_reader, telling, joined, spent, witness, met}
-use Rattle.lane_steps.proofs.Lists.{which, not_both, within, index_there, at_end}
+use Rattle.lane_steps.specs.Law.{Entry, closed, Begins, Place, cursor, lost, PlaceOk, KnownOk, ReaderOk, IsOver, SeatOk, Law, shut_place, opening_view, no_sequencing}
+use Rattle.lane_steps.specs.Steps.{known_over, next_number, known_of, with_known, found_at, handed_out, new_reader, receipt_of, without_reader, only_reader, telling, joined, end_note, hearing_end, spent, witness, met}
+use Rattle.lane_steps.proofs.Lists.{which, not_both, index_there, at_end}
 use Rattle.lane_steps.proofs.Frames.{put, put_here, put_else, quit_stays, seats_stay, unmoved}
 use Rattle.lane_steps.proofs.ReaderKept.{reaches, whole_story, found_ok, no_drop, sequencer_stays}
 use Rattle.lane_steps.proofs.SequencerKept.{learns}
@@ -24,10 +24,6 @@ front zero l = refl
 front (suc n) [] = refl
 front (suc n) (x ∷ xs) = ap (λ m. x ∷ m) (front n xs)
 
--- a new seat's number is no seat's that there is
-beyond : (views : List View) (id j : ℕ) (w u : View) → get_elem? views j ≡ some u → length (set views id w) ≢ j
-beyond views id j w u at = let inside = within views j u at in let long = length-set views id w in λ e. absurd (omega arith)
-
 module _ (key : Shape) where
   -- a seat that knows no more than some first entries
   witness_ok : (log : List Entry) (flying : Bool) (entry : Entry) (place : ℕ → Place) (sequencer j : ℕ) (shape : Shape) (some_entries : List Entry) → Begins log some_entries
@@ -36,10 +32,24 @@ module _ (key : Shape) where
 
   moved_reader : (log : List Entry) (place : ℕ → Place) (was now : ℕ) (rd : Reading) → ReaderOk key log was rd (place rd.place) → ReaderOk key log now rd (put place rd.place (record (place rd.place) { holder = now }) rd.place)
   moved_reader log place was now rd o = subst (ReaderOk key log now rd) (sym (put_here place rd.place (record (place rd.place) { holder = now })))
-      record { inside = o.inside; live = o.live; handed = o.handed; seat = refl; start = o.start; story = o.story; picked = o.picked }
+      record { inside = o.inside; live = o.live; handed = o.handed; seat = refl; opening = o.opening; start = o.start; story = o.story; picked = o.picked }
 
   known_stays : (k : Known) (pl : Place) (n : ℕ) → KnownOk k pl → KnownOk k (record pl { holder = n })
-  known_stays k pl n o = record { shut = o.shut; start = o.start; floor = o.floor; lost = o.lost; unread = o.unread }
+  known_stays k pl n o = record { shut = o.shut; opening = o.opening; start = o.start; floor = o.floor; lost = o.lost; unread = o.unread }
+
+  -- what the sequencer knows of a place whose reader has ended
+  over_is_known : (k : Known) (rd : Reading) (pl : Place) → KnownOk k pl → IsOver rd pl → KnownOk (known_over rd.opening k) pl
+  over_is_known k rd pl knows over = dite (ℕ_discrete k.opening rd.opening)
+      (λ same. let counted = knows.opening in let shut : pl.is_open ≡ false = ⊎_elim (λ c. c) (λ (again : rd.opening < pl.opening). absurd (omega arith)) over.1 in
+      subst (λ (b : Bool). KnownOk (cond b (record k { is_open = false }) k) pl) (sym (eq-eqb k.opening rd.opening same)) record {
+        shut = λ _. shut;
+        opening = knows.opening;
+        start = λ e. not_both false e refl;
+        floor = λ e. not_both false e refl;
+        lost = λ e. not_both false e refl;
+        unread = λ e. not_both false e refl;
+      })
+      (λ other. subst (λ (b : Bool). KnownOk (cond b (record k { is_open = false }) k) pl) (sym (ne_eqb k.opening rd.opening other)) knows)
 
   module _ {S : Type 0} where
     -- no word changes, and a place keeps its cursor
@@ -114,13 +124,37 @@ module _ (key : Shape) where
         (seats_stay O (set s.views id (telling v w)) other spent (witness_ok r.log r.flying r.entry r.place r.sequencer other spent.shape [] (r.log, refl))
         (λ j u _ e. seats_stay O s.views id (telling v w) record { seen = ok.seen; told = theirs.seen; sequencing = ok.sequencing; reading = ok.reading; quit = ok.quit } (λ i x _. r.each_seat i x) j u e))
 
+    -- the end of a reader is split off
+    pub copies_end : (id : ℕ) (v : View) → v.reading.quit ≡ true → Splits {S = S} (Law key) id v v (end_note v)
+    copies_end id v gone s r at = let ok = r.each_seat id v at in let O = SeatOk key r.log r.flying r.entry r.place r.sequencer in let w : View = end_note v in
+        let mine : (j : ℕ) → O j w = λ j. record { seen = (r.log, refl); told = (r.log, refl); sequencing = λ e. not_both false e refl; reading = λ a. not_both v.reading.active a (ok.quit gone).0; quit = ok.quit } in
+        reseated s r (set s.views id v ++ w ∷ []) (λ j u e. ⊎_elim (seats_stay O s.views id v ok (λ i x _. r.each_seat i x) j u)
+        (λ (t : (j ≡ length (set s.views id v)) × (w ≡ u)). subst (O j) t.1 (mine j)) (at_end (set s.views id v) w u j e))
+
+    -- the sequencer hears of the end of a reader
+    pub hears_end : (id other : ℕ) (v w : View) → v.sequencing.active ≡ true → w.reading.quit ≡ true → Joins {S = S} (Law key) id v other w (hearing_end v w) spent
+    hears_end id other v w act gone s r at apart there = let ok = r.each_seat id v at in let O = SeatOk key r.log r.flying r.entry r.place r.sequencer in let q : Sequencing = v.sequencing in let rd : Reading = w.reading in
+        let theirs = ⊎_elim (λ (t : (other ≡ id) × (hearing_end v w ≡ w)). absurd (apart t.0)) (λ (t : (other ≢ id) × (get_elem? s.views other ≡ some w)). r.each_seat other w t.1) (at_set s.views id other (hearing_end v w) w there) in
+        let end = theirs.quit gone in let own = ok.sequencing act in let k : Known = known_of q rd.place in let count = own.2.count in let inside = end.1 in
+        let there_k = index_there q.places rd.place shut_place (omega arith) in let knows = own.2.knows rd.place k there_k in
+        let mine : O id (hearing_end v w) = record {
+          seen = ok.seen;
+          told = ok.told;
+          sequencing = λ _. (own.0, own.1, learns key r.flying r.entry r.place r.place r.sequencer id rd.place (known_over rd.opening k) q own.2 (over_is_known k rd (r.place rd.place) knows end.2) (λ _ _. refl));
+          reading = ok.reading;
+          quit = ok.quit;
+        } in
+        reseated s r (set (set s.views id (hearing_end v w)) other spent)
+        (seats_stay O (set s.views id (hearing_end v w)) other spent (witness_ok r.log r.flying r.entry r.place r.sequencer other spent.shape [] (r.log, refl))
+        (λ j u _ e. seats_stay O s.views id (hearing_end v w) mine (λ i x _. r.each_seat i x) j u e))
+
     -- the reader of the place p gets a seat of its own
     pub hands_out : (id p : ℕ) (v : View) → v.sequencing.active ≡ true → p < key.places → (known_of v.sequencing p).is_open ≡ true → (known_of v.sequencing p).unread ≡ true → Splits {S = S} (Law key) id v (handed_out p v) (new_reader p v)
     hands_out id p v act inside is_open unread s r at = let ok = r.each_seat id v at in let own = ok.sequencing act in let q : Sequencing = v.sequencing in let k : Known = known_of q p in let count = own.2.count in
         let there_k = index_there q.places p shut_place (omega arith) in let knows = own.2.knows p k there_k in let pl : Place = r.place p in let was = knows.unread is_open unread in let all = r.each_place p inside in
-        let left : View = handed_out p v in let right : View = new_reader p v in let n : ℕ = length (set s.views id left) in let new_seat : (j : ℕ) (u : View) → get_elem? s.views j ≡ some u → n ≢ j = λ j u e. beyond s.views id j left u e in let pl' : Place = record pl { unread = false; holder = n } in let k' : Known = record k { unread = false } in
+        let left : View = handed_out p v in let right : View = new_reader p v in let n : ℕ = length (set s.views id left) in let pl' : Place = record pl { unread = false; holder = n } in let k' : Known = record k { unread = false } in
         let O = SeatOk key r.log r.flying r.entry (put r.place p pl') r.sequencer in
-        let knows' : KnownOk k' (put r.place p pl' p) = subst (KnownOk k') (sym (put_here r.place p pl')) record { shut = knows.shut; start = knows.start; floor = knows.floor; lost = knows.lost; unread = λ _ e. not_both false e refl } in
+        let knows' : KnownOk k' (put r.place p pl' p) = subst (KnownOk k') (sym (put_here r.place p pl')) record { shut = knows.shut; opening = knows.opening; start = knows.start; floor = knows.floor; lost = knows.lost; unread = λ _ e. not_both false e refl } in
         let others : (j : ℕ) (rd : Reading) → ReaderOk key r.log j rd (r.place rd.place) → ReaderOk key r.log j rd (put r.place p pl' rd.place) = λ j rd o. dite (ℕ_discrete rd.place p)
         (λ e. not_both (r.place rd.place).unread (ap (λ (z : ℕ). (r.place z).unread) e ∙ was.0) o.handed)
         (λ ne. subst (ReaderOk key r.log j rd) (sym (put_else r.place p pl' rd.place ne)) o) in
@@ -129,7 +163,7 @@ module _ (key : Shape) where
           told = ok.told;
           sequencing = λ _. (own.0, own.1, learns key r.flying r.entry r.place (put r.place p pl') r.sequencer id p k' q own.2 knows' (λ x ne. put_else r.place p pl' x ne));
           reading = λ a. let o = ok.reading a in (o.0, others id v.reading o.1);
-          quit = quit_stays key r.place p pl' id v.reading (λ _. inr (inr (new_seat id v at))) ok.quit;
+          quit = quit_stays key r.place p pl' v.reading (λ was. was) ok.quit;
         } in
         let theirs : O n right = record {
           seen = ok.seen;
@@ -142,6 +176,7 @@ module _ (key : Shape) where
               live = was.1;
               handed = refl;
               seat = refl;
+              opening = sym knows.opening;
               start = sym (knows.start is_open);
               story = all.unread was.0;
               picked = λ e. not_both false e refl;
@@ -156,7 +191,7 @@ module _ (key : Shape) where
           told = o.told;
           sequencing = λ a. absurd (other ((o.sequencing a).2.seat ∙ sym own.2.seat));
           reading = λ a. let y = o.reading a in (y.0, others i x.reading y.1);
-          quit = quit_stays key r.place p pl' i x.reading (λ _. inr (inr (new_seat i x here))) o.quit;
+          quit = quit_stays key r.place p pl' x.reading (λ was. was) o.quit;
         }) j u)
         (λ (t : (j ≡ n) × (right ≡ u)). subst (λ (z : ℕ × View). O z.0 z.1) (λ i. (sym t.0 i, t.1 i)) theirs) (at_end (set s.views id left) right u j e))
 
@@ -169,7 +204,7 @@ module _ (key : Shape) where
     -- the reader's part gets a seat of its own
     pub parts : (id : ℕ) (v : View) → v.reading.active ≡ true → Splits {S = S} (Law key) id v (without_reader v) (only_reader v)
     parts id v act s r at = let ok = r.each_seat id v at in let own = ok.reading act in let rd : Reading = v.reading in let p : ℕ = rd.place in let left : View = without_reader v in let right : View = only_reader v in
-        let n : ℕ = length (set s.views id left) in let new_seat : (j : ℕ) (u : View) → get_elem? s.views j ≡ some u → n ≢ j = λ j u e. beyond s.views id j left u e in let pl' : Place = record (r.place p) { holder = n } in let O = SeatOk key r.log r.flying r.entry (put r.place p pl') r.sequencer in
+        let n : ℕ = length (set s.views id left) in let pl' : Place = record (r.place p) { holder = n } in let O = SeatOk key r.log r.flying r.entry (put r.place p pl') r.sequencer in
         let stays : (k : Known) → KnownOk k (r.place p) → KnownOk k pl' = λ k o. known_stays k (r.place p) n o in
         placed s r p pl' (set s.views id left ++ right ∷ []) refl refl refl (λ u. u)
         (λ j u e. ⊎_elim (seats_stay O s.views id left
@@ -179,7 +214,7 @@ module _ (key : Shape) where
           told = o.told;
           sequencing = sequencer_stays key r.log r.flying r.entry r.place r.sequencer i p pl' x stays o.sequencing;
           reading = λ a. let y = o.reading a in (y.0, elsewhere s r p id pl' own.1.seat i other x.reading y.1);
-          quit = quit_stays key r.place p pl' i x.reading (λ _. inr (inr (new_seat i x here))) o.quit;
+          quit = quit_stays key r.place p pl' x.reading (λ was. was) o.quit;
         }) j u)
         (λ (t : (j ≡ n) × (right ≡ u)). subst (λ (z : ℕ × View). O z.0 z.1) (λ i. (sym t.0 i, t.1 i))
         record { seen = ok.seen; told = ok.told; sequencing = λ a. not_both false a refl; reading = λ _. (own.0, moved_reader r.log r.place id n rd own.1); quit = λ h. not_both rd.active act (ok.quit h).0 }) (at_end (set s.views id left) right u j e))
@@ -205,7 +240,7 @@ module _ (key : Shape) where
           told = o.told;
           sequencing = sequencer_stays key r.log r.flying r.entry r.place r.sequencer i p pl' x stays o.sequencing;
           reading = λ a. let y = o.reading a in (y.0, elsewhere s r p other pl' own.1.seat i not_other x.reading y.1);
-          quit = quit_stays key r.place p pl' i x.reading (λ _. inr (inr (λ e. not_id (sym e)))) o.quit;
+          quit = quit_stays key r.place p pl' x.reading (λ was. was) o.quit;
         }) j u t.1 t.0)
         (at_set (set s.views id (joined v w)) other j spent u e))
 
@@ -225,7 +260,7 @@ module _ (key : Shape) where
           unmoved key s r i id w record {
             seen = ok.seen;
             told = (r.log, refl);
-            sequencing = λ _. (own.0, own.1, learns key r.flying r.entry r.place r.place r.sequencer id p k' q own.2 record { shut = knows.shut; start = knows.start; floor = λ _. omega arith; lost = knows.lost; unread = knows.unread } (λ _ _. refl));
+            sequencing = λ _. (own.0, own.1, learns key r.flying r.entry r.place r.place r.sequencer id p k' q own.2 record { shut = knows.shut; opening = knows.opening; start = knows.start; floor = λ _. omega arith; lost = knows.lost; unread = knows.unread } (λ _ _. refl));
             reading = λ _. (mine.0, now);
             quit = λ h. not_both rd.active reads (ok.quit h).0;
           },
@@ -281,7 +316,7 @@ module _ (key : Shape) where
     -- each place is closed
     pub starts_shut : (words : List ℕ) → 0 < key.cells → key.first ≤ 4611686018427387904 → length words ≡ width key → get_or words 0 0 ≡ key.first → ((p : ℕ) → p < key.places → get_or words (cursor_word p) 0 ≡ closed)
         → Law key (let t : State S View = opening words [] (opening_view key) in t)
-    starts_shut words some_cell low wide first shut = let pl : Place = record { is_open = false; unread = false; holder = 0; start = key.first; story = [] } in begins_with words (λ _. pl) shut_place some_cell low wide first
+    starts_shut words some_cell low wide first shut = let pl : Place = record { is_open = false; unread = false; holder = 0; opening = 0; start = key.first; story = [] } in begins_with words (λ _. pl) shut_place some_cell low wide first
         (λ p l. record {
           shut = λ _. shut p l;
           stands = λ e. not_both false e refl;
@@ -292,20 +327,4 @@ module _ (key : Shape) where
           unread = λ e. not_both false e refl;
           all_received = λ _. (0, refl);
         })
-        (λ p. record { shut = λ _. refl; start = λ e. not_both false e refl; floor = λ e. not_both false e refl; lost = λ e. not_both false e refl; unread = λ e. not_both false e refl })
-
-    -- each place is open at the first number, and no reader was handed out
-    pub starts_ready : (words : List ℕ) → 0 < key.cells → key.first ≤ 4611686018427387904 → length words ≡ width key → get_or words 0 0 ≡ key.first → ((p : ℕ) → p < key.places → get_or words (cursor_word p) 0 ≡ key.first)
-        → Law key (let t : State S View = opening words [] (record (opening_view key) { sequencing = record no_sequencing { active = true; places = replicate key.places (known_from key.first) } }) in t)
-    starts_ready words some_cell low wide first ready = let pl : Place = record { is_open = true; unread = true; holder = 0; start = key.first; story = [] } in begins_with words (λ _. pl) (known_from key.first) some_cell low wide first
-        (λ p l. record {
-          shut = λ e. not_both true refl e;
-          stands = λ _. ready p l ∙ omega arith;
-          after_first = omega arith;
-          behind = λ _. omega arith;
-          near = λ _. omega arith;
-          clear = λ _ e. not_both false e refl;
-          unread = λ _. (0, refl);
-          all_received = λ _. (0, refl);
-        })
-        (λ p. record { shut = λ e. not_both true refl e; start = λ _. refl; floor = λ _. omega arith; lost = λ _. refl; unread = λ _ _. (refl, refl) })
+        (λ p. record { shut = λ _. refl; opening = refl; start = λ e. not_both false e refl; floor = λ e. not_both false e refl; lost = λ e. not_both false e refl; unread = λ e. not_both false e refl })

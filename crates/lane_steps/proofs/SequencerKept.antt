@@ -1,5 +1,5 @@
 -- The sequencer's steps keep the law.
-use Rattle.std.proofs.Common.{◌≡◌, ◌≢◌, inl, inr, ℕ, suc, ◌+◌, ◌<◌, ◌≤◌, eqb, cond, Bool, true, false, List, [], ◌∷◌, ◌++◌, length, replicate, get_or, set, sym, refl, ap, ◌∙◌, subst, ⊎_elim, arith, length-append, length-set, append_assoc, eq-eqb, ne_eqb, get_or-set_other, get_or-set_same}
+use Rattle.std.proofs.Common.{◌≡◌, ◌≢◌, inr, ℕ, suc, ◌+◌, ◌<◌, ◌≤◌, eqb, cond, Bool, true, false, List, [], ◌∷◌, ◌++◌, length, replicate, get_or, set, sym, refl, ap, ◌∙◌, subst, ⊎_elim, arith, length-append, length-set, append_assoc, eq-eqb, ne_eqb, get_or-set_other, get_or-set_same}
 use mathlib.Core.Logic.{dite}
 use mathlib.Core.Option.{some, none}
 use native.Mathlib.Decide.{ℕ_discrete}
@@ -13,7 +13,7 @@ use Rattle.lane_steps.specs.declared.view.Sequencing.{Sequencing}
 use Rattle.lane_steps.specs.declared.view.Reading.{Reading}
 use Rattle.lane_steps.specs.declared.view.View.{View}
 use Rattle.lane_steps.specs.Layout.{cursor_word, cell_word}
-use Rattle.lane_steps.specs.Law.{Entry, closed, Begins, Place, cursor, lost, PlaceOk, KnownOk, SequencerOk, ReaderOk, SeatOk, Law, shut_place}
+use Rattle.lane_steps.specs.Law.{Entry, closed, Begins, Place, cursor, lost, PlaceOk, KnownOk, SequencerOk, ReaderOk, IsOver, SeatOk, Law, shut_place}
 use Rattle.lane_steps.specs.Steps.{next_number, known_of, known_at, known_past, known_from, with_known, Standing, surveyed, filled, accepted, dropped, opened}
 use Rattle.lane_steps.proofs.Apart.{cursor_is_no_tail, cursors_differ, cell_is_no_tail, cell_is_no_cursor, cells_differ, tail_within, cell_within}
 use Rattle.lane_steps.proofs.Lists.{which, not_both, within, index_there, at_end, begins_self, one_more, lost_one}
@@ -38,13 +38,13 @@ module _ (key : Shape) where
   found flying tail n k pl small ok knows = dite (ℕ_discrete n closed)
       (λ shut. let closed_place : pl.is_open ≡ false = ⊎_elim (λ o. let a = ok.stands o in let b = ok.behind o in absurd (omega arith)) (λ c. c) (which pl.is_open) in (
         subst (λ (b : Bool). KnownOk (cond b (record k { is_open = false }) (record k { floor = n })) pl) (sym (eq-eqb n closed shut))
-            record { shut = λ _. closed_place; start = λ e. not_both false e refl; floor = λ e. not_both false e refl; lost = λ e. not_both false e refl; unread = λ e. not_both false e refl },
+            record { shut = λ _. closed_place; opening = knows.opening; start = λ e. not_both false e refl; floor = λ e. not_both false e refl; lost = λ e. not_both false e refl; unread = λ e. not_both false e refl },
         λ other. absurd (other shut),
       ))
       (λ other. let live : pl.is_open ≡ true = ⊎_elim (λ o. o) (λ c. absurd (other (ok.shut c))) (which pl.is_open) in
       let known : k.is_open ≡ true = ⊎_elim (λ o. o) (λ c. not_both pl.is_open live (knows.shut c)) (which k.is_open) in let stands = ok.stands live in let floor = knows.floor known in (
         subst (λ (b : Bool). KnownOk (cond b (record k { is_open = false }) (record k { floor = n })) pl) (sym (ne_eqb n closed other))
-            record { shut = knows.shut; start = knows.start; floor = λ _. omega arith; lost = knows.lost; unread = knows.unread },
+            record { shut = knows.shut; opening = knows.opening; start = knows.start; floor = λ _. omega arith; lost = knows.lost; unread = knows.unread },
         λ _. (known, omega arith, stands, live),
       ))
 
@@ -55,6 +55,7 @@ module _ (key : Shape) where
     live = ok.live;
     handed = ok.handed;
     seat = ok.seat;
+    opening = ok.opening;
     start = ok.start;
     story = (suc ok.story.0, ap (λ (l : List Bool). l ++ false ∷ []) ok.story.1 ∙ (append_assoc r.story (replicate ok.story.0 false) (false ∷ []) ∙ ap (λ (l : List Bool). r.story ++ l) (one_more ok.story.0 false)));
     picked = λ p. let h = (ok.picked p).0 in (omega arith, λ e. absurd (omega arith));
@@ -140,6 +141,7 @@ module _ (key : Shape) where
           live = o.live;
           handed = o.handed;
           seat = o.seat;
+          opening = o.opening;
           start = o.start;
           story = o.story;
           picked = λ a. let h = o.picked a in (h.0, λ b. let has = h.1 b in (has.0, has.1, has.2, at_longer r.log (r.entry ∷ []) has.0 (has.1, rd.word) has.3));
@@ -202,6 +204,7 @@ module _ (key : Shape) where
         let longer : length pl'.story ≡ length pl.story + 1 = length-append pl.story (false ∷ []) in let k' : Known = known_past n k in let w : View = record v { sequencing = with_known p k' q } in let near = all.near live in
         let knows' : KnownOk k' (put r.place p pl' p) = subst (KnownOk k') (sym (put_here r.place p pl')) record {
           shut = knows.shut;
+          opening = knows.opening;
           start = knows.start;
           floor = λ _. omega arith;
           lost = λ o. ap (λ (l : List ℕ). l ++ n ∷ []) (knows.lost o) ∙ (ap (λ (z : ℕ). lost pl.start pl.story ++ z ∷ []) stands ∙ sym (lost_one pl.start pl.story));
@@ -230,14 +233,14 @@ module _ (key : Shape) where
                 told = ok.told;
                 sequencing = λ _. (own.0, own.1, learns r.flying r.entry r.place (put r.place p pl') r.sequencer id p k' q own.2 knows' (λ x ne. put_else r.place p pl' x ne));
                 reading = λ a. let o = ok.reading a in (o.0, others id v.reading o.1);
-                quit = quit_stays key r.place p pl' id v.reading (λ was. was) ok.quit;
+                quit = quit_stays key r.place p pl' v.reading (λ was. was) ok.quit;
               }
               (λ j u other here. let o = r.each_seat j u here in record {
                 seen = o.seen;
                 told = o.told;
                 sequencing = λ a. absurd (other ((o.sequencing a).2.seat ∙ sym own.2.seat));
                 reading = λ a. let x = o.reading a in (x.0, others j u.reading x.1);
-                quit = quit_stays key r.place p pl' j u.reading (λ was. was) o.quit;
+                quit = quit_stays key r.place p pl' u.reading (λ was. was) o.quit;
               })),
           (
             refl,
@@ -279,9 +282,10 @@ module _ (key : Shape) where
         → next_number me.0 ≤ start + key.cells → Allows (Law key) slots id me (cursor_word p) (λ _. start) (λ _. opened (step slots (cursor_word p) start 0 none) me start)
     opens_here slots id p start me act inside shut grounded from_first below near s r deep at small = let v : View = me.0 in let q : Sequencing = v.sequencing in let ok = r.each_seat id v at in let own = ok.sequencing act in
         let k : Known = known_of q p in let count = own.2.count in let there_k = index_there q.places p shut_place (omega arith) in let tail : ℕ = key.first + length r.log in let knows = own.2.knows p k there_k in
-        let closed_place = knows.shut shut in let same : next_number v ≡ tail = (λ i. (own.0 i).first + length (own.1 i)) in let pl' : Place = record { is_open = true; unread = true; holder = id; start = start; story = [] } in
-        let k' : Known = known_from start in let w : View = record v { sequencing = with_known p k' q } in
-        let knows' : KnownOk k' (put r.place p pl' p) = subst (KnownOk k') (sym (put_here r.place p pl')) record { shut = λ e. not_both true refl e; start = λ _. refl; floor = λ _. omega arith; lost = λ _. refl; unread = λ _ _. (refl, refl) } in (
+        let closed_place = knows.shut shut in let same : next_number v ≡ tail = (λ i. (own.0 i).first + length (own.1 i)) in let pl' : Place = record { is_open = true; unread = true; holder = id; opening = suc k.opening; start = start; story = [] } in
+        let opened_again : (rd : Reading) → IsOver rd (r.place p) → IsOver rd pl' = λ rd was. let at_most = was.0 in let counted = knows.opening in (omega arith, inr (omega arith)) in
+        let k' : Known = known_from start k in let w : View = record v { sequencing = with_known p k' q } in
+        let knows' : KnownOk k' (put r.place p pl' p) = subst (KnownOk k') (sym (put_here r.place p pl')) record { shut = λ e. not_both true refl e; opening = refl; start = λ _. refl; floor = λ _. omega arith; lost = λ _. refl; unread = λ _ _. (refl, refl) } in (
           w,
           keeps,
           tt,
@@ -301,16 +305,16 @@ module _ (key : Shape) where
                 told = ok.told;
                 sequencing = λ _. (own.0, own.1, learns r.flying r.entry r.place (put r.place p pl') r.sequencer id p k' q own.2 knows' (λ x ne. put_else r.place p pl' x ne));
                 reading = λ a. let o = ok.reading a in (o.0, none_reads s r p pl' closed_place id v.reading o.1);
-                quit = quit_stays key r.place p pl' id v.reading (λ _. inr (inl refl)) ok.quit;
+                quit = quit_stays key r.place p pl' v.reading (opened_again v.reading) ok.quit;
               }
               (λ j u other here. let o = r.each_seat j u here in record {
                 seen = o.seen;
                 told = o.told;
                 sequencing = λ a. absurd (other ((o.sequencing a).2.seat ∙ sym own.2.seat));
                 reading = λ a. let x = o.reading a in (x.0, none_reads s r p pl' closed_place j u.reading x.1);
-                quit = quit_stays key r.place p pl' j u.reading (λ _. inr (inl refl)) o.quit;
+                quit = quit_stays key r.place p pl' u.reading (opened_again u.reading) o.quit;
               }),
-          (refl, λ p' e. let is : p ≡ p' = cursors_differ p p' e in ap (λ (z : ℕ). let u : View = record v { sequencing = with_known z k' q } in u) is),
+          (refl, λ p' e. let is : p ≡ p' = cursors_differ p p' e in ap (λ (z : ℕ). let u : View = record v { sequencing = with_known z (known_from start (known_of q z)) q } in u) is),
         )
 
     -- the same where the index is known by an equation

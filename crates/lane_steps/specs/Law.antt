@@ -1,5 +1,5 @@
 -- What holds of the lane's words and of all views, between any two steps.
-use Rattle.std.specs.Prelude.{◌≡◌, ◌≢◌, ◌⊎◌, ℕ, suc, ◌+◌, ◌<◌, ◌≤◌, List, [], ◌∷◌, ◌++◌, length, replicate, slice_index, Bool, true, false}
+use Rattle.std.specs.Prelude.{◌≡◌, ◌⊎◌, ℕ, suc, ◌+◌, ◌<◌, ◌≤◌, List, [], ◌∷◌, ◌++◌, length, replicate, slice_index, Bool, true, false}
 use mathlib.Core.Option.{some}
 use lib.ListN.{get_elem?}
 use Rattle.atomic_table.specs.Table.{State}
@@ -31,6 +31,8 @@ pub record Place : Type 0 where
   pub is_open : Bool
   pub unread : Bool
   pub holder : ℕ
+  -- how often it was opened
+  pub opening : ℕ
   pub start : ℕ
   pub story : List Bool
 
@@ -63,6 +65,7 @@ pub record PlaceOk (key : Shape) (flying : Bool) (tail : ℕ) (pl : Place) (w : 
 -- what the sequencer knows of a place
 pub record KnownOk (k : Known) (pl : Place) : Type 0 where
   pub shut : k.is_open ≡ false → pl.is_open ≡ false
+  pub opening : k.opening ≡ pl.opening
   pub start : k.is_open ≡ true → k.start ≡ pl.start
   pub floor : k.is_open ≡ true → k.floor ≤ cursor pl
   pub lost : k.is_open ≡ true → k.lost ≡ lost pl.start pl.story
@@ -80,25 +83,30 @@ pub record ReaderOk (key : Shape) (log : List Entry) (j : ℕ) (r : Reading) (pl
   pub live : pl.is_open ≡ true
   pub handed : pl.unread ≡ false
   pub seat : pl.holder ≡ j
+  pub opening : pl.opening ≡ r.opening
   pub start : pl.start ≡ r.start
   -- what came since is lost
   pub story : (k : ℕ) × (pl.story ≡ r.story ++ replicate k false)
   pub picked : r.picked ≡ true → (r.number ≤ cursor pl) × (r.number ≡ cursor pl → HasWord key.first log r.number r.word)
 
--- the place was opened again after the seat j had closed its cursor: it has no reader yet, or one of another seat
-abbrev pub WasOpenedAgain : ℕ → Place → Type 0
-WasOpenedAgain j pl = (pl.unread ≡ true) ⊎ (pl.holder ≢ j)
+-- the place was opened again since this reader's part was let in
+abbrev pub WasOpenedAgain : Reading → Place → Type 0
+WasOpenedAgain r pl = r.opening < pl.opening
+
+-- the place is closed, or was opened again since
+abbrev pub IsOver : Reading → Place → Type 0
+IsOver r pl = (r.opening ≤ pl.opening) × ((pl.is_open ≡ false) ⊎ WasOpenedAgain r pl)
 
 -- where the reader's part has closed its cursor, the place is closed from then on, or was opened again
-abbrev pub QuitOk : Shape → ℕ → (ℕ → Place) → Reading → Type 0
-QuitOk key j place r = r.quit ≡ true → (r.active ≡ false) × (r.place < key.places) × (((place r.place).is_open ≡ false) ⊎ WasOpenedAgain j (place r.place))
+abbrev pub QuitOk : Shape → (ℕ → Place) → Reading → Type 0
+QuitOk key place r = r.quit ≡ true → (r.active ≡ false) × (r.place < key.places) × IsOver r (place r.place)
 
 pub record SeatOk (key : Shape) (log : List Entry) (flying : Bool) (entry : Entry) (place : ℕ → Place) (sequencer j : ℕ) (v : View) : Type 0 where
   pub seen : Begins log v.seen
   pub told : Begins log v.told
   pub sequencing : v.sequencing.active ≡ true → (v.shape ≡ key) × (v.seen ≡ log) × SequencerOk key flying entry place sequencer j v.sequencing
   pub reading : v.reading.active ≡ true → (v.shape ≡ key) × ReaderOk key log j v.reading (place v.reading.place)
-  pub quit : QuitOk key j place v.reading
+  pub quit : QuitOk key place v.reading
 
 pub record Law {S : Type 0} (key : Shape) (s : State S View) : Type 0 where
   -- all accepted emissions
@@ -121,14 +129,14 @@ pub record Law {S : Type 0} (key : Shape) (s : State S View) : Type 0 where
 
 -- what a place is known as, that nobody opened
 abbrev pub shut_place : Known
-shut_place = record { is_open = false; unread = false; start = 0; floor = 0; lost = [] }
+shut_place = record { is_open = false; unread = false; opening = 0; start = 0; floor = 0; lost = [] }
 
 -- no cell in flight, and all places closed
 abbrev pub no_sequencing : Sequencing
 no_sequencing = record { active = false; flying = false; entry = (0, 0); places = [] }
 
 abbrev pub no_reading : Reading
-no_reading = record { active = false; quit = false; place = 0; start = 0; story = []; picked = false; number = 0; word = 0 }
+no_reading = record { active = false; quit = false; place = 0; opening = 0; start = 0; story = []; picked = false; number = 0; word = 0 }
 
 abbrev pub opening_view : Shape → View
 opening_view key = record {

@@ -18,4 +18,4 @@ UnreadValuesStay = (key : Shape) (s : State (Unit {0}) View) (law : Law key s) (
 abbrev pub ClosedCursorsStay : Type 0
 ClosedCursorsStay = (key : Shape) (s : State (Unit {0}) View) (law : Law key s) (j : ℕ) (v : View)
     → get_elem? s.views j ≡ some v → v.reading.quit ≡ true
-    → (slice_index s.words (cursor_word v.reading.place) ≡ closed) ⊎ WasOpenedAgain j (law.place v.reading.place)
+    → (slice_index s.words (cursor_word v.reading.place) ≡ closed) ⊎ WasOpenedAgain v.reading (law.place v.reading.place)

@@ -51,8 +51,13 @@ known_at n k = cond (eqb n closed) (record k { is_open = false }) (record k { fl
 abbrev pub known_past : ℕ → Known → Known
 known_past n k = record k { floor = suc n; lost = k.lost ++ n ∷ [] }
 
-abbrev pub known_from : ℕ → Known
-known_from n = record { is_open = true; unread = true; start = n; floor = n; lost = [] }
+-- the sequencer opened the place at n
+abbrev pub known_from : ℕ → Known → Known
+known_from n k = record { is_open = true; unread = true; opening = suc k.opening; start = n; floor = n; lost = [] }
+
+-- the sequencer heard that the reader of this opening has closed its cursor
+abbrev pub known_over : ℕ → Known → Known
+known_over opening k = cond (eqb k.opening opening) (record k { is_open = false }) k
 
 -- a load of the tail
 abbrev pub Noticed : View → ℕ → View → Type 0
@@ -121,7 +126,7 @@ Dropped p old v n v' =
 
 -- the store that opens the place p at the number n
 abbrev pub Opened : ℕ → ℕ → View → View → Type 0
-Opened p n v v' = v' ≡ record v { sequencing = with_known p (known_from n) v.sequencing }
+Opened p n v v' = v' ≡ record v { sequencing = with_known p (known_from n (known_of v.sequencing p)) v.sequencing }
 
 -- the cursor of the place p stands at n
 abbrev pub place_stands_at : ℕ → ℕ → Sequencing → Sequencing
@@ -183,7 +188,9 @@ abbrev pub handed_out : ℕ → View → View
 handed_out p v = record v { sequencing = with_known p (record (known_of v.sequencing p) { unread = false }) v.sequencing }
 
 abbrev pub new_reader : ℕ → View → View
-new_reader p v = record (witness v.shape v.seen) { reading = record no_reading { active = true; place = p; start = (known_of v.sequencing p).start } }
+new_reader p v = record (witness v.shape v.seen) {
+  reading = record no_reading { active = true; place = p; opening = (known_of v.sequencing p).opening; start = (known_of v.sequencing p).start };
+}
 
 -- a receipt for the first n entries
 abbrev pub receipt_of : ℕ → View → View
@@ -202,6 +209,16 @@ telling v w = record v { told = w.seen }
 
 abbrev pub joined : View → View → View
 joined v w = record v { told = w.seen; reading = w.reading }
+
+-- a seat that knows the end of a reader alone, and the sequencer's that hears of that end
+abbrev pub end_note : View → View
+end_note v = record (witness v.shape []) { reading = v.reading }
+
+abbrev pub place_over : ℕ → ℕ → Sequencing → Sequencing
+place_over p opening q = with_known p (known_over opening (known_of q p)) q
+
+abbrev pub hearing_end : View → View → View
+hearing_end v w = record v { sequencing = place_over w.reading.place w.reading.opening v.sequencing }
 
 abbrev pub spent : View
 spent = witness (record { first = 0; places = 0; cells = 0; drops = false }) []
