@@ -8,9 +8,9 @@ use Rattle.lane_steps.specs.declared.view.Sequencing.{Sequencing}
 use Rattle.lane_steps.specs.declared.view.View.{View}
 use Rattle.lane_steps.specs.Layout.{cursor_word}
 use Rattle.lane_steps.specs.Law.{closed, shut_place}
-use Rattle.lane_steps.specs.Steps.{known_of, known_at, with_known, next_number, IsRoomy, Surveyed}
+use Rattle.lane_steps.specs.Steps.{known_of, known_at, known_over, with_known, place_over, next_number, IsRoomy, Surveyed}
 use Rattle.lane_steps.proofs.Lists.{not_both, within, index_is}
-use Rattle.shared_lane.specs.Surveys.{cursor_loads, open_count, OnlyPlaces, Visit, Round, FoundAt, Cleared, Behind}
+use Rattle.shared_lane.specs.Surveys.{cursor_loads, open_count, opening_at, may_be_open, OpensNone, OnlyPlaces, Visit, Round, FoundAt, Cleared, Behind}
 
 pub loads_more : (p : ℕ) (ns : List ℕ) (n : ℕ) → cursor_loads p (ns ++ n ∷ []) ≡ cursor_loads p ns ++ (cursor_word (p + length ns), n) ∷ []
 loads_more p [] n = ap (λ (z : ℕ). (cursor_word z, n) ∷ []) (omega arith)
@@ -38,6 +38,16 @@ open_few (n ∷ ns) = go (eqb n closed) (open_few ns)
     go true h = omega arith
     go false h = omega arith
 
+-- where one was closed, not all were open
+pub open_fewer : (ns : List ℕ) (p : ℕ) → p < length ns → get_or ns p 0 ≡ closed → open_count ns < length ns
+open_fewer [] p h e = absurd (omega arith)
+open_fewer (n ∷ ns) zero h e = let few = open_few ns in subst (λ (b : Bool). cond b (open_count ns) (suc (open_count ns)) < suc (length ns)) (sym (Rattle.std.proofs.Common.eq-eqb n closed e)) (omega arith)
+open_fewer (n ∷ ns) (suc p) h e = go (eqb n closed) (open_fewer ns p (omega arith) e)
+  where
+    go : (b : Bool) → open_count ns < length ns → cond b (open_count ns) (suc (open_count ns)) < suc (length ns)
+    go true h = omega arith
+    go false h = omega arith
+
 at_front : (ns : List ℕ) (n p : ℕ) → p < length ns → get_or (ns ++ n ∷ []) p 0 ≡ get_or ns p 0
 at_front [] n p h = absurd (omega arith)
 at_front (m ∷ ns) n zero h = refl
@@ -49,9 +59,10 @@ at_back (m ∷ ns) n = at_back ns n
 
 pub round_none : (E : ℕ → Known → Known → Type 0) (v : View) → Round E v [] v
 round_none E v = record {
-  only = record { shape = refl; seen = refl; reading = refl; active = refl; flying = refl; count = refl };
+  only = record { shape = refl; seen = refl; reading = refl; active = refl; flying = refl; count = refl; none_opened = λ p. refl };
   loads = sym (append-nil v.loads);
   below = λ p h. absurd (omega arith);
+  shut = λ p h. absurd (omega arith);
   each = λ p h. absurd (omega arith);
   rest = λ p h. refl;
 }
@@ -63,9 +74,13 @@ all_more Q ns n old new p h = let longer : length (ns ++ n ∷ []) ≡ length ns
 
 pub round_more : (E : ℕ → Known → Known → Type 0) (v v' w : View) (ns : List ℕ) (n : ℕ) → Round E v ns v' → Visit E v' (length ns) n w → Round E v (ns ++ n ∷ []) w
 round_more E v v' w ns n was step = let p : ℕ = length ns in let a = was.only in let b = step.only in let longer : length (ns ++ n ∷ []) ≡ p + 1 = length-append ns (n ∷ []) in record {
-  only = record { shape = b.shape ∙ a.shape; seen = b.seen ∙ a.seen; reading = b.reading ∙ a.reading; active = b.active ∙ a.active; flying = b.flying ∙ a.flying; count = b.count ∙ a.count };
+  only = record { shape = b.shape ∙ a.shape; seen = b.seen ∙ a.seen; reading = b.reading ∙ a.reading; active = b.active ∙ a.active; flying = b.flying ∙ a.flying; count = b.count ∙ a.count; none_opened = λ x. b.none_opened x ∙ a.none_opened x };
   loads = step.loads ∙ (ap (λ l. l ++ (cursor_word p, n) ∷ []) was.loads ∙ (append_assoc v.loads (cursor_loads 0 ns) ((cursor_word p, n) ∷ []) ∙ ap (λ l. v.loads ++ l) (sym (loads_more 0 ns n ∙ ap (λ (z : ℕ). cursor_loads 0 ns ++ (cursor_word z, n) ∷ []) (omega arith)))));
   below = all_more (λ z. z ≢ closed → z ≤ next_number v) ns n was.below (λ ne. let h = step.below ne in let same : next_number v' ≡ next_number v = (λ i. (a.shape i).first + length (a.seen i)) in omega arith);
+  shut = λ x h e. dite (ℕ_discrete x p)
+      (λ is. ap (λ (z : ℕ). get_or (ns ++ n ∷ []) z 0) is
+      ∙ (at_back ns n ∙ step.shut (ap (λ (k : Known). k.is_open) (was.rest p (let g : p ≤ p = omega arith in g)) ∙ (ap (λ (z : ℕ). may_be_open v z) (sym is) ∙ e))))
+      (λ ne. at_front ns n x (omega arith) ∙ was.shut x (omega arith) e);
   each = λ x h. dite (ℕ_discrete x p)
       (λ is. subst (λ (z : ℕ). E (get_or (ns ++ n ∷ []) z 0) (known_of v.sequencing z) (known_of w.sequencing z)) (sym is)
       (subst (λ (z : ℕ × Known). E z.0 z.1 (known_of w.sequencing p)) (λ i. (sym (at_back ns n) i, was.rest p (let g : p ≤ p = omega arith in g) i)) step.here))
@@ -80,21 +95,38 @@ known_here q p k inside = get_or-set_same q.places p k shut_place inside
 known_else : (q : Sequencing) (p x : ℕ) (k : Known) → x ≢ p → known_of (with_known p k q) x ≡ known_of q x
 known_else q p x k ne = get_or-set_other q.places p x k shut_place ne
 
-only_after : (v w : View) (p : ℕ) (k : Known) (l : List (ℕ × ℕ)) → v.shape ≡ w.shape → v.seen ≡ w.seen → v.reading ≡ w.reading → w.sequencing ≡ with_known p k v.sequencing → OnlyPlaces v w
-only_after v w p k l a b c q = record {
+-- the sequencer knows no other opening of the place p
+opens_none : (v w : View) (p : ℕ) (k : Known) → p < length v.sequencing.places → k.opening ≡ opening_at v p → w.sequencing ≡ with_known p k v.sequencing → OpensNone v w
+opens_none v w p k inside same q x = ap (λ (y : Sequencing). (known_of y x).opening) q ∙ dite (ℕ_discrete x p)
+    (λ is. ap (λ (z : ℕ). (known_of (with_known p k v.sequencing) z).opening) is ∙ (ap (λ (y : Known). y.opening) (known_here v.sequencing p k inside) ∙ (same ∙ ap (λ (z : ℕ). opening_at v z) (sym is))))
+    (λ ne. ap (λ (y : Known). y.opening) (known_else v.sequencing p x k ne))
+
+only_after : (v w : View) (p : ℕ) (k : Known) (l : List (ℕ × ℕ)) → p < length v.sequencing.places → k.opening ≡ opening_at v p → v.shape ≡ w.shape → v.seen ≡ w.seen → v.reading ≡ w.reading
+    → w.sequencing ≡ with_known p k v.sequencing → OnlyPlaces v w
+only_after v w p k l inside same a b c q = record {
   shape = sym a;
   seen = sym b;
   reading = sym c;
   active = ap (λ (x : Sequencing). x.active) q;
   flying = ap (λ (x : Sequencing). x.flying) q;
   count = ap (λ (x : Sequencing). length x.places) q ∙ length-set v.sequencing.places p k;
+  none_opened = opens_none v w p k inside same q;
 }
+
+-- what was found of a cursor opens no place
+same_opening : (n : ℕ) (k : Known) → (known_at n k).opening ≡ k.opening
+same_opening n k = go (eqb n closed)
+  where
+    go : (b : Bool) → (cond b (record k { is_open = false }) (record k { floor = n })).opening ≡ k.opening
+    go true = refl
+    go false = refl
 
 pub visited : (v w : View) (p n : ℕ) → p < length v.sequencing.places → Surveyed p v n w → Visit FoundAt v p n w
 visited v w p n inside step = let e = step.0 in let q = ap (λ (x : View). x.sequencing) e in let k : Known = known_at n (known_of v.sequencing p) in record {
-  only = only_after v w p k v.loads (sym (ap (λ (x : View). x.shape) e)) (sym (ap (λ (x : View). x.seen) e)) (sym (ap (λ (x : View). x.reading) e)) q;
+  only = only_after v w p k v.loads inside (same_opening n (known_of v.sequencing p)) (sym (ap (λ (x : View). x.shape) e)) (sym (ap (λ (x : View). x.seen) e)) (sym (ap (λ (x : View). x.reading) e)) q;
   loads = ap (λ (x : View). x.loads) e;
   below = λ ne. (step.2 ne).2;
+  shut = λ e. dite (ℕ_discrete n closed) (λ is. is) (λ ne. not_both (may_be_open v p) (step.2 ne).0 e);
   here = ap (λ (x : Sequencing). known_of x p) q ∙ known_here v.sequencing p k inside;
   rest = λ x ne. ap (λ (y : Sequencing). known_of y x) q ∙ known_else v.sequencing p x k ne;
 }
@@ -147,3 +179,21 @@ behind_more tail lag ns n was now before hit keep why = let longer : length (ns 
       (λ is. subst (λ (z : ℕ). z ≢ closed → tail < z + lag) (sym (ap (λ (z : ℕ). get_or (ns ++ n ∷ []) z 0) is ∙ at_back ns n)) (λ ne. Rattle.std.proofs.Common.lt_of_not-le (λ le. not_both now (hit ne le) e)))
       (λ ne. subst (λ (z : ℕ). z ≢ closed → tail < z + lag) (sym (at_front ns n p (omega arith))) (before.none (⊎_elim (λ t. not_both now (keep t) e) (λ f. f) (Rattle.lane_steps.proofs.Lists.which was)) p (omega arith)));
 }
+
+-- what the sequencer knows of a place whose reader's end it heard
+over_opening : (opening : ℕ) (k : Known) → (known_over opening k).opening ≡ k.opening
+over_opening opening k = go (eqb k.opening opening)
+  where
+    go : (b : Bool) → (cond b (record k { is_open = false }) k).opening ≡ k.opening
+    go true = refl
+    go false = refl
+
+over_shut : (opening : ℕ) (k : Known) → k.opening ≡ opening → (known_over opening k).is_open ≡ false
+over_shut opening k same = ap (λ (b : Bool). (cond b (record k { is_open = false }) k).is_open) (Rattle.std.proofs.Common.eq-eqb k.opening opening same)
+
+pub over_opens_none : (v w : View) (p opening : ℕ) → p < length v.sequencing.places → w.sequencing ≡ place_over p opening v.sequencing → OpensNone v w
+over_opens_none v w p opening inside q = let k : Known = known_of v.sequencing p in opens_none v w p (known_over opening k) inside (over_opening opening k) q
+
+pub over_is_shut : (v w : View) (p opening : ℕ) → p < length v.sequencing.places → w.sequencing ≡ place_over p opening v.sequencing → opening_at w p ≡ opening → may_be_open w p ≡ false
+over_is_shut v w p opening inside q latest = let k : Known = known_of v.sequencing p in let none = over_opens_none v w p opening inside q in
+    ap (λ (x : Sequencing). (known_of x p).is_open) q ∙ (ap (λ (y : Known). y.is_open) (known_here v.sequencing p (known_over opening k) inside) ∙ over_shut opening k (sym (none p) ∙ latest))

@@ -17,4 +17,4 @@ pub same_twice : (q m t : SequencerSeen) → IsSameSequencer q m → IsSameSeque
 same_twice q m t a b = (b.0 ∙ a.0, b.1 ∙ a.1, b.2 ∙ a.2, b.3 ∙ a.3, b.4 ∙ a.4, b.5 ∙ a.5)
 
 pub loaded_twice : (q m t : SequencerSeen) → OnlyLoaded q m → OnlyLoaded m t → OnlyLoaded q t
-loaded_twice q m t a b = (b.0 ∙ ap (λ (z : SequencerSeen). record z { view = t.view }) a.0, b.1 ∙ a.1, b.2 ∙ a.2)
+loaded_twice q m t a b = (b.0 ∙ ap (λ (z : SequencerSeen). record z { view = t.view }) a.0, b.1 ∙ a.1, b.2 ∙ a.2, λ p. b.3 p ∙ a.3 p)

@@ -12,7 +12,7 @@ use Rattle.lane_steps.specs.Law.{Begins}
 use Rattle.flow_terms.specs.declared.policy.Policy.{Policy}
 use Rattle.flow_terms.specs.declared.policy.Policy.TheVariants.{Suspend, DropOldest, DropLatest}
 use Rattle.shared_lane.specs.Views.{SequencerSeen}
-use Rattle.shared_lane.specs.Surveys.{cursor_loads}
+use Rattle.shared_lane.specs.Surveys.{cursor_loads, OpensNone}
 use Rattle.shared_lane.specs.declared.tickets.Waiting.{Waiting}
 use Rattle.shared_lane.specs.Sequencers.{entry_of, stood, cached, seen, next, IsSameTickets, OnlyLoaded, RoundedBy, Settled, IsStuck, accepted_on, stood_on}
 
@@ -37,6 +37,7 @@ settled_none q = record {
   subscription = refl;
   cache_is = refl;
   later = ([], sym (append-nil q.view.loads));
+  none_opened = λ p. refl;
   quiet = λ none. refl;
 }
 
@@ -64,8 +65,8 @@ cached_more r ws [] ys = refl
 cached_more r ws (x ∷ xs) ys = cached_more r (keep_last r (ws ++ x.word ∷ [])) xs ys
 
 pub settled_more : (k : ℕ) (q t t' u : SequencerSeen) → Settled k q t → seen t' ≡ seen t → t'.cache ≡ t.cache → IsSameTickets t t' → t'.subscription ≡ t.subscription → t'.view.shape ≡ q.view.shape → t'.replay ≡ q.replay
-    → Begins t'.view.loads t.view.loads → Settled 1 t' u → Settled (k + 1) q u
-settled_more k q t t' u was same_seen same_cache same subs shape r since one = let W : List Waiting = q.waiting in let next_k : k + 1 ≡ suc k = omega arith in
+    → Begins t'.view.loads t.view.loads → OpensNone t.view t'.view → Settled 1 t' u → Settled (k + 1) q u
+settled_more k q t t' u was same_seen same_cache same subs shape r since none_opened one = let W : List Waiting = q.waiting in let next_k : k + 1 ≡ suc k = omega arith in
     let here : t'.waiting ≡ drop k W = same.0 ∙ was.waiting_is in let cut : take k W ++ take 1 (t'.waiting) ≡ take (k + 1) W = ap (λ l. take k W ++ take 1 l) here ∙ (sym (take_more k W) ∙ ap (λ (z : ℕ). take z W) (sym next_k)) in
     let left : length (t'.waiting) ≡ length (drop k W) = ap length here in let left' = length-drop k W in let few = was.few in let more = one.few in
     let grown : seen t' ≡ seen q ++ map entry_of (take k W) = same_seen ∙ was.accepted in
@@ -80,6 +81,7 @@ settled_more k q t t' u was same_seen same_cache same subs shape r since one = l
       subscription = one.subscription ∙ (subs ∙ was.subscription);
       cache_is = one.cache_is ∙ ((λ i. cached (r i) ((same_cache ∙ was.cache_is) i) (take 1 (t'.waiting))) ∙ (sym (cached_more q.replay (q.cache) (take k W) (take 1 (t'.waiting))) ∙ ap (cached q.replay (q.cache)) cut));
       later = begins_twice u.view.loads t'.view.loads q.view.loads one.later (begins_twice t'.view.loads t.view.loads q.view.loads since was.later);
+      none_opened = λ p. one.none_opened p ∙ (none_opened p ∙ was.none_opened p);
       quiet = λ none. let few : k + 1 ≤ length q.waiting = omega arith in let zero_long : length q.waiting ≡ 0 = ap length none in absurd (omega arith);
     }
 
@@ -101,6 +103,7 @@ settles q w is = go q.waiting refl is where
     subscription = refl;
     cache_is = ap (cached q.replay q.cache) (sym one);
     later = ([], sym (append-nil q.view.loads));
+    none_opened = λ p. refl;
     quiet = λ none. let zero_long : length q.waiting ≡ 0 = ap length none in absurd (omega arith);
   }
 

@@ -21,6 +21,9 @@ pub record IsReading (seat : Seat (Unit {0}) View) (place start at cell taken : 
 
 -- the seat of a reader that has ended, and what it counted
 pub record IsEnded (seat : Seat (Unit {0}) View) (from got missed : ℕ) : Type 0 where
+  pub over : seat.me.0.reading.quit ≡ true
+  pub holds_no_slot : seat.me.1 ≡ []
+  pub inside : seat.me.0.reading.place < seat.me.0.shape.places
   pub start_is : from ≡ seat.me.0.reading.start
   pub received_is : got ≡ length (received seat.me.0.reading.start seat.me.0.reading.story)
   pub dropped_is : missed ≡ length (lost seat.me.0.reading.start seat.me.0.reading.story)

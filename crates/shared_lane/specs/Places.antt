@@ -1,14 +1,14 @@
 -- Subscriber places, receipts and meetings.
-use Rattle.std.specs.Prelude.{◌≡◌, ◌≢◌, ℕ, ◌+◌, ◌<◌, List, [], ◌∷◌, ◌++◌, length}
+use Rattle.std.specs.Prelude.{◌≡◌, ◌≢◌, ℕ, ◌+◌, ◌<◌, ◌≤◌, List, [], ◌∷◌, ◌++◌, length, slice_index, true, false}
 use mathlib.Core.Option.{some}
 use lib.ListN.{get_elem?}
 use Rattle.flow_terms.specs.declared.refusal.Refusal.{Refusal}
 use Rattle.flow_terms.specs.declared.refusal.Refusal.TheVariants.{SubscribersFull, Spent}
 use Rattle.lane_steps.specs.Law.{closed}
-use Rattle.lane_steps.specs.Steps.{known_of}
+use Rattle.lane_steps.specs.Steps.{known_of, place_over}
 use Rattle.shared_lane.specs.Headline.{WasLetIn}
 use Rattle.shared_lane.specs.Views.{LaneSeen, ReaderSeen, SequencerSeen}
-use Rattle.shared_lane.specs.Surveys.{Round, FoundAt, FoundAllOpen, cursor_loads, open_count}
+use Rattle.shared_lane.specs.Surveys.{Round, FoundAt, FoundAllOpen, cursor_loads, open_count, opening_at, may_be_open}
 use Rattle.shared_lane.specs.Readers.{IsReaderOf}
 use Rattle.shared_lane.specs.Sequencers.{seen, OnlyLoaded}
 
@@ -20,13 +20,30 @@ Counted q count t = (ns : List ℕ) × (length ns ≡ q.view.shape.places) × Ro
 abbrev pub lost_by : SequencerSeen → ℕ → List ℕ
 lost_by q p = (known_of q.view.sequencing p).lost
 
+-- how often a place was opened
+abbrev pub opening_of : SequencerSeen → ℕ → ℕ
+opening_of q p = opening_at q.view p
+
+-- the sequencer heard that this reader has closed its cursor
+abbrev pub told_of_end : ReaderSeen → SequencerSeen → SequencerSeen
+told_of_end r q = record q { view = record q.view { sequencing = place_over r.place r.opening q.view.sequencing } }
+
+-- the sequencer knows that this reader has ended: its place is known to be closed, unless it was opened again since
+abbrev pub KnowsEndOf : SequencerSeen → ReaderSeen → Type 0
+KnowsEndOf q r = (r.place < q.view.shape.places) × (opening_of q r.place ≡ r.opening → may_be_open q.view r.place ≡ false)
+
 -- A reader was let in: it has seen all that was accepted, its position is the oldest value of the cache, and it has received
--- nothing. Its place is the first whose cursor was found closed, by loads of this call.
+-- nothing. Its place is the first whose cursor was found closed, by loads of this call, and none before it was known to be closed.
 pub record LetIn (lane : LaneSeen) (q : SequencerSeen) (r : ReaderSeen) (t : SequencerSeen) : Type 0 where
   pub of_lane : IsReaderOf lane r
   pub has_seen_all : r.seen ≡ seen q
   pub begins : WasLetIn q.cache r
   pub found_closed : (ns : List ℕ) × (r.place ≡ length ns) × (t.view.loads ≡ q.view.loads ++ cursor_loads 0 (ns ++ closed ∷ []))
+      × ((p : ℕ) → p < length ns → slice_index ns p ≢ closed)
+  pub none_before : (p : ℕ) → p < r.place → may_be_open q.view p ≡ true
+  -- its place was opened once more, and it is the reader of this opening
+  pub opened : (r.opening ≡ opening_of q r.place + 1) × (opening_of t r.place ≡ r.opening)
+  pub others : (p : ℕ) → p ≢ r.place → opening_of t p ≡ opening_of q p
   -- what was dropped for others stays
   pub keeps : (p : ℕ) → p ≢ r.place → lost_by t p ≡ lost_by q p
   pub unspent : q.subscription < 4611686018427387904
@@ -38,6 +55,15 @@ abbrev pub NotLetIn : SequencerSeen → Refusal → SequencerSeen → Type 0
 NotLetIn q Spent t = (q.subscription ≡ 4611686018427387904) × (t ≡ q)
 NotLetIn q SubscribersFull t = (q.subscription ≢ 4611686018427387904) × FoundAllOpen q.view.shape.places q.view t.view × OnlyLoaded q t
 NotLetIn _ _ _ = ⊥
+
+-- A reader whose end the sequencer knows, and whose place wasn't opened again since: `live` counts it no more, and `admit` finds its
+-- place closed, so that it lets the next reader in there, or at a place before it.
+abbrev pub EndedReaderIsCountedNoMore : Type 0
+EndedReaderIsCountedNoMore =
+    (lane : LaneSeen) (q : SequencerSeen) (r : ReaderSeen) → KnowsEndOf q r → opening_of q r.place ≡ r.opening
+    → ((count : ℕ) (t : SequencerSeen) → Counted q count t → count < q.view.shape.places)
+    × ((s : ReaderSeen) (t : SequencerSeen) → LetIn lane q s t → s.place ≤ r.place)
+    × ((t : SequencerSeen) → NotLetIn q SubscribersFull t → ⊥)
 
 -- the emission with this number was accepted, and was this emitter's
 abbrev pub IsAccepted : SequencerSeen → ℕ → ℕ → Type 0

@@ -25,7 +25,7 @@ lost_count r = length (lost r.start r.story)
 
 -- it is the same reader, which has seen no less
 abbrev pub IsSameReader : ReaderSeen → ReaderSeen → Type 0
-IsSameReader r t = (t.start ≡ r.start) × (t.place ≡ r.place) × (t.shape ≡ r.shape) × Begins t.seen r.seen × (t.table ≡ r.table)
+IsSameReader r t = (t.start ≡ r.start) × (t.place ≡ r.place) × (t.shape ≡ r.shape) × Begins t.seen r.seen × (t.table ≡ r.table) × (t.opening ≡ r.opening)
 
 -- the story, as far as the number n, which lost what came since
 abbrev pub story_to : ℕ → ReaderSeen → List Bool

@@ -19,7 +19,7 @@ use Rattle.shared_lane.specs.Caches.{drops_values}
 use Rattle.shared_lane.specs.Views.{LaneSeen, SequencerSeen}
 use Rattle.shared_lane.specs.declared.tickets.Waiting.{Waiting}
 use Rattle.shared_lane.specs.declared.tickets.Standing.{Standing}
-use Rattle.shared_lane.specs.Surveys.{Round, FoundAt, Cleared, Behind}
+use Rattle.shared_lane.specs.Surveys.{Round, FoundAt, Cleared, Behind, OpensNone}
 
 -- what the lane of a flow with this config is made with
 abbrev pub shape_of : Config → Shape
@@ -58,9 +58,9 @@ abbrev pub IsSameSequencer : SequencerSeen → SequencerSeen → Type 0
 IsSameSequencer q t = (t.table ≡ q.table) × (t.view.shape ≡ q.view.shape)
     × (t.policy ≡ q.policy) × (t.capacity ≡ q.capacity) × (t.replay ≡ q.replay) × (t.emits ≡ q.emits)
 
--- nothing changed but what it has loaded, and what it knows of the places by that
+-- nothing changed but what it has loaded, and what it knows of the places by that; and no place was opened
 abbrev pub OnlyLoaded : SequencerSeen → SequencerSeen → Type 0
-OnlyLoaded q t = (t ≡ record q { view = t.view }) × (t.view.shape ≡ q.view.shape) × (t.view.seen ≡ q.view.seen)
+OnlyLoaded q t = (t ≡ record q { view = t.view }) × (t.view.shape ≡ q.view.shape) × (t.view.seen ≡ q.view.seen) × OpensNone q.view t.view
 
 -- one round over the cursors, which found room or not
 abbrev pub RoundedBy : Policy → ℕ → SequencerSeen → Bool → View → Type 0
@@ -87,6 +87,7 @@ pub record Settled (k : ℕ) (q t : SequencerSeen) : Type 0 where
   pub subscription : t.subscription ≡ q.subscription
   pub cache_is : t.cache ≡ cached q.replay q.cache (take k q.waiting)
   pub later : Begins t.view.loads q.view.loads
+  pub none_opened : OpensNone q.view t.view
   -- where nothing waited nothing was done
   pub quiet : q.waiting ≡ [] → t ≡ q
 

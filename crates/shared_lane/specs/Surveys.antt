@@ -17,6 +17,18 @@ abbrev pub open_count : List ℕ → ℕ
 open_count [] = 0
 open_count (n ∷ ns) = cond (eqb n closed) (open_count ns) (suc (open_count ns))
 
+-- how often the place p was opened
+abbrev pub opening_at : View → ℕ → ℕ
+opening_at v p = (known_of v.sequencing p).opening
+
+-- no place was opened
+abbrev pub OpensNone : View → View → Type 0
+OpensNone v v' = (p : ℕ) → opening_at v' p ≡ opening_at v p
+
+-- the place p may be open, or is known to be closed
+abbrev pub may_be_open : View → ℕ → Bool
+may_be_open v p = (known_of v.sequencing p).is_open
+
 -- the view is of a lane of this shape, and knows of each place
 abbrev pub KnowsPlaces : Shape → View → Type 0
 KnowsPlaces key v = (v.shape ≡ key) × (length v.sequencing.places ≡ key.places)
@@ -37,12 +49,15 @@ pub record OnlyPlaces (v v' : View) : Type 0 where
   pub active : v'.sequencing.active ≡ v.sequencing.active
   pub flying : v'.sequencing.flying ≡ v.sequencing.flying
   pub count : length v'.sequencing.places ≡ length v.sequencing.places
+  pub none_opened : OpensNone v v'
 
 -- the cursor of the place p was loaded and found at n, and E is what that did to what the sequencer knows of the place
 pub record Visit (E : ℕ → Known → Known → Type 0) (v : View) (p n : ℕ) (v' : View) : Type 0 where
   pub only : OnlyPlaces v v'
   pub loads : v'.loads ≡ v.loads ++ (cursor_word p, n) ∷ []
   pub below : n ≢ closed → n ≤ next_number v
+  -- a place that is known to be closed is found closed
+  pub shut : may_be_open v p ≡ false → n ≡ closed
   pub here : E n (known_of v.sequencing p) (known_of v'.sequencing p)
   pub rest : (x : ℕ) → x ≢ p → known_of v'.sequencing x ≡ known_of v.sequencing x
 
@@ -51,6 +66,8 @@ pub record Round (E : ℕ → Known → Known → Type 0) (v : View) (ns : List 
   pub only : OnlyPlaces v v'
   pub loads : v'.loads ≡ v.loads ++ cursor_loads 0 ns
   pub below : (p : ℕ) → p < length ns → slice_index ns p ≢ closed → slice_index ns p ≤ next_number v
+  -- those that are known to be closed were found closed
+  pub shut : (p : ℕ) → p < length ns → may_be_open v p ≡ false → slice_index ns p ≡ closed
   pub each : (p : ℕ) → p < length ns → E (slice_index ns p) (known_of v.sequencing p) (known_of v'.sequencing p)
   pub rest : (p : ℕ) → length ns ≤ p → known_of v'.sequencing p ≡ known_of v.sequencing p
 
@@ -81,7 +98,7 @@ IsSurvey places tail lag v survey v' = (ns : List ℕ) × (length ns ≡ places)
 abbrev pub FoundAllOpen : ℕ → View → View → Type 0
 FoundAllOpen places v v' = (ns : List ℕ) × (length ns ≡ places) × Round FoundAt v ns v' × ((p : ℕ) → p < length ns → slice_index ns p ≢ closed)
 
--- the cursor of the place p was the first that was found closed
+-- the cursor of the place p was the first that was found closed, and none before it was known to be
 abbrev pub FoundClosed : ℕ → View → View → Type 0
 FoundClosed p v v' = (ns : List ℕ) × (length ns ≡ p) × Round FoundAt v (ns ++ closed ∷ []) v'
-    × ((x : ℕ) → x < length ns → slice_index ns x ≢ closed) × ((known_of v'.sequencing p).is_open ≡ false)
+    × ((x : ℕ) → x < length ns → slice_index ns x ≢ closed) × (may_be_open v' p ≡ false) × ((x : ℕ) → x < p → may_be_open v x ≡ true)

@@ -15,12 +15,13 @@ pub record LaneSeen : Type 0 where
   pub table : TableId
   pub shape : Shape
 
--- A reader: where it began, for each number from there on whether it was received, and the accepted emissions that it has seen.
+-- A reader: its place and which opening of it, where it began, for each number from there on whether it was received, and the accepted emissions that it has seen.
 -- `loads` are its loads, in order: the index of a word, and what it found there.
 pub record ReaderSeen : Type 0 where
   pub table : TableId
   pub shape : Shape
   pub place : ℕ
+  pub opening : ℕ
   pub start : ℕ
   pub story : List Bool
   pub seen : List Entry
@@ -62,6 +63,7 @@ module _ {S : Type 0} where
     table = s.table_id;
     shape = s.me.0.shape;
     place = s.me.0.reading.place;
+    opening = s.me.0.reading.opening;
     start = s.me.0.reading.start;
     story = s.me.0.reading.story;
     seen = s.me.0.seen;

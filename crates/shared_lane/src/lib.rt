@@ -30,7 +30,8 @@
 //!
 //! # What a closed reader loses
 //! [`close`](Reader::close) uses the reader up: what was pending is given up, its place can be used again, and it holds
-//! nobody back. It answers what became of the reader ([`Closed`]).
+//! nobody back. It answers what became of the reader ([`Closed`]), and the sequencer can be told of it
+//! ([`told_end`](Sequencer::told_end)).
 //!
 //! # Who knows what
 //! A reader has seen the accepted emissions as they were at its last load of the tail. A [`Receipt`] carries what was
@@ -52,6 +53,7 @@
 #![tactic(auto)]
 
 mod closed;
+mod ends;
 mod headline;
 mod lane;
 mod meeting;
@@ -62,6 +64,7 @@ mod survey;
 mod tickets;
 
 pub use closed::Closed;
+pub use ends::ended_reader_is_counted_no_more;
 pub use headline::each_reader_receives_cache_then_later;
 pub use lane::Lane;
 pub use meeting::{Met, meet};

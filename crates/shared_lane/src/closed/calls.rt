@@ -1,11 +1,13 @@
 //! What a reader's end says.
-ghost use Rattle.std.specs.Prelude.{◌≡◌};
+ghost use Rattle.std.specs.Prelude.{◌≡◌, ◌<◌, [], true};
 ghost use Rattle.shared_lane.specs.Views.{closed_of};
 ghost use Rattle.shared_lane.specs.Kept.{IsEnded};
-ghost use Rattle.shared_lane.specs.Readers.{received_count, lost_count};
+ghost use Rattle.shared_lane.specs.Readers.{IsReaderOf, received_count, lost_count};
 
 use super::Closed;
+use crate::lane::Lane;
 use lane_steps::Place;
+use std::alloc::Allocator;
 
 impl Closed {
     pub(crate) fn of(seat: Place, start: u64, received: u64, dropped: u64) -> Closed
@@ -18,6 +20,17 @@ impl Closed {
             received,
             dropped,
         }
+    }
+
+    /// A seat that knows of this end.
+    pub(crate) fn note<A: Allocator>(&mut self, lane: &Lane<A>) -> Place
+        requires { IsReaderOf lane.now self.old.reader }
+        ensures closed { self.new ≡ self.old }
+        ensures note { (result.table_id ≡ lane.now.table) × (result.me.1 ≡ []) × (result.me.0.reading.quit ≡ true) }
+        ensures reader { (result.me.0.reading.place ≡ self.old.reader.place) × (result.me.0.reading.opening ≡ self.old.reader.opening) }
+        ensures inside { self.old.reader.place < lane.now.shape.places }
+    {
+        lane.words().copy_end(&mut self.seat)
     }
 
     /// The number at which the reader began.

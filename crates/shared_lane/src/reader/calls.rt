@@ -98,7 +98,7 @@ impl Reader {
     /// Closes its cursor, so that its place can be used again and holds nobody back. What was pending is given up.
     ///
     /// What it answers holds the seat that closed the cursor: by the lane's law the place is closed from then on, until the
-    /// sequencer opens it again. No clause says so of a later call of the sequencer.
+    /// sequencer opens it again. The sequencer knows so once it is [told](crate::Sequencer::told_end).
     pub fn close<A: Allocator>(self, lane: &Lane<A>) -> Closed
         requires { IsReaderOf lane.now self }
         ensures { result ≡ end_of self }

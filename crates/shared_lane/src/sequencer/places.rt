@@ -1,12 +1,14 @@
 //! Subscriber places and receipts.
 ghost use Rattle.std.specs.Prelude.{◌≡◌, ◌+◌, ◌-◌, take, IfOk, IfErr};
 ghost use Rattle.lane_steps.specs.Law.{Begins};
-ghost use Rattle.shared_lane.specs.Readers.{IsReceiptOf};
+ghost use Rattle.shared_lane.specs.Readers.{IsReaderOf, IsReceiptOf};
 ghost use Rattle.shared_lane.specs.Sequencers.{IsSequencerOf, OnlyLoaded, seen};
-ghost use Rattle.shared_lane.specs.Places.{LetIn, NotLetIn, Counted, IsAccepted, LosesNothing};
+ghost use Rattle.shared_lane.specs.Surveys.{OpensNone};
+ghost use Rattle.shared_lane.specs.Places.{LetIn, NotLetIn, Counted, IsAccepted, LosesNothing, KnowsEndOf, told_of_end};
 
 use super::Sequencer;
 use super::state::LIMIT;
+use crate::closed::Closed;
 use crate::lane::Lane;
 use crate::reader::Reader;
 use crate::receipt::Receipt;
@@ -73,5 +75,19 @@ impl<A: Allocator> Sequencer<A> {
         let copy = receipt.copied(lane);
         words.hear(&mut self.seat, copy);
         words.load_cursor(&mut self.seat, 0);
+    }
+
+    /// The sequencer hears of the end of a reader, and knows from then on that the reader's cursor is closed: each later call
+    /// which loads it finds it closed, until [`admit`](Sequencer::admit) opens the place again. Where the place was opened
+    /// again before this call, nothing changes. It takes no step on the words: without it the next load says the same.
+    pub fn told_end<B: Allocator>(&mut self, lane: &Lane<B>, closed: &mut Closed)
+        requires { IsSequencerOf lane.now self.old × IsReaderOf lane.now closed.old.reader }
+        ensures closed { closed.new ≡ closed.old }
+        ensures heard { self.new ≡ told_of_end closed.old.reader self.old }
+        ensures opens { OpensNone self.old.view self.new.view }
+        ensures knows { KnowsEndOf self.new closed.old.reader }
+    {
+        let end = closed.note(lane);
+        lane.words().hear_end(&mut self.seat, end);
     }
 }

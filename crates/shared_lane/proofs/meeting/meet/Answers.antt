@@ -77,6 +77,7 @@ returns-clause-reader g c = rw (← c.reader.view_is) (let s = c.reader.inside i
         shape ∙ sym old_shape,
         subst (λ (z : List Entry × List Entry). Begins z.0 z.1) (λ i. (sym seen i, told i)) met.1,
         table ∙ sym (ap (λ (z : ReaderSeen). z.table) c.reader.view_is ∙ c.requires.1.0),
+        ap (λ (x : Reading). x.opening) e,
       ),
       (
         subst (λ (z : ℕ). position r ≤ z) (sym there) le,

@@ -1,8 +1,9 @@
-use Rattle.std.proofs.Common.{arith, ◌≡◌, ◌≢◌, ℕ, ◌+◌, ◌<◌, List, [], ◌∷◌, ◌++◌, length, sym, ap, ◌∙◌, subst, length-append}
+use Rattle.std.proofs.Common.{arith, ◌≡◌, ◌≢◌, ℕ, ◌+◌, ◌<◌, List, [], ◌∷◌, ◌++◌, length, sym, ap, ◌∙◌, subst, ⊎_elim, length-append}
 use Rattle.lane_steps.specs.Law.{closed}
 use Rattle.lane_steps.specs.declared.view.Known.{Known}
 use Rattle.lane_steps.specs.Steps.{Surveyed, known_of}
-use Rattle.shared_lane.specs.Surveys.{Round, FoundAt}
+use Rattle.shared_lane.specs.Surveys.{Round, FoundAt, may_be_open}
+use Rattle.lane_steps.proofs.Lists.{which}
 use Rattle.shared_lane.proofs.Rounds.{visited, round_more, all_more, shut_at}
 use Rattle.shared_lane.proofs.survey.find_closed.Goals as goal
 
@@ -31,5 +32,6 @@ returns-then-load_cursor-clause-some g c = let inv = c.loop-place.invariant.1 in
         subst (λ (z : ℕ). Round FoundAt c.args.seat.now.me.0 (ns ++ z ∷ []) c.load_cursor.new.seat.me.0) shut (round_more FoundAt c.args.seat.now.me.0 c.loop-place.seat.me.0 c.load_cursor.new.seat.me.0 ns n inv.2 visit),
         inv.3,
         ap (λ (z : ℕ). (known_of c.load_cursor.new.seat.me.0.sequencing z).is_open) (sym long) ∙ (ap (λ (k : Known). k.is_open) visit.here ∙ shut_at n (known_of c.loop-place.seat.me.0.sequencing (length ns)) shut),
+        λ x before. ⊎_elim (λ o. o) (λ s. absurd (inv.3 x (omega arith) (inv.2.shut x (omega arith) s))) (which (may_be_open c.args.seat.now.me.0 x)),
       ),
     )

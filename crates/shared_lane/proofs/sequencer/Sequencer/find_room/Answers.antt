@@ -49,6 +49,7 @@ returns g c = rw (← c.self.view_is) (let s = c.self.inside in let inv = c.self
         }),
         f.2.only.shape,
         f.2.only.seen,
+        f.2.only.none_opened,
       );
       round = calm s.policy c.args.lag q (not b) w c.in_default.not-DropOldest (ns, long, f.2, subst (λ (z : ℕ × Bool). Behind z.0 c.args.lag ns z.1) (λ i. (inv.tail_is i, sym (not_not b) i)) f.3);
       calm = λ _. c.in_default.not-DropOldest;

@@ -14,7 +14,7 @@ loop-settled-preserved g c = let before = c.loop-settled.invariant in let found 
   same_twice q t u before.1 (same_twice t t' u (same_loaded t t' found) one.same.0),
   settled_more c.loop-settled.settled q t t' u before.2 found.2 (ap (λ (z : SequencerSeen). z.cache) found.0)
       (ap (λ (z : SequencerSeen). z.waiting) found.0, ap (λ (z : SequencerSeen). z.standing) found.0, ap (λ (z : SequencerSeen). z.ticket) found.0) (ap (λ (z : SequencerSeen). z.subscription) found.0) (found.1 ∙ before.1.1)
-      (ap (λ (z : SequencerSeen). z.replay) found.0 ∙ before.1.4) (rounded_later t.policy _ t _ t'.view c.find_room.ensures.round) one.settled,
+      (ap (λ (z : SequencerSeen). z.replay) found.0 ∙ before.1.4) (rounded_later t.policy _ t _ t'.view c.find_room.ensures.round) found.3 one.settled,
 )
 
 pub loop-settled-init : goal.loop-settled-init
