@@ -50,7 +50,7 @@ each_reader : (now : SharedSeen) (cache : List ℕ) (start reader : ReaderSeen) 
     → WasLetIn cache start → Lived start calls reader → at reader ≤ reader.shape.first + length reader.seen → Begins (seen now.sequencer) reader.seen
     → ReceivesCacheThenLater cache start (knowing now reader) (given calls)
 each_reader now cache start reader calls begun lived far begins =
-    let same : IsSameReader reader (knowing now reader) = (refl, refl, refl, begins, refl) in
+    let same : IsSameReader reader (knowing now reader) = (refl, refl, refl, begins, refl, refl) in
     let told = lived_more start reader (knowing now reader) calls None lived (heard now reader) same in
     let none : given (calls ++ None ∷ []) ≡ given calls = given_one calls None ∙ append-nil (given calls) in
     let longer : at reader ≤ reader.shape.first + length (seen now.sequencer) = let more = ap length begins.1 ∙ length-append reader.seen begins.0 in omega (arith, far, more) in

@@ -14,7 +14,7 @@ returns c = (
     (
       c.help.new.self.sequencer,
       (c.live-count.new.self, c.live-count.ensures.only, c.live-count.ensures.count, c.help.ensures.only),
-      (c.help.new.self.sequencer, inl refl, (refl, refl, refl)),
+      (c.help.new.self.sequencer, inl refl, (refl, refl, refl, λ p. refl)),
     ),
   ),
 )
