@@ -1,5 +1,5 @@
 //! Callers of the lane.
-ghost use Rattle.std.specs.Prelude.{◌≡◌, ◌+◌, ◌≤◌, ◌++◌, ◌∷◌, [], List, ℕ, Option, length, true, IfOk, IfSome};
+ghost use Rattle.std.specs.Prelude.{◌≡◌, ◌+◌, ◌<◌, ◌≤◌, ◌++◌, ◌∷◌, [], List, ℕ, Option, length, true, IfOk, IfSome};
 ghost use Rattle.shared_lane.specs.Headline.{Lived, given, gave, ReceivesCacheThenLater};
 ghost use Rattle.shared_lane.specs.Readers.{IsReaderOf, at};
 ghost use Rattle.shared_lane.specs.Sequencers.{IsSequencerOf, next};
@@ -8,7 +8,10 @@ ghost use Rattle.shared_lane.specs.declared.reader.Taken.TheVariants.{Nothing};
 
 use cold_flow::Refusal;
 use shared_core::Tried;
-use shared_lane::{Lane, Reader, Sequencer, Taken, each_reader_receives_cache_then_later};
+use shared_lane::{
+    Lane, Reader, Sequencer, Taken, each_reader_receives_cache_then_later,
+    ended_reader_is_counted_no_more,
+};
 use std::alloc::{AllocError, Allocator};
 
 /// Emits a word and tells a reader of it: where the reader finds nothing then, it is past this emission already.
@@ -83,4 +86,21 @@ pub fn taken_from_the_cache<A: Allocator, B: Allocator, C: Allocator>(
             Err(Refusal::NoMemory)
         }
     }
+}
+
+/// Lets a reader in for one attempt, and counts the readers after its end, of which the sequencer is told: fewer than there are
+/// places.
+pub fn attempted_and_counted<A: Allocator, B: Allocator>(
+    lane: &Lane<B>,
+    sequencer: &mut Sequencer<A>,
+) -> Result<(Taken<u64>, u32), Refusal>
+    requires { IsSequencerOf lane.now sequencer.old }
+    ensures { IfOk result (λ t. t.1 < lane.now.shape.places) }
+{
+    ended_reader_is_counted_no_more();
+    let mut reader = sequencer.admit(lane)?;
+    let taken = reader.try_next(lane);
+    let mut closed = reader.close(lane);
+    sequencer.told_end(lane, &mut closed);
+    Ok((taken, sequencer.live(lane)))
 }
