@@ -250,6 +250,25 @@ fn a_place_is_left_and_taken_a_thousand_times(rt: HostRuntime) -> Result<(), Fai
     Ok(())
 }
 
+/// A sequencer that is told of an end counts that reader no more, at its own lane alone. One that has opened the place again
+/// counts the next reader still.
+#[test]
+fn an_end_is_told(rt: HostRuntime) -> Result<(), Fail> {
+    let (lane, mut sequencer) = lane_of(rt.alloc(), SUSPENDS)?;
+    let (other_lane, mut other_sequencer) = lane_of(rt.alloc(), SUSPENDS)?;
+    let other = admitted(&rt, &other_lane, &mut other_sequencer);
+    let mut first = admitted(&rt, &lane, &mut sequencer).close(&lane);
+    sequencer.told_end(&lane, &mut first);
+    assert_same(&rt, "readers, told", sequencer.live(&lane), 0);
+    assert_same(&rt, "of another lane", other_sequencer.live(&other_lane), 1);
+    let second = admitted(&rt, &lane, &mut sequencer);
+    sequencer.told_end(&lane, &mut first);
+    assert_same(&rt, "readers, told again", sequencer.live(&lane), 1);
+    second.close(&lane);
+    other.close(&other_lane);
+    Ok(())
+}
+
 // A lane, made once more where memory was refused.
 fn made_at_last(alloc: Global, config: Config) -> Result<(Lane<Global>, Sequencer<Global>), Refusal>
     ensures { IfOk result (λ made. IsSequencerOf made.0 made.1) }
