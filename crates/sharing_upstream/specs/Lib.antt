@@ -5,3 +5,4 @@ pub mod Polls
 pub mod Courses
 pub mod Destinations
 pub mod Sharings
+pub mod Upstreams

@@ -23,6 +23,10 @@ progress_of started history = record {
   last = last_taken (entries_in started) history;
 }
 
+-- the rule that a strategy was made by
+abbrev pub started_by : Strategy → Started
+started_by strategy = strategy.started
+
 -- the strategy keeps what this history comes to
 pub record Shows (strategy : Strategy) (history : History) : Type 0 where
   pub latest_is : strategy.kept.latest ≡ latest history

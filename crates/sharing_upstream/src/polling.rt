@@ -3,9 +3,10 @@
 ghost use Rattle.std.specs.Prelude.{◌≡◌, None, IsTrue, IfOk, IfErr, OnErr};
 ghost use Rattle.futures.specs.Task.{IsArmed, Keeps};
 ghost use Rattle.flow_terms.specs.declared.refusal.Refusal.TheVariants.{NoMemory};
-ghost use Rattle.sharing_upstream.specs.Courses.{kept_cause, is_running};
+ghost use Rattle.sharing_upstream.specs.Shown.{started_by};
 ghost use Rattle.sharing_upstream.specs.Polls.{ShowsMore, Answers};
-ghost use Rattle.sharing_upstream.specs.Sharings.{ActsAt, IsRefusedAt};
+ghost use Rattle.sharing_upstream.specs.Sharings.{IsRefusedAt};
+ghost use Rattle.sharing_upstream.specs.Upstreams.{flow_of, course_of, has_run, cause_kept, PollsAt};
 
 use crate::destination::Destination;
 use crate::polled::Polled;
@@ -26,17 +27,17 @@ pub fn poll_sharing<T: Word, F: Flow<Item = T>, D: Destination<T>>(
     now: u64,
     cx: &mut Context<'_>,
 ) -> Result<Polled, Refusal>
-    ensures started { strategy.new.started ≡ strategy.old.started }
+    ensures started { started_by strategy.new ≡ started_by strategy.old }
     ensures shows { IfOk result (λ polled. ShowsMore strategy.old now polled.count strategy.new) }
-    ensures answers { IfOk result (Answers strategy.old (kept_cause upstream.old.course) now) }
-    ensures acts { IfOk result (λ polled. ActsAt (D.steps (D.kept destination.old)) (λ live. F.Running.may live.run) (λ live. F.Running.ended live.run)
-        (F.may upstream.old.flow) strategy.old now polled upstream.old.course (D.seen destination.old) upstream.new.course (D.seen destination.new)) }
-    ensures flow { upstream.new.flow ≡ upstream.old.flow }
+    ensures answers { IfOk result (Answers strategy.old (cause_kept upstream.old) now) }
+    ensures acts { IfOk result (λ polled. PollsAt (D.steps (D.kept destination.old)) F.Running.may F.Running.ended F.may strategy.old now polled
+        upstream.old (D.seen destination.old) upstream.new (D.seen destination.new)) }
+    ensures flow { flow_of upstream.new ≡ flow_of upstream.old }
     ensures kept { D.kept destination.new ≡ D.kept destination.old }
-    ensures err { OnErr result ((strategy.new ≡ strategy.old) × (upstream.new.course ≡ upstream.old.course)) }
-    ensures refused { IfErr result (λ refusal. (refusal ≡ NoMemory) × (kept_cause upstream.old.course ≡ None)) }
+    ensures err { OnErr result ((strategy.new ≡ strategy.old) × (course_of upstream.new ≡ course_of upstream.old)) }
+    ensures refused { IfErr result (λ refusal. (refusal ≡ NoMemory) × (cause_kept upstream.old ≡ None)) }
     ensures starts { IfErr result (λ _. IsRefusedAt (D.steps (D.kept destination.old)) strategy.old now (D.seen destination.old) (D.seen destination.new)) }
-    ensures armed { IfOk result (λ polled. IsTrue polled.on → IsTrue (is_running upstream.new.course) → IsArmed cx.new) }
+    ensures armed { IfOk result (λ polled. IsTrue polled.on → IsTrue (has_run upstream.new) → IsArmed cx.new) }
     ensures wakes { Keeps cx.old cx.new }
 {
     let count = destination.count();

@@ -1,7 +1,7 @@
 //! What a strategy commands over any list of polls.
 ghost use Rattle.std.specs.Prelude.{◌≡◌, length, map, reverse};
 ghost use Rattle.sharing_upstream.specs.Strategies.{commands, look_of};
-ghost use Rattle.sharing_upstream.specs.Shown.{Shows};
+ghost use Rattle.sharing_upstream.specs.Shown.{started_by, Shows};
 
 use crate::strategy::Strategy;
 use flow_terms::{Command, Started};
@@ -15,7 +15,7 @@ pub fn commands_of(
 ) -> Strategy
     requires { length answers.old ≡ length polls.now }
     ensures commands { answers.new ≡ commands started (map look_of polls.now) }
-    ensures started { result.started ≡ started }
+    ensures started { started_by result ≡ started }
     ensures shows { Shows result (reverse (map look_of polls.now)) }
 {
     let mut strategy = Strategy::new(started);

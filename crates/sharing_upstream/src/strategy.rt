@@ -1,7 +1,7 @@
 //! A strategy of sharing, poll by poll.
 ghost use Rattle.std.specs.Prelude.{◌≡◌, []};
 ghost use Rattle.sharing_upstream.specs.Strategies.{History, latest, is_on};
-ghost use Rattle.sharing_upstream.specs.Shown.{Shows, keeping};
+ghost use Rattle.sharing_upstream.specs.Shown.{started_by, Shows, keeping};
 ghost use Rattle.sharing_upstream.specs.Polls.{ShowsMore, Commands};
 
 use crate::audience::Audience;
@@ -22,7 +22,7 @@ pub struct Strategy {
 impl Strategy {
     /// A strategy that has seen no poll.
     pub fn new(started: Started) -> Strategy
-        ensures started { result.started ≡ started }
+        ensures started { started_by result ≡ started }
         ensures shows { Shows result [] }
     {
         let kept = Kept {
@@ -60,7 +60,7 @@ impl Strategy {
 
     /// One poll, at the moment `now`, which found `count` live subscriptions.
     pub fn step(&mut self, now: u64, count: u32) -> Option<Command>
-        ensures started { self.new.started ≡ self.old.started }
+        ensures started { started_by self.new ≡ started_by self.old }
         ensures commands { Commands self.old now count result }
         ensures shows { ShowsMore self.old now count self.new }
     {
@@ -71,7 +71,7 @@ impl Strategy {
 
     /// Whether sharing is on since the latest poll; before the first one it is off.
     pub fn on(&self) -> bool
-        ensures { (history : History) → Shows self.now history → result ≡ is_on self.now.started history }
+        ensures { (history : History) → Shows self.now history → result ≡ is_on (started_by self.now) history }
     {
         self.kept.on
     }

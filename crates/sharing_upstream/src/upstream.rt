@@ -5,8 +5,9 @@ ghost use Rattle.futures.specs.Poll.{OnPending};
 ghost use Rattle.futures.specs.Task.{IsArmed, Keeps};
 ghost use Rattle.cold_flow.specs.declared.cause.Cause.TheVariants.{Refused};
 ghost use Rattle.flow_terms.specs.declared.refusal.Refusal.TheVariants.{NoMemory};
-ghost use Rattle.sharing_upstream.specs.declared.course.Course.TheVariants.{Idle, Running, Broken};
-ghost use Rattle.sharing_upstream.specs.Courses.{IsNew, Asked, stopped, kept_cause, after_end};
+ghost use Rattle.sharing_upstream.specs.declared.course.Course.TheVariants.{Running, Broken};
+ghost use Rattle.sharing_upstream.specs.Courses.{IsNew, Asked, stopped, after_end};
+ghost use Rattle.sharing_upstream.specs.Upstreams.{cause_kept, IsUnstarted};
 
 use crate::course::Course;
 use crate::live_run::LiveRun;
@@ -26,7 +27,7 @@ pub struct Upstream<F: Flow> {
 impl<F: Flow> Upstream<F> {
     /// An upstream that wasn't started.
     pub fn new(flow: F) -> Upstream<F>
-        ensures { result ≡ record { flow = flow; course = Idle } }
+        ensures { IsUnstarted flow result }
     {
         Upstream {
             flow,
@@ -79,7 +80,7 @@ impl<F: Flow> Upstream<F> {
 
     /// Why it ended for good: a run failed or was refused, or a value of it was refused. None while it may go on.
     pub fn fault(&self) -> Option<Cause<F::Fault>>
-        ensures { result ≡ kept_cause self.now.course }
+        ensures { result ≡ cause_kept self.now }
     {
         match self.course {
             Course::Broken(cause) => Some(cause),
