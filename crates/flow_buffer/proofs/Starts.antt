@@ -6,7 +6,7 @@ use Rattle.flow_terms.specs.declared.policy.Policy.{Policy}
 use Rattle.flow_buffer.specs.declared.ending.Ending.TheVariants.{Going}
 use Rattle.flow_buffer.specs.declared.store.Store.{Store}
 use Rattle.flow_buffer.specs.Contents.{nothing}
-use Rattle.flow_buffer.specs.Delivery.{GivesFromEmpty, StoreGives}
+use Rattle.flow_buffer.specs.Delivery.{Delivered, StoreGives}
 use Rattle.flow_buffer.specs.Stored.{Shows}
 
 module _ {T E : Type 0} (capacity : ℕ) (policy : Policy) where
@@ -26,7 +26,8 @@ module _ {T E : Type 0} (capacity : ℕ) (policy : Policy) where
     gave_up = λ gave. cc;
   }
 
-  pub starts_giving : (s : Store T E) → s ≡ empty → (source running : Traces T E) → Within source running → GivesFromEmpty capacity policy source s running
+  pub starts_giving : (s : Store T E) → s ≡ empty → (source running : Traces T E) → Within source running
+      → Within (Delivered capacity policy [] source) (StoreGives s running)
   starts_giving s is source running within t h =
       let d = subst (λ (e : Store T E). StoreGives e running t) is h in
       record { produced = d.produced; came = within d.produced d.came; delivers = d.delivers }

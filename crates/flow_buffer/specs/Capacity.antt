@@ -1,6 +1,5 @@
 -- Which capacities a buffer may have.
 use Rattle.std.specs.Prelude.{ℕ, ◌==◌, nat_lt, if◌then◌else◌, Option, Some, None, ◌≡◌, ◌⊎◌}
-use Rattle.flow_terms.specs.declared.policy.Policy.{Policy}
 use Rattle.flow_terms.specs.declared.refusal.Refusal.{Refusal}
 use Rattle.flow_terms.specs.declared.refusal.Refusal.TheVariants.{TooLarge, NotPositive, NoMemory}
 
@@ -15,11 +14,6 @@ IsCapacity capacity = refused_capacity capacity ≡ None
 -- a buffer of that capacity is refused, with that refusal
 abbrev pub RefusesCapacity : ℕ → Refusal → Type 0
 RefusesCapacity capacity refusal = refused_capacity capacity ≡ Some refusal
-
--- a buffer was made of that source, with that capacity, which it may have, and that policy
-abbrev pub IsMadeOf : {F : Type 0} → F → ℕ → Policy → F → ℕ → Policy → Type 0
-IsMadeOf source capacity policy its_source its_capacity its_policy =
-    IsCapacity capacity × (its_source ≡ source) × (its_capacity ≡ capacity) × (its_policy ≡ policy)
 
 -- a capacity that a buffer may have was refused for want of memory alone
 abbrev pub WasRefused : ℕ → Refusal → Type 0

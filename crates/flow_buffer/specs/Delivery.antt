@@ -49,10 +49,6 @@ StoreGives s source t = Delivering s.held.capacity s.policy s.held.items s.endin
 abbrev pub store_polls : {T E : Type 0} → Store T E → Count → Count
 store_polls s source = polls_left s.ending (length s.held.items) source
 
--- a buffer's run gives no more than a buffer that holds nothing may give of its source
-abbrev pub GivesFromEmpty : {T E : Type 0} → ℕ → Policy → Traces T E → Store T E → Traces T E → Type 0
-GivesFromEmpty capacity policy source s running = Within (Delivered capacity policy [] source) (StoreGives s running)
-
 -- where all that the source may give is fixed, the same comes of it
 abbrev pub GivesWhole : {T E : Type 0} → Traces T E → Traces T E → Type 0
 GivesWhole {T} {E} source may = (whole : Trace T E) → Fixes whole source → Fixes whole may

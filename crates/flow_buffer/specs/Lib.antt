@@ -10,3 +10,4 @@ pub mod Channel
 pub mod Sides
 pub mod Fitting
 pub mod Feed
+pub mod Views

@@ -4,10 +4,7 @@ ghost use Rattle.std.specs.Prelude.{◌≡◌, ◌<◌, [], None, IfOk, IfErr, I
 ghost use Rattle.flow_terms.specs.declared.refusal.Refusal.TheVariants.{NoMemory};
 ghost use Rattle.cold_flow.specs.Poll.{Within, IsWithinPolls};
 ghost use Rattle.flow_buffer.specs.declared.ending.Ending.TheVariants.{Going};
-ghost use Rattle.flow_buffer.specs.Contents.{nothing};
-ghost use Rattle.flow_buffer.specs.Delivery.{Delivered, GivesFromEmpty, store_polls};
-ghost use Rattle.flow_buffer.specs.Endings.{given};
-ghost use Rattle.flow_buffer.specs.Stored.{Shows};
+ghost use Rattle.flow_buffer.specs.Delivery.{Delivered};
 
 use crate::buffered::Buffered;
 use crate::store::Store;
@@ -26,6 +23,7 @@ pub struct Buffer<F> {
 
 impl<F: Flow> Flow for Buffer<F> {
     ghost use Rattle.flow_buffer.specs.DeliveryLaws.{delivered_uncancelled};
+    ghost use Rattle.flow_buffer.specs.Views.{source_flow, nothing_in, source_run, ending_of, end_given, HasContents, polls_left_of, GivesFromEmpty};
 
     type Item = F::Item;
 
@@ -41,13 +39,13 @@ impl<F: Flow> Flow for Buffer<F> {
 
     /// Reserves the buffer's one ring, and starts the source.
     fn start(&self) -> Result<Buffered<F::Running>, Refusal>
-        ensures source { IfOk result (λ r. Within (F.may self.now.source) (F.Running.may r.source)) }
-        ensures going { IfOk result (λ r. r.store.ending ≡ Going) }
-        ensures begins { IfOk result (λ r. Shows r.store (nothing self.now.capacity self.now.policy)) }
-        ensures gives { IfOk result (λ r. GivesFromEmpty self.now.capacity self.now.policy (F.may self.now.source) r.store (F.Running.may r.source)) }
-        ensures fresh { IfOk result (λ r. given r.store.ending ≡ None) }
-        ensures lasts { IfOk result (λ r. IsWithinPolls (F.polls self.now.source) (store_polls r.store (F.Running.polls r.source))) }
-        ensures prompt { IfOk result (λ r. IsTrue (F.prompt self.now.source) → IsTrue (F.Running.prompt r.source)) }
+        ensures source { IfOk result (λ r. Within (F.may (source_flow self.now)) (F.Running.may (source_run r))) }
+        ensures going { IfOk result (λ r. ending_of r ≡ Going) }
+        ensures begins { IfOk result (λ r. HasContents r (nothing_in self.now)) }
+        ensures gives { IfOk result (λ r. GivesFromEmpty F.may F.Running.may self.now r) }
+        ensures fresh { IfOk result (λ r. end_given r ≡ None) }
+        ensures lasts { IfOk result (λ r. IsWithinPolls (F.polls (source_flow self.now)) (polls_left_of F.Running.polls r)) }
+        ensures prompt { IfOk result (λ r. IsTrue (F.prompt (source_flow self.now)) → IsTrue (F.Running.prompt (source_run r))) }
         ensures refused { IfErr result (λ e. e ≡ NoMemory) }
     {
         let store = Store::new(self.alloc, self.capacity, self.policy)?;

@@ -8,12 +8,10 @@ ghost use Rattle.cold_flow.specs.declared.event.Event.TheVariants.{End};
 ghost use Rattle.cold_flow.specs.Poll.{Narrows, Within, end_of, after_cancel, Approaches, IsReady};
 ghost use Rattle.cold_flow.specs.Polled.{Rests};
 ghost use Rattle.flow_terms.specs.declared.fill.Fill.TheVariants.{Pending};
-ghost use Rattle.flow_buffer.specs.Buffered.{Fills, Takes, Cancels};
 ghost use Rattle.flow_buffer.specs.Contents.{Contents, taken_of, dropped_of};
 ghost use Rattle.flow_buffer.specs.Delivery.{StoreGives, store_polls};
 ghost use Rattle.flow_buffer.specs.Endings.{is_going, seen, given};
 ghost use Rattle.flow_buffer.specs.Sides.{saturated};
-ghost use Rattle.flow_buffer.specs.Stored.{Shows};
 
 use crate::ending::Ending;
 use crate::store::Store;
@@ -34,14 +32,16 @@ pub struct Buffered<S: Run> {
 }
 
 impl<S: Run> Buffered<S> {
+    ghost use Rattle.flow_buffer.specs.Views.{source_run, HasContents, may_give, FillsOnce};
+
     /// Fills the buffer once: asks the source, unless the buffer is full under `Policy::Suspend` or the end was seen, and
     /// puts its answer.
     ///
     /// Where it answers `Fill::Pending`, the task is woken once the source may have more.
     pub fn poll_fill(&mut self, cx: &mut Context<'_>) -> Fill
-        ensures fills { Fills S.may self.old.source self.old.store result self.new.source self.new.store }
-        ensures narrows { Within (StoreGives self.old.store (S.may self.old.source)) (StoreGives self.new.store (S.may self.new.source)) }
-        ensures waits { result ≡ Pending → S.polled self.old.source Waiting self.new.source }
+        ensures fills { FillsOnce S.may self.old result self.new }
+        ensures narrows { Within (may_give S.may self.old) (may_give S.may self.new) }
+        ensures waits { result ≡ Pending → S.polled (source_run self.old) Waiting (source_run self.new) }
         ensures armed { result ≡ Pending → IsArmed cx.new }
         ensures kept { Keeps cx.old cx.new }
     {
@@ -63,14 +63,14 @@ impl<S: Run> Buffered<S> {
 
     /// How many values were taken: a count that stays at 2^64 - 1 once it is there.
     pub fn taken_count(&self) -> u64
-        ensures { (contents : Contents S.Item) → Shows self.now.store contents → result ≡ saturated (length (taken_of contents)) }
+        ensures { (contents : Contents S.Item) → HasContents self.now contents → result ≡ saturated (length (taken_of contents)) }
     {
         self.store.taken
     }
 
     /// How many values were dropped by the policy: a count that stays at 2^64 - 1 once it is there.
     pub fn dropped_count(&self) -> u64
-        ensures { (contents : Contents S.Item) → Shows self.now.store contents → result ≡ saturated (length (dropped_of contents)) }
+        ensures { (contents : Contents S.Item) → HasContents self.now contents → result ≡ saturated (length (dropped_of contents)) }
     {
         self.store.dropped
     }
@@ -78,6 +78,7 @@ impl<S: Run> Buffered<S> {
 
 impl<S: Run> Run for Buffered<S> {
     ghost use Rattle.flow_buffer.specs.DeliveryLaws.{delivering_begins, delivering_over};
+    ghost use Rattle.flow_buffer.specs.Views.{source_run, end_seen, end_given, may_give, polls_left_of, TakesOnce, GivesUpAll};
 
     type Item = S::Item;
 
@@ -99,14 +100,15 @@ impl<S: Run> Run for Buffered<S> {
     /// Gives the oldest held value without asking the source. Where none is held, it fills once and gives the value or the
     /// end that came; the end comes once none is held.
     fn poll_next(&mut self, cx: &mut Context<'_>) -> Poll<Event<S::Item, S::Fault>>
-        ensures takes { Takes S.may self.old.source self.old.store result self.new.source self.new.store }
-        ensures narrows { Narrows (StoreGives self.old.store (S.may self.old.source)) result (StoreGives self.new.store (S.may self.new.source)) }
-        ensures ends { given self.new.store.ending ≡ end_of result }
-        ensures stops { IsSome (end_of result) → IsTrue (S.stopped self.new.source) }
-        ensures stays { (k : _) → given self.old.store.ending ≡ Some k → result ≡ Ready (End k) }
-        ensures approaches { Approaches (store_polls self.old.store (S.polls self.old.source)) result (store_polls self.new.store (S.polls self.new.source)) }
-        ensures prompt { IsTrue (S.prompt self.old.source) → IsReady result × IsTrue (S.prompt self.new.source) }
-        ensures polled { OnPending result (S.polled self.old.source Waiting self.new.source) × Rests (seen self.old.store.ending) self.old.source self.new.source }
+        ensures takes { TakesOnce S.may self.old result self.new }
+        ensures narrows { Narrows (may_give S.may self.old) result (may_give S.may self.new) }
+        ensures ends { end_given self.new ≡ end_of result }
+        ensures stops { IsSome (end_of result) → IsTrue (S.stopped (source_run self.new)) }
+        ensures stays { (k : _) → end_given self.old ≡ Some k → result ≡ Ready (End k) }
+        ensures approaches { Approaches (polls_left_of S.polls self.old) result (polls_left_of S.polls self.new) }
+        ensures prompt { IsTrue (S.prompt (source_run self.old)) → IsReady result × IsTrue (S.prompt (source_run self.new)) }
+        ensures polled { OnPending result (S.polled (source_run self.old) Waiting (source_run self.new))
+            × Rests (end_seen self.old) (source_run self.old) (source_run self.new) }
         ensures armed { OnPending result (IsArmed cx.new) }
         ensures kept { Keeps cx.old cx.new }
     {
@@ -131,9 +133,9 @@ impl<S: Run> Run for Buffered<S> {
 
     /// Cancels the source and gives up what is held; both counts stay. Where the end was given, it changes nothing.
     fn cancel(&mut self)
-        ensures cancels { Cancels self.old.store self.new.store }
-        ensures ends { given self.new.store.ending ≡ Some (after_cancel (given self.old.store.ending)) }
-        ensures stops { IsTrue (S.stopped self.new.source) }
+        ensures cancels { GivesUpAll self.old self.new }
+        ensures ends { end_given self.new ≡ Some (after_cancel (end_given self.old)) }
+        ensures stops { IsTrue (S.stopped (source_run self.new)) }
     {
         if let Ending::Given(_) = self.store.ending {
             return;

@@ -1,14 +1,13 @@
 //! The side of a buffer between two threads that puts values in.
 
-ghost use Rattle.std.specs.Prelude.{◌≡◌, ◌≢◌, ◌||◌, Option, Some, None, IsTrue, IsSome, MatchOption, is_none};
+ghost use Rattle.std.specs.Prelude.{◌≡◌, ◌≢◌, ◌||◌, Option, Some, None, IsTrue, IsSome, is_none};
 ghost use Rattle.futures.specs.Poll.{OnPending};
 ghost use Rattle.futures.specs.Task.{IsArmed, Keeps};
 ghost use Rattle.futures.specs.declared.task.Poll.TheVariants.{Pending as Waiting};
 ghost use Rattle.cold_flow.specs.Poll.{end_of};
-ghost use Rattle.cold_flow.specs.Polled.{WasCancelled};
 ghost use Rattle.flow_terms.specs.declared.fill.Fill.TheVariants.{Pending};
 ghost use Rattle.flow_buffer.specs.Sides.{saturated, drops, seen_end};
-ghost use Rattle.flow_buffer.specs.Feed.{Brings, Pumps, MayPump, Closes};
+ghost use Rattle.flow_buffer.specs.Feed.{Brings, Closes};
 
 use crate::inlet::Inlet;
 use cold_flow::{Cause, Event, Run};
@@ -27,6 +26,8 @@ pub struct Feed<U: Run> {
 }
 
 impl<U: Run> Feed<U> {
+    ghost use Rattle.flow_buffer.specs.Views.{upstream_of, feeding, PumpsOnce, MayPumpOnce, EndsUpstream};
+
     /// Asks the upstream once, and puts its answer into the buffer. What [`Feed::try_pump`] left waiting is put first, and then
     /// the upstream isn't asked.
     ///
@@ -35,8 +36,8 @@ impl<U: Run> Feed<U> {
     /// `Fill::Overwrote` and `Fill::Dropped` come only where the buffer was full when the last value had been put in. That it
     /// still was full in this call isn't claimed: a feed learns how many values the buffer holds only by putting one in.
     pub fn pump(&mut self, rt: &impl Wait, cx: &mut Context<'_>) -> Fill
-        ensures pumps { Pumps U.may self.old.upstream self.old.inlet result self.new.upstream self.new.inlet }
-        ensures waits { result ≡ Pending → U.polled self.old.upstream Waiting self.new.upstream }
+        ensures pumps { PumpsOnce U.may self.old result self.new }
+        ensures waits { result ≡ Pending → U.polled (upstream_of self.old) Waiting (upstream_of self.new) }
         ensures armed { result ≡ Pending → IsArmed cx.new }
         ensures kept { Keeps cx.old cx.new }
     {
@@ -60,8 +61,8 @@ impl<U: Run> Feed<U> {
     /// and asks the upstream nothing before it is put. `None` comes only where the buffer was full when the last value had been
     /// put in. That it still was full in this call isn't claimed.
     pub fn try_pump(&mut self, rt: &impl Wait, cx: &mut Context<'_>) -> Option<Fill>
-        ensures pumps { MayPump U.may self.old.upstream self.old.inlet result self.new.upstream self.new.inlet }
-        ensures waits { result ≡ Some Pending → U.polled self.old.upstream Waiting self.new.upstream }
+        ensures pumps { MayPumpOnce U.may self.old result self.new }
+        ensures waits { result ≡ Some Pending → U.polled (upstream_of self.old) Waiting (upstream_of self.new) }
         ensures armed { result ≡ Some Pending → IsArmed cx.new }
         ensures kept { Keeps cx.old cx.new }
     {
@@ -98,7 +99,7 @@ impl<U: Run> Feed<U> {
 
     /// How many values were dropped: a count that stays at 2^64 - 1 once it is there.
     pub fn dropped_count(&self) -> u64
-        ensures { result ≡ saturated (drops self.now.inlet.produced) }
+        ensures { result ≡ saturated (drops (feeding self.now).produced) }
     {
         self.inlet.dropped_count()
     }
@@ -106,7 +107,7 @@ impl<U: Run> Feed<U> {
     /// Puts what waits, cancels the upstream and sends the drain `Cause::Cancelled`; each waits for a place. Where the upstream's
     /// end was sent before or waits, it sends no other, and the upstream has stopped.
     pub fn cancel(mut self, rt: &impl Wait)
-        ensures source { MatchOption (seen_end self.inlet.sent self.inlet.waiting) (WasCancelled U.cancelled U.stopped self.upstream) (λ _. IsTrue (U.stopped self.upstream)) }
+        ensures source { EndsUpstream U.cancelled U.stopped self }
     {
         // What it does is what `close` ensures, and `spend` takes no feed without that.
         self.close(rt);

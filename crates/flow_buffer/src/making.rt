@@ -5,8 +5,9 @@ ghost use Rattle.cold_flow.specs.declared.cause.Cause.{Cause};
 ghost use Rattle.flow_terms.specs.declared.policy.Policy.TheVariants.{Suspend, DropOldest};
 ghost use Rattle.cold_flow.specs.Trace.{ended_by};
 ghost use Rattle.cold_flow.specs.Poll.{Within, IsWithinPolls};
-ghost use Rattle.flow_buffer.specs.Capacity.{IsMadeOf, RefusesCapacity};
+ghost use Rattle.flow_buffer.specs.Capacity.{RefusesCapacity};
 ghost use Rattle.flow_buffer.specs.Delivery.{Delivered, GivesWhole, GivesLatest};
+ghost use Rattle.flow_buffer.specs.Views.{IsMadeOf};
 
 use crate::buffer_flow::Buffer;
 use crate::capacity::checked;
@@ -25,7 +26,7 @@ pub fn buffer<F: Flow>(
     capacity: u64,
     policy: Policy,
 ) -> Result<Buffer<F>, Refusal>
-    ensures made { MatchResult result (λ made. IsMadeOf source capacity policy made.source made.capacity made.policy) (RefusesCapacity capacity) }
+    ensures made { MatchResult result (IsMadeOf source capacity policy) (RefusesCapacity capacity) }
     ensures gives { IfOk result (λ made. Within (Delivered capacity policy [] (F.may source)) (⟦<Buffer<F> as Flow>⟧.may made)) }
     ensures exact { IfOk result (λ made. policy ≡ Suspend → GivesWhole (F.may source) (⟦<Buffer<F> as Flow>⟧.may made)) }
     ensures latest { IfOk result (λ made. policy ≡ DropOldest → GivesLatest (F.may source) (⟦<Buffer<F> as Flow>⟧.may made)) }
@@ -44,9 +45,7 @@ pub fn buffer<F: Flow>(
 /// Keeps only the latest value that the collector did not take yet: Kotlin's `conflate`, a buffer of capacity 1 under
 /// `Policy::DropOldest`. A run that ends gave the last value of its source last.
 pub fn conflate<F: Flow>(alloc: Global, source: F) -> Buffer<F>
-    ensures source { result.source ≡ source }
-    ensures capacity { result.capacity ≡ 1 }
-    ensures policy { result.policy ≡ DropOldest }
+    ensures made { IsMadeOf source 1 DropOldest result }
     ensures gives { Within (Delivered 1 DropOldest [] (F.may source)) (⟦<Buffer<F> as Flow>⟧.may result) }
     ensures latest { GivesLatest (F.may source) (⟦<Buffer<F> as Flow>⟧.may result) }
     ensures lasts { IsWithinPolls (F.polls source) (⟦<Buffer<F> as Flow>⟧.polls result) }

@@ -4,6 +4,7 @@ ghost use Rattle.std.specs.Prelude.{◌≡◌, ◌≢◌, ◌+◌, map, false, l
 ghost use Rattle.cold_flow.specs.Polled.{WasCancelled};
 ghost use Rattle.flow_buffer.specs.Channel.{Agree};
 ghost use Rattle.flow_buffer.specs.Sides.{drops};
+ghost use Rattle.flow_buffer.specs.Views.{upstream_of, feeding};
 
 use crate::drain::Drain;
 use crate::feed::Feed;
@@ -15,12 +16,12 @@ use cold_flow::Run;
 /// drain's end is the one that the feed sent. Then taken and dropped values are all that were produced, and none waits;
 /// under `Policy::Suspend` the taken ones are the produced ones, in order.
 pub fn agree<U: Run>(feed: Feed<U>, drain: Drain<U::Item, U::Fault>)
-    requires { drain.channel ≡ feed.inlet.channel }
-    ensures source { WasCancelled U.cancelled U.stopped feed.upstream }
-    ensures agree { Agree feed.inlet.produced feed.inlet.sent drain.taken drain.end drain.history }
-    ensures put { drain.end ≢ None → feed.inlet.waiting ≡ None }
-    ensures all { drain.end ≢ None → length drain.taken + drops feed.inlet.produced ≡ length feed.inlet.produced }
-    ensures whole { drain.end ≢ None → drain.lossy ≡ false → map (λ e. e.1) drain.taken ≡ map (λ e. e.1) feed.inlet.produced }
+    requires { drain.channel ≡ (feeding feed).channel }
+    ensures source { WasCancelled U.cancelled U.stopped (upstream_of feed) }
+    ensures agree { Agree (feeding feed).produced (feeding feed).sent drain.taken drain.end drain.history }
+    ensures put { drain.end ≢ None → (feeding feed).waiting ≡ None }
+    ensures all { drain.end ≢ None → length drain.taken + drops (feeding feed).produced ≡ length (feeding feed).produced }
+    ensures whole { drain.end ≢ None → drain.lossy ≡ false → map (λ e. e.1) drain.taken ≡ map (λ e. e.1) (feeding feed).produced }
 {
     let Feed {
         mut upstream,

@@ -4,6 +4,7 @@ ghost use Rattle.std.specs.Prelude.{◌≡◌, ◌<◌, [], Option, None, IfOk, 
 ghost use Rattle.cold_flow.specs.Poll.{Within};
 ghost use Rattle.flow_buffer.specs.Capacity.{refused_capacity, WasRefused};
 ghost use Rattle.flow_buffer.specs.Sides.{may_drop};
+ghost use Rattle.flow_buffer.specs.Views.{upstream_of, feeding};
 
 use crate::capacity::checked;
 use crate::drain::Drain;
@@ -27,9 +28,9 @@ pub fn split<F: Flow>(
     policy: Policy,
 ) -> Result<(Feed<F::Running>, Drain<F::Item, F::Fault>), Refusal>
     ensures capacity { IfOk result (λ r. refused_capacity capacity ≡ None) }
-    ensures started { IfOk result (λ r. Within (F.may source) (F.Running.may r.0.upstream)) }
-    ensures feed { IfOk result (λ r. r.0.inlet ≡ record { channel = r.1.channel; capacity = capacity; policy = policy; produced = []; level = 0; waiting = None; sent = None }) }
-    ensures drain { IfOk result (λ r. r.1 ≡ record { channel = r.0.inlet.channel; lossy = may_drop policy; taken = []; end = None; history = [] }) }
+    ensures started { IfOk result (λ r. Within (F.may source) (F.Running.may (upstream_of r.0))) }
+    ensures feed { IfOk result (λ r. feeding r.0 ≡ record { channel = r.1.channel; capacity = capacity; policy = policy; produced = []; level = 0; waiting = None; sent = None }) }
+    ensures drain { IfOk result (λ r. r.1 ≡ record { channel = (feeding r.0).channel; lossy = may_drop policy; taken = []; end = None; history = [] }) }
     ensures refused { IfErr result (λ refusal. WasRefused capacity refusal) }
 {
     let places = checked(capacity)?;

@@ -7,8 +7,8 @@ pub returns-clause-latest : goal.returns-clause-latest
 returns-clause-latest g c = gives_latest 1 DropOldest refl _
 
 -- A wrong body makes these false: so answered, it is refused at once.
-pub returns-clause-policy : goal.returns-clause-policy
-returns-clause-policy g c = search rules
+pub returns-clause-made : goal.returns-clause-made
+returns-clause-made g c = search rules
 
 pub returns-clause-gives : goal.returns-clause-gives
 returns-clause-gives g c = search rules
