@@ -1,2 +1,4 @@
 pub mod FlowDestinations
 pub mod StateDestinations
+pub mod Sharings
+pub mod StateSharings

@@ -2,8 +2,9 @@
 
 ghost use Rattle.std.specs.Prelude.{◌≡◌, [], None, IfOk, IsOkUnless};
 ghost use Rattle.shared_flow.specs.Parties.{named};
-ghost use Rattle.sharing_upstream.specs.declared.course.Course.TheVariants.{Idle};
-ghost use Rattle.sharing_upstream.specs.Shown.{Shows};
+ghost use Rattle.sharing_upstream.specs.Shown.{started_by, Shows};
+ghost use Rattle.sharing_upstream.specs.Upstreams.{IsUnstarted};
+ghost use Rattle.flow_sharing.specs.Sharings.{shared_by, waiting_in, upstream_of, strategy_of};
 
 use crate::sharing::{Sharing, leave};
 use cold_flow::{Flow, Refusal, Word};
@@ -21,10 +22,10 @@ pub fn share_in<T: Word, F: Flow<Item = T>>(
     upstream: F,
     started: Started,
 ) -> Result<Sharing<T, F>, Refusal>
-    ensures flow { IfOk result (λ sharing. named sharing.flow.party ≡ named flow.old.party) }
-    ensures upstream { IfOk result (λ sharing. sharing.upstream ≡ record { flow = upstream; course = Idle }) }
-    ensures idle { IfOk result (λ sharing. sharing.outlet.waiting ≡ None) }
-    ensures started { IfOk result (λ sharing. (sharing.strategy.started ≡ started) × Shows sharing.strategy []) }
+    ensures flow { IfOk result (λ sharing. shared_by sharing ≡ named flow.old.party) }
+    ensures upstream { IfOk result (λ sharing. IsUnstarted upstream (upstream_of sharing)) }
+    ensures idle { IfOk result (λ sharing. waiting_in sharing ≡ None) }
+    ensures started { IfOk result (λ sharing. (started_by (strategy_of sharing) ≡ started) × Shows (strategy_of sharing) []) }
     ensures memory { IsOkUnless result Refusal.NoMemory }
     ensures same { flow.new ≡ flow.old }
 {

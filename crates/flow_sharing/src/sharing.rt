@@ -5,12 +5,9 @@ ghost use Rattle.futures.specs.Task.{IsArmed, Keeps};
 ghost use Rattle.flow_terms.specs.declared.refusal.Refusal.TheVariants.{NoMemory};
 ghost use Rattle.flow_terms.specs.declared.answers.Withdrawn.TheVariants as withdrawn;
 ghost use Rattle.shared_flow.specs.Parties.{IfLeft, named};
-ghost use Rattle.sharing_upstream.specs.declared.course.Course.TheVariants.{Idle};
-ghost use Rattle.sharing_upstream.specs.Courses.{kept_cause, is_running};
-ghost use Rattle.sharing_upstream.specs.Shown.{Shows};
+ghost use Rattle.sharing_upstream.specs.Shown.{started_by, Shows};
 ghost use Rattle.sharing_upstream.specs.Polls.{ShowsMore, Answers};
-ghost use Rattle.flow_sharing.specs.FlowDestinations.{emitting};
-ghost use Rattle.sharing_upstream.specs.Sharings.{ActsAt, IsRefusedAt};
+ghost use Rattle.sharing_upstream.specs.Upstreams.{flow_of, has_run, cause_kept, IsUnstarted};
 
 use crate::flow_destination::FlowDestination;
 use crate::outlet::Outlet;
@@ -39,6 +36,8 @@ pub struct Sharing<T: Word, F: Flow<Item = T>> {
 pub(crate) fn leave<T: Word>(_flow: SharedFlow<T>) {}
 
 impl<T: Word, F: Flow<Item = T>> Sharing<T, F> {
+    ghost use Rattle.flow_sharing.specs.Sharings.{shared_by, waiting_in, upstream_of, strategy_of, SharesAt, RefusesAt, IsAsBefore};
+
     // The sharing of an upstream that wasn't started, into the flow of an owner and of an emitter without an emission in flight.
     pub(crate) fn over(
         flow: SharedFlow<T>,
@@ -50,9 +49,9 @@ impl<T: Word, F: Flow<Item = T>> Sharing<T, F> {
         requires id { emitter.id ≡ 0 }
         requires idle { emitter.ticket ≡ None }
         ensures flow { result.flow ≡ flow }
-        ensures upstream { result.upstream ≡ record { flow = upstream; course = Idle } }
+        ensures upstream { IsUnstarted upstream result.upstream }
         ensures idle { result.outlet.waiting ≡ None }
-        ensures started { result.strategy.started ≡ started }
+        ensures started { started_by result.strategy ≡ started }
         ensures shows { Shows result.strategy [] }
     {
         Sharing {
@@ -81,19 +80,15 @@ impl<T: Word, F: Flow<Item = T>> Sharing<T, F> {
         now: u64,
         cx: &mut Context<'_>,
     ) -> Result<Polled, Refusal>
-        ensures started { self.new.strategy.started ≡ self.old.strategy.started }
-        ensures shows { IfOk result (λ polled. ShowsMore self.old.strategy now polled.count self.new.strategy) }
-        ensures answers { IfOk result (Answers self.old.strategy (kept_cause self.old.upstream.course) now) }
-        ensures acts { IfOk result (λ polled. ActsAt (emitting self.old.flow.party.flow) (λ live. F.Running.may live.run) (λ live. F.Running.ended live.run)
-            (F.may self.old.upstream.flow) self.old.strategy now polled
-            self.old.upstream.course self.old.outlet.waiting self.new.upstream.course self.new.outlet.waiting) }
-        ensures same { (named self.new.flow.party ≡ named self.old.flow.party) × (self.new.upstream.flow ≡ self.old.upstream.flow) }
-        ensures err { OnErr result ((self.new.strategy ≡ self.old.strategy) × (self.new.upstream.course ≡ self.old.upstream.course)
-            × (self.new.outlet.waiting ≡ self.old.outlet.waiting)) }
-        ensures refused { IfErr result (λ refusal. (refusal ≡ NoMemory) × (kept_cause self.old.upstream.course ≡ None)) }
-        ensures starts { IfErr result (λ _. IsRefusedAt (emitting self.old.flow.party.flow) self.old.strategy now
-            self.old.outlet.waiting self.new.outlet.waiting) }
-        ensures armed { IfOk result (λ polled. IsTrue polled.on → IsTrue (is_running self.new.upstream.course) → IsArmed cx.new) }
+        ensures started { started_by (strategy_of self.new) ≡ started_by (strategy_of self.old) }
+        ensures shows { IfOk result (λ polled. ShowsMore (strategy_of self.old) now polled.count (strategy_of self.new)) }
+        ensures answers { IfOk result (Answers (strategy_of self.old) (cause_kept (upstream_of self.old)) now) }
+        ensures acts { IfOk result (λ polled. SharesAt F.Running.may F.Running.ended F.may self.old now polled self.new) }
+        ensures same { (shared_by self.new ≡ shared_by self.old) × (flow_of (upstream_of self.new) ≡ flow_of (upstream_of self.old)) }
+        ensures err { OnErr result (IsAsBefore self.old self.new) }
+        ensures refused { IfErr result (λ refusal. (refusal ≡ NoMemory) × (cause_kept (upstream_of self.old) ≡ None)) }
+        ensures starts { IfErr result (λ _. RefusesAt self.old now self.new) }
+        ensures armed { IfOk result (λ polled. IsTrue polled.on → IsTrue (has_run (upstream_of self.new)) → IsArmed cx.new) }
         ensures kept { Keeps cx.old cx.new }
     {
         let mut destination = FlowDestination {
@@ -112,7 +107,7 @@ impl<T: Word, F: Flow<Item = T>> Sharing<T, F> {
 
     /// Why sharing ended for good: a failure of a run, or a refusal by a run or by an emission. None while it may go on.
     pub fn fault(&self) -> Option<Cause<F::Fault>>
-        ensures { result ≡ kept_cause self.now.upstream.course }
+        ensures { result ≡ cause_kept (upstream_of self.now) }
     {
         self.upstream.fault()
     }
@@ -122,7 +117,7 @@ impl<T: Word, F: Flow<Item = T>> Sharing<T, F> {
     /// `Removed` where that was never accepted. `Left` where it was accepted: its value stays with its subscriptions. `Gone` where none
     /// waited.
     pub fn close(self, rt: &impl Wait) -> Withdrawn<Receipt>
-        ensures idle { self.outlet.waiting ≡ None → result ≡ withdrawn.Gone }
+        ensures idle { waiting_in self ≡ None → result ≡ withdrawn.Gone }
         ensures receipt { IfLeft result (λ receipt. receipt.emitter ≡ 0) }
     {
         let Sharing {

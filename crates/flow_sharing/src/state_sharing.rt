@@ -3,12 +3,10 @@ ghost use Rattle.std.specs.Prelude.{◌≡◌, [], None, IsTrue, IfOk, IfErr, On
 ghost use Rattle.futures.specs.Task.{IsArmed, Keeps};
 ghost use Rattle.flow_terms.specs.declared.refusal.Refusal.TheVariants.{NoMemory};
 ghost use Rattle.state_flow.specs.Calls.{Sets};
-ghost use Rattle.sharing_upstream.specs.declared.course.Course.TheVariants.{Idle};
-ghost use Rattle.sharing_upstream.specs.Shown.{Shows};
-ghost use Rattle.sharing_upstream.specs.Courses.{kept_cause, is_running};
+ghost use Rattle.sharing_upstream.specs.Shown.{started_by, Shows};
 ghost use Rattle.sharing_upstream.specs.Polls.{ShowsMore, Answers};
-ghost use Rattle.flow_sharing.specs.StateDestinations.{setting};
-ghost use Rattle.sharing_upstream.specs.Sharings.{ActsAt, IsRefusedAt};
+ghost use Rattle.sharing_upstream.specs.Upstreams.{flow_of, course_of, has_run, cause_kept, IsUnstarted};
+ghost use Rattle.flow_sharing.specs.StateSharings.{seat_of, initial_of, upstream_of, strategy_of, SetsAt, RefusesAt};
 
 use crate::state_destination::StateDestination;
 use cold_flow::{Cause, Flow, Refusal, Word};
@@ -38,12 +36,12 @@ pub fn state_in<T: Word, F: Flow<Item = T>, A: Allocator>(
     upstream: F,
     started: Started,
 ) -> StateSharing<T, F, A>
-    ensures same_flow { result.seat.flow ≡ seat.flow }
-    ensures sets { Sets seat.view initial result.seat.view }
-    ensures initial { result.initial ≡ initial }
-    ensures upstream { result.upstream ≡ record { flow = upstream; course = Idle } }
-    ensures started { result.strategy.started ≡ started }
-    ensures shows { Shows result.strategy [] }
+    ensures same_flow { (seat_of result).flow ≡ seat.flow }
+    ensures sets { Sets seat.view initial (seat_of result).view }
+    ensures initial { initial_of result ≡ initial }
+    ensures upstream { IsUnstarted upstream (upstream_of result) }
+    ensures started { started_by (strategy_of result) ≡ started }
+    ensures shows { Shows (strategy_of result) [] }
 {
     let mut seat = seat;
     seat.set(initial);
@@ -63,18 +61,17 @@ impl<T: Word, F: Flow<Item = T>, A: Allocator> StateSharing<T, F, A> {
     /// Refused with 4 where a start of the upstream is; then the sharing is as before, its latest moment too. An upstream that
     /// failed, or whose run was refused, ends sharing for good: from the next poll on it is off, and nothing is reset.
     pub fn poll(&mut self, now: u64, cx: &mut Context<'_>) -> Result<Polled, Refusal>
-        ensures started { self.new.strategy.started ≡ self.old.strategy.started }
-        ensures shows { IfOk result (λ polled. ShowsMore self.old.strategy now polled.count self.new.strategy) }
-        ensures answers { IfOk result (Answers self.old.strategy (kept_cause self.old.upstream.course) now) }
-        ensures acts { IfOk result (λ polled. ActsAt (setting self.old.initial) (λ live. F.Running.may live.run) (λ live. F.Running.ended live.run)
-            (F.may self.old.upstream.flow) self.old.strategy now polled
-            self.old.upstream.course self.old.seat.view self.new.upstream.course self.new.seat.view) }
-        ensures same { (self.new.seat.flow ≡ self.old.seat.flow) × (self.new.initial ≡ self.old.initial)
-            × (self.new.upstream.flow ≡ self.old.upstream.flow) }
-        ensures err { OnErr result ((self.new.strategy ≡ self.old.strategy) × (self.new.upstream.course ≡ self.old.upstream.course)) }
-        ensures refused { IfErr result (λ refusal. (refusal ≡ NoMemory) × (kept_cause self.old.upstream.course ≡ None)) }
-        ensures starts { IfErr result (λ _. IsRefusedAt (setting self.old.initial) self.old.strategy now self.old.seat.view self.new.seat.view) }
-        ensures armed { IfOk result (λ polled. IsTrue polled.on → IsTrue (is_running self.new.upstream.course) → IsArmed cx.new) }
+        ensures started { started_by (strategy_of self.new) ≡ started_by (strategy_of self.old) }
+        ensures shows { IfOk result (λ polled. ShowsMore (strategy_of self.old) now polled.count (strategy_of self.new)) }
+        ensures answers { IfOk result (Answers (strategy_of self.old) (cause_kept (upstream_of self.old)) now) }
+        ensures acts { IfOk result (λ polled. SetsAt F.Running.may F.Running.ended F.may self.old now polled self.new) }
+        ensures same { ((seat_of self.new).flow ≡ (seat_of self.old).flow) × (initial_of self.new ≡ initial_of self.old)
+            × (flow_of (upstream_of self.new) ≡ flow_of (upstream_of self.old)) }
+        ensures err { OnErr result ((strategy_of self.new ≡ strategy_of self.old)
+            × (course_of (upstream_of self.new) ≡ course_of (upstream_of self.old))) }
+        ensures refused { IfErr result (λ refusal. (refusal ≡ NoMemory) × (cause_kept (upstream_of self.old) ≡ None)) }
+        ensures starts { IfErr result (λ _. RefusesAt self.old now self.new) }
+        ensures armed { IfOk result (λ polled. IsTrue polled.on → IsTrue (has_run (upstream_of self.new)) → IsArmed cx.new) }
         ensures kept { Keeps cx.old cx.new }
     {
         let mut destination = StateDestination {
@@ -92,7 +89,7 @@ impl<T: Word, F: Flow<Item = T>, A: Allocator> StateSharing<T, F, A> {
 
     /// Why sharing ended for good: the upstream failed, or a run of it was refused. None as long as it hasn't.
     pub fn fault(&self) -> Option<Cause<F::Fault>>
-        ensures { result ≡ kept_cause self.now.upstream.course }
+        ensures { result ≡ cause_kept (upstream_of self.now) }
     {
         self.upstream.fault()
     }
@@ -100,7 +97,7 @@ impl<T: Word, F: Flow<Item = T>, A: Allocator> StateSharing<T, F, A> {
     /// Ends the sharing, cancels the run of its upstream, and gives the seat back: what Kotlin does where the sharing's scope is
     /// cancelled. The state keeps its value.
     pub fn close(self) -> StateSeat<T, A>
-        ensures { result ≡ self.seat }
+        ensures { result ≡ seat_of self }
     {
         let StateSharing {
             seat,

@@ -1,7 +1,5 @@
-use Rattle.std.proofs.Common.{◌≡◌, ap, subst}
+use Rattle.std.proofs.Common.{ap}
 use Rattle.shared_flow.specs.Parties.{PartyName}
-use Rattle.flow_sharing.specs.FlowDestinations.{emitting}
-use Rattle.sharing_upstream.specs.Sharings.{ActsAt}
 use Rattle.flow_sharing.proofs.sharing.Sharing.poll.Goals as goal
 
 pub returns-clause-acts : goal.returns-clause-acts

@@ -1,0 +1,52 @@
+-- What contracts name of a shared flow's sharing. A caller needs to know no more of it.
+use Rattle.std.specs.Prelude.{◌≡◌, ℕ, Option}
+use Rattle.std.specs.declared.cmp.PartialEq as compared
+use Rattle.flow_terms.specs.declared.word.Word as words
+use Rattle.cold_flow.specs.declared.cause.Cause.{Cause}
+use Rattle.cold_flow.specs.declared.flow.Flow as flows
+use Rattle.cold_flow.specs.declared.run.Run as runs
+use Rattle.cold_flow.specs.Poll.{Traces}
+use Rattle.shared_flow.specs.Owners.{Owning}
+use Rattle.shared_flow.specs.Parties.{PartyName, named}
+use Rattle.sharing_upstream.specs.declared.polled.Polled.{Polled}
+use Rattle.sharing_upstream.specs.declared.strategy.Strategy.{Strategy}
+use Rattle.sharing_upstream.specs.declared.upstream.Upstream.{Upstream}
+use Rattle.sharing_upstream.specs.Sharings.{IsRefusedAt}
+use Rattle.sharing_upstream.specs.Upstreams.{course_of, PollsAt}
+use Rattle.flow_sharing.specs.declared.sharing.Sharing.{Sharing}
+use Rattle.flow_sharing.specs.FlowDestinations.{emitting}
+
+module _ {T F E U : Type 0} {word : words.Ghosts T} {compare : compared.Ghosts T}
+    {flow : flows.Ghosts F T E U} {run : runs.Ghosts U T E} where
+  -- its owner of the flow that it emits into
+  abbrev pub owner_of : Sharing T F E U word compare flow run → Owning
+  owner_of sharing = sharing.flow
+
+  -- that flow
+  abbrev pub shared_by : Sharing T F E U word compare flow run → PartyName
+  shared_by sharing = named sharing.flow.party
+
+  -- the value of the emission that waits
+  abbrev pub waiting_in : Sharing T F E U word compare flow run → Option T
+  waiting_in sharing = sharing.outlet.waiting
+
+  abbrev pub upstream_of : Sharing T F E U word compare flow run → Upstream F T E U
+  upstream_of sharing = sharing.upstream
+
+  abbrev pub strategy_of : Sharing T F E U word compare flow run → Strategy
+  strategy_of sharing = sharing.strategy
+
+  -- What a poll at this moment did. The first three words say what a run may give, how it has ended, and what a new run may give
+  abbrev pub SharesAt : (U → Traces T E) → (U → Option (Cause E)) → (F → Traces T E) → Sharing T F E U word compare flow run → ℕ → Polled
+      → Sharing T F E U word compare flow run → Type 0
+  SharesAt may ended new_run old now polled new =
+      PollsAt (emitting old.flow.party.flow) may ended new_run old.strategy now polled old.upstream old.outlet.waiting new.upstream new.outlet.waiting
+
+  -- a poll at this moment was refused: a start was commanded
+  abbrev pub RefusesAt : Sharing T F E U word compare flow run → ℕ → Sharing T F E U word compare flow run → Type 0
+  RefusesAt old now new = IsRefusedAt (emitting old.flow.party.flow) old.strategy now old.outlet.waiting new.outlet.waiting
+
+  -- its strategy, the course of its upstream and what waits are as before
+  abbrev pub IsAsBefore : Sharing T F E U word compare flow run → Sharing T F E U word compare flow run → Type 0
+  IsAsBefore old new = (new.strategy ≡ old.strategy) × (course_of new.upstream ≡ course_of old.upstream)
+      × (new.outlet.waiting ≡ old.outlet.waiting)
