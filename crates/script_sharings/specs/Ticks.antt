@@ -7,6 +7,7 @@ use Rattle.cold_flow.specs.declared.run.Run as runs
 use Rattle.cold_flow.specs.Poll.{Traces}
 use Rattle.flow_terms.specs.declared.refusal.Refusal.{Refusal}
 use Rattle.flow_terms.specs.declared.refusal.Refusal.TheVariants.{NoMemory}
+use Rattle.flow_terms.specs.declared.started.Started.{Started}
 use Rattle.sharing_upstream.specs.declared.course.Course.{Course}
 use Rattle.sharing_upstream.specs.declared.live_run.LiveRun.{LiveRun}
 use Rattle.sharing_upstream.specs.declared.polled.Polled.{Polled}
@@ -16,7 +17,11 @@ use Rattle.sharing_upstream.specs.Destinations.{Steps}
 use Rattle.flow_sharing.specs.FlowDestinations.{emitting}
 use Rattle.sharing_upstream.specs.Polls.{ShowsMore, Answers}
 use Rattle.sharing_upstream.specs.Sharings.{ActsAt, IsRefusedAt}
+use Rattle.sharing_upstream.specs.Shown.{started_by}
+use Rattle.sharing_upstream.specs.Upstreams.{flow_of, course_of, IsUnstarted}
 use Rattle.flow_sharing.specs.StateDestinations.{setting}
+use Rattle.flow_sharing.specs.Sharings as shared
+use Rattle.flow_sharing.specs.StateSharings as stated
 use Rattle.shared_flow.specs.Owners.{Owning}
 use Rattle.shared_flow.specs.Parties.{named}
 use Rattle.state_flow.specs.Views.{SeatSeen}
@@ -82,21 +87,30 @@ pub record Sharings (F U : Type 0) : Type 0 where
 
 abbrev pub stating_of : {F U : Type 0} → Stated F ℕ U → Stating F (LiveRun U)
 stating_of it = record {
-  seat = it.sharing.seat;
-  initial = it.sharing.initial;
-  source = it.sharing.upstream.flow;
-  course = it.sharing.upstream.course;
-  strategy = it.sharing.strategy;
+  seat = stated.seat_of it.sharing;
+  initial = stated.initial_of it.sharing;
+  source = flow_of (stated.upstream_of it.sharing);
+  course = course_of (stated.upstream_of it.sharing);
+  strategy = stated.strategy_of it.sharing;
 }
+
+-- it was started so, and this source isn't collected yet
+abbrev pub SetsFrom : {F U : Type 0} → Started → F → Stated F ℕ U → Type 0
+SetsFrom started source it = (started_by (stated.strategy_of it.sharing) ≡ started) × IsUnstarted source (stated.upstream_of it.sharing)
 
 abbrev pub sharings_of : {W F U : Type 0} {flow : flows.Ghosts F ℕ ℕ U} {run : runs.Ghosts U ℕ ℕ} → Share W F ℕ U flow run → Sharings F (LiveRun U)
 sharings_of it = record {
-  owner = it.sharing.flow;
-  waiting = it.sharing.outlet.waiting;
-  source = it.sharing.upstream.flow;
-  course = it.sharing.upstream.course;
-  strategy = it.sharing.strategy;
+  owner = shared.owner_of it.sharing;
+  waiting = shared.waiting_in it.sharing;
+  source = flow_of (shared.upstream_of it.sharing);
+  course = course_of (shared.upstream_of it.sharing);
+  strategy = shared.strategy_of it.sharing;
 }
+
+-- it emits into the flow of this owner and was started so; nothing waits, and this source isn't collected yet
+abbrev pub SharesFrom : {W F U : Type 0} {flow : flows.Ghosts F ℕ ℕ U} {run : runs.Ghosts U ℕ ℕ} → Owning → Started → F → Share W F ℕ U flow run → Type 0
+SharesFrom owner started source it = (shared.shared_by it.sharing ≡ named owner.party) × (shared.waiting_in it.sharing ≡ None)
+    × (started_by (shared.strategy_of it.sharing) ≡ started) × IsUnstarted source (shared.upstream_of it.sharing)
 
 module _ {F U : Type 0} (may : U → Traces ℕ ℕ) (ended : U → Option (Cause ℕ)) (may_of : F → Traces ℕ ℕ) where
   -- the sharing was polled, and sets the state by the same seat

@@ -1,12 +1,11 @@
 //! A source that is shared into a flow.
 
-ghost use Rattle.std.specs.Prelude.{◌≡◌, [], None, IfOk};
-ghost use Rattle.sharing_upstream.specs.declared.course.Course.TheVariants.{Idle};
+ghost use Rattle.std.specs.Prelude.{◌≡◌, [], IfOk};
 ghost use Rattle.sharing_upstream.specs.Shown.{Shows};
 ghost use Rattle.shared_core.specs.Kept.{making_refusal};
 ghost use Rattle.shared_flow.specs.Names.{IsMadeWith};
 ghost use Rattle.shared_flow.specs.Owners.{at_rest};
-ghost use Rattle.shared_flow.specs.Parties.{named, newcomer_of};
+ghost use Rattle.shared_flow.specs.Parties.{newcomer_of};
 ghost use Rattle.script_calls.specs.Makings.{MadeUnless};
 
 use crate::ticks::ticked;
@@ -27,6 +26,8 @@ pub struct Share<'a, W, S: Flow<Item = u64>> {
 }
 
 impl<'a, W: Wait, S: Flow<Item = u64, Fault = u64>> Share<'a, W, S> {
+    ghost use Rattle.script_sharings.specs.Ticks.{sharings_of, SharesFrom};
+
     /// A new flow, and what shares this source into it, which isn't collected yet. Refused as `SharedFlow::new`, with 1, 2 or 3, and
     /// then with 4 at most.
     pub fn new(
@@ -37,9 +38,8 @@ impl<'a, W: Wait, S: Flow<Item = u64, Fault = u64>> Share<'a, W, S> {
         source: S,
     ) -> Result<(SharedFlow<u64>, Share<'a, W, S>), Refusal>
         ensures made { MadeUnless (making_refusal config) result (λ made. IsMadeWith config made.0.party.flow × (made.0 ≡ at_rest (newcomer_of made.0.party))) }
-        ensures sharing { IfOk result (λ made. (named made.1.sharing.flow.party ≡ named made.0.party) × (made.1.sharing.outlet.waiting ≡ None)
-            × (made.1.sharing.strategy.started ≡ started) × (made.1.sharing.upstream ≡ record { flow = source; course = Idle })) }
-        ensures shows { IfOk result (λ made. Shows made.1.sharing.strategy []) }
+        ensures sharing { IfOk result (λ made. SharesFrom made.0 started source made.1) }
+        ensures shows { IfOk result (λ made. Shows (sharings_of made.1).strategy []) }
     {
         let mut flow = SharedFlow::new(alloc, config)?;
         let sharing = share_in(rt, &mut flow, source, started)?;

@@ -1,7 +1,6 @@
 //! A source that sets a state.
 
 ghost use Rattle.std.specs.Prelude.{◌≡◌, []};
-ghost use Rattle.sharing_upstream.specs.declared.course.Course.TheVariants.{Idle};
 ghost use Rattle.sharing_upstream.specs.Shown.{Shows};
 ghost use Rattle.state_flow.specs.Calls.{Sets};
 
@@ -19,13 +18,15 @@ pub struct Stated<S: Flow<Item = u64>> {
 }
 
 impl<S: Flow<Item = u64, Fault = u64>> Stated<S> {
+    ghost use Rattle.script_sharings.specs.Ticks.{stating_of, SetsFrom};
+
     /// Sets the state of this seat to `initial`. The source isn't collected yet.
     pub fn new(seat: StateSeat<u64>, initial: u64, started: Started, source: S) -> Stated<S>
-        ensures same_flow { result.sharing.seat.flow ≡ seat.flow }
-        ensures sets { Sets seat.view initial result.sharing.seat.view }
-        ensures initial { result.sharing.initial ≡ initial }
-        ensures sharing { (result.sharing.strategy.started ≡ started) × (result.sharing.upstream ≡ record { flow = source; course = Idle }) }
-        ensures shows { Shows result.sharing.strategy [] }
+        ensures same_flow { (stating_of result).seat.flow ≡ seat.flow }
+        ensures sets { Sets seat.view initial (stating_of result).seat.view }
+        ensures initial { (stating_of result).initial ≡ initial }
+        ensures sharing { SetsFrom started source result }
+        ensures shows { Shows (stating_of result).strategy [] }
     {
         Stated {
             sharing: state_in(seat, initial, source, started),
