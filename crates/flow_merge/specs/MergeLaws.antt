@@ -8,7 +8,8 @@ use Rattle.cold_flow.specs.declared.cause.Cause.TheVariants.{Finished, Refused, 
 use Rattle.flow_terms.specs.declared.refusal.Refusal.TheVariants.{NoMemory}
 use Rattle.cold_flow.specs.Trace.{Trace, so_far, ended_by, led_by}
 use Rattle.cold_flow.specs.Poll.{Traces, After, Within, OrRefused}
-use Rattle.flow_merge.specs.Standing.{Gave, Ended}
+use Rattle.flow_merge.specs.Standing.{Gave, Ended, StandsBefore}
+use Rattle.flow_merge.specs.StandingLaws.{insert-last}
 use Rattle.flow_merge.specs.Merge.{Merges, MayMerge}
 use Rattle.flow_merge.specs.Merge.Merges.{stops, gives, leaves, begins, finishes, outer_ends, inner_ends}
 use Rattle.flow_merge.specs.Combine.{OrFinished}
@@ -139,6 +140,16 @@ module _ {A B E R : Type 0} (limit : ℕ) (inner : A → Traces B E) (may : R �
             begins x j.own (subst (λ (n : ℕ). n < limit) (sym (AllZip-long may runs j.others j.stand)) room) (inl (starts j.own j.came))
             (moved limit inner h.merges j.own j.others (j.others ++ j.own ∷ []) j.placed (placed_last j.others j.own));
       }
+
+  pub merge_begins_before : (runs now : List R) (turn next : ℕ) (r : R) (old new : Traces A E) (x : A) → StandsBefore runs turn r now next
+      → After old x new → length runs < limit → ((t : Trace B E) → may r t → inner x t)
+      → Within (MayMerge limit inner may runs old) (MayMerge limit inner may now new)
+  merge_begins_before runs now turn next r old new x (inl h) after room starts =
+      subst (λ (rs : List R). Within (MayMerge limit inner may runs old) (MayMerge limit inner may rs new)) (sym h.0)
+      (merge_begins runs turn r old new x after room starts)
+  merge_begins_before runs now turn next r old new x (inr h) after room starts =
+      subst (λ (rs : List R). Within (MayMerge limit inner may runs old) (MayMerge limit inner may rs new)) (insert-last runs r ∙ sym h.1)
+      (merge_begins runs (length runs) r old new x after room starts)
 
   pub merge_outer_waits : (runs : List R) (old new : Traces A E) → Within old new
       → Within (MayMerge limit inner may runs old) (MayMerge limit inner may runs new)

@@ -1,6 +1,6 @@
 -- Runs that stand side by side, one of which is asked.
-use Rattle.std.specs.Prelude.{◌≡◌, ℕ, ◌+◌, ◌-◌, Bool, true, ◌&&◌, List, [], ◌∷◌, Option, Some, None, ⊤, slice_get, slice_set}
-use Rattle.std.specs.List.{AllZip, remove}
+use Rattle.std.specs.Prelude.{◌≡◌, ◌⊎◌, ℕ, ◌+◌, ◌-◌, Bool, true, ◌&&◌, List, [], ◌∷◌, ◌++◌, length, Option, Some, None, ⊤, slice_get, slice_set}
+use Rattle.std.specs.List.{AllZip, insert, remove}
 use Rattle.futures.specs.declared.task.Poll.{Poll}
 use Rattle.futures.specs.declared.task.Poll.TheVariants.{Ready, Pending}
 use Rattle.cold_flow.specs.declared.cause.Cause.{Cause}
@@ -34,6 +34,12 @@ Answered {B} {E} may old at Pending new = (traces : List (Trace B E)) → AllZip
 abbrev pub all_stopped : {R : Type 0} → (R → Bool) → List R → Bool
 all_stopped stopped [] = true
 all_stopped stopped (r ∷ runs) = stopped r && all_stopped stopped runs
+
+-- One more stands before the turn, which stays with the same one: it came in there or, where none stands before the turn or none behind it,
+-- behind the last one, and the turn is that of the first one.
+abbrev pub StandsBefore : {R : Type 0} → List R → ℕ → R → List R → ℕ → Type 0
+StandsBefore old turn r new next = ((new ≡ insert old turn r) × (next ≡ turn + 1))
+    ⊎ (((turn ≡ 0) ⊎ (turn ≡ length old)) × (new ≡ old ++ r ∷ []) × (next ≡ 0))
 
 -- how many stand after an answer, of so many
 abbrev pub left_after : {B E : Type 0} → Poll (Event B E) → ℕ → ℕ

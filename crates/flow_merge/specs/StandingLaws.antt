@@ -1,7 +1,7 @@
 -- Laws of runs that stand side by side.
-use Rattle.std.specs.Prelude.{◌≡◌, ℕ, List, [], ◌∷◌, Some, refl, slice_get, slice_set}
+use Rattle.std.specs.Prelude.{◌≡◌, ℕ, List, [], ◌∷◌, ◌++◌, length, Some, refl, slice_get, slice_set}
 use Rattle.std.proofs.Common.{zero, suc, ap, subst}
-use Rattle.std.specs.List.{AllZip, remove}
+use Rattle.std.specs.List.{AllZip, insert, remove}
 use Rattle.cold_flow.specs.declared.cause.Cause.{Cause}
 use Rattle.cold_flow.specs.Trace.{Trace, ended_by, led_by}
 use Rattle.cold_flow.specs.Poll.{Traces, After, Within}
@@ -68,3 +68,8 @@ module _ {R : Type 0} where
   remove-set [] at s = refl
   remove-set (x ∷ runs) zero s = refl
   remove-set (x ∷ runs) (suc at) s = ap (λ (rs : List R). x ∷ rs) (remove-set runs at s)
+
+  -- one more, behind the last one
+  pub insert-last : (runs : List R) (r : R) → insert runs (length runs) r ≡ runs ++ r ∷ []
+  insert-last [] r = refl
+  insert-last (x ∷ runs) r = ap (λ (rs : List R). x ∷ rs) (insert-last runs r)

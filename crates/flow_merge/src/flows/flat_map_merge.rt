@@ -10,7 +10,7 @@ ghost use Rattle.flow_merge.specs.Asking.{Asks};
 ghost use Rattle.flow_merge.specs.Standing.{all_stopped, StandAfter};
 ghost use Rattle.flow_merge.specs.Merge.{MayMerge, MakesMerge, MayStillMerge, AsksOuter};
 
-use crate::flows::standing::{ask_at, cancel_all};
+use crate::flows::standing::{ask_at, cancel_all, stand_before};
 use cold_flow::{Apply, BUDGET, Cause, Event, Flow, Refusal, Run};
 use futures::task::{Context, Poll};
 use std::alloc::Global;
@@ -193,11 +193,7 @@ impl<
                 }
                 match self.function.apply(value).start() {
                     Ok(run) => {
-                        // It stands before the turn: it is asked after all others.
-                        if self.runs.insert(self.turn, run).is_err() {
-                            unreachable!()
-                        }
-                        self.turn += 1;
+                        self.turn = stand_before(&mut self.runs, self.turn, run);
                         Poll::Ready(None)
                     }
                     Err(refusal) => Poll::Ready(Some(Cause::Refused(refusal))),

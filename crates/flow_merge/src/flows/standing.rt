@@ -1,9 +1,9 @@
 //! Runs that stand side by side.
 
-ghost use Rattle.std.specs.Prelude.{◌≡◌, ◌+◌, ◌<◌, IsTrue, vec_len};
+ghost use Rattle.std.specs.Prelude.{◌≡◌, ◌+◌, ◌<◌, ◌≤◌, IsTrue, vec_len, vec_capacity};
 ghost use Rattle.futures.specs.Poll.{OnPending};
 ghost use Rattle.futures.specs.Task.{IsArmed, Keeps};
-ghost use Rattle.flow_merge.specs.Standing.{Answered, left_after, all_stopped};
+ghost use Rattle.flow_merge.specs.Standing.{Answered, StandsBefore, left_after, all_stopped};
 
 use cold_flow::{Event, Run};
 use futures::task::{Context, Poll};
@@ -29,6 +29,25 @@ pub(crate) fn ask_at<R: Run>(
         }
         Poll::Pending => Poll::Pending,
     }
+}
+
+// Lets one more run stand before the turn, so that it is asked after all others. The answer is where the turn is then.
+pub(crate) fn stand_before<R: Run>(runs: &mut Vec<R>, turn: usize, run: R) -> usize
+    requires within { turn ≤ vec_len runs.old }
+    requires room { vec_len runs.old < vec_capacity runs.old }
+    ensures stands { StandsBefore runs.old.items turn run runs.new.items result }
+    ensures len { vec_len runs.new ≡ vec_len runs.old + 1 }
+    ensures within { result ≤ vec_len runs.new }
+{
+    // Behind the last one is before the first one, too, and there none moves.
+    if turn == 0 || turn == runs.len() {
+        runs.push_reserved(run);
+        return 0;
+    }
+    if runs.insert(turn, run).is_err() {
+        unreachable!()
+    }
+    turn + 1
 }
 
 // Cancels each of them.

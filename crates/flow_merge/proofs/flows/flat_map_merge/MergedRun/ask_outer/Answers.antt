@@ -1,5 +1,5 @@
 use Rattle.std.proofs.Common.{rules, ◌≡◌, ◌<◌, true, is_ok, length, arith}
-use Rattle.flow_merge.specs.MergeLaws.{merge_begins, merge_refused, merge_outer_fails}
+use Rattle.flow_merge.specs.MergeLaws.{merge_begins_before, merge_refused, merge_outer_fails}
 use Rattle.flow_merge.proofs.flows.flat_map_merge.MergedRun.ask_outer.Goals as goal
 
 pub returns-then-is_err-clause-asked : goal.returns-then-is_err-clause-asked
@@ -15,9 +15,8 @@ returns-in-Ok-clause-asked g c =
     let after = rw c.in-Ready-Value.field-0-is at c.in-Ready-Value.ensures.narrows in
     let gives = rw c.apply.ensures at c.in-Ok.ensures.gives in
     let room : length self.runs.items < self.limit = omega (arith, self.runs.ok.0) in
-    let there : is_ok c.insert.result ≡ true = first_of (search rules, search (rules, c.if-is_err-2.ensures.negation), grind (arith, c.if-is_err-2.ensures.negation)) in
-    let placed = rw (there, c.reserve.ensures.items) at c.insert.ensures.items in
-    rw (c.requires.going, c.requires.unfinished, placed) (merge_begins _ _ _ _ self.turn _ _ _ _ after room gives)
+    let stands = rw c.reserve.ensures.items at c.stand_before-self.ensures.stands in
+    rw (c.requires.going, c.requires.unfinished) (merge_begins_before _ _ _ _ _ _ _ _ _ _ _ stands after room gives)
 
 pub returns-in-Ready-Value-clause-asked : goal.returns-in-Ready-Value-clause-asked
 returns-in-Ready-Value-clause-asked g c =
