@@ -3,6 +3,7 @@ pub mod Counting
 pub mod Zip
 pub mod ZipLaws
 pub mod Concat
+pub mod Views
 pub mod ConcatLaws
 pub mod Combine
 pub mod Side

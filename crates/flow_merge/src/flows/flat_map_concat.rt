@@ -8,12 +8,16 @@ ghost use Rattle.cold_flow.specs.Poll.{Unless, Within, IsWithinPolls};
 ghost use Rattle.std.specs.Iterator.{at_most, count_add};
 ghost use Rattle.flow_merge.specs.Asking.{Asks, AsksApproach, OnEnd, standing_stopped};
 ghost use Rattle.flow_merge.specs.Counting.{IsBoundedBy, rounds, standing_polls};
-ghost use Rattle.flow_merge.specs.Concat.{MayConcat, JoinsExactlyOrRefused, JoinsExactly, StandingWaited};
+ghost use Rattle.flow_merge.specs.Concat.{MayConcat, StandingWaited};
 
 use crate::flows::bound::{Bound, KnownBound, Unbounded};
 use cold_flow::{Apply, BUDGET, Cause, Event, Finite, Flow, Refusal, Run};
 use futures::task::{Context, Poll};
 use std::marker::PhantomData;
+
+mod making;
+
+pub use making::flat_map_concat;
 
 /// The flow of `flat_map_concat`. `N` names a number of polls in which any inner run has ended, where one is known.
 #[derive(Drop)]
@@ -22,36 +26,6 @@ pub struct Concatenated<S: Flow, F: Flow, G: Apply<S::Item, Out = F>, N: Bound> 
     function: G,
     bound: PhantomData<N>,
     ghost bounded: { (x : _) → IsBoundedBy N.most (F.polls (G.gives function x)) },
-}
-
-/// Kotlin's `flatMapConcat`: the inner flows that `function` answers for the outer values, one after the other.
-///
-/// The outer flow is asked only while no inner run stands. A failure of the outer or of an inner flow is the end, and so is an inner
-/// start that is refused: then the end is `Cause::Refused`. The outer run is cancelled with it.
-pub fn flat_map_concat<
-    B: Copy,
-    E: Copy,
-    S: Flow<Fault = E>,
-    F: Flow<Item = B, Fault = E>,
-    G: Apply<S::Item, Out = F>,
->(outer: S, function: G) -> Concatenated<S, F, G, Unbounded>
-    ensures gives { Within (MayConcat (λ x. F.starts (G.gives function x)) (λ x. F.may (G.gives function x)) F.Running.may None (S.may outer))
-        (⟦<Concatenated<S, F, G, Unbounded> as Flow>⟧.may result) }
-    ensures made { (result.outer ≡ outer) × (result.function ≡ function) }
-
-    // What is collected is fixed where no inner start is refused.
-    ensures exact { JoinsExactlyOrRefused (λ x. F.may (G.gives function x)) (S.may outer) (⟦<Concatenated<S, F, G, Unbounded> as Flow>⟧.may result) }
-
-    // Where none can be refused, it is fixed whole.
-    ensures fixed { JoinsExactly (λ x. F.starts (G.gives function x)) (λ x. F.may (G.gives function x)) (S.may outer)
-        (⟦<Concatenated<S, F, G, Unbounded> as Flow>⟧.may result) }
-    ensures starts { IsTrue (S.starts outer) → IsTrue (⟦<Concatenated<S, F, G, Unbounded> as Flow>⟧.starts result) }
-{
-    Concatenated {
-        outer,
-        function,
-        bound: PhantomData,
-    }
 }
 
 /// A run of `flat_map_concat`.
@@ -237,13 +211,15 @@ impl<
     F: Flow<Item = B, Fault = E>,
     G: Apply<S::Item, Out = F>,
 > Concatenated<S, F, G, Unbounded> {
+    ghost use Rattle.flow_merge.specs.Views.{outer_of, function_of};
+
     /// The same flow, of which it is known that no inner run takes more polls than `N` says: over sources that end within a number of polls
     /// its runs do so too. The call itself does nothing.
     pub fn within<N: Bound>(self) -> Concatenated<S, F, G, N>
-        requires { (x : _) → IsWithinPolls N.most (F.polls (G.gives self.function x)) }
+        requires { (x : _) → IsWithinPolls N.most (F.polls (G.gives (function_of self) x)) }
         ensures gives { Within (⟦<Concatenated<S, F, G, Unbounded> as Flow>⟧.may self) (⟦<Concatenated<S, F, G, N> as Flow>⟧.may result) }
-        ensures lasts { IsWithinPolls (count_add (rounds (S.polls self.outer) N.most) (at_most 0)) (⟦<Concatenated<S, F, G, N> as Flow>⟧.polls result) }
-        ensures starts { IsTrue (S.starts self.outer) → IsTrue (⟦<Concatenated<S, F, G, N> as Flow>⟧.starts result) }
+        ensures lasts { IsWithinPolls (count_add (rounds (S.polls (outer_of self)) N.most) (at_most 0)) (⟦<Concatenated<S, F, G, N> as Flow>⟧.polls result) }
+        ensures starts { IsTrue (S.starts (outer_of self)) → IsTrue (⟦<Concatenated<S, F, G, N> as Flow>⟧.starts result) }
     {
         Concatenated {
             outer: self.outer,

@@ -1,5 +1,5 @@
 use Rattle.flow_merge.specs.ConcatLaws.{concat_fixed, concat_joins}
-use Rattle.flow_merge.proofs.flows.flat_map_concat.flat_map_concat.Goals as goal
+use Rattle.flow_merge.proofs.flows.flat_map_concat.making.flat_map_concat.Goals as goal
 
 pub returns-clause-exact : goal.returns-clause-exact
 returns-clause-exact g c o whole of_outer of_inner xs k h =
