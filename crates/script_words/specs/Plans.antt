@@ -5,6 +5,7 @@ use Rattle.std.specs.List.{slice_split, list_all, filter_map}
 use Rattle.flow_terms.specs.declared.command.Command.{Command}
 use Rattle.flow_terms.specs.declared.command.Command.TheVariants.{Start, Stop, StopAndReset}
 use Rattle.flow_terms.specs.declared.plan.Entry.{Entry}
+use Rattle.script_words.specs.declared.start.Entries.{Entries}
 use Rattle.script_words.specs.Fields.{number_of}
 use Rattle.script_words.specs.Words.{◌>>=◌}
 
@@ -55,6 +56,10 @@ are_entries word = list_all is_entry (slice_split is_comma word)
 -- the parts that are entries
 abbrev pub entries_in : List ℕ → List Entry
 entries_in word = filter_map entry_of (slice_split is_comma word)
+
+-- the entries that were written
+abbrev pub entries_written : Entries → List Entry
+entries_written entries = entries_in entries.word.now
 
 -- the entries of a word that says a list of them
 abbrev pub entries_at : List ℕ → Option (List Entry)

@@ -10,7 +10,7 @@ use Rattle.flow_terms.specs.declared.started.Started.TheVariants.{Eagerly, Lazil
 use Rattle.flow_terms.specs.Plans.{entries_of, is_plan}
 use Rattle.script_words.specs.declared.start.Start.{Start}
 use Rattle.script_words.specs.declared.start.Start.TheVariants.{Eager, Lazy, While, Plan}
-use Rattle.script_words.specs.Plans.{entries_in, entries_at}
+use Rattle.script_words.specs.Plans.{entries_written, entries_at}
 use Rattle.script_words.specs.Words.{start_by}
 
 -- as a word says, or by a plan of these entries
@@ -22,7 +22,7 @@ abbrev pub starting_in : Start → Starting
 starting_in Eager = given Eagerly
 starting_in Lazy = given Lazily
 starting_in (While stop expire) = given (WhileSubscribed stop expire)
-starting_in (Plan entries) = planned (entries_in entries.word.now)
+starting_in (Plan entries) = planned (entries_written entries)
 
 -- after `plan`
 abbrev pub plan_at : List (List ℕ) → Option (Starting × List (List ℕ))

@@ -6,7 +6,7 @@ ghost use Rattle.flow_terms.specs.declared.refusal.Refusal.TheVariants.{BadPlan}
 ghost use Rattle.flow_terms.specs.Plans.{entries_of, is_plan};
 ghost use Rattle.script_words.specs.Lines.{words_of};
 ghost use Rattle.script_words.specs.Starts.{starting_in, starting_at, start_refusal, StartsAs};
-ghost use Rattle.script_words.specs.Plans.{is_colon, cut, number_field, count_field, command_of, entry_of, are_entries, entries_in, entries_at};
+ghost use Rattle.script_words.specs.Plans.{is_colon, cut, number_field, count_field, command_of, entry_of, are_entries, entries_in, entries_written, entries_at};
 
 use crate::fields::number_of;
 use crate::words::Words;
@@ -114,7 +114,7 @@ pub struct Entries<'a> {
 impl<'a> Entries<'a> {
     /// The entries that a word says.
     pub fn of(word: &'a [u8]) -> Option<Entries<'a>>
-        ensures { option_map (λ entries. entries_in entries.word.now) result ≡ entries_at word.now }
+        ensures { option_map (λ entries. entries_written entries) result ≡ entries_at word.now }
     {
         if are_entries(word) {
             Some(Entries { word })
@@ -145,8 +145,8 @@ fn entry_at(word: &[u8], index: usize) -> Option<Entry>
 impl<'a> Entries<'a> {
     /// Their plan. Refused as `BadPlan` where they make none. Takes no memory.
     pub fn plan(self) -> Result<Plan, Refusal>
-        ensures plan { IfOk result (λ plan. entries_of plan ≡ entries_in self.entry.word.now) }
-        ensures fits { IsOk result ↔ IsTrue (is_plan (entries_in self.entry.word.now)) }
+        ensures plan { IfOk result (λ plan. entries_of plan ≡ entries_written self.entry) }
+        ensures fits { IsOk result ↔ IsTrue (is_plan (entries_written self.entry)) }
         ensures refused { IfErr result (λ refusal. refusal ≡ BadPlan) }
     {
         let count = count_in(self.word);
