@@ -4,7 +4,6 @@ ghost use Rattle.std.specs.Prelude.{◌≡◌, None};
 ghost use Rattle.shared_core.specs.Kept.{making_refusal};
 ghost use Rattle.script_calls.specs.Makings.{MadeUnless};
 ghost use Rattle.script_engines.specs.Parties.{IsUntouched};
-ghost use Rattle.script_engines.specs.Subscribing.{subscribing_of};
 
 use crate::subscriptions::Subscriptions;
 use flow_terms::{Begun, Emit, Next, Refusal, SubId, Ticket, Tried, Withdrawn};
@@ -32,13 +31,11 @@ pub struct ForThreads<'a, W> {
 }
 
 impl<'a, W: Wait> ForThreads<'a, W> {
+    ghost use Rattle.script_engines.specs.Seen.{parties_of};
+
     /// A flow without subscriptions. Refused as `SharedFlow::new`, with 1, 2 or 3, and then with 4 at most.
     pub fn new(rt: &'a W, alloc: Global, config: Config) -> Result<ForThreads<'a, W>, Refusal>
-        ensures { MadeUnless (making_refusal config) result (λ made. IsUntouched config (record {
-          subscriptions = subscribing_of made.subscriptions;
-          emitter = made.emitter;
-          emissions = made.emissions.items;
-        })) }
+        ensures { MadeUnless (making_refusal config) result (λ made. IsUntouched config (parties_of made)) }
     {
         let mut flow = SharedFlow::new(alloc, config)?;
         let emitter = flow.emitter(rt, EMITTER)?;

@@ -5,6 +5,7 @@ ghost use Rattle.shared_core.specs.Flow.{cache, empty};
 ghost use Rattle.shared_core.specs.Kept.{making_refusal, parameters_of};
 ghost use Rattle.shared_core.specs.Shown.{Shows, Reads};
 ghost use Rattle.script_calls.specs.Makings.{MadeUnless};
+ghost use Rattle.script_engines.specs.Seen.{state_of};
 
 use flow_terms::{Begun, Emit, Next, Refusal, SubId, Ticket, Tried, Withdrawn};
 use futures::task::Context;
@@ -24,7 +25,7 @@ pub struct OneThread {
 impl OneThread {
     /// A flow without subscriptions. Refused as `SharedState::new`, and then with 4.
     pub fn new(alloc: Global, config: Config) -> Result<OneThread, Refusal>
-        ensures { MadeUnless (making_refusal config) result (λ made. Shows made.state (empty (parameters_of config))) }
+        ensures { MadeUnless (making_refusal config) result (λ made. Shows (state_of made) (empty (parameters_of config))) }
     {
         let state = SharedState::new(alloc, config)?;
         Ok(OneThread { state })
