@@ -7,7 +7,7 @@ use Rattle.flow_terms.specs.declared.refusal.Refusal.{Refusal}
 use Rattle.flow_terms.specs.declared.refusal.Refusal.TheVariants.{NoMemory}
 use Rattle.flow_terms.specs.declared.started.Started.{Started}
 use Rattle.sharing_upstream.specs.declared.course.Course.TheVariants.{Idle}
-use Rattle.sharing_upstream.specs.Shown.{Shows}
+use Rattle.sharing_upstream.specs.Shown.{started_by, Shows}
 use Rattle.shared_core.specs.declared.config.Config.{Config}
 use Rattle.shared_core.specs.Flow.{empty}
 use Rattle.shared_core.specs.Kept.{making_refusal, parameters_of}
@@ -25,7 +25,7 @@ use Rattle.script_engines.specs.declared.for_threads.ForThreads.{ForThreads}
 use Rattle.script_engines.specs.declared.one_thread.OneThread.{OneThread}
 use Rattle.script_engines.specs.declared.subscriptions.Subscriptions.{Subscriptions}
 use Rattle.script_engines.specs.Parties.{IsUntouched}
-use Rattle.script_engines.specs.Seen.{parties_of}
+use Rattle.script_engines.specs.Seen.{state_of, parties_of}
 use Rattle.script_engines.specs.Subscribing.{Subscribing, subscribing_of}
 use Rattle.script_sharings.specs.declared.share.Share.{Share}
 use Rattle.script_sharings.specs.declared.stated.Stated.{Stated}
@@ -43,7 +43,7 @@ config_of replay extra policy = record { replay = replay; extra = extra; policy 
 abbrev pub MakesOneThread : ℕ → ℕ → Policy → Result OneThread Refusal → Type 0
 MakesOneThread replay extra policy reply =
     let config = config_of replay extra policy in
-    MadeUnless (making_refusal config) reply (λ made. core.Shows made.state (empty (parameters_of config)))
+    MadeUnless (making_refusal config) reply (λ made. core.Shows (state_of made) (empty (parameters_of config)))
 
 -- a flow for threads: of the config, and nobody has made a call
 abbrev pub MakesForThreads : {W : Type 0} → ℕ → ℕ → Policy → Result (ForThreads W) Refusal → Type 0
@@ -64,7 +64,7 @@ abbrev pub IsShared : {U : Type 0} → Config → Started → Origin → Subscri
 IsShared config started origin shown it = IsMadeWith config shown.flow.party.flow
     × (shown ≡ record { flow = at_rest (newcomer_of shown.flow.party); places = [] })
     × (named it.owner.party ≡ named shown.flow.party) × (it.waiting ≡ None)
-    × (it.strategy.started ≡ started) × Shows it.strategy [] × (origin_in it.source.source ≡ origin) × (it.course ≡ Idle)
+    × (started_by it.strategy ≡ started) × Shows it.strategy [] × (origin_in it.source.source ≡ origin) × (it.course ≡ Idle)
 
 abbrev pub MakesShare : {W U : Type 0} {flow : flows.Ghosts SourceFlow ℕ ℕ U} {run : runs.Ghosts U ℕ ℕ} → Config → Starting → Origin
     → Result (Sourced (Subscriptions W) (Share W SourceFlow ℕ U flow run)) Refusal → Type 0
@@ -75,7 +75,7 @@ MakesShare config starting origin reply = StartsOr (start_refusal starting) star
 abbrev pub IsStated : {U : Type 0} → ℕ → Started → Origin → Watch → Stating SourceFlow U → Type 0
 IsStated value started origin shown it = (shown.collectors ≡ []) × (shown.seat.view ≡ giver 1 (opening value 10))
     × (it.seat.flow ≡ shown.seat.flow) × Sets (taker 1 (opening value 10)) value it.seat.view × (it.initial ≡ value)
-    × (it.strategy.started ≡ started) × Shows it.strategy [] × (origin_in it.source.source ≡ origin) × (it.course ≡ Idle)
+    × (started_by it.strategy ≡ started) × Shows it.strategy [] × (origin_in it.source.source ≡ origin) × (it.course ≡ Idle)
 
 abbrev pub MakesStated : {U : Type 0} → ℕ → Starting → Origin → Result (Sourced Watch (Stated SourceFlow ℕ U)) Refusal → Type 0
 MakesStated value starting origin reply = StartsOr (start_refusal starting) starting
