@@ -138,21 +138,37 @@ const ALL_OF_A_TALK: Total = Total {
     ..ALL
 };
 
-const SCENES: &[Scene<'_>] = &[
-    Scene {
-        name: "threads that wait are answered",
-        extras: &[0, 1, 8],
-        policy: Policy::Suspend,
-        threads: SIDES,
-        parts: &[SAYS, HEARS],
-        total: ALL,
-    },
-    // Where one is slower, the other looks on, finds its value by that, or sleeps and is woken: by turns, as the pauses go.
+const ANSWERED: Scene<'_> = Scene {
+    name: "threads that wait are answered",
+    extras: &[0, 1, 8],
+    policy: Policy::Suspend,
+    threads: SIDES,
+    parts: &[SAYS, HEARS],
+    total: ALL,
+};
+
+const LAST_VALUE: Scene<'_> = Scene {
+    name: "one that waits has the last value",
+    extras: &[1, 2],
+    policy: Policy::DropOldest,
+    parts: &[SAYS_IN_PAUSES, HEARS_THE_LAST],
+    total: ALL_OR_LOST,
+    ..ANSWERED
+};
+
+const TALK: Scene<'_> = Scene {
+    name: "one parker serves both waits",
+    extras: &[0, 1],
+    parts: &[BEGINS, ANSWERS],
+    total: ALL_OF_A_TALK,
+    ..ANSWERED
+};
+
+/// Where one is slower, the other looks on, finds its value by that, or sleeps and is woken: by turns, as the pauses go.
+const PAIRS: &[Scene<'_>] = &[
+    ANSWERED,
     Scene {
         name: "one that receives waits for a slower one",
-        extras: &[0, 1, 8],
-        policy: Policy::Suspend,
-        threads: SIDES,
         parts: &[
             Part {
                 turns: 250,
@@ -165,12 +181,10 @@ const SCENES: &[Scene<'_>] = &[
             },
         ],
         total: ALL_IN_PAUSES,
+        ..ANSWERED
     },
     Scene {
         name: "one that emits waits for a slower one",
-        extras: &[0, 1, 8],
-        policy: Policy::Suspend,
-        threads: SIDES,
         parts: &[
             Part { turns: 250, ..SAYS },
             Part {
@@ -180,12 +194,10 @@ const SCENES: &[Scene<'_>] = &[
             },
         ],
         total: ALL_IN_PAUSES,
+        ..ANSWERED
     },
     Scene {
         name: "both are as slow",
-        extras: &[0, 1, 8],
-        policy: Policy::Suspend,
-        threads: SIDES,
         parts: &[
             Part {
                 turns: 250,
@@ -199,7 +211,11 @@ const SCENES: &[Scene<'_>] = &[
             },
         ],
         total: ALL_IN_PAUSES,
+        ..ANSWERED
     },
+];
+
+const DROPPING: &[Scene<'_>] = &[
     // Under a policy that drops, nobody waits. Of two values the first is kept in the one place, and the second dropped.
     Scene {
         name: "what is there is answered at once",
@@ -217,19 +233,9 @@ const SCENES: &[Scene<'_>] = &[
     },
     // Under `DropOldest` the last value is never lost, and each other one is received in order or dropped. A subscription that
     // waits for one loses some just as it looks.
-    Scene {
-        name: "one that waits has the last value",
-        extras: &[1, 2],
-        policy: Policy::DropOldest,
-        threads: SIDES,
-        parts: &[SAYS_IN_PAUSES, HEARS_THE_LAST],
-        total: ALL_OR_LOST,
-    },
+    LAST_VALUE,
     Scene {
         name: "one that waits has the last value of two at once",
-        extras: &[1, 2],
-        policy: Policy::DropOldest,
-        threads: SIDES,
         parts: &[
             Part {
                 burst: 2,
@@ -237,13 +243,10 @@ const SCENES: &[Scene<'_>] = &[
             },
             HEARS_THE_LAST,
         ],
-        total: ALL_OR_LOST,
+        ..LAST_VALUE
     },
     Scene {
         name: "one that waits has the last value of five at once",
-        extras: &[1, 2],
-        policy: Policy::DropOldest,
-        threads: SIDES,
         parts: &[
             Part {
                 burst: 5,
@@ -251,23 +254,16 @@ const SCENES: &[Scene<'_>] = &[
             },
             HEARS_THE_LAST,
         ],
-        total: ALL_OR_LOST,
+        ..LAST_VALUE
     },
+];
+
+const TALKS: &[Scene<'_>] = &[
     // A wait that ends before it sleeps leaves its turn to the next one, which waits for something else: an emission after a value,
     // and a value after an emission.
-    Scene {
-        name: "one parker serves both waits",
-        extras: &[0, 1],
-        policy: Policy::Suspend,
-        threads: SIDES,
-        parts: &[BEGINS, ANSWERS],
-        total: ALL_OF_A_TALK,
-    },
+    TALK,
     Scene {
         name: "one parker serves both waits of who is slower and begins",
-        extras: &[0, 1],
-        policy: Policy::Suspend,
-        threads: SIDES,
         parts: &[
             Part {
                 pause: PAUSE,
@@ -275,13 +271,10 @@ const SCENES: &[Scene<'_>] = &[
             },
             ANSWERS,
         ],
-        total: ALL_OF_A_TALK,
+        ..TALK
     },
     Scene {
         name: "one parker serves both waits of who is slower and answers",
-        extras: &[0, 1],
-        policy: Policy::Suspend,
-        threads: SIDES,
         parts: &[
             BEGINS,
             Part {
@@ -289,15 +282,13 @@ const SCENES: &[Scene<'_>] = &[
                 ..ANSWERS
             },
         ],
-        total: ALL_OF_A_TALK,
+        ..TALK
     },
     // Each number is given once, to one emitter's receipt or to the other's, and each subscription has all values of both, each
     // emitter's in its order.
     Scene {
         name: "emitters wait for each subscription",
         extras: &[0, 1, 4],
-        policy: Policy::Suspend,
-        threads: SIDES,
         parts: &[
             Part { turns: 100, ..SAYS },
             Part {
@@ -324,6 +315,7 @@ const SCENES: &[Scene<'_>] = &[
             heard: 600,
             ..ALL
         },
+        ..ANSWERED
     },
 ];
 
@@ -558,12 +550,30 @@ impl Scene<'_> {
     }
 }
 
+// Plays each of these scenes, and fails with those that came otherwise.
+fn assert_scenes<R>(rt: &R, scenes: &[Scene<'_>]) -> Result<(), Fail>
+where
+    R: Wait + Threads + Abort + RandomSource + AllocGlobal + Sync,
+{
+    let mut differences = Differences::none(rt.alloc());
+    for scene in scenes {
+        scene.compare(rt, &mut differences)?;
+    }
+    differences.assert_none(rt);
+    Ok(())
+}
+
 #[test]
 fn those_that_wait_are_answered(rt: HostRuntime) -> Result<(), Fail> {
-    let mut differences = Differences::none(rt.alloc());
-    for scene in SCENES {
-        scene.compare(&rt, &mut differences)?;
-    }
-    differences.assert_none(&rt);
-    Ok(())
+    assert_scenes(&rt, PAIRS)
+}
+
+#[test]
+fn those_that_wait_have_the_last_value(rt: HostRuntime) -> Result<(), Fail> {
+    assert_scenes(&rt, DROPPING)
+}
+
+#[test]
+fn those_that_wait_for_each_other_are_answered(rt: HostRuntime) -> Result<(), Fail> {
+    assert_scenes(&rt, TALKS)
 }
