@@ -1,5 +1,6 @@
 //! The ring beside the lists that it replaced.
 
+use crate::core_rows::caches;
 use crate::list_body::ListBody;
 use cold_flow::Policy;
 use shared_core::{Call, Config, Prelude, SharedState, SubId, Ticket};
@@ -112,7 +113,7 @@ fn replies_agree(
     let mut replies = Vec::new(alloc);
     for _ in 0..CALLS {
         let call = random.call(lists);
-        let expected = lists.make(alloc, call)?;
+        let expected = lists.make(call)?;
         replies.clear();
         ring.run(&[call], &mut replies)?;
         if replies[..] != [expected][..] {
@@ -124,13 +125,8 @@ fn replies_agree(
 
 /// Whether both have the same replay cache, and as many values pending for each subscription.
 fn same_state(ring: &SharedState<u64>, lists: &ListBody) -> bool {
-    if ring.replay_len() != lists.cache.len() as u64 {
+    if !caches(ring, lists.cache.as_slice()) {
         return false;
-    }
-    for (index, value) in lists.cache.iter().enumerate() {
-        if index as u64 >= ring.replay_len() || ring.replay_at(index as u64) != *value {
-            return false;
-        }
     }
     for made in 0..lists.subscribed {
         let id = lists.config.first.saturating_add(made);

@@ -1,7 +1,7 @@
 //! A shared flow at its limits: the most places, subscribers and emissions in flight that a config may ask for, a long list of
 //! calls, and the callers that have the headline. Each value is the number of its emission.
 
-use crate::core_rows::{Exchange, is_replied};
+use crate::core_rows::{Exchange, is_replied, is_run};
 use crate::tools::assert_same;
 use cold_flow::{Policy, Refusal};
 use list_callers::{offer_and_take, run_new_flow};
@@ -156,50 +156,53 @@ fn limits_are_reached(rt: HostRuntime) -> Result<(), Fail> {
 }
 
 /// A subscription, and then a thousand values, each of which it receives.
-fn long_list(alloc: Global) -> Result<(Vec<Call<u64>>, Vec<Reply<u64>>), AllocError> {
-    let mut calls = Vec::new(alloc);
-    let mut wanted = Vec::new(alloc);
-    calls.push(Call::Subscribe)?;
-    wanted.push(Reply::Sub(Ok(SubId(0))))?;
+fn long_list(alloc: Global) -> Result<Vec<Exchange>, AllocError> {
+    let mut exchanges = Vec::new(alloc);
+    exchanges.push((Call::Subscribe, Reply::Sub(Ok(SubId(0)))))?;
     for number in 0..1_000u64 {
-        calls.push(Call::Try(0, number))?;
-        wanted.push(Reply::Tried(Ok(Tried::Accepted(number))))?;
-        calls.push(Call::Next(SubId(0)))?;
-        wanted.push(Reply::Next(Next::Value(number)))?;
+        exchanges.push(Many::Try.exchange(number))?;
+        exchanges.push((Call::Next(SubId(0)), Reply::Next(Next::Value(number))))?;
     }
-    Ok((calls, wanted))
+    Ok(exchanges)
 }
 
 #[test]
 fn long_lists_are_run(rt: HostRuntime) -> Result<(), Fail> {
-    let (calls, wanted) = long_list(rt.alloc())?;
-    let mut replies = Vec::new(rt.alloc());
-    let flow = run_new_flow(rt.alloc(), ONE_PLACE, &calls, &mut replies)?;
-    assert_same(&rt, "calls", calls.len(), 2_001);
-    assert!(rt; replies == wanted, "replies");
-    assert_same(&rt, "live", flow.subscription_count(), 1);
+    let exchanges = long_list(rt.alloc())?;
+    assert_same(&rt, "calls", exchanges.len(), 2_001);
+    let is_run = is_run(rt.alloc(), ONE_PLACE, &exchanges)?;
+    assert_same(&rt, "are replied to", is_run, true);
     Ok(())
 }
 
-#[test]
-fn refusals_leave_no_replies(rt: HostRuntime) -> Result<(), Fail> {
+/// Whether a flow with too many places is refused, and how many replies there are then.
+fn replies_of_too_large(alloc: Global) -> (bool, usize) {
     const OVER: Config = Config {
         replay: PLACES,
         ..ONE_PLACE
     };
-    let (calls, _) = long_list(rt.alloc())?;
-    let mut replies = Vec::new(rt.alloc());
-    let refused = run_new_flow(rt.alloc(), OVER, &calls, &mut replies);
-    assert!(rt; matches!(refused, Err(Refusal::TooLarge)));
-    assert_same(&rt, "replies", replies.len(), 0);
-    Ok(())
+    let mut replies = Vec::<Reply<u64>>::new(alloc);
+    let ran = run_new_flow(alloc, OVER, &[Call::Subscribe, Call::Count], &mut replies);
+    (matches!(ran, Err(Refusal::TooLarge)), replies.len())
+}
+
+#[test]
+fn refusals_leave_no_replies(rt: HostRuntime) {
+    let refused = replies_of_too_large(rt.alloc());
+    assert_same(&rt, "refused, and replies", refused, (true, 0));
+}
+
+/// Whether these values are taken of those that were offered, and how many are left.
+fn taken(alloc: Global, offered: &[u64], values: &[u64]) -> Result<(bool, u64), Refusal> {
+    let it = offer_and_take(alloc, ONE_PLACE, offered)?;
+    let pending = it.flow.pending(it.subscription);
+    Ok((it.values.as_slice() == values, pending))
 }
 
 // Every second value finds the one place taken: one is received then, and that value is passed over.
 #[test]
 fn offers_are_taken(rt: HostRuntime) -> Result<(), Fail> {
-    let it = offer_and_take(rt.alloc(), ONE_PLACE, &[1u64, 2, 3, 4, 5])?;
-    assert!(rt; it.values.as_slice() == [1, 3].as_slice(), "taken");
-    assert_same(&rt, "pending", it.flow.pending(it.subscription), 1);
+    let taken = taken(rt.alloc(), &[1, 2, 3, 4, 5], &[1, 3])?;
+    assert_same(&rt, "taken, and pending", taken, (true, 1));
     Ok(())
 }

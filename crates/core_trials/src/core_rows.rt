@@ -3,6 +3,7 @@
 use crate::tools::Differences;
 use cold_flow::{Policy, Refusal};
 use hot_callers::{received_in_turn, received_once};
+use list_callers::run_new_flow;
 use shared_core::{
     Begun, Call, Config, Emit, Next, Reply, SharedState, SubId, Ticket, Tried, Withdrawn,
 };
@@ -357,17 +358,6 @@ fn calls_of(alloc: Global, exchanges: &[Exchange]) -> Result<Vec<Call<u64>>, All
     Ok(calls)
 }
 
-/// The replies of a new flow that runs the calls as one list.
-fn replies_to(
-    alloc: Global,
-    config: Config,
-    calls: &[Call<u64>],
-) -> Result<Vec<Reply<u64>>, Refusal> {
-    let mut replies = Vec::new(alloc);
-    SharedState::new(alloc, config)?.run(calls, &mut replies)?;
-    Ok(replies)
-}
-
 /// Are these the wanted replies? One that is missing or too much is not as it should be.
 fn are_replies(replies: &[Reply<u64>], exchanges: &[Exchange]) -> bool {
     if replies.len() != exchanges.len() {
@@ -381,8 +371,30 @@ fn are_replies(replies: &[Reply<u64>], exchanges: &[Exchange]) -> bool {
     true
 }
 
+/// Whether a new flow replies so where it runs these calls as one list.
+fn is_list_replied(
+    alloc: Global,
+    config: Config,
+    calls: &[Call<u64>],
+    exchanges: &[Exchange],
+) -> Result<bool, Refusal> {
+    let mut replies = Vec::new(alloc);
+    let _flow = run_new_flow(alloc, config, calls, &mut replies)?;
+    Ok(are_replies(&replies, exchanges))
+}
+
+/// Whether a new flow that runs all calls as one list replies as it should.
+pub(crate) fn is_run(
+    alloc: Global,
+    config: Config,
+    exchanges: &[Exchange],
+) -> Result<bool, Refusal> {
+    let calls = calls_of(alloc, exchanges)?;
+    is_list_replied(alloc, config, &calls, exchanges)
+}
+
 /// Is the replay cache these values?
-fn caches(flow: &SharedState<u64>, values: &[u64]) -> bool {
+pub(crate) fn caches(flow: &SharedState<u64>, values: &[u64]) -> bool {
     if flow.replay_len() != values.len() as u64 {
         return false;
     }
@@ -398,24 +410,16 @@ fn caches(flow: &SharedState<u64>, values: &[u64]) -> bool {
 fn compare_row(differences: &mut Differences, alloc: Global, row: &Row<'_>) -> Result<(), Fail> {
     let replied = replied_by_new(alloc, row)?;
     differences.compare(row.name, replied, (row.exchanges.len(), true))?;
-    let calls = calls_of(alloc, row.exchanges)?;
-    let replies = replies_to(alloc, row.config, &calls)?;
-    differences.compare(row.name, are_replies(&replies, row.exchanges), true)
+    differences.compare(row.name, is_run(alloc, row.config, row.exchanges)?, true)
 }
 
 #[test]
 fn calls_are_replied_to(rt: HostRuntime) -> Result<(), Fail> {
-    const OVER: Config = Config {
-        first: LIMIT + 1,
-        ..PLAIN
-    };
     let mut differences = Differences::none(rt.alloc());
     for row in ROWS {
         compare_row(&mut differences, rt.alloc(), row)?;
     }
     differences.assert_none(&rt);
-    let refused = SharedState::<u64>::new(rt.alloc(), OVER);
-    assert!(rt; matches!(refused, Err(Refusal::BadLimit)));
     Ok(())
 }
 

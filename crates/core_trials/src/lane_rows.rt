@@ -42,15 +42,18 @@ enum Exchange {
     Next(Taken<u64>),
 }
 
-/// The calls while one reader is open, and what it says of itself after them.
+/// The calls while one reader is open, what it says of itself after them, and how much was accepted since its start.
 struct Life<'a> {
+    name: &'a str,
     exchanges: &'a [Exchange],
     start: u64,
+    accepted: u64,
     received: u64,
     dropped: u64,
 }
 
-const WAITS_FOR_ROOM: &Life<'_> = &Life {
+const WAITS_FOR_ROOM: Life<'_> = Life {
+    name: "waits for room",
     exchanges: &[
         Exchange::Try(7, Tried::Accepted(0)),
         Exchange::Try(8, Tried::Accepted(1)),
@@ -66,11 +69,13 @@ const WAITS_FOR_ROOM: &Life<'_> = &Life {
         Exchange::Next(Taken::Nothing),
     ],
     start: 0,
+    accepted: 4,
     received: 4,
     dropped: 0,
 };
 
-const LOSES_THREE: &Life<'_> = &Life {
+const LOSES_THREE: Life<'_> = Life {
+    name: "loses three",
     exchanges: &[
         Exchange::Try(1, Tried::Accepted(0)),
         Exchange::Try(2, Tried::Accepted(1)),
@@ -82,13 +87,16 @@ const LOSES_THREE: &Life<'_> = &Life {
         Exchange::Next(Taken::Nothing),
     ],
     start: 0,
+    accepted: 5,
     received: 2,
     dropped: 3,
 };
 
-const BEGINS_AT_THE_CACHE: &Life<'_> = &Life {
+const BEGINS_AT_THE_CACHE: Life<'_> = Life {
+    name: "begins at the cache",
     exchanges: &[Exchange::Next(Taken::Value(5))],
     start: 4,
+    accepted: 1,
     received: 1,
     dropped: 0,
 };
@@ -127,92 +135,76 @@ fn is_answered(
     }
 }
 
-// Makes the calls of a reader's life, compares their answers, and what the reader says of itself.
+// How many of the calls, from the first on, were answered as they should be.
+fn answered(
+    lane: &Lane<Global>,
+    sequencer: &mut Sequencer<Global>,
+    reader: &mut Reader,
+    exchanges: &[Exchange],
+) -> usize
+    requires { IsSequencerOf lane.now sequencer.old × IsReaderOf lane.now reader.old }
+    ensures { IsSequencerOf lane.now sequencer.new × IsReaderOf lane.now reader.new }
+{
+    let mut count: usize = 0;
+    for exchange in exchanges {
+        if !is_answered(lane, sequencer, reader, exchange) {
+            return count;
+        }
+        count = count.saturating_add(1);
+    }
+    count
+}
+
+// Lives this life as a new reader: compares the answers, what the reader says of itself, also at its end, and what sequencer and
+// reader find when they meet.
 fn assert_life(
     rt: &impl Abort,
     lane: &Lane<Global>,
     sequencer: &mut Sequencer<Global>,
-    reader: &mut Reader,
-    name: &str,
     life: &Life<'_>,
 )
-    requires { IsSequencerOf lane.now sequencer.old × IsReaderOf lane.now reader.old }
-    ensures { IsSequencerOf lane.now sequencer.new × IsReaderOf lane.now reader.new }
+    requires { IsSequencerOf lane.now sequencer.old }
+    ensures { IsSequencerOf lane.now sequencer.new }
 {
-    for exchange in life.exchanges {
-        let same = is_answered(lane, sequencer, reader, exchange);
-        assert_same(rt, name, same, true);
-    }
+    let mut reader = admitted(rt, lane, sequencer);
+    let count = answered(lane, sequencer, &mut reader, life.exchanges);
     let found = (reader.start(), reader.received(), reader.dropped());
-    assert_same(rt, name, found, (life.start, life.received, life.dropped));
-}
-
-// Compares what sequencer and reader find when they meet: how much was accepted, received and dropped since the reader's start.
-fn assert_met(
-    rt: &impl Abort,
-    lane: &Lane<Global>,
-    sequencer: &mut Sequencer<Global>,
-    reader: &mut Reader,
-    counts: (u64, u64, u64),
-)
-    requires { IsSequencerOf lane.now sequencer.old × IsReaderOf lane.now reader.old }
-    ensures { IsSequencerOf lane.now sequencer.new × IsReaderOf lane.now reader.new }
-{
     let Met {
         accepted,
         received,
         dropped,
-    } = meet(lane, sequencer, reader);
-    assert_same(rt, "met", (accepted, received, dropped), counts);
+    } = meet(lane, sequencer, &mut reader);
+    let met = (accepted, received, dropped);
+    let closed = reader.close(lane);
+    let ended = (closed.received(), closed.dropped());
+    assert_same(rt, life.name, count, life.exchanges.len());
+    assert_same(
+        rt,
+        life.name,
+        found,
+        (life.start, life.received, life.dropped),
+    );
+    assert_same(
+        rt,
+        life.name,
+        met,
+        (life.accepted, life.received, life.dropped),
+    );
+    assert_same(rt, life.name, ended, (life.received, life.dropped));
 }
 
 #[test]
 fn lane_suspends(rt: HostRuntime) -> Result<(), Fail> {
     let (lane, mut sequencer) = lane_of(rt.alloc(), SUSPENDS)?;
-    let mut reader = admitted(&rt, &lane, &mut sequencer);
-    assert_life(
-        &rt,
-        &lane,
-        &mut sequencer,
-        &mut reader,
-        "lane_suspends",
-        WAITS_FOR_ROOM,
-    );
-    reader.close(&lane);
+    assert_life(&rt, &lane, &mut sequencer, &WAITS_FOR_ROOM);
     Ok(())
 }
 
 #[test]
 fn lane_drops_oldest(rt: HostRuntime) -> Result<(), Fail> {
     let (lane, mut sequencer) = lane_of(rt.alloc(), DROPS_OLDEST)?;
-    let mut reader = admitted(&rt, &lane, &mut sequencer);
-    assert_life(
-        &rt,
-        &lane,
-        &mut sequencer,
-        &mut reader,
-        "the first reader",
-        LOSES_THREE,
-    );
-    assert_met(&rt, &lane, &mut sequencer, &mut reader, (5, 2, 3));
-    let closed = reader.close(&lane);
-    assert_same(
-        &rt,
-        "its end",
-        (closed.received(), closed.dropped()),
-        (2, 3),
-    );
-    let mut reader = admitted(&rt, &lane, &mut sequencer);
-    assert_life(
-        &rt,
-        &lane,
-        &mut sequencer,
-        &mut reader,
-        "the second reader",
-        BEGINS_AT_THE_CACHE,
-    );
-    assert_met(&rt, &lane, &mut sequencer, &mut reader, (1, 1, 0));
-    reader.close(&lane);
+    assert_life(&rt, &lane, &mut sequencer, &LOSES_THREE);
+    assert_life(&rt, &lane, &mut sequencer, &BEGINS_AT_THE_CACHE);
     Ok(())
 }
 
@@ -279,21 +271,20 @@ fn made_at_last(alloc: Global, config: Config) -> Result<(Lane<Global>, Sequence
     }
 }
 
+// How many readers a new lane has, and whether it accepts a first value.
+fn new_lane(alloc: Global, config: Config) -> Result<(u32, bool), Refusal> {
+    let (lane, mut sequencer) = made_at_last(alloc, config)?;
+    let live = sequencer.live(&lane);
+    let tried = sequencer.try_emit(&lane, EMITTER, 7);
+    Ok((live, tried == Ok(Tried::Accepted(0))))
+}
+
 /// The one call that takes memory succeeds where memory is there, also under `rt try --test --fail-alloc N` when it is
 /// made once more.
 #[test]
-fn a_lane_is_made_where_memory_is(rt: HostRuntime) -> Result<(), Fail> {
+fn a_lane_is_made_where_memory_is(rt: HostRuntime) {
     for config in [SUSPENDS, DROPS_OLDEST] {
-        let (lane, mut sequencer) = made_at_last(rt.alloc(), config).map_err(
-            |refusal| refusal.number(),
-        )?;
-        assert_same(&rt, "readers of a new lane", sequencer.live(&lane), 0);
-        assert_same(
-            &rt,
-            "a try",
-            sequencer.try_emit(&lane, EMITTER, 7),
-            Ok(Tried::Accepted(0)),
-        );
+        let said = new_lane(rt.alloc(), config);
+        assert_same(&rt, "readers, and whether it accepts", said, Ok((0, true)));
     }
-    Ok(())
 }

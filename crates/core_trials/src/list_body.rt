@@ -1,42 +1,32 @@
 //! The shared flow on one thread with a list of pending values for each subscription, and one for the replay cache.
 //!
-//! This is the body that the ring of `shared_core` replaced, kept as a plain program: tests run both. It takes memory as it
-//! goes, and it stops at the greatest number instead of proving that it never gets there.
+//! This is the body that the ring of `shared_core` replaced, kept as a plain program: tests run both. It takes memory for
+//! subscriptions and tickets as it goes, and it stops at the greatest number instead of proving that it never gets there.
 
 mod emissions;
+mod queue;
 mod subscriptions;
+mod tickets;
 
+use crate::list_body::queue::Queue;
+use crate::list_body::tickets::{Accepted, Waiting};
 use cold_flow::{Policy, Refusal};
 use shared_core::{Call, Config, Prelude, Reply};
 use std::alloc::{AllocError, Global};
-use std::collections::VecDeque;
 
 /// Numbers stay below this.
 const NUMBER_LIMIT: u64 = 1 << 62;
 
-/// A live subscription: its number, what is left of its prelude, and its pending values.
-#[derive(Drop)]
+/// A live subscription: its number, its prelude, of which so many values were given, and its pending values.
+#[derive(Clone, Copy)]
 pub struct Place {
     pub number: u64,
-    pub prelude: VecDeque<u64>,
-    pub pending: VecDeque<u64>,
+    pub prelude: Prelude<u64>,
+    pub given: u32,
+    pub pending: Queue,
 }
 
-/// A ticket of an accepted emission, and the emission's index.
-#[derive(Clone, Copy)]
-pub struct Accepted {
-    pub ticket: u64,
-    pub index: u64,
-}
-
-/// A ticket of an emission that waits for room.
-#[derive(Clone, Copy)]
-pub struct Waiting {
-    pub ticket: u64,
-    pub value: u64,
-}
-
-/// A shared flow of words.
+/// A shared flow of words with five places at most.
 #[derive(Drop)]
 pub struct ListBody {
     pub config: Config,
@@ -46,21 +36,12 @@ pub struct ListBody {
     pub subscribed: u64,
     pub given: u64,
     /// The latest accepted values, at most `replay` of them.
-    pub cache: VecDeque<u64>,
+    pub cache: Queue,
     /// The live subscriptions, by rising numbers.
-    pub live: VecDeque<Place>,
+    pub live: Vec<Place>,
     /// The accepted emissions whose ticket is out, and those that wait for room, the oldest first.
-    pub accepted: VecDeque<Accepted>,
-    pub waiting: VecDeque<Waiting>,
-}
-
-/// The values of a prelude.
-fn values_of(alloc: Global, prelude: &Prelude<u64>) -> Result<VecDeque<u64>, AllocError> {
-    let mut values = VecDeque::new(alloc);
-    for index in 0..prelude.len() {
-        values.push_back(prelude.at(index))?;
-    }
-    Ok(values)
+    pub accepted: Vec<Accepted>,
+    pub waiting: Vec<Waiting>,
 }
 
 impl ListBody {
@@ -70,10 +51,10 @@ impl ListBody {
             next_number: config.first,
             subscribed: 0,
             given: 0,
-            cache: VecDeque::new(alloc),
-            live: VecDeque::new(alloc),
-            accepted: VecDeque::new(alloc),
-            waiting: VecDeque::new(alloc),
+            cache: Queue::new(),
+            live: Vec::new(alloc),
+            accepted: Vec::new(alloc),
+            waiting: Vec::new(alloc),
         }
     }
 
@@ -88,25 +69,18 @@ impl ListBody {
     }
 
     /// Makes one call.
-    pub(crate) fn make(
-        &mut self,
-        alloc: Global,
-        call: Call<u64>,
-    ) -> Result<Reply<u64>, AllocError> {
+    pub(crate) fn make(&mut self, call: Call<u64>) -> Result<Reply<u64>, AllocError> {
         Ok(match call {
-            Call::Try(_, value) => Reply::Tried(self.try_emit(value)?),
+            Call::Try(_, value) => Reply::Tried(self.try_emit(value)),
             Call::Start(_, value) => Reply::Begun(self.start_emit(value)?),
             Call::Poll(ticket) => Reply::Emit(self.poll_emit(ticket.0)),
             Call::Withdraw(ticket) => Reply::Withdrawn(self.cancel_emit(ticket.0)),
-            Call::Subscribe => Reply::Sub(self.subscribe(alloc, VecDeque::new(alloc))?),
-            Call::SubscribeWith(prelude) => {
-                let values = values_of(alloc, &prelude)?;
-                Reply::Sub(self.subscribe(alloc, values)?)
-            }
+            Call::Subscribe => Reply::Sub(self.subscribe(Prelude::empty())?),
+            Call::SubscribeWith(prelude) => Reply::Sub(self.subscribe(prelude)?),
             Call::Next(id) => Reply::Next(self.next(id.0)?),
             Call::Cancel(id) => Reply::Cancelled(self.cancel(id.0)?),
             Call::Reset => {
-                self.cache.clear();
+                self.cache = Queue::new();
                 Reply::Reset
             }
             Call::Count => Reply::Count(self.live.len().min(1024) as u32),

@@ -78,19 +78,28 @@ fn state_refusal(heap: &LocalHeap, seats: u32) -> u8 {
     }
 }
 
+// Compares what flows answer, and lanes and states in this heap, in which there is room for nothing.
+fn compare_refusals(
+    differences: &mut Differences,
+    alloc: Global,
+    heap: &LocalHeap,
+) -> Result<(), Fail> {
+    for row in ROWS {
+        differences.compare(row.name, flow_refusal(alloc, row.config), row.refusal)?;
+        differences.compare(row.name, lane_refusal(heap, row.config), row.refusal)?;
+    }
+    differences.compare("a lane without memory", lane_refusal(heap, PLAIN), 4)?;
+    for (seats, refusal) in [(0, 3), (1_025, 3), (1, 4)] {
+        differences.compare("a state", state_refusal(heap, seats), refusal)?;
+    }
+    Ok(())
+}
+
 #[test]
 fn refusals_at_making_come_in_order(rt: HostRuntime) -> Result<(), Fail> {
-    let mut differences = Differences::none(rt.alloc());
-    // There is room for nothing in it.
     let heap = LocalHeap::new(rt.alloc(), 16)?;
-    for row in ROWS {
-        differences.compare(row.name, flow_refusal(rt.alloc(), row.config), row.refusal)?;
-        differences.compare(row.name, lane_refusal(&heap, row.config), row.refusal)?;
-    }
-    differences.compare("a lane without memory", lane_refusal(&heap, PLAIN), 4)?;
-    for (seats, refusal) in [(0, 3), (1_025, 3), (1, 4)] {
-        differences.compare("a state", state_refusal(&heap, seats), refusal)?;
-    }
+    let mut differences = Differences::none(rt.alloc());
+    compare_refusals(&mut differences, rt.alloc(), &heap)?;
     differences.assert_none(&rt);
     Ok(())
 }
@@ -147,13 +156,12 @@ fn refusal_within(
 
 // Each heap has one block more than the one before, so that each allocation, from the first to the last, is the refused one. Says
 // whether each call before the last was refused for want of memory, and each left its heap, and a refused one the flow, as it was.
-fn is_made_at_last(alloc: Global, made: &Made) -> Result<bool, Fail> {
-    let mut flow = SharedState::new(alloc, PLAIN)?;
+fn is_made_at_last(alloc: Global, flow: &mut SharedState<u64>, made: &Made) -> Result<bool, Fail> {
     for blocks in 1..64usize {
         if flow.subscription_count() != 0 {
             return Ok(false);
         }
-        match refusal_within(alloc, blocks, &mut flow, made)? {
+        match refusal_within(alloc, blocks, flow, made)? {
             (0, 0) => return Ok(blocks > 1),
             (4, 0) => {}
             _ => return Ok(false),
@@ -162,10 +170,16 @@ fn is_made_at_last(alloc: Global, made: &Made) -> Result<bool, Fail> {
     Ok(false)
 }
 
+// The same with a new flow.
+fn is_made_for_new(alloc: Global, made: &Made) -> Result<bool, Fail> {
+    let mut flow = SharedState::new(alloc, PLAIN)?;
+    is_made_at_last(alloc, &mut flow, made)
+}
+
 #[test]
 fn want_of_memory_is_answered(rt: HostRuntime) -> Result<(), Fail> {
     for made in EACH {
-        assert!(rt; is_made_at_last(rt.alloc(), made)?);
+        assert!(rt; is_made_for_new(rt.alloc(), made)?);
     }
     Ok(())
 }

@@ -1,6 +1,7 @@
 //! Emissions, and their tickets.
 
-use super::{Accepted, ListBody, NUMBER_LIMIT, Waiting};
+use super::{ListBody, NUMBER_LIMIT};
+use crate::list_body::tickets::{Accepted, Waiting, forget, index_of, is_waiting};
 use cold_flow::{Policy, Refusal};
 use shared_core::{Begun, Emit, Ticket, Tried, Withdrawn};
 use std::alloc::AllocError;
@@ -53,25 +54,25 @@ impl ListBody {
     }
 
     /// The value joins the list of each live subscription, and the cache. Answers its number.
-    fn accept(&mut self, value: u64) -> Result<u64, AllocError> {
+    fn accept(&mut self, value: u64) -> u64 {
         let number = self.next_number;
         for place in self.live.iter_mut() {
-            place.pending.push_back(value)?;
+            place.pending.push(value);
         }
-        self.cache.push_back(value)?;
+        self.cache.push(value);
         if self.cache.len() as u64 > self.config.replay {
-            let _oldest = self.cache.pop_front();
+            let _oldest = self.cache.pop();
         }
         self.next_number = number.saturating_add(1);
-        Ok(number)
+        number
     }
 
     /// Accepts the value, after each subscription with all its places taken lost its oldest one.
-    fn push_in(&mut self, value: u64) -> Result<u64, AllocError> {
+    fn push_in(&mut self, value: u64) -> u64 {
         let limit = self.limit();
         for place in self.live.iter_mut() {
             if place.pending.len() == limit {
-                let _lost = place.pending.pop_front();
+                let _lost = place.pending.pop();
             }
         }
         self.accept(value)
@@ -90,16 +91,16 @@ impl ListBody {
 
     /// Accepts the emission that waits longest, where there is room. Answers whether it did.
     fn accept_waiting(&mut self) -> Result<bool, AllocError> {
-        let Some(oldest) = self.waiting.front().copied() else {
+        if self.waiting.is_empty() {
             return Ok(false);
-        };
+        }
         if !self.has_room() {
             return Ok(false);
         }
-        let _oldest = self.waiting.pop_front();
+        let oldest = self.waiting.remove(0);
         let index = self.next_number.saturating_sub(self.config.first);
-        let _number = self.accept(oldest.value)?;
-        self.accepted.push_back(Accepted {
+        let _number = self.accept(oldest.value);
+        self.accepted.push(Accepted {
             ticket: oldest.ticket,
             index,
         })?;
@@ -116,19 +117,16 @@ impl ListBody {
         Ok(())
     }
 
-    pub(crate) fn try_emit(
-        &mut self,
-        value: u64,
-    ) -> Result<Result<Tried<u64>, Refusal>, AllocError> {
+    pub(crate) fn try_emit(&mut self, value: u64) -> Result<Tried<u64>, Refusal> {
         if self.is_spent() {
-            return Ok(Err(Refusal::Spent));
+            return Err(Refusal::Spent);
         }
-        Ok(Ok(match self.fate() {
-            Fate::Enters => Tried::Accepted(self.accept(value)?),
-            Fate::PushesIn => Tried::Accepted(self.push_in(value)?),
+        Ok(match self.fate() {
+            Fate::Enters => Tried::Accepted(self.accept(value)),
+            Fate::PushesIn => Tried::Accepted(self.push_in(value)),
             Fate::Dropped => Tried::Dropped,
             Fate::HandedOver | Fate::HeldUp => Tried::Full,
-        }))
+        })
     }
 
     pub(crate) fn start_emit(
@@ -143,8 +141,8 @@ impl ListBody {
             return Ok(Err(Refusal::EmitsFull));
         }
         Ok(Ok(match fate {
-            Fate::Enters => Begun::Accepted(self.accept(value)?),
-            Fate::PushesIn => Begun::Accepted(self.push_in(value)?),
+            Fate::Enters => Begun::Accepted(self.accept(value)),
+            Fate::PushesIn => Begun::Accepted(self.push_in(value)),
             Fate::Dropped => Begun::Dropped,
             Fate::HandedOver => Begun::Waiting(self.hand_over(value)?),
             Fate::HeldUp => Begun::Waiting(self.keep_waiting(value)?),
@@ -152,15 +150,15 @@ impl ListBody {
     }
 
     fn hand_over(&mut self, value: u64) -> Result<Ticket, AllocError> {
-        let index = self.accept(value)?.saturating_sub(self.config.first);
+        let index = self.accept(value).saturating_sub(self.config.first);
         let ticket = self.next_ticket();
-        self.accepted.push_back(Accepted { ticket, index })?;
+        self.accepted.push(Accepted { ticket, index })?;
         Ok(Ticket(ticket))
     }
 
     fn keep_waiting(&mut self, value: u64) -> Result<Ticket, AllocError> {
         let ticket = self.next_ticket();
-        self.waiting.push_back(Waiting { ticket, value })?;
+        self.waiting.push(Waiting { ticket, value })?;
         Ok(Ticket(ticket))
     }
 
@@ -182,50 +180,29 @@ impl ListBody {
     }
 
     pub(crate) fn poll_emit(&mut self, ticket: u64) -> Emit {
-        for at in 0..self.accepted.len() {
-            let Some(held) = self.accepted.get(at).copied() else {
-                return Emit::Gone;
+        let Some(index) = index_of(&self.accepted, ticket) else {
+            return if is_waiting(&self.waiting, ticket) {
+                Emit::Waiting
+            } else {
+                Emit::Gone
             };
-            if held.ticket == ticket {
-                if !self.is_finished(held.index) {
-                    return Emit::Waiting;
-                }
-                let _done = self.accepted.remove(at);
-                return Emit::Done(self.config.first.saturating_add(held.index));
-            }
+        };
+        if !self.is_finished(index) {
+            return Emit::Waiting;
         }
-        match self.waiting_at(ticket) {
-            None => Emit::Gone,
-            Some(_) => Emit::Waiting,
-        }
+        forget(&mut self.accepted, ticket);
+        Emit::Done(self.config.first.saturating_add(index))
     }
 
     pub(crate) fn cancel_emit(&mut self, ticket: u64) -> Withdrawn<u64> {
-        for at in 0..self.accepted.len() {
-            let Some(held) = self.accepted.get(at).copied() else {
-                return Withdrawn::Gone;
-            };
-            if held.ticket == ticket {
-                let _left = self.accepted.remove(at);
-                return Withdrawn::Left(self.config.first.saturating_add(held.index));
-            }
+        if let Some(index) = index_of(&self.accepted, ticket) {
+            forget(&mut self.accepted, ticket);
+            return Withdrawn::Left(self.config.first.saturating_add(index));
         }
-        match self.waiting_at(ticket) {
-            None => Withdrawn::Gone,
-            Some(at) => {
-                let _removed = self.waiting.remove(at);
-                Withdrawn::Removed
-            }
+        if !is_waiting(&self.waiting, ticket) {
+            return Withdrawn::Gone;
         }
-    }
-
-    /// Where the ticket is held among those that wait.
-    fn waiting_at(&self, ticket: u64) -> Option<usize> {
-        for (at, held) in self.waiting.iter().enumerate() {
-            if held.ticket == ticket {
-                return Some(at);
-            }
-        }
-        None
+        self.waiting.retain(|held| held.ticket != ticket);
+        Withdrawn::Removed
     }
 }

@@ -2,16 +2,35 @@
 
 use super::{ListBody, NUMBER_LIMIT, Place};
 use cold_flow::Refusal;
-use shared_core::{Next, SubId};
-use std::alloc::{AllocError, Global};
-use std::collections::VecDeque;
+use shared_core::{Next, Prelude, SubId};
+use std::alloc::AllocError;
+
+impl Place {
+    /// Its next value: of its prelude first.
+    fn next(&mut self) -> Next<u64> {
+        if self.given < self.prelude.len() {
+            let value = self.prelude.at(self.given);
+            self.given = self.given.saturating_add(1);
+            return Next::Value(value);
+        }
+        match self.pending.pop() {
+            Some(value) => Next::Value(value),
+            None => Next::Nothing,
+        }
+    }
+
+    /// How many values it has pending, what is left of its prelude counted in.
+    fn left(&self) -> u64 {
+        let prelude = self.prelude.len().saturating_sub(self.given);
+        u64::from(prelude).saturating_add(self.pending.len() as u64)
+    }
+}
 
 impl ListBody {
     /// A new subscription gets its prelude and a copy of the replay cache.
     pub(crate) fn subscribe(
         &mut self,
-        alloc: Global,
-        prelude: VecDeque<u64>,
+        prelude: Prelude<u64>,
     ) -> Result<Result<SubId, Refusal>, AllocError> {
         let number = self.config.first.saturating_add(self.subscribed);
         if number == NUMBER_LIMIT {
@@ -20,62 +39,49 @@ impl ListBody {
         if self.live.len() >= self.config.subscribers as usize {
             return Ok(Err(Refusal::SubscribersFull));
         }
-        let mut pending = VecDeque::new(alloc);
-        for value in &self.cache {
-            pending.push_back(*value)?;
-        }
-        self.live.push_back(Place {
+        self.live.push(Place {
             number,
             prelude,
-            pending,
+            given: 0,
+            pending: self.cache,
         })?;
         self.subscribed = self.subscribed.saturating_add(1);
         Ok(Ok(SubId(number)))
     }
 
-    /// Where the live subscription with this number has its place.
-    fn place_of(&self, number: u64) -> Option<usize> {
-        for (at, place) in self.live.iter().enumerate() {
-            if place.number == number {
-                return Some(at);
-            }
-        }
-        None
-    }
-
+    /// Where a subscription has received a value, there may be room for an emission that waits.
     pub(crate) fn next(&mut self, number: u64) -> Result<Next<u64>, AllocError> {
-        let Some(at) = self.place_of(number) else {
-            return Ok(Next::Closed);
-        };
-        let Some(place) = self.live.get_mut(at) else {
-            return Ok(Next::Closed);
-        };
-        if let Some(value) = place.prelude.pop_front() {
-            return Ok(Next::Value(value));
+        let next = next_of(&mut self.live, number);
+        if matches!(next, Next::Value(_)) {
+            self.settle()?;
         }
-        let Some(value) = place.pending.pop_front() else {
-            return Ok(Next::Nothing);
-        };
-        self.settle()?;
-        Ok(Next::Value(value))
+        Ok(next)
     }
 
     pub(crate) fn cancel(&mut self, number: u64) -> Result<bool, AllocError> {
-        let Some(at) = self.place_of(number) else {
-            return Ok(false);
-        };
-        let _place = self.live.remove(at);
+        let before = self.live.len();
+        self.live.retain(|place| place.number != number);
         self.settle()?;
-        Ok(true)
+        Ok(self.live.len() < before)
     }
 
-    /// How many values the subscription has pending, what is left of its prelude counted in, and 0 where it isn't live.
+    /// How many values the subscription has pending, and 0 where it isn't live.
     pub(crate) fn pending(&self, number: u64) -> u64 {
         for place in &self.live {
             if place.number == number {
-                return (place.prelude.len() as u64).saturating_add(place.pending.len() as u64);
+                return place.left();
             }
         }
         0
     }
+}
+
+/// What the subscription with this number receives.
+fn next_of(live: &mut [Place], number: u64) -> Next<u64> {
+    for place in live {
+        if place.number == number {
+            return place.next();
+        }
+    }
+    Next::Closed
 }
