@@ -23,3 +23,4 @@ pub mod FoldLaws
 pub mod Polled
 pub mod PolledLaws
 pub mod LoopLaws
+pub mod CompletingRuns

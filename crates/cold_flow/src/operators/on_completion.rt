@@ -9,7 +9,7 @@ ghost use Rattle.cold_flow.specs.Poll.{Through, Makes, MakesExactly, Fixes, IsWi
 ghost use Rattle.cold_flow.specs.Laws.{Through-fixed};
 ghost use Rattle.cold_flow.specs.Finale.{with_finale, completing};
 ghost use Rattle.cold_flow.specs.FinaleLaws.{finale-monotone};
-ghost use Rattle.cold_flow.specs.Closing.{Following, given_cause, polls_left, and_one, is_open, is_prompt, is_after, told_cause, answer};
+ghost use Rattle.cold_flow.specs.Closing.{Following, given_cause, polls_left, and_one, is_open, is_prompt, is_after, answer};
 ghost use Rattle.cold_flow.specs.Polled.{Rests};
 
 use crate::apply::Apply;
@@ -95,11 +95,13 @@ impl<
     S: Run<Item = T, Fault = E>,
     G: Apply<Cause<E>, Out = Option<T>>,
 > CompletingRun<S, G, E> {
+    ghost use Rattle.cold_flow.specs.CompletingRuns.{cause_told};
+
     /// The cause that the action was told, and `None` before.
     ///
     /// That is the cause by which the run ended, or `Cause::Finished` from the last value on, also where the run was cancelled then.
     pub fn noted(&self) -> Option<Cause<E>>
-        ensures told { result ≡ told_cause self.now.last_given self.now.closing }
+        ensures told { result ≡ cause_told self.now }
         ensures ended { (k : _) → ⟦<CompletingRun<S, G, E> as Run>⟧.ended self.now ≡ Some k
             → (result ≡ Some k) ⊎ ((k ≡ Cancelled) × (result ≡ Some Finished)) }
         ensures going { ⟦<CompletingRun<S, G, E> as Run>⟧.ended self.now ≡ None
@@ -130,6 +132,7 @@ impl<T: Copy, E: Copy, S: Run<Item = T, Fault = E>, G: Apply<Cause<E>, Out = Opt
     for CompletingRun<S, G, E> {
     ghost use Rattle.cold_flow.specs.Laws.{Through-begins};
     ghost use Rattle.cold_flow.specs.ClosingLaws.{Following-begins, Following-over};
+    ghost use Rattle.cold_flow.specs.CompletingRuns.{source_run, end_given, cause_told};
 
     type Item = T;
 
@@ -168,9 +171,9 @@ impl<T: Copy, E: Copy, S: Run<Item = T, Fault = E>, G: Apply<Cause<E>, Out = Opt
 
     // The action that was told nothing is told of the cancellation.
     fn cancel(&mut self)
-        ensures ends { given_cause self.new.closing ≡ Some (after_cancel (given_cause self.old.closing)) }
-        ensures stops { IsTrue (S.stopped self.new.source) }
-        ensures tells { told_cause self.new.last_given self.new.closing ≡ Some (after_cancel (told_cause self.old.last_given self.old.closing)) }
+        ensures ends { end_given self.new ≡ Some (after_cancel (end_given self.old)) }
+        ensures stops { IsTrue (S.stopped (source_run self.new)) }
+        ensures tells { cause_told self.new ≡ Some (after_cancel (cause_told self.old)) }
     {
         self.source.cancel();
         if let Closing::Open = self.closing {
