@@ -24,3 +24,4 @@ pub mod Polled
 pub mod PolledLaws
 pub mod LoopLaws
 pub mod CompletingRuns
+pub mod Ends

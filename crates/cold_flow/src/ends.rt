@@ -1,6 +1,7 @@
 //! What collects a run.
 
 ghost use Rattle.std.specs.Prelude.{◌≡◌, None};
+ghost use Rattle.cold_flow.specs.Ends.{asked_run, answered};
 
 use crate::ends::first_value::First;
 use crate::run::Run;
@@ -12,7 +13,7 @@ pub mod to_list;
 
 /// Waits for the first value of `run`: Kotlin's `first`.
 pub fn first<R: Run>(run: R) -> First<R>
-    ensures { (result.run ≡ run) × (result.answer ≡ None) }
+    ensures { (asked_run result ≡ run) × (answered result ≡ None) }
 {
     First { run, answer: None }
 }

@@ -13,6 +13,7 @@ use Rattle.cold_flow.specs.Scripted.{played}
 use Rattle.cold_flow.specs.Trace.{Trace, ◌⊑◌, so_far, ended_by}
 use Rattle.script_commands.specs.declared.source.Source.{Source}
 use Rattle.script_commands.specs.declared.source.Source.TheVariants.{Of, Range, Fail}
+use Rattle.script_commands.specs.declared.source_flow.SourceFlow.{SourceFlow}
 use Rattle.script_commands.specs.declared.source_flow.SourceRun.{SourceRun}
 use Rattle.script_commands.specs.declared.source_flow.SourceRun.TheVariants.{Items, Numbers}
 use Rattle.script_commands.specs.Sources.{origin_in, given}
@@ -23,6 +24,10 @@ steps_left run = Unless run.ended (Beginnings (played (drop run.source.next run.
 
 abbrev pub numbers_left : EndingRun (numbers_flow.Numbers ℕ) ℕ → Traces ℕ ℕ
 numbers_left run = Unless run.ended (Beginnings (ended_by (range_with_len run.source.from (run.source.to - run.source.from)) Finished))
+
+-- the source that a flow gives
+abbrev pub source_of : SourceFlow → Source
+source_of flow = flow.source
 
 -- what a run of a source may give
 abbrev pub source_may : Source → Traces ℕ ℕ

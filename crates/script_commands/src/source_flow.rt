@@ -1,7 +1,7 @@
 //! The flow that a source of a script says.
 
 ghost use Rattle.std.specs.Prelude.{◌≡◌, is_some};
-ghost use Rattle.script_commands.specs.Sourced.{source_may, run_may, run_ended, run_polls};
+ghost use Rattle.script_commands.specs.Sourced.{source_of, source_may, run_may, run_ended, run_polls};
 
 use crate::source::Source;
 use cold_flow::{EndingRun, Event, Finite, Flow, Numbers, Refusal, Run, Stepped, range, scripted};
@@ -18,7 +18,7 @@ pub struct SourceFlow<'a> {
 impl<'a> SourceFlow<'a> {
     /// Nothing is read before a start.
     pub fn new(alloc: Global, source: Source<'a>) -> SourceFlow<'a>
-        ensures { result.source ≡ source.entry }
+        ensures { source_of result ≡ source.entry }
     {
         SourceFlow { source, alloc }
     }

@@ -55,10 +55,12 @@ pub struct EndingRun<S, E> {
 }
 
 impl<E: Copy, S: Steps<Fault = E>> EndingRun<S, E> {
+    ghost use Rattle.cold_flow.specs.Ends.{stepped_source, end_given};
+
     /// A run of all the steps of `source`.
     pub fn new(source: S) -> EndingRun<S, E>
-        ensures source { result.source ≡ source }
-        ensures fresh { result.ended ≡ None }
+        ensures source { stepped_source result ≡ source }
+        ensures fresh { end_given result ≡ None }
     {
         EndingRun {
             source,

@@ -4,6 +4,7 @@ ghost use Rattle.std.specs.Prelude.{◌≡◌, [], IsSome, ⊤};
 ghost use Rattle.futures.specs.Poll.{OnPending};
 ghost use Rattle.futures.specs.Task.{IsArmed, Keeps};
 ghost use Rattle.cold_flow.specs.declared.ends.collect.Gathering.TheVariants.{Going, Lacking};
+ghost use Rattle.cold_flow.specs.Ends.{gathered_run, gathered_values, gathered_to};
 
 use crate::cause::Cause;
 use crate::event::Event;
@@ -54,7 +55,7 @@ pub struct Collecting<R: Run> {
 
 /// Gathers the values of `run` and the cause of its end: Kotlin's `collect` into a list, poll by poll. See `Collecting::poll`.
 pub fn collect<R: Run>(alloc: Global, run: R) -> Collecting<R>
-    ensures { (result.run ≡ run) × (result.values.items ≡ []) × (result.state ≡ Going) }
+    ensures { (gathered_run result ≡ run) × (gathered_values result ≡ []) × (gathered_to result ≡ Going) }
 {
     Collecting {
         run,
@@ -69,7 +70,7 @@ impl<R: Run> Collecting<R> {
 
     /// The values so far, also after want of memory; none once they were handed out.
     pub fn so_far(&self) -> &[R::Item]
-        ensures { result.now ≡ self.now.values.items }
+        ensures { result.now ≡ gathered_values self.now }
     {
         self.values.as_slice()
     }
@@ -83,10 +84,11 @@ impl<R: Run> Collecting<R> {
         &mut self,
         cx: &mut Context<'_>,
     ) -> Poll<Result<Collected<R::Item, R::Fault>, Refusal>>
-        ensures gathers { GathersTo self.old.state self.old.values.items (R.may self.old.run) result
-            self.new.state self.new.values.items (R.may self.new.run) }
-        ensures takes { Takes R.polled R.cancelled self.old.state self.old.values.items self.old.run result self.new.values.items self.new.run }
-        ensures cancelled { self.old.state ≡ Going → self.new.state ≡ Lacking → IsSome (R.ended self.new.run) }
+        ensures gathers { GathersTo (gathered_to self.old) (gathered_values self.old) (R.may (gathered_run self.old)) result
+            (gathered_to self.new) (gathered_values self.new) (R.may (gathered_run self.new)) }
+        ensures takes { Takes R.polled R.cancelled (gathered_to self.old) (gathered_values self.old) (gathered_run self.old) result
+            (gathered_values self.new) (gathered_run self.new) }
+        ensures cancelled { gathered_to self.old ≡ Going → gathered_to self.new ≡ Lacking → IsSome (R.ended (gathered_run self.new)) }
         ensures armed { OnPending result (IsArmed cx.new) }
         ensures kept { Keeps cx.old cx.new }
     {

@@ -20,11 +20,13 @@ pub struct First<R: Run> {
 }
 
 impl<R: Run> First<R> {
+    ghost use Rattle.cold_flow.specs.Ends.{asked_run, answered};
+
     /// The first value, with which the run is cancelled, or the cause that came instead. Every later poll answers the same.
     pub fn poll(&mut self, cx: &mut Context<'_>) -> Poll<Result<R::Item, Cause<R::Fault>>>
-        ensures first { FirstOf self.old.answer (R.may self.old.run) result self.new.answer (R.may self.new.run) }
-        ensures takes { TakesOne R.polled R.cancelled self.old.answer self.old.run result self.new.run }
-        ensures over { self.old.answer ≡ None → IsSome self.new.answer → IsSome (R.ended self.new.run) }
+        ensures first { FirstOf (answered self.old) (R.may (asked_run self.old)) result (answered self.new) (R.may (asked_run self.new)) }
+        ensures takes { TakesOne R.polled R.cancelled (answered self.old) (asked_run self.old) result (asked_run self.new) }
+        ensures over { answered self.old ≡ None → IsSome (answered self.new) → IsSome (R.ended (asked_run self.new)) }
         ensures armed { OnPending result (IsArmed cx.new) }
         ensures kept { Keeps cx.old cx.new }
     {

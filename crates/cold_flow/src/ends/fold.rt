@@ -3,6 +3,7 @@
 ghost use Rattle.std.specs.Prelude.{◌≡◌, Option, None};
 ghost use Rattle.futures.specs.Poll.{OnPending};
 ghost use Rattle.futures.specs.Task.{IsArmed, Keeps};
+ghost use Rattle.cold_flow.specs.Ends.{folded_run, state_of, function_of, folded_cause};
 ghost use Rattle.cold_flow.specs.Fold.{FoldsTo};
 ghost use Rattle.cold_flow.specs.Polled.{TakesInto};
 
@@ -29,7 +30,8 @@ pub fn fold<R: Run, S: Copy, G: Apply<(S, R::Item), Out = S>>(
     init: S,
     function: G,
 ) -> Folding<R, S, G>
-    ensures { (result.run ≡ run) × (result.state ≡ init) × (result.function ≡ function) × (result.cause ≡ None) }
+    ensures { (folded_run result ≡ run) × (state_of result ≡ init) × (function_of result ≡ function)
+        × (folded_cause result ≡ None) }
 {
     Folding {
         run,
@@ -43,10 +45,11 @@ impl<R: Run, S: Copy, G: Apply<(S, R::Item), Out = S>> Folding<R, S, G> {
     /// Takes at most 64 values of the run, and then yields. It is ready with the last state and the cause once the run has ended, and
     /// every later poll answers the same.
     pub fn poll(&mut self, cx: &mut Context<'_>) -> Poll<(S, Cause<R::Fault>)>
-        ensures folds { FoldsTo (G.gives self.old.function) self.old.cause self.old.state (R.may self.old.run) result
-            self.new.cause self.new.state (R.may self.new.run) }
-        ensures takes { TakesInto R.polled (G.gives self.old.function) self.old.cause self.old.state self.old.run result self.new.state self.new.run }
-        ensures same { self.new.function ≡ self.old.function }
+        ensures folds { FoldsTo (G.gives (function_of self.old)) (folded_cause self.old) (state_of self.old) (R.may (folded_run self.old)) result
+            (folded_cause self.new) (state_of self.new) (R.may (folded_run self.new)) }
+        ensures takes { TakesInto R.polled (G.gives (function_of self.old)) (folded_cause self.old) (state_of self.old) (folded_run self.old) result
+            (state_of self.new) (folded_run self.new) }
+        ensures same { function_of self.new ≡ function_of self.old }
         ensures armed { OnPending result (IsArmed cx.new) }
         ensures kept { Keeps cx.old cx.new }
     {
