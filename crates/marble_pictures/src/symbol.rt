@@ -12,8 +12,9 @@ use marble_marks::{Kind, Mark, Row};
 use script_commands::Reason;
 use std::alloc::AllocError;
 
-/// How many bytes of a run that stand for themselves are added one by one. For fewer, adding them together costs more.
-const FRONT_OF_RUN: usize = 16;
+/// How many bytes are added one by one, before those that stand for themselves are looked for again. So a text of which few do
+/// costs what it costs byte by byte.
+const BYTE_BY_BYTE: usize = 64;
 
 /// A line from one place to another.
 #[derive(Clone, Copy)]
@@ -54,27 +55,21 @@ struct Frame {
 
 // Inlined, so that a text of which every second character has a name costs no call for each.
 /// Adds a character as SVG wants it: what has a meaning there by its name, and a question mark for a byte that is no
-/// printable character of ASCII. It says whether the byte stands for itself.
+/// printable character of ASCII.
 #[inline(always)]
-fn push_escaped_byte(picture: &mut String, byte: u8) -> Result<bool, AllocError>
+fn push_escaped_byte(picture: &mut String, byte: u8) -> Result<(), AllocError>
     ensures { OnOk result (string_bytes picture.new ≡ string_bytes picture.old ++ escaped_byte byte) }
 {
     if byte == b'<' {
-        picture.push_str("&lt;")?;
-        Ok(false)
+        picture.push_str("&lt;")
     } else if byte == b'>' {
-        picture.push_str("&gt;")?;
-        Ok(false)
+        picture.push_str("&gt;")
     } else if byte == b'&' {
-        picture.push_str("&amp;")?;
-        Ok(false)
+        picture.push_str("&amp;")
     } else if byte == b'"' {
-        picture.push_str("&quot;")?;
-        Ok(false)
+        picture.push_str("&quot;")
     } else {
-        let plain = plain_byte(byte);
-        picture.push(plain as char)?;
-        Ok(plain == byte)
+        picture.push(plain_byte(byte) as char)
     }
 }
 
@@ -103,7 +98,7 @@ fn push_each(picture: &mut String, bytes: &[u8]) -> Result<(), AllocError>
     ensures { OnOk result (string_bytes picture.new ≡ string_bytes picture.old ++ escaped bytes.now) }
 {
     for byte in bytes {
-        let _ = push_escaped_byte(picture, *byte)?;
+        push_escaped_byte(picture, *byte)?;
     }
     Ok(())
 }
@@ -119,30 +114,19 @@ fn push_front(picture: &mut String, front: &[u8]) -> Result<(), AllocError>
     }
 }
 
-/// Adds the front of a text as SVG wants it, byte by byte, through so many in a row that stand for themselves, and gives
-/// what is left.
-fn push_up_to_run<'a>(picture: &mut String, bytes: &'a [u8]) -> Result<&'a [u8], AllocError>
+/// Adds the front of a text as SVG wants it, byte by byte, and gives what is left.
+fn push_few<'a>(picture: &mut String, bytes: &'a [u8]) -> Result<&'a [u8], AllocError>
     ensures front { IfOk result (λ left. string_bytes picture.new ++ escaped left.now ≡ string_bytes picture.old ++ escaped bytes.now) }
     ensures shorter { IfOk result (λ left. 0 < length bytes.now → length left.now < length bytes.now) }
     ensures within { IfOk result (λ left. length left.now ≤ length bytes.now) }
 {
-    let mut left = bytes;
-    let mut run = 0;
-    while let [byte, rest @ ..] = left
-        && run < FRONT_OF_RUN
-    {
-        run = if push_escaped_byte(picture, *byte)? {
-            run + 1
-        } else {
-            0
-        };
-        left = rest;
-    }
-    Ok(left)
+    let (few, rest) = bytes.split_at(bytes.len().min(BYTE_BY_BYTE));
+    push_each(picture, few)?;
+    Ok(rest)
 }
 
-/// Adds a text as SVG wants it: what stands for itself at its front together, as most texts do whole, then byte by byte up to the
-/// next long run of bytes that do, and so on.
+/// Adds a text as SVG wants it: what stands for itself at its front together, as most texts do whole, then some bytes one by one,
+/// and so on.
 pub(crate) fn push_escaped(picture: &mut String, bytes: &[u8]) -> Result<(), AllocError>
     ensures { OnOk result (string_bytes picture.new ≡ string_bytes picture.old ++ escaped bytes.now) }
 {
@@ -150,7 +134,7 @@ pub(crate) fn push_escaped(picture: &mut String, bytes: &[u8]) -> Result<(), All
     while !left.is_empty() {
         let (front, back) = left.split_at(plain_front(left));
         push_front(picture, front)?;
-        left = push_up_to_run(picture, back)?;
+        left = push_few(picture, back)?;
     }
     Ok(())
 }
