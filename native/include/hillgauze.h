@@ -22,6 +22,26 @@
  *    hillgauze_state_take_seat take memory.
  * 6. Seats are given back to a seat of their own state flow (hillgauze_state_give_back).
  *
+ * Order between threads. Each step on words that handles share is a sequentially consistent atomic one, and stands in
+ * one order with the program's own. So, in the words of C11, what a thread did before the first of two calls happens
+ * before what another does after the second, where
+ *
+ * - the first begins an emission, by hillgauze_lane_try_emit or hillgauze_lane_start_emit, and the second is the
+ *   hillgauze_reader_try_next that answers its value;
+ * - the first is the hillgauze_reader_try_next that answers a value, and in the second, under another policy than
+ *   DROP_OLDEST, an emission is accepted that takes its place: one whose number is greater than the value's by at
+ *   least `replay` and `extra` together, or by at least 1 where both are 0;
+ * - the first is hillgauze_reader_close, and the second finds the reader's place free: hillgauze_lane_count, which
+ *   doesn't count it any more, or hillgauze_lane_admit, which gives it to another reader;
+ * - the first changes the value of a state flow, by hillgauze_state_set or hillgauze_state_compare_and_set, and the
+ *   second finds the value that it set, or one that was set after it: hillgauze_state_value,
+ *   hillgauze_collector_try_next with a VALUE, or hillgauze_state_compare_and_set that is DONE;
+ * - the first is hillgauze_collector_cancel or hillgauze_collector_free, and the second is hillgauze_state_collectors,
+ *   which doesn't count the collector any more.
+ *
+ * No other order is promised: none by NOTHING, FULL or UNEQUAL, and none by a set of an equal value. Where a value is
+ * set again, a call that finds it may have found the earlier one.
+ *
  * Where all of this holds, each call does just what is said beside it here. A null handle, one of another kind, a
  * number out of range or want of memory are answered by a refusal, and then nothing has happened, but for what is
  * said beside the call.

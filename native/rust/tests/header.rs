@@ -4,6 +4,7 @@ use hillgauze::Refusal;
 use std::collections::BTreeMap;
 
 const HEADER: &str = include_str!("../../include/hillgauze.h");
+const PAGE: &str = include_str!("../../../docs/NATIVE.md");
 const RAW: &str = include_str!("../src/raw.rs");
 const REPLY: &str = include_str!("../src/reply.rs");
 
@@ -77,6 +78,30 @@ fn structs_have_the_same_fields() {
             .collect();
         assert_eq!(declared, header, "{name}");
     }
+}
+
+/// The words of a text, without what marks a line of a comment or code.
+fn words(text: &str) -> Vec<String> {
+    let words = text.split_whitespace().filter(|word| *word != "*");
+    words
+        .map(|word| word.replace('`', "").replace("HILLGAUZE_", ""))
+        .collect()
+}
+
+#[test]
+fn the_page_says_of_order_what_the_header_says() {
+    let header = between(
+        HEADER,
+        " * Order between threads. ",
+        " * Where all of this holds",
+    );
+    let page = between(
+        PAGE,
+        "The head of the header says this in the same words.",
+        "So a value may be",
+    );
+    assert!(header.contains("happens"));
+    assert_eq!(words(page), words(header));
 }
 
 /// The numbers of an enum of the header, by their names.
