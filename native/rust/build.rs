@@ -1,7 +1,8 @@
 //! Finds the static libraries of the proved flows, or says which commands build them.
 
 use std::env;
-use std::path::{Path, PathBuf};
+use std::ffi::OsStr;
+use std::path::{self, Path, PathBuf};
 
 /// The folder with both libraries, where one is named.
 const FOLDER: &str = "HILLGAUZE_LIB";
@@ -12,11 +13,16 @@ fn main() {
     println!("cargo:rerun-if-env-changed={FOLDER}");
     println!("cargo:rerun-if-env-changed={KIT}");
     let (flows, system) = match env::var_os(FOLDER) {
-        Some(folder) => (PathBuf::from(&folder), PathBuf::from(folder)),
+        Some(folder) => (absolute(&folder), absolute(&folder)),
         None => (repository().join("crates/hillgauze_c/out"), kit().join("c")),
     };
     link(&flows, "hillgauze_c");
     link(&system, "libc_c");
+}
+
+/// The linker runs in another folder than this.
+fn absolute(folder: &OsStr) -> PathBuf {
+    path::absolute(folder).expect("a folder is named")
 }
 
 fn repository() -> PathBuf {
@@ -29,7 +35,7 @@ fn repository() -> PathBuf {
 }
 
 fn kit() -> PathBuf {
-    env::var_os(KIT).map_or_else(|| PathBuf::from("/opt/rattle"), PathBuf::from)
+    env::var_os(KIT).map_or_else(|| PathBuf::from("/opt/rattle"), |folder| absolute(&folder))
 }
 
 fn link(folder: &Path, name: &str) {

@@ -74,6 +74,7 @@ impl<T: Word> Collector<T> {
     }
 
     /// Ends the collecting, and gives the seat back: what Kotlin does where the coroutine that collects is cancelled.
+    #[must_use = "a seat that is dropped is gone"]
     pub fn cancel(self) -> StateSeat<T> {
         let seat = Handle::null();
         // SAFETY: the collector's handle is live, the seat's is null, and no other call has them.

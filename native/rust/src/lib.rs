@@ -27,6 +27,18 @@
 //! # Ok::<(), hillgauze::Refusal>(())
 //! ```
 //!
+//! # Order between threads
+//! What a thread did before it began an emission happens before what another does after it received the value, by
+//! [`try_next`](Reader::try_next), [`recv`](Reader::recv) or [`poll_next`](Reader::poll_next); what it did before it
+//! changed a state, before what another does after it found that value or a later one; and what it did before it
+//! dropped the last who could emit or set, before what another does after it was told of the end. So a value may be an
+//! index of what lies elsewhere. `hillgauze.h` has the whole list.
+//!
+//! # Want of memory
+//! A flow takes its memory when it is made, a reader and a seat a little when they come; where there is none, that is
+//! refused as [`NoMemory`](Refusal::NoMemory), and nothing has changed. What this crate itself allocates, one block for
+//! a flow and one now and then for receivers that sleep, goes Rust's way: want of it ends the process.
+//!
 //! # What is proved, and what isn't
 //! What each call of the library does is proved, up to the C boundary, for every order of calls and every timing of
 //! threads. This crate is plain Rust, and isn't proved: its types see to it that a handle is live, of its kind and used

@@ -120,6 +120,7 @@ impl<T: Word> StateSeat<T> {
     }
 
     /// Begins to collect: Kotlin's `collect`. The seat is used up, until [`cancel`](Collector::cancel) gives it back.
+    #[must_use = "a collector that is dropped ends, and takes its seat with it"]
     pub fn collect(self) -> Collector<T> {
         let collector = Handle::null();
         // SAFETY: the seat's handle is live, the collector's is null, and no other call has them.

@@ -159,11 +159,29 @@ fn seats_are_shared_out_and_given_back() {
     let second = first.take_seat(1).unwrap();
     assert_eq!((first.spare(), second.spare()), (1, 1));
     assert_eq!(first.take_seat(1).err(), Some(Refusal::SubscribersFull));
-    let stranger = StateSeat::new('a', 1).unwrap();
-    let stranger = first.give_back(stranger).unwrap_err();
-    assert_eq!(stranger.value(), 'a');
     first.give_back(second).unwrap();
     assert_eq!(first.spare(), 3);
+}
+
+/// No proof speaks of a seat that another flow takes back, so the crate lets no such call through: whatever became of
+/// the seat, and whichever of its flow's seats are left.
+#[test]
+fn a_seat_of_another_flow_is_not_taken_back() {
+    let mut own = StateSeat::new('a', 4).unwrap();
+    let mut strange = StateSeat::new('a', 4).unwrap();
+    let taken = strange.take_seat(1).unwrap();
+    let taken = own.give_back(taken).unwrap_err();
+    let collected = own.give_back(taken.collect().cancel()).unwrap_err();
+    assert_eq!((own.spare(), strange.spare(), collected.spare()), (3, 1, 1));
+    own.set('b');
+    assert_eq!((strange.value(), collected.value()), ('a', 'a'));
+    drop(strange);
+    let mut left = own.give_back(collected).unwrap_err();
+    let other = own.take_seat(0).unwrap();
+    let other = left.give_back(other).unwrap_err();
+    assert_eq!((left.spare(), left.value()), (1, 'a'));
+    own.give_back(other).unwrap();
+    assert_eq!((own.spare(), own.value()), (3, 'b'));
 }
 
 #[test]
