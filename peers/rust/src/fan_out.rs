@@ -3,6 +3,8 @@
 use crate::async_broadcasts::AsyncBroadcast;
 use crate::crossbeams::Channels;
 use crate::figures::{rate, sum_below, Figure};
+#[cfg(feature = "hillgauze")]
+use crate::hillgauze_rust::RustLane;
 use crate::lane_model::Lane;
 use crate::mutex_queue::MutexQueue;
 use crate::orders::{Strong, Weak};
@@ -26,6 +28,10 @@ pub fn measure() {
         by_waits::<Channels>(readers);
         by_polls::<MutexQueue>(readers);
         by_waits::<MutexQueue>(readers);
+        #[cfg(feature = "hillgauze")]
+        by_polls::<RustLane>(readers);
+        #[cfg(feature = "hillgauze")]
+        by_waits::<RustLane>(readers);
         by_polls::<Lane>(readers);
         by_polls::<Ring<Strong>>(readers);
         by_polls::<Ring<Weak>>(readers);

@@ -6,6 +6,8 @@ mod cold;
 mod crossbeams;
 mod fan_out;
 mod figures;
+#[cfg(feature = "hillgauze")]
+mod hillgauze_rust;
 mod lane_model;
 mod lossy;
 mod lossy_ring;

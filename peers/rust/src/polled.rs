@@ -32,7 +32,8 @@ pub fn jobs<F: Polled>(capacity: usize, readers: usize, count: u64) -> Vec<Job> 
     jobs
 }
 
-fn emit_all<F: Polled>(emitter: &mut F::Emitter, capacity: usize, count: u64) {
+/// Emits the numbers below `count`.
+pub fn emit_all<F: Polled>(emitter: &mut F::Emitter, capacity: usize, count: u64) {
     let mut pause = Pause::new(capacity);
     let mut next = 0;
     while next < count {

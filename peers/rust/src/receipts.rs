@@ -3,6 +3,8 @@
 use crate::async_broadcasts::AsyncBroadcast;
 use crate::crossbeams::Channels;
 use crate::figures::{cost, sum_below, timed, Figure};
+#[cfg(feature = "hillgauze")]
+use crate::hillgauze_rust::RustLane;
 use crate::lane_model::Lane;
 use crate::mutex_queue::MutexQueue;
 use crate::orders::{Strong, Weak};
@@ -19,6 +21,8 @@ pub fn measure() {
         receipt::<AsyncBroadcast>(readers);
         receipt::<Channels>(readers);
         receipt::<MutexQueue>(readers);
+        #[cfg(feature = "hillgauze")]
+        receipt::<RustLane>(readers);
         receipt::<Lane>(readers);
         receipt::<Ring<Strong>>(readers);
         receipt::<Ring<Weak>>(readers);
