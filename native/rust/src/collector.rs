@@ -35,6 +35,7 @@ use std::time::Duration;
 /// ```
 ///
 /// A collector that is dropped ends, and takes its seat with it.
+#[must_use = "a collector that is dropped ends, and takes its seat with it"]
 pub struct Collector<T: Word> {
     handle: Handle<raw::Collector>,
     berth: Berth,
@@ -74,7 +75,6 @@ impl<T: Word> Collector<T> {
     }
 
     /// Ends the collecting, and gives the seat back: what Kotlin does where the coroutine that collects is cancelled.
-    #[must_use = "a seat that is dropped is gone"]
     pub fn cancel(self) -> StateSeat<T> {
         let seat = Handle::null();
         // SAFETY: the collector's handle is live, the seat's is null, and no other call has them.

@@ -31,6 +31,7 @@ use std::time::Duration;
 /// ```
 ///
 /// A reader that is dropped is closed: its place can be used again, and it holds nobody back.
+#[must_use = "a reader that is dropped is closed"]
 pub struct Reader<T: Word> {
     handle: Handle<raw::Reader>,
     berth: Berth,

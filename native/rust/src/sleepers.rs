@@ -21,7 +21,7 @@
 //!
 //! [`wake_all`]: Sleepers::wake_all
 
-use std::collections::BTreeMap;
+use std::collections::btree_map::{BTreeMap, IntoValues};
 use std::mem;
 use std::sync::atomic::{AtomicU64, AtomicUsize, Ordering::SeqCst};
 use std::sync::{Arc, Mutex, MutexGuard, PoisonError};
@@ -42,6 +42,23 @@ impl Sleeper {
             Sleeper::Task(waker) => waker.wake(),
             Sleeper::Thread(thread) => thread.unpark(),
         }
+    }
+}
+
+/// Those who are to be woken. Where a waker of others panics, the rest are woken all the same.
+struct Woken(IntoValues<u64, Sleeper>);
+
+impl Woken {
+    fn wake(&mut self) {
+        for sleeper in self.0.by_ref() {
+            sleeper.wake();
+        }
+    }
+}
+
+impl Drop for Woken {
+    fn drop(&mut self) {
+        self.wake();
     }
 }
 
@@ -102,9 +119,7 @@ impl Sleepers {
         let woken = mem::take(&mut *listed);
         self.count.store(0, SeqCst);
         drop(listed);
-        for sleeper in woken.into_values() {
-            sleeper.wake();
-        }
+        Woken(woken.into_values()).wake();
     }
 
     /// Whether nobody is left who may emit.
@@ -145,5 +160,49 @@ impl Drop for Emitter {
         if self.0.emitters.fetch_sub(1, SeqCst) == 1 {
             self.0.wake_all();
         }
+    }
+}
+
+#[cfg(test)]
+mod tests {
+    use super::{Emitter, Sleeper};
+    use std::panic::{catch_unwind, AssertUnwindSafe};
+    use std::sync::atomic::{AtomicUsize, Ordering::SeqCst};
+    use std::sync::Arc;
+    use std::task::{Wake, Waker};
+
+    /// Counts how often it is woken, and may panic then.
+    struct Counting {
+        count: AtomicUsize,
+        panics: bool,
+    }
+
+    impl Wake for Counting {
+        fn wake(self: Arc<Self>) {
+            self.count.fetch_add(1, SeqCst);
+            assert!(!self.panics, "a waker of others panics");
+        }
+    }
+
+    #[test]
+    fn a_waker_that_panics_keeps_nobody_asleep() {
+        let emitter = Emitter::first();
+        let wakers = [false, true, false, false].map(|panics| {
+            Arc::new(Counting {
+                count: AtomicUsize::new(0),
+                panics,
+            })
+        });
+        for waker in &wakers {
+            let sleepers = emitter.sleepers();
+            sleepers.list(
+                sleepers.number(),
+                Sleeper::Task(Waker::from(Arc::clone(waker))),
+            );
+        }
+        assert!(catch_unwind(AssertUnwindSafe(|| emitter.wake_all())).is_err());
+        assert!(wakers.iter().all(|waker| waker.count.load(SeqCst) == 1));
+        emitter.wake_all();
+        assert!(wakers.iter().all(|waker| waker.count.load(SeqCst) == 1));
     }
 }

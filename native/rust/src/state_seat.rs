@@ -27,6 +27,7 @@ use std::sync::Arc;
 /// assert!(!seat.compare_and_set(4, 6));
 /// # Ok::<(), hillgauze::Refusal>(())
 /// ```
+#[must_use = "a seat that is dropped takes with it what could be taken of it"]
 pub struct StateSeat<T: Word> {
     handle: Handle<raw::State>,
     emitter: Emitter,
@@ -120,7 +121,6 @@ impl<T: Word> StateSeat<T> {
     }
 
     /// Begins to collect: Kotlin's `collect`. The seat is used up, until [`cancel`](Collector::cancel) gives it back.
-    #[must_use = "a collector that is dropped ends, and takes its seat with it"]
     pub fn collect(self) -> Collector<T> {
         let collector = Handle::null();
         // SAFETY: the seat's handle is live, the collector's is null, and no other call has them.
