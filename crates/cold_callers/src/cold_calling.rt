@@ -84,7 +84,7 @@ impl Flow for Countdown {
 }
 
 impl Run for CountdownRun {
-    ghost use Rattle.cold_flow.specs.Laws.{Unless-begins, Unless-over, begins-any};
+    ghost use Rattle.cold_flow.specs.Laws.{Unless-begins, Unless-over, begins-any, some-stops};
 
     type Item = u32;
 
@@ -113,11 +113,17 @@ impl Run for CountdownRun {
         Poll::Ready(Event::Value(number))
     }
 
+    fn end(&self) -> Option<Cause<u8>> {
+        self.ended
+    }
+
     fn cancel(&mut self) {
         if self.ended.is_none() {
             self.ended = Some(Cause::Cancelled);
         }
     }
+
+    ghost halts = { λ r. some-stops r.ended };
 
     ghost begins = { λ r. Unless-begins r.ended _ (begins-any _) };
 

@@ -1,5 +1,5 @@
 -- Laws of operators that may end before their source, or after it.
-use Rattle.std.specs.Prelude.{◌≡◌, ◌<◌, Bool, IsTrue, [], Some}
+use Rattle.std.specs.Prelude.{◌≡◌, ◌<◌, ◌||◌, Bool, IsTrue, IsSome, [], Some}
 use Rattle.std.proofs.Common.{subst, arith}
 use Rattle.std.specs.Iterator.{Count, IsFinite, size, at_most}
 use Rattle.cold_flow.specs.declared.cause.Cause.{Cause}
@@ -8,7 +8,7 @@ use Rattle.cold_flow.specs.declared.operators.closing.Closing.{Closing}
 use Rattle.cold_flow.specs.declared.operators.closing.Closing.TheVariants.{Open, Last, Over}
 use Rattle.cold_flow.specs.Trace.{Trace, ◌⊑◌, so_far, ended_by}
 use Rattle.cold_flow.specs.Poll.{Traces}
-use Rattle.cold_flow.specs.Closing.{Following, answer, given_cause, polls_left, is_prompt}
+use Rattle.cold_flow.specs.Closing.{Following, answer, given_cause, is_open, polls_left, is_prompt}
 use Rattle.cold_flow.specs.Polled.{Rests}
 use Rattle.cold_flow.specs.Laws.{begins-any}
 
@@ -24,6 +24,11 @@ module _ {A E : Type 0} where
   Following-over Last going k e t h = cc
   Following-over (Over j) going k e t h =
       let same : j ≡ k = cc in subst (λ (i : Cause E). t ⊑ ended_by [] i) same h
+
+pub given-stops : {E : Type 0} (c : Closing E) (source : Bool) → IsTrue (is_open c || source) → IsSome (given_cause c) → IsTrue source
+given-stops Open source stopped h = cc
+given-stops Last source stopped h = cc
+given-stops (Over k) source stopped h = stopped
 
 pub finite-following : {E : Type 0} (c : Closing E) (source : Count) → IsFinite source → IsFinite (polls_left c source)
 finite-following Open source h = h

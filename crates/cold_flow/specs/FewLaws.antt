@@ -1,16 +1,15 @@
 -- Laws of `transform`.
-use Rattle.std.specs.Prelude.{◌≡◌, true, false, ◌||◌, IsTrue, List, [], ◌∷◌, ◌++◌, Option, Some, None, refl}
+use Rattle.std.specs.Prelude.{◌≡◌, List, [], ◌∷◌, ◌++◌, Option, Some, None, refl}
 use Rattle.std.specs.List.{flat_map}
 use Rattle.std.proofs.lemmas.Grind.{flat_map-append}
 use Rattle.std.proofs.Common.{ap, sym, ◌∙◌, subst, inl, inr, append_assoc}
-use Rattle.cold_flow.specs.declared.cause.Cause.{Cause}
 use Rattle.flow_terms.specs.declared.few.Few.{Few}
 use Rattle.flow_terms.specs.declared.few.Few.TheVariants.{Zero, One, Two, Three, Four}
-use Rattle.cold_flow.specs.Trace.{Trace, ◌⊑◌, ended_by, led_by}
-use Rattle.cold_flow.specs.Poll.{Traces, Within, After, Through, is_going}
-use Rattle.flow_terms.specs.Few.{values_of, is_zero, split}
+use Rattle.cold_flow.specs.Trace.{◌⊑◌, led_by}
+use Rattle.cold_flow.specs.Poll.{Traces, Within, After, Through}
+use Rattle.flow_terms.specs.Few.{values_of, split}
 use Rattle.cold_flow.specs.Transform.{held_then}
-use Rattle.cold_flow.specs.Laws.{Monotone, Through-after, Through-skip, Through-over, led-begins}
+use Rattle.cold_flow.specs.Laws.{Monotone, Through-after, Through-skip, led-begins}
 
 module _ {A : Type 0} where
   abbrev parts : Option (A × Few A) → List A
@@ -67,23 +66,3 @@ module _ {A B E : Type 0} (g : A → Few B) where
               ∙ ap (λ (ys : List B). values_of held ++ ys) (sym (flat_map-append h' t.0 h.1.0) ∙ ap (flat_map h') h.1.1),
         ),
       )
-
-  held-zero : (held : Few B) (s : Option (Cause E)) (k : Cause E) → IsTrue (is_zero held || is_going s) → s ≡ Some k → held ≡ Zero
-  held-zero Zero s k h e = refl
-  held-zero (One a) s k h e = let never : false ≡ true = subst (λ (o : Option (Cause E)). IsTrue (is_going o)) e h in cc
-  held-zero (Two a b) s k h e = let never : false ≡ true = subst (λ (o : Option (Cause E)). IsTrue (is_going o)) e h in cc
-  held-zero (Three a b c) s k h e = let never : false ≡ true = subst (λ (o : Option (Cause E)). IsTrue (is_going o)) e h in cc
-  held-zero (Four a b c d) s k h e = let never : false ≡ true = subst (λ (o : Option (Cause E)). IsTrue (is_going o)) e h in cc
-
-  -- while a value is held, the source has not ended
-  pub held-open : (held : Few B) (s : Option (Cause E)) (v : B) (rest : Few B) → IsTrue (is_zero held || is_going s)
-      → split held ≡ Some (v, rest) → s ≡ None
-  held-open held None v rest h is = refl
-  held-open held (Some k) v rest h is =
-      let never : split Zero ≡ Some (v, rest) = subst (λ (f : Few B). split f ≡ Some (v, rest)) (held-zero held (Some k) k h refl) is in cc
-
-  pub held-over : (held : Few B) (s : Option (Cause E)) (source : Traces A E) (k : Cause E) → IsTrue (is_zero held || is_going s) → s ≡ Some k
-      → ((t : Trace A E) → source t → t ⊑ ended_by [] k) → (t : Trace B E) → Through (held_then g held) source t → t ⊑ ended_by [] k
-  held-over held s source k going e over t h =
-      let is : held ≡ Zero = held-zero held s k going e in
-      Through-over (held_then g Zero) source k k refl refl over t (subst (λ (f : Few B). Through (held_then g f) source t) is h)

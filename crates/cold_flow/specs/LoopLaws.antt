@@ -2,12 +2,8 @@
 use Rattle.std.specs.Prelude.{◌≡◌, ℕ, ◌+◌, ◌<◌, ◌≤◌, Option, Some, None}
 use Rattle.std.proofs.Common.{arith}
 use Rattle.std.specs.Iterator.{Count, IsFinite, size}
-use Rattle.futures.specs.declared.task.Poll.{Poll}
-use Rattle.futures.specs.declared.task.Poll.TheVariants.{Ready, Pending}
 use Rattle.cold_flow.specs.declared.cause.Cause.{Cause}
-use Rattle.cold_flow.specs.declared.event.Event.{Event}
-use Rattle.cold_flow.specs.declared.event.Event.TheVariants.{Value, End}
-use Rattle.cold_flow.specs.Polled.{IsNearer}
+use Rattle.cold_flow.specs.Polled.{IsNearer, Rests}
 
 -- one more question that brought the end nearer
 pub asked_more : (first old new : Count) (n : ℕ) → IsNearer n first old → (IsFinite old → IsFinite new × (size new < size old))
@@ -26,16 +22,9 @@ asked_all first now n before all h = let was = before h in (was.0, omega arith)
 pub asked_fewer : (first now : Count) (n : ℕ) → IsNearer n first now → 64 ≤ n → IsFinite first → IsFinite now × (size now < size first)
 asked_fewer first now n before all h = let was = before h in (was.0, omega arith)
 
-pub asked_some : (n : ℕ) → 64 ≤ n → 0 < n
-asked_some n all = omega arith
-
-module _ {A E : Type 0} where
-  -- what a poll answered that would have answered an end
-  pub value_no_end : (p : Poll (Event A E)) (e : Event A E) (v : A) (k : Cause E) → p ≡ Ready e → e ≡ Value v → p ≡ Ready (End k) → ⊥
-  value_no_end p e v k was is ended = cc
-
-  pub pending_no_end : (p : Poll (Event A E)) (k : Cause E) → p ≡ Pending → p ≡ Ready (End k) → ⊥
-  pending_no_end p k was ended = cc
-
 pub going_no_end : {E : Type 0} (o : Option (Cause E)) (k : Cause E) → o ≡ None → o ≡ Some k → ⊥
 going_no_end o k going ended = cc
+
+-- a run that goes on may have asked its source
+pub going_rests : {E S : Type 0} (o : Option (Cause E)) (old new : S) → o ≡ None → Rests o old new
+going_rests o old new going k gave = absurd (going_no_end o k going gave)

@@ -1,5 +1,5 @@
 -- What a poll says of what the run may still give.
-use Rattle.std.specs.Prelude.{◌≡◌, Bool, true, false, ◌⊎◌, [], Option, Some, None, ⊤, ◌<◌, ◌≤◌}
+use Rattle.std.specs.Prelude.{◌≡◌, ◌⊎◌, [], Option, Some, None, ⊤, ◌<◌, ◌≤◌}
 use Rattle.std.specs.Iterator.{Count, IsFinite, size}
 use Rattle.futures.specs.declared.task.Poll.{Poll}
 use Rattle.futures.specs.declared.task.Poll.TheVariants.{Ready, Pending}
@@ -38,11 +38,6 @@ abbrev pub end_of : {A E : Type 0} → Poll (Event A E) → Option (Cause E)
 end_of (Ready (Value v)) = None
 end_of (Ready (End k)) = Some k
 end_of Pending = None
-
--- no End was given
-abbrev pub is_going : {E : Type 0} → Option (Cause E) → Bool
-is_going None = true
-is_going (Some k) = false
 
 -- the cause that a cancelled run answers
 abbrev pub after_cancel : {E : Type 0} → Option (Cause E) → Cause E

@@ -12,6 +12,7 @@ ghost use Rattle.cold_flow.specs.declared.event.Event.TheVariants.{End};
 ghost use Rattle.cold_flow.specs.Trace.{Trace, ◌⊑◌, so_far, ended_by};
 ghost use Rattle.cold_flow.specs.Poll.{Narrows, end_of, after_cancel, Approaches, IsReady};
 
+use crate::cause::Cause;
 use crate::event::Event;
 use futures::task::{Context, Poll};
 
@@ -63,11 +64,18 @@ pub trait Run: Drop {
         ensures armed { OnPending result (IsArmed cx.new) }
         ensures kept { Keeps cx.old cx.new };
 
+    /// The cause that every poll gives from now on: an end was given, or the run was cancelled. `None` before.
+    fn end(&self) -> Option<Cause<Self::Fault>>
+        ensures { result ≡ ended self.now };
+
     /// Ends the run by `Cause::Cancelled`, and each of its sources that has not ended. After an end it changes nothing.
     fn cancel(&mut self)
         ensures ends { ended self.new ≡ Some (after_cancel (ended self.old)) }
         ensures stops { IsTrue (stopped self.new) }
         ensures cancelled { cancelled self.old self.new };
+
+    // Of an ended run no source is asked any more.
+    ghost halts: { (r : Self) → IsSome (ended r) → IsTrue (stopped r) };
 
     // Any run may have given nothing yet.
     ghost begins: { (r : Self) → may r (so_far []) };

@@ -1,5 +1,5 @@
 -- How far a buffer in one task is from its end.
-use Rattle.std.specs.Prelude.{Bool, true, false, Option, Some, None}
+use Rattle.std.specs.Prelude.{◌||◌, Bool, IsTrue, IsSome, true, false, Option, Some, None}
 use Rattle.cold_flow.specs.declared.cause.Cause.{Cause}
 use Rattle.flow_buffer.specs.declared.ending.Ending.{Ending}
 use Rattle.flow_buffer.specs.declared.ending.Ending.TheVariants.{Going, Kept, Given}
@@ -27,3 +27,9 @@ abbrev pub given_now : {E : Type 0} → Ending E → Ending E
 given_now Going = Going
 given_now (Kept cause) = Given cause
 given_now (Given cause) = Given cause
+
+-- a buffer that gives its end asks its source no more
+pub given-stops : {E : Type 0} (ending : Ending E) (source : Bool) → IsTrue (is_going ending || source) → IsSome (given ending) → IsTrue source
+given-stops Going source stopped h = cc
+given-stops (Kept cause) source stopped h = cc
+given-stops (Given cause) source stopped h = stopped

@@ -77,6 +77,7 @@ impl<S: Run> Buffered<S> {
 }
 
 impl<S: Run> Run for Buffered<S> {
+    ghost use Rattle.flow_buffer.specs.Endings.{given-stops};
     ghost use Rattle.flow_buffer.specs.DeliveryLaws.{delivering_begins, delivering_over};
     ghost use Rattle.flow_buffer.specs.Views.{source_run, end_seen, end_given, may_give, polls_left_of, TakesOnce, GivesUpAll};
 
@@ -131,6 +132,10 @@ impl<S: Run> Run for Buffered<S> {
         }
     }
 
+    fn end(&self) -> Option<Cause<S::Fault>> {
+        self.store.ending.given()
+    }
+
     /// Cancels the source and gives up what is held; both counts stay. Where the end was given, it changes nothing.
     fn cancel(&mut self)
         ensures cancels { GivesUpAll self.old self.new }
@@ -144,6 +149,8 @@ impl<S: Run> Run for Buffered<S> {
         self.store.give_up();
         self.store.ending = Ending::Given(Cause::Cancelled);
     }
+
+    ghost halts = { λ r. given-stops r.store.ending (S.stopped r.source) r.source_stopped };
 
     ghost begins = { λ r. delivering_begins r.store.held.capacity r.store.policy r.store.held.items r.store.ending (S.may r.source) (S.begins r.source) };
 

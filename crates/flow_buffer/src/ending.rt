@@ -1,7 +1,7 @@
 //! How far a buffer in one task is from its end.
 
 ghost use Rattle.std.specs.Prelude.{◌≡◌, ⊤};
-ghost use Rattle.flow_buffer.specs.Endings.{is_going, seen, given_now};
+ghost use Rattle.flow_buffer.specs.Endings.{is_going, given, seen, given_now};
 
 use cold_flow::Cause;
 use std::alloc::AllocError;
@@ -33,6 +33,16 @@ impl<E: Copy> Ending<E> {
         ensures { result ≡ is_going self.now }
     {
         matches!(self, Ending::Going)
+    }
+
+    // The end that every poll gives.
+    pub(crate) fn given(&self) -> Option<Cause<E>>
+        ensures { result ≡ given self.now }
+    {
+        match *self {
+            Ending::Given(cause) => Some(cause),
+            _ => None,
+        }
     }
 
     // Gives the end that was seen, if one was.

@@ -15,6 +15,41 @@ const INNER: &[Step<u64, u64>] = &[Step::Value(0), Step::Value(1)];
 
 const CASES: &[Case<'_>] = &[
     Case {
+        name: "map",
+        operator: Operator::Map,
+        sources: [STEPS, STEPS, INNER],
+        before: (NEVER, NEVER, NEVER),
+        check: Check::Cancelled,
+    },
+    Case {
+        name: "filter",
+        operator: Operator::Filter,
+        sources: [STEPS, STEPS, INNER],
+        before: (NEVER, NEVER, NEVER),
+        check: Check::Cancelled,
+    },
+    Case {
+        name: "drop_first",
+        operator: Operator::DropFirst,
+        sources: [STEPS, STEPS, INNER],
+        before: (NEVER, NEVER, NEVER),
+        check: Check::Cancelled,
+    },
+    Case {
+        name: "distinct",
+        operator: Operator::Distinct,
+        sources: [STEPS, STEPS, INNER],
+        before: (NEVER, NEVER, NEVER),
+        check: Check::Cancelled,
+    },
+    Case {
+        name: "transform",
+        operator: Operator::Transform,
+        sources: [STEPS, STEPS, INNER],
+        before: (NEVER, NEVER, NEVER),
+        check: Check::Cancelled,
+    },
+    Case {
         name: "on_completion",
         operator: Operator::Completion,
         sources: [STEPS, STEPS, INNER],

@@ -101,7 +101,7 @@ fn compare_rest<R: Run<Item = u64, Fault = u64>>(
     trial.compare(name, (rest.as_slice(), end), (values, Some(cause)))
 }
 
-/// Cancels a run after so many polls. Whether it had finished before.
+/// Cancels a run after so many polls, twice, and folds what is left of it: nobody is asked any more. Whether it had finished before.
 fn has_finished<R: Run<Item = u64, Fault = u64>>(
     trial: &mut Trial,
     judged: &Judged<'_>,
@@ -122,6 +122,8 @@ fn has_finished<R: Run<Item = u64, Fault = u64>>(
         let found = (&polled, is_awake, judged.counts.polls());
         trial.compare(judged.name, found, (&end, true, before))?;
     }
+    let folded = (trial.first_of_fold(run), judged.counts.polls());
+    trial.compare(judged.name, folded, (Poll::Ready((0, cause)), before))?;
     Ok(cause == Cause::Finished)
 }
 

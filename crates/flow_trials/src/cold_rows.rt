@@ -13,8 +13,9 @@ use std::alloc::AllocError;
 use std::cell::Cell;
 use std::test::Fail;
 
+/// Whether a value is above a given one.
 #[derive(Copy)]
-struct IsAbove(u64);
+pub(crate) struct IsAbove(pub(crate) u64);
 
 impl Clone for IsAbove {
     ghost is_clone = { λ function copy. copy ≡ function };

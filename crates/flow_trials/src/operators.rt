@@ -2,11 +2,12 @@
 ghost use Rattle.std.specs.Prelude.{◌≡◌, ⊤};
 
 use crate::checks::{Check, Judged, Three, compare_flow};
-use crate::cold_rows::Asked;
+use crate::cold_rows::{Asked, IsAbove};
 use crate::sources::{Counts, Source};
-use crate::tools::{Pick, Sum, Trial};
+use crate::tools::{Add, Pick, Same, Sum, Trial};
 use cold_flow::{
-    Apply, Caught, Flow, Policy, Step, catch_with, distinct, on_completion, range, take,
+    Apply, Caught, Few, Flow, Policy, Step, catch_with, distinct, drop_first, filter, map,
+    on_completion, range, take, transform,
 };
 use flow_buffer::{buffer, conflate};
 use flow_merge::{combine, flat_map_concat, flat_map_merge, zip};
@@ -46,6 +47,15 @@ pub(crate) enum Operator {
     Catch,
     /// Two values, none of them the same as the one before.
     TakeDistinct,
+    /// One more than each value.
+    Map,
+    /// The values above 0.
+    Filter,
+    /// All values but the first.
+    DropFirst,
+    Distinct,
+    /// Two values for each.
+    Transform,
     /// With two places.
     Buffer,
     Conflate,
@@ -57,6 +67,22 @@ pub(crate) enum Operator {
     Merge(u32),
     /// A merge of so many inner flows by so many workers: the first source, the second, and from then on the third.
     Turns(u64, u32),
+}
+
+/// Compares an operator that has no end of its own.
+fn compare_plain<F: Flow<Item = u64, Fault = u64> + Copy>(
+    trial: &mut Trial,
+    operator: &Operator,
+    one: F,
+    judged: &Judged<'_>,
+) -> Result<(), Fail> {
+    match operator {
+        Operator::Map => compare_flow(trial, judged, map(one, Add(1))),
+        Operator::Filter => compare_flow(trial, judged, filter(one, IsAbove(0))),
+        Operator::DropFirst => compare_flow(trial, judged, drop_first(one, 1)),
+        Operator::Distinct => compare_flow(trial, judged, distinct(one)),
+        _ => compare_flow(trial, judged, transform(one, Same(Few::Two(7, 8)))),
+    }
 }
 
 /// Compares an operator over one source.
@@ -74,7 +100,7 @@ fn compare_one<F: Flow<Item = u64, Fault = u64> + Copy>(
             let held = buffer(trial.alloc, one, 2, Policy::Suspend)?;
             compare_flow(trial, judged, held)
         }
-        _ => {
+        Operator::Completion => {
             let asks = Cell::new(0);
             let action = Asked {
                 asks: &asks,
@@ -82,6 +108,7 @@ fn compare_one<F: Flow<Item = u64, Fault = u64> + Copy>(
             };
             compare_flow(trial, judged, on_completion(one, action))
         }
+        _ => compare_plain(trial, operator, one, judged),
     }
 }
 

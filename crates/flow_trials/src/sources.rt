@@ -93,7 +93,7 @@ impl<'a> Flow for Source<'a> {
 }
 
 impl Run for SourceRun<'_> {
-    ghost use Rattle.cold_flow.specs.Laws.{Unless-begins, Unless-over};
+    ghost use Rattle.cold_flow.specs.Laws.{Unless-begins, Unless-over, some-stops};
 
     type Item = u64;
 
@@ -125,12 +125,18 @@ impl Run for SourceRun<'_> {
         }
     }
 
+    fn end(&self) -> Option<Cause<u64>> {
+        self.ended
+    }
+
     fn cancel(&mut self) {
         count(&self.counts.cancels);
         if self.ended.is_none() {
             self.ended = Some(Cause::Cancelled);
         }
     }
+
+    ghost halts = { λ r. some-stops r.ended };
 
     ghost begins = { λ r. Unless-begins r.ended _ tt };
 

@@ -1,7 +1,7 @@
 //! Tools of the tests: functions as values, polls, and what a table says that didn't come.
 ghost use Rattle.std.specs.Prelude.{◌≡◌, ◌+◌, ◌%◌, ◌^◌, ◌==◌, if◌then◌else◌, ⊤};
 
-use cold_flow::{Apply, Cause, Collected, Event, Run, Step};
+use cold_flow::{Apply, Cause, Collected, Event, Run, Step, fold};
 use futures::task::Poll;
 use futures::test::MockTask;
 use std::alloc::{AllocError, AllocGlobal, Global};
@@ -175,6 +175,15 @@ impl Trial {
         let polled = self.task.enter(|cx| run.poll_next(cx));
         let is_awake = polled.is_ready() || self.task.is_woken();
         (polled, is_awake)
+    }
+
+    /// What the first poll of a sum over a run answers.
+    pub(crate) fn first_of_fold<R: Run<Item = u64, Fault = u64>>(
+        &self,
+        run: R,
+    ) -> Poll<(u64, Cause<u64>)> {
+        let mut sum = fold(run, 0, Sum);
+        self.task.enter(|cx| sum.poll(cx))
     }
 
     /// Polls a run, and compares the answers. A poll that is pending has woken its task.

@@ -48,7 +48,7 @@ pub struct ListRun<V> {
 }
 
 impl<V: Values> Run for ListRun<V> {
-    ghost use Rattle.cold_flow.specs.Laws.{Unless-begins, Unless-over, begins-any};
+    ghost use Rattle.cold_flow.specs.Laws.{Unless-begins, Unless-over, begins-any, some-stops};
 
     type Item = u64;
 
@@ -84,11 +84,17 @@ impl<V: Values> Run for ListRun<V> {
         }
     }
 
+    fn end(&self) -> Option<Cause<u64>> {
+        self.ended
+    }
+
     fn cancel(&mut self) {
         if self.ended.is_none() {
             self.ended = Some(Cause::Cancelled);
         }
     }
+
+    ghost halts = { λ r. some-stops r.ended };
 
     ghost begins = { λ r. Unless-begins r.ended _ (begins-any _) };
 

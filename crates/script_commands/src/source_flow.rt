@@ -4,7 +4,9 @@ ghost use Rattle.std.specs.Prelude.{◌≡◌, is_some};
 ghost use Rattle.script_commands.specs.Sourced.{source_of, source_may, run_may, run_ended, run_polls};
 
 use crate::source::Source;
-use cold_flow::{EndingRun, Event, Finite, Flow, Numbers, Refusal, Run, Stepped, range, scripted};
+use cold_flow::{
+    Cause, EndingRun, Event, Finite, Flow, Numbers, Refusal, Run, Stepped, range, scripted,
+};
 use futures::task::{Context, Poll};
 use std::alloc::Global;
 
@@ -65,6 +67,7 @@ pub enum SourceRun {
 }
 
 impl Run for SourceRun {
+    ghost use Rattle.cold_flow.specs.Laws.{some-stops};
     ghost use Rattle.script_commands.specs.Sourced.{run_begins, run_over};
 
     type Item = u64;
@@ -86,12 +89,21 @@ impl Run for SourceRun {
         }
     }
 
+    fn end(&self) -> Option<Cause<u64>> {
+        match self {
+            SourceRun::Items(run) => run.end(),
+            SourceRun::Numbers(run) => run.end(),
+        }
+    }
+
     fn cancel(&mut self) {
         match self {
             SourceRun::Items(run) => run.cancel(),
             SourceRun::Numbers(run) => run.cancel(),
         }
     }
+
+    ghost halts = { λ r. some-stops (run_ended r) };
 
     ghost begins = { λ r. run_begins r };
 

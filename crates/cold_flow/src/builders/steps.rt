@@ -70,7 +70,7 @@ impl<E: Copy, S: Steps<Fault = E>> EndingRun<S, E> {
 }
 
 impl<E: Copy, S: Steps<Fault = E>> Run for EndingRun<S, E> {
-    ghost use Rattle.cold_flow.specs.Laws.{Unless-begins, Unless-over};
+    ghost use Rattle.cold_flow.specs.Laws.{Unless-begins, Unless-over, some-stops};
 
     type Item = S::Item;
 
@@ -102,11 +102,17 @@ impl<E: Copy, S: Steps<Fault = E>> Run for EndingRun<S, E> {
         Poll::Ready(Event::End(cause))
     }
 
+    fn end(&self) -> Option<Cause<E>> {
+        self.ended
+    }
+
     fn cancel(&mut self) {
         if self.ended.is_none() {
             self.ended = Some(Cause::Cancelled);
         }
     }
+
+    ghost halts = { λ r. some-stops r.ended };
 
     ghost begins = { λ r. Unless-begins r.ended _ (S.begins r.source) };
 

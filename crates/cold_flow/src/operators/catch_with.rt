@@ -129,7 +129,7 @@ impl<T: Copy, E: Copy, S: Run<Item = T, Fault = E>, G: Apply<E, Out = Caught<T, 
 impl<T: Copy, E: Copy, S: Run<Item = T, Fault = E>, G: Apply<E, Out = Caught<T, E>>> Run
     for CatchingRun<S, G, E> {
     ghost use Rattle.cold_flow.specs.Laws.{Through-begins};
-    ghost use Rattle.cold_flow.specs.ClosingLaws.{Following-begins, Following-over};
+    ghost use Rattle.cold_flow.specs.ClosingLaws.{given-stops, Following-begins, Following-over};
 
     type Item = T;
 
@@ -166,10 +166,16 @@ impl<T: Copy, E: Copy, S: Run<Item = T, Fault = E>, G: Apply<E, Out = Caught<T, 
         }
     }
 
+    fn end(&self) -> Option<Cause<E>> {
+        self.closing.given()
+    }
+
     fn cancel(&mut self) {
         self.source.cancel();
         self.closing.cancel();
     }
+
+    ghost halts = { λ r. given-stops r.closing (S.stopped r.source) r.stopped };
 
     ghost begins = { λ r. Following-begins r.closing _ (Through-begins _ _ (S.begins r.source)) };
 

@@ -2,7 +2,7 @@
 
 ghost use Rattle.std.specs.Prelude.{◌≡◌, Some, IfNone, ⊤};
 ghost use Rattle.cold_flow.specs.declared.operators.closing.Closing.TheVariants.{Open, Over};
-ghost use Rattle.cold_flow.specs.Closing.{answer, answered, cancelled};
+ghost use Rattle.cold_flow.specs.Closing.{answer, answered, cancelled, given_cause};
 
 use crate::cause::Cause;
 use std::alloc::AllocError;
@@ -42,6 +42,16 @@ impl<E: Copy> Closing<E> {
                 Some(Cause::Finished)
             }
             Closing::Over(cause) => Some(cause),
+        }
+    }
+
+    /// The cause by which it has ended.
+    pub fn given(&self) -> Option<Cause<E>>
+        ensures { result ≡ given_cause self.now }
+    {
+        match *self {
+            Closing::Over(cause) => Some(cause),
+            _ => None,
         }
     }
 

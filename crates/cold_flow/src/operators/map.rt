@@ -4,10 +4,12 @@ ghost use Rattle.std.specs.Prelude.{IsTrue};
 ghost use Rattle.futures.specs.Poll.{OnPending};
 ghost use Rattle.futures.specs.declared.task.Poll.TheVariants.{Pending};
 ghost use Rattle.cold_flow.specs.Trace.{map_trace};
-ghost use Rattle.cold_flow.specs.Poll.{Through, Makes, MakesExactly, IsWithinPolls};
-ghost use Rattle.cold_flow.specs.Laws.{Through-begins, Through-fixed, map-monotone};
+ghost use Rattle.cold_flow.specs.Poll.{Through, Makes, MakesExactly, IsWithinPolls, Unless};
+ghost use Rattle.cold_flow.specs.Polled.{Rests};
+ghost use Rattle.cold_flow.specs.Laws.{Through-begins, Through-fixed, Unless-begins, Unless-over, map-monotone};
 
 use crate::apply::Apply;
+use crate::cause::Cause;
 use crate::event::Event;
 use crate::flow::Flow;
 use crate::run::{Finite, Run};
@@ -66,7 +68,7 @@ impl<U: Copy, S: Run, G: Apply<S::Item, Out = U>> Run for Mapped<S, G> {
 
     type Fault = S::Fault;
 
-    ghost may = { λ r. Through (map_trace (G.gives r.function)) (S.may r.source) };
+    ghost may = { λ r. Unless (S.ended r.source) (Through (map_trace (G.gives r.function)) (S.may r.source)) };
 
     ghost ended = { λ r. S.ended r.source };
 
@@ -76,9 +78,13 @@ impl<U: Copy, S: Run, G: Apply<S::Item, Out = U>> Run for Mapped<S, G> {
 
     ghost polls = { λ r. S.polls r.source };
 
-    ghost polled = { λ old answer new. OnPending answer (S.polled old.source Pending new.source) };
+    ghost polled = { λ old answer new. OnPending answer (S.polled old.source Pending new.source)
+        × Rests (S.ended old.source) old.source new.source };
 
     fn poll_next(&mut self, cx: &mut Context<'_>) -> Poll<Event<U, S::Fault>> {
+        if let Some(cause) = self.source.end() {
+            return Poll::Ready(Event::End(cause));
+        }
         match self.source.poll_next(cx) {
             Poll::Ready(Event::Value(value)) => {
                 Poll::Ready(Event::Value(self.function.apply(value)))
@@ -88,13 +94,19 @@ impl<U: Copy, S: Run, G: Apply<S::Item, Out = U>> Run for Mapped<S, G> {
         }
     }
 
+    fn end(&self) -> Option<Cause<S::Fault>> {
+        self.source.end()
+    }
+
     fn cancel(&mut self) {
         self.source.cancel();
     }
 
-    ghost begins = { λ r. Through-begins _ _ (S.begins r.source) };
+    ghost halts = { λ r. S.halts r.source };
 
-    ghost over = { λ r k e. Through-fixed _ (map-monotone (G.gives r.function)) _ _ (S.over r.source k e) };
+    ghost begins = { λ r. Unless-begins (S.ended r.source) _ (Through-begins _ _ (S.begins r.source)) };
+
+    ghost over = { λ r. Unless-over (S.ended r.source) _ };
 }
 
 impl<U: Copy, S: Finite, G: Apply<S::Item, Out = U>> Finite for Mapped<S, G> {

@@ -131,7 +131,7 @@ impl<
 impl<T: Copy, E: Copy, S: Run<Item = T, Fault = E>, G: Apply<Cause<E>, Out = Option<T>>> Run
     for CompletingRun<S, G, E> {
     ghost use Rattle.cold_flow.specs.Laws.{Through-begins};
-    ghost use Rattle.cold_flow.specs.ClosingLaws.{Following-begins, Following-over};
+    ghost use Rattle.cold_flow.specs.ClosingLaws.{given-stops, Following-begins, Following-over};
     ghost use Rattle.cold_flow.specs.CompletingRuns.{source_run, end_given, cause_told};
 
     type Item = T;
@@ -169,6 +169,10 @@ impl<T: Copy, E: Copy, S: Run<Item = T, Fault = E>, G: Apply<Cause<E>, Out = Opt
         }
     }
 
+    fn end(&self) -> Option<Cause<E>> {
+        self.closing.given()
+    }
+
     // The action that was told nothing is told of the cancellation.
     fn cancel(&mut self)
         ensures ends { end_given self.new ≡ Some (after_cancel (end_given self.old)) }
@@ -181,6 +185,8 @@ impl<T: Copy, E: Copy, S: Run<Item = T, Fault = E>, G: Apply<Cause<E>, Out = Opt
         }
         self.closing.cancel();
     }
+
+    ghost halts = { λ r. given-stops r.closing (S.stopped r.source) r.stopped };
 
     ghost begins = { λ r. Following-begins r.closing _ (Through-begins _ _ (S.begins r.source)) };
 

@@ -3,12 +3,12 @@
 ghost use Rattle.std.specs.Prelude.{◌⊎◌, ◌≡◌, List, [], ◌∷◌, Option, IsTrue};
 ghost use Rattle.std.specs.List.{cons_option};
 ghost use Rattle.futures.specs.Poll.{OnPending};
-ghost use Rattle.cold_flow.specs.Polled.{HasWaited, IsNearer};
-ghost use Rattle.cold_flow.specs.Trace.{on_values, so_far, ended_by};
-ghost use Rattle.std.proofs.Common.{ap};
-ghost use Rattle.cold_flow.specs.Poll.{Through, Makes, MakesExactly, IsWithinPolls};
-ghost use Rattle.cold_flow.specs.Laws.{Through-begins, Through-over};
+ghost use Rattle.cold_flow.specs.Polled.{HasWaited, IsNearer, Rests};
+ghost use Rattle.cold_flow.specs.Trace.{on_values};
+ghost use Rattle.cold_flow.specs.Poll.{Through, Makes, MakesExactly, IsWithinPolls, Unless};
+ghost use Rattle.cold_flow.specs.Laws.{Through-begins, Unless-begins, Unless-over};
 
+use crate::cause::Cause;
 use crate::event::Event;
 use crate::flow::Flow;
 use crate::run::{BUDGET, Finite, Run};
@@ -88,7 +88,7 @@ impl<S: Run, M: Sift<S::Item>> Run for Sifted<S, M> {
 
     type Fault = S::Fault;
 
-    ghost may = { λ r. Through (on_values (M.passes r.sift)) (S.may r.source) };
+    ghost may = { λ r. Unless (S.ended r.source) (Through (on_values (M.passes r.sift)) (S.may r.source)) };
 
     ghost ended = { λ r. S.ended r.source };
 
@@ -97,9 +97,13 @@ impl<S: Run, M: Sift<S::Item>> Run for Sifted<S, M> {
     ghost polls = { λ r. S.polls r.source };
 
     // Pending only where the source answered so, or 64 of its values gave nothing.
-    ghost polled = { λ old answer new. OnPending answer (HasWaited S.polled new.source ⊎ IsNearer 64 (S.polls old.source) (S.polls new.source)) };
+    ghost polled = { λ old answer new. OnPending answer (HasWaited S.polled new.source
+        ⊎ IsNearer 64 (S.polls old.source) (S.polls new.source)) × Rests (S.ended old.source) old.source new.source };
 
     fn poll_next(&mut self, cx: &mut Context<'_>) -> Poll<Event<M::Out, S::Fault>> {
+        if let Some(cause) = self.source.end() {
+            return Poll::Ready(Event::End(cause));
+        }
         for _asked in 0..BUDGET {
             match self.source.poll_next(cx) {
                 Poll::Ready(Event::Value(value)) => {
@@ -114,13 +118,19 @@ impl<S: Run, M: Sift<S::Item>> Run for Sifted<S, M> {
         cx.yield_now()
     }
 
+    fn end(&self) -> Option<Cause<S::Fault>> {
+        self.source.end()
+    }
+
     fn cancel(&mut self) {
         self.source.cancel();
     }
 
-    ghost begins = { λ r. Through-begins _ _ (S.begins r.source) };
+    ghost halts = { λ r. S.halts r.source };
 
-    ghost over = { λ r k e. Through-over _ _ k k (ap (λ xs. ended_by xs k) (M.none r.sift)) (ap so_far (M.none r.sift)) (S.over r.source k e) };
+    ghost begins = { λ r. Unless-begins (S.ended r.source) _ (Through-begins _ _ (S.begins r.source)) };
+
+    ghost over = { λ r. Unless-over (S.ended r.source) _ };
 }
 
 impl<S: Finite, M: Sift<S::Item>> Finite for Sifted<S, M> {

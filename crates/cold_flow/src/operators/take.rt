@@ -87,7 +87,7 @@ pub struct TakenRun<S: Run, E> {
 
 impl<E: Copy, S: Run<Fault = E>> Run for TakenRun<S, E> {
     ghost use Rattle.cold_flow.specs.Laws.{Through-begins};
-    ghost use Rattle.cold_flow.specs.ClosingLaws.{Following-begins, Following-over};
+    ghost use Rattle.cold_flow.specs.ClosingLaws.{given-stops, Following-begins, Following-over};
 
     type Item = S::Item;
 
@@ -127,10 +127,16 @@ impl<E: Copy, S: Run<Fault = E>> Run for TakenRun<S, E> {
         }
     }
 
+    fn end(&self) -> Option<Cause<E>> {
+        self.closing.given()
+    }
+
     fn cancel(&mut self) {
         self.source.cancel();
         self.closing.cancel();
     }
+
+    ghost halts = { λ r. given-stops r.closing (S.stopped r.source) r.stopped };
 
     ghost begins = { λ r. Following-begins r.closing _ (Through-begins _ _ (S.begins r.source)) };
 

@@ -1,15 +1,16 @@
 //! `transform`: up to four values for each value.
 
-ghost use Rattle.std.specs.Prelude.{◌⊎◌, ◌+◌, ◌*◌, IsTrue, ◌||◌};
+ghost use Rattle.std.specs.Prelude.{◌⊎◌, ◌+◌, ◌*◌, IsTrue};
 ghost use Rattle.std.specs.Iterator.{count_map};
 ghost use Rattle.futures.specs.Poll.{OnPending};
-ghost use Rattle.cold_flow.specs.Polled.{HasWaited, IsNearer};
+ghost use Rattle.cold_flow.specs.Polled.{HasWaited, IsNearer, Rests};
 ghost use Rattle.flow_terms.specs.declared.few.Few.TheVariants.{Zero};
-ghost use Rattle.cold_flow.specs.Poll.{Through, Makes, MakesExactly, IsWithinPolls, is_going};
-ghost use Rattle.flow_terms.specs.Few.{few_len, is_zero};
+ghost use Rattle.cold_flow.specs.Poll.{Through, Makes, MakesExactly, IsWithinPolls, Unless};
+ghost use Rattle.flow_terms.specs.Few.{few_len};
 ghost use Rattle.cold_flow.specs.Transform.{held_then, transform_trace};
 
 use crate::apply::Apply;
+use crate::cause::Cause;
 use crate::event::Event;
 use crate::flow::Flow;
 use crate::run::{BUDGET, Finite, Run};
@@ -69,23 +70,21 @@ impl<U: Copy, F: Flow, G: Apply<F::Item, Out = Few<U>>> Flow for Transformed<F, 
 
 /// The run of `transform`.
 #[derive(Drop)]
-pub struct TransformedRun<S: Run, G, U> {
+pub struct TransformedRun<S, G, U> {
     source: S,
     function: G,
     // What was answered for the source's last value and not yet given.
     held: Few<U>,
-    ghost going: { IsTrue (is_zero held || is_going (S.ended source)) },
 }
 
 impl<U: Copy, S: Run, G: Apply<S::Item, Out = Few<U>>> Run for TransformedRun<S, G, U> {
-    ghost use Rattle.cold_flow.specs.Laws.{Through-begins};
-    ghost use Rattle.cold_flow.specs.FewLaws.{held-over};
+    ghost use Rattle.cold_flow.specs.Laws.{Through-begins, Unless-begins, Unless-over};
 
     type Item = U;
 
     type Fault = S::Fault;
 
-    ghost may = { λ r. Through (held_then (G.gives r.function) r.held) (S.may r.source) };
+    ghost may = { λ r. Unless (S.ended r.source) (Through (held_then (G.gives r.function) r.held) (S.may r.source)) };
 
     ghost ended = { λ r. S.ended r.source };
 
@@ -94,9 +93,13 @@ impl<U: Copy, S: Run, G: Apply<S::Item, Out = Few<U>>> Run for TransformedRun<S,
     ghost polls = { λ r. count_map (λ n. 4 * n + few_len r.held) (S.polls r.source) };
 
     // Pending only where the source answered so, or 64 of its values gave nothing.
-    ghost polled = { λ old answer new. OnPending answer (HasWaited S.polled new.source ⊎ IsNearer 64 (S.polls old.source) (S.polls new.source)) };
+    ghost polled = { λ old answer new. OnPending answer (HasWaited S.polled new.source
+        ⊎ IsNearer 64 (S.polls old.source) (S.polls new.source)) × Rests (S.ended old.source) old.source new.source };
 
     fn poll_next(&mut self, cx: &mut Context<'_>) -> Poll<Event<U, S::Fault>> {
+        if let Some(cause) = self.source.end() {
+            return Poll::Ready(Event::End(cause));
+        }
         if let Some((value, rest)) = self.held.split_first() {
             self.held = rest;
             return Poll::Ready(Event::Value(value));
@@ -116,14 +119,20 @@ impl<U: Copy, S: Run, G: Apply<S::Item, Out = Few<U>>> Run for TransformedRun<S,
         cx.yield_now()
     }
 
+    fn end(&self) -> Option<Cause<S::Fault>> {
+        self.source.end()
+    }
+
     fn cancel(&mut self) {
         self.source.cancel();
         self.held = Few::Zero;
     }
 
-    ghost begins = { λ r. Through-begins _ _ (S.begins r.source) };
+    ghost halts = { λ r. S.halts r.source };
 
-    ghost over = { λ r k e. held-over (G.gives r.function) r.held (S.ended r.source) _ k r.going e (S.over r.source k e) };
+    ghost begins = { λ r. Unless-begins (S.ended r.source) _ (Through-begins _ _ (S.begins r.source)) };
+
+    ghost over = { λ r. Unless-over (S.ended r.source) _ };
 }
 
 impl<U: Copy, S: Finite, G: Apply<S::Item, Out = Few<U>>> Finite for TransformedRun<S, G, U> {

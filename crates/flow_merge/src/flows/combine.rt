@@ -154,6 +154,10 @@ impl<C: Copy, A: Run, B: Run<Fault = A::Fault>, G: Apply<(A::Item, B::Item), Out
         cx.yield_now()
     }
 
+    fn end(&self) -> Option<Cause<A::Fault>> {
+        self.ended
+    }
+
     fn cancel(&mut self) {
         self.left.cancel();
         self.right.cancel();
@@ -163,6 +167,8 @@ impl<C: Copy, A: Run, B: Run<Fault = A::Fault>, G: Apply<(A::Item, B::Item), Out
             self.ended = Some(Cause::Cancelled);
         }
     }
+
+    ghost halts = { λ r. r.stopped };
 
     ghost begins = { λ r. Unless-begins r.ended _ (combine_begins _ _ _ r.turn r.left.latest r.right.latest r.left.finished r.right.finished _ _
         (A.begins r.left.run) (B.begins r.right.run)) };

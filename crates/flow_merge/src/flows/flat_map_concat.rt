@@ -173,6 +173,10 @@ impl<
         cx.yield_now()
     }
 
+    fn end(&self) -> Option<Cause<E>> {
+        self.ended
+    }
+
     fn cancel(&mut self) {
         self.outer.cancel();
         if let Some(inner) = &mut self.inner {
@@ -182,6 +186,8 @@ impl<
             self.ended = Some(Cause::Cancelled);
         }
     }
+
+    ghost halts = { λ r. r.stopped };
 
     ghost begins = { λ r. Unless-begins r.ended _ (concat_begins _ _ _ r.inner _ F.Running.begins (O.begins r.outer)) };
 

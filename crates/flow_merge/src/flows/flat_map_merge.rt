@@ -152,6 +152,10 @@ impl<
         }
     }
 
+    fn end(&self) -> Option<Cause<E>> {
+        self.ended
+    }
+
     fn cancel(&mut self) {
         self.outer.cancel();
         cancel_all(&mut self.runs);
@@ -159,6 +163,8 @@ impl<
             self.ended = Some(Cause::Cancelled);
         }
     }
+
+    ghost halts = { λ r. r.stopped };
 
     ghost begins = { λ r. Unless-begins r.ended _ (merge_begun r.limit _ _ r.runs.items _ F.Running.begins
         (outer_begins r.outer_finished (O.may r.outer) (O.begins r.outer))) };

@@ -150,6 +150,10 @@ impl<C: Copy, A: Run, B: Run<Fault = A::Fault>, G: Apply<(A::Item, B::Item), Out
         }
     }
 
+    fn end(&self) -> Option<Cause<A::Fault>> {
+        self.ended
+    }
+
     fn cancel(&mut self) {
         self.left.cancel();
         self.right.cancel();
@@ -158,6 +162,8 @@ impl<C: Copy, A: Run, B: Run<Fault = A::Fault>, G: Apply<(A::Item, B::Item), Out
             self.ended = Some(Cause::Cancelled);
         }
     }
+
+    ghost halts = { λ r. r.stopped };
 
     ghost begins = { λ r. Unless-begins r.ended _ (zip_begins (G.gives r.function) r.held _ _ (A.begins r.left) (B.begins r.right)) };
 

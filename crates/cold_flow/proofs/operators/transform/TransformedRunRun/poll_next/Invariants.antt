@@ -1,4 +1,4 @@
-use Rattle.std.proofs.Common.{◌≡◌, ◌+◌, ◌<◌, ◌≤◌, Some, None}
+use Rattle.std.proofs.Common.{◌≡◌, ◌+◌, ◌≤◌, None}
 use Rattle.std.specs.Iterator.{IsFinite, size}
 use Rattle.futures.specs.Task.{Keeps}
 use Rattle.flow_terms.specs.declared.few.Few.TheVariants.{Zero}
@@ -12,9 +12,8 @@ invariant-loop-asked g l = record {
   held : l.self.held ≡ Zero;
   narrows : Within (Through (held_then (g.G.Apply.gives l.initial.self.function) Zero) (g.S.Run.may l.initial.self.source))
       (Through (held_then (g.G.Apply.gives l.self.function) Zero) (g.S.Run.may l.self.source));
-  stays : (k : _) → g.S.Run.ended l.initial.self.source ≡ Some k → g.S.Run.ended l.self.source ≡ Some k;
-  was : (k : _) → g.S.Run.ended l.self.source ≡ Some k → g.S.Run.ended l.initial.self.source ≡ Some k;
-  going : 0 < l._asked → g.S.Run.ended l.self.source ≡ None;
+  begun : g.S.Run.ended l.initial.self.source ≡ None;
+  going : g.S.Run.ended l.self.source ≡ None;
   approaches : IsFinite (g.S.Run.polls l.initial.self.source) → IsFinite (g.S.Run.polls l.self.source)
       × (size (g.S.Run.polls l.self.source) + l._asked ≤ size (g.S.Run.polls l.initial.self.source));
   kept : Keeps l.initial.cx l.cx;
