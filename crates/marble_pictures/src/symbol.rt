@@ -14,7 +14,7 @@ use std::alloc::AllocError;
 
 /// How many bytes are added one by one, before those that stand for themselves are looked for again. So a text of which few do
 /// costs what it costs byte by byte.
-const BYTE_BY_BYTE: usize = 64;
+const BYTE_BY_BYTE: usize = 256;
 
 /// A line from one place to another.
 #[derive(Clone, Copy)]
