@@ -429,3 +429,42 @@ fn callers_receive(rt: HostRuntime) -> Result<(), Fail> {
     assert_eq!(rt; received_in_turn(rt.alloc(), 7, 8), Ok(Next::Value(8)));
     Ok(())
 }
+
+/// A flow of three places, which holds up what has none.
+const THREE_PLACES: Config = Config { extra: 3, ..PLAIN };
+
+// Four values for three places. A list with room for two takes two, and the next one what is left.
+#[test]
+fn blocks_are_accepted_and_received(rt: HostRuntime) -> Result<(), Fail> {
+    let mut flow = SharedState::new(rt.alloc(), THREE_PLACES)?;
+    let id = flow.subscribe()?;
+    assert_eq!(rt; flow.try_emit_all(0, &[5, 6, 7, 8]), Ok(3));
+    assert_eq!(rt; flow.try_emit_all(0, &[8]), Ok(0));
+    let mut out = Vec::with_capacity(rt.alloc(), 2)?;
+    assert_eq!(rt; flow.try_next_all(id, &mut out), Next::Value(2));
+    assert_eq!(rt; flow.try_next_all(id, &mut out), Next::Value(0));
+    assert_eq!(rt; out.as_slice(), [5, 6].as_slice());
+    out.clear();
+    assert_eq!(rt; flow.try_next_all(id, &mut out), Next::Value(1));
+    assert_eq!(rt; out.as_slice(), [7].as_slice());
+    assert_eq!(rt; flow.try_next_all(id, &mut out), Next::Nothing);
+    assert_eq!(rt; flow.cancel(id), true);
+    assert_eq!(rt; flow.try_next_all(id, &mut out), Next::Closed);
+    Ok(())
+}
+
+// The last number is given, and then none is left.
+#[test]
+fn block_is_cut_where_numbers_end(rt: HostRuntime) -> Result<(), Fail> {
+    let mut flow = SharedState::new(
+        rt.alloc(),
+        Config {
+            first: LAST,
+            ..THREE_PLACES
+        },
+    )?;
+    assert_eq!(rt; flow.try_emit_all(0, &[5, 6]), Ok(1));
+    assert_eq!(rt; flow.try_emit_all(0, &[6]), Err(Refusal::Spent));
+    assert_eq!(rt; flow.try_emit_all(0, &[]), Ok(0));
+    Ok(())
+}

@@ -23,6 +23,9 @@ pub mod Entries
 pub mod Latest
 pub mod Standing
 pub mod Behind
+pub mod Blocks
+pub mod BlockReceipts
+pub mod BlockExecutions
 pub mod Rings
 pub mod Accepted
 pub mod Emitting

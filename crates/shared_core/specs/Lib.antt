@@ -1,5 +1,6 @@
 pub mod Flow
 pub mod Calls
+pub mod Blocks
 pub mod Shown
 pub mod Queues
 pub mod Ringed

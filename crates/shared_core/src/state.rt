@@ -48,6 +48,7 @@ ghost use Rattle.shared_core.specs.Runs.{Runs, call_of, reply_of};
 ghost use Rattle.shared_core.specs.Calls as calls;
 ghost use Rattle.shared_core.specs.Shown.{Follows, Shows};
 
+mod blocks;
 mod emissions;
 mod replay;
 mod subscriptions;
