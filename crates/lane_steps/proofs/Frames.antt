@@ -58,44 +58,42 @@ quit_stays key place p pl rd stays was h = let o = was h in let over : IsOver rd
 
 module _ {S : Type 0} (key : Shape) where
   -- a step that leaves the words, the log and the places as they were
-  pub unmoved : (s : State S View) (r : Law key s) (i me : ℕ) (w : View) → SeatOk key r.log r.flying r.entry r.place r.sequencer me w
+  pub unmoved : (s : State S View) (r : Law key s) (i me : ℕ) (w : View) → SeatOk key r.log r.flight r.place r.sequencer me w
       → Law key record { words = set s.words i (get_or s.words i 0); homes = s.homes; views = set s.views me w }
   unmoved s r i me w mine = subst (λ (ws : List ℕ). Law key (let t : State S View = record { words = ws; homes = s.homes; views = set s.views me w } in t)) (sym (set-get_or s.words i 0)) record {
     log = r.log;
-    flying = r.flying;
-    entry = r.entry;
+    flight = r.flight;
     sequencer = r.sequencer;
     place = r.place;
     wide = r.wide;
     some_cell = r.some_cell;
+    short = r.short;
     bounded = r.bounded;
     tail = r.tail;
     each_cell = r.each_cell;
-    in_flight = r.in_flight;
     each_place = r.each_place;
-    each_seat = seats_stay (SeatOk key r.log r.flying r.entry r.place r.sequencer) s.views me w mine (λ j v _. r.each_seat j v);
+    each_seat = seats_stay (SeatOk key r.log r.flight r.place r.sequencer) s.views me w mine (λ j v _. r.each_seat j v);
   }
 
   -- a step that stores x in the cursor of the place p
-  pub place_step : (s : State S View) (r : Law key s) (p x me : ℕ) (pl : Place) (w : View) → p < key.places → PlaceOk key r.flying (key.first + length r.log) pl x
-      → SeatOk key r.log r.flying r.entry (put r.place p pl) r.sequencer me w
-      → ((j : ℕ) (v : View) → j ≢ me → get_elem? s.views j ≡ some v → SeatOk key r.log r.flying r.entry (put r.place p pl) r.sequencer j v)
+  pub place_step : (s : State S View) (r : Law key s) (p x me : ℕ) (pl : Place) (w : View) → p < key.places → PlaceOk key (length r.flight) (key.first + length r.log) pl x
+      → SeatOk key r.log r.flight (put r.place p pl) r.sequencer me w
+      → ((j : ℕ) (v : View) → j ≢ me → get_elem? s.views j ≡ some v → SeatOk key r.log r.flight (put r.place p pl) r.sequencer j v)
       → Law key record { words = set s.words (cursor_word p) x; homes = s.homes; views = set s.views me w }
   place_step s r p x me pl w inside ok mine others = record {
     log = r.log;
-    flying = r.flying;
-    entry = r.entry;
+    flight = r.flight;
     sequencer = r.sequencer;
     place = put r.place p pl;
     wide = length-set s.words (cursor_word p) x ∙ r.wide;
     some_cell = r.some_cell;
+    short = r.short;
     bounded = r.bounded;
     tail = get_or-set_other s.words (cursor_word p) 0 x 0 (cursor_is_no_tail p) ∙ r.tail;
-    each_cell = λ i e y at near clear. get_or-set_other s.words (cursor_word p) (cell_word key (key.first + i)) x 0 (cell_is_no_cursor key p (key.first + i) inside) ∙ r.each_cell i e y at near clear;
-    in_flight = λ fl. get_or-set_other s.words (cursor_word p) (cell_word key (key.first + length r.log)) x 0 (cell_is_no_cursor key p (key.first + length r.log) inside) ∙ r.in_flight fl;
+    each_cell = λ i e y at near. get_or-set_other s.words (cursor_word p) (cell_word key (key.first + i)) x 0 (cell_is_no_cursor key p (key.first + i) inside) ∙ r.each_cell i e y at near;
     each_place = λ q l. dite (ℕ_discrete q p)
         (λ e. let word : get_or (set s.words (cursor_word p) x) (cursor_word q) 0 ≡ x = ap (λ (z : ℕ). get_or (set s.words (cursor_word p) x) (cursor_word z) 0) e ∙ get_or-set_same s.words (cursor_word p) x 0 (let wide = r.wide in let h = cursor_within key p inside r.some_cell in omega arith) in
-        subst (λ (z : Place × ℕ). PlaceOk key r.flying (key.first + length r.log) z.0 z.1) (λ c. ((sym (put_here r.place p pl) ∙ ap (put r.place p pl) (sym e)) c, sym word c)) ok)
-        (λ ne. subst (λ (z : Place × ℕ). PlaceOk key r.flying (key.first + length r.log) z.0 z.1) (λ c. (sym (put_else r.place p pl q ne) c, sym (get_or-set_other s.words (cursor_word p) (cursor_word q) x 0 (λ e. ne (cursors_differ q p e))) c)) (r.each_place q l));
-    each_seat = seats_stay (SeatOk key r.log r.flying r.entry (put r.place p pl) r.sequencer) s.views me w mine others;
+        subst (λ (z : Place × ℕ). PlaceOk key (length r.flight) (key.first + length r.log) z.0 z.1) (λ c. ((sym (put_here r.place p pl) ∙ ap (put r.place p pl) (sym e)) c, sym word c)) ok)
+        (λ ne. subst (λ (z : Place × ℕ). PlaceOk key (length r.flight) (key.first + length r.log) z.0 z.1) (λ c. (sym (put_else r.place p pl q ne) c, sym (get_or-set_other s.words (cursor_word p) (cursor_word q) x 0 (λ e. ne (cursors_differ q p e))) c)) (r.each_place q l));
+    each_seat = seats_stay (SeatOk key r.log r.flight (put r.place p pl) r.sequencer) s.views me w mine others;
   }

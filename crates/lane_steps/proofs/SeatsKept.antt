@@ -14,21 +14,16 @@ use Rattle.lane_steps.specs.declared.view.View.{View}
 use Rattle.lane_steps.specs.Layout.{cursor_word, width}
 use Rattle.lane_steps.specs.Law.{Entry, closed, Begins, Place, cursor, lost, PlaceOk, KnownOk, ReaderOk, IsOver, SeatOk, Law, shut_place, opening_view, no_sequencing}
 use Rattle.lane_steps.specs.Steps.{known_over, next_number, known_of, with_known, found_at, handed_out, new_reader, receipt_of, without_reader, only_reader, telling, joined, end_note, hearing_end, spent, witness, met}
-use Rattle.lane_steps.proofs.Lists.{which, not_both, index_there, at_end}
+use Rattle.lane_steps.proofs.Lists.{which, not_both, front, index_there, at_end}
 use Rattle.lane_steps.proofs.Frames.{put, put_here, put_else, quit_stays, seats_stay, unmoved}
 use Rattle.lane_steps.proofs.ReaderKept.{reaches, whole_story, found_ok, no_drop, sequencer_stays}
 use Rattle.lane_steps.proofs.SequencerKept.{learns}
 
-front : {A : Type 0} (n : ℕ) (l : List A) → l ≡ take n l ++ drop n l
-front zero l = refl
-front (suc n) [] = refl
-front (suc n) (x ∷ xs) = ap (λ m. x ∷ m) (front n xs)
-
 module _ (key : Shape) where
   -- a seat that knows no more than some first entries
-  witness_ok : (log : List Entry) (flying : Bool) (entry : Entry) (place : ℕ → Place) (sequencer j : ℕ) (shape : Shape) (some_entries : List Entry) → Begins log some_entries
-      → SeatOk key log flying entry place sequencer j (witness shape some_entries)
-  witness_ok log flying entry place sequencer j shape l b = record { seen = b; told = (log, refl); sequencing = λ e. not_both false e refl; reading = λ e. not_both false e refl; quit = λ e. not_both false e refl }
+  witness_ok : (log flight : List Entry) (place : ℕ → Place) (sequencer j : ℕ) (shape : Shape) (some_entries : List Entry) → Begins log some_entries
+      → SeatOk key log flight place sequencer j (witness shape some_entries)
+  witness_ok log flight place sequencer j shape l b = record { seen = b; told = (log, refl); sequencing = λ e. not_both false e refl; reading = λ e. not_both false e refl; quit = λ e. not_both false e refl }
 
   moved_reader : (log : List Entry) (place : ℕ → Place) (was now : ℕ) (rd : Reading) → ReaderOk key log was rd (place rd.place) → ReaderOk key log now rd (put place rd.place (record (place rd.place) { holder = now }) rd.place)
   moved_reader log place was now rd o = subst (ReaderOk key log now rd) (sym (put_here place rd.place (record (place rd.place) { holder = now })))
@@ -54,98 +49,95 @@ module _ (key : Shape) where
   module _ {S : Type 0} where
     -- no word changes, and a place keeps its cursor
     placed : (s : State S View) (r : Law key s) (p : ℕ) (pl : Place) (views : List View) → (r.place p).is_open ≡ pl.is_open → (r.place p).start ≡ pl.start → (r.place p).story ≡ pl.story → (pl.unread ≡ true → (r.place p).unread ≡ true)
-        → ((j : ℕ) (v : View) → get_elem? views j ≡ some v → SeatOk key r.log r.flying r.entry (put r.place p pl) r.sequencer j v)
+        → ((j : ℕ) (v : View) → get_elem? views j ≡ some v → SeatOk key r.log r.flight (put r.place p pl) r.sequencer j v)
         → Law key record { words = s.words; homes = s.homes; views = views }
     placed s r p pl views a b c d seats = record {
       log = r.log;
-      flying = r.flying;
-      entry = r.entry;
+      flight = r.flight;
       sequencer = r.sequencer;
       place = put r.place p pl;
       wide = r.wide;
       some_cell = r.some_cell;
+      short = r.short;
       bounded = r.bounded;
       tail = r.tail;
       each_cell = r.each_cell;
-      in_flight = r.in_flight;
       each_place = λ q l. let all = r.each_place q l in dite (ℕ_discrete q p)
-          (λ e. let all' = subst (λ (z : ℕ). PlaceOk key r.flying (key.first + length r.log) (r.place z) (get_or s.words (cursor_word q) 0)) e all in
+          (λ e. let all' = subst (λ (z : ℕ). PlaceOk key (length r.flight) (key.first + length r.log) (r.place z) (get_or s.words (cursor_word q) 0)) e all in
           let same : cursor (r.place p) ≡ cursor pl = (λ i. b i + length (c i)) in
-          subst (λ (z : Place). PlaceOk key r.flying (key.first + length r.log) z (get_or s.words (cursor_word q) 0)) (sym (put_here r.place p pl) ∙ ap (put r.place p pl) (sym e)) record {
+          subst (λ (z : Place). PlaceOk key (length r.flight) (key.first + length r.log) z (get_or s.words (cursor_word q) 0)) (sym (put_here r.place p pl) ∙ ap (put r.place p pl) (sym e)) record {
             shut = λ o. all'.shut (a ∙ o);
             stands = λ o. all'.stands (a ∙ o) ∙ same;
             after_first = subst (λ (z : ℕ). key.first ≤ z) b all'.after_first;
             behind = λ o. let h = all'.behind (a ∙ o) in omega arith;
             near = λ o. let h = all'.near (a ∙ o) in omega arith;
-            clear = λ o fl. let h = all'.clear (a ∙ o) fl in omega arith;
             unread = λ u. let h = all'.unread (d u) in (h.0, sym c ∙ h.1);
             all_received = λ u. let h = all'.all_received u in (h.0, sym c ∙ h.1);
           })
-          (λ ne. subst (λ (z : Place). PlaceOk key r.flying (key.first + length r.log) z (get_or s.words (cursor_word q) 0)) (sym (put_else r.place p pl q ne)) all);
+          (λ ne. subst (λ (z : Place). PlaceOk key (length r.flight) (key.first + length r.log) z (get_or s.words (cursor_word q) 0)) (sym (put_else r.place p pl q ne)) all);
       each_seat = seats;
     }
 
     -- the same places
-    reseated : (s : State S View) (r : Law key s) (views : List View) → ((j : ℕ) (v : View) → get_elem? views j ≡ some v → SeatOk key r.log r.flying r.entry r.place r.sequencer j v) → Law key record { words = s.words; homes = s.homes; views = views }
+    reseated : (s : State S View) (r : Law key s) (views : List View) → ((j : ℕ) (v : View) → get_elem? views j ≡ some v → SeatOk key r.log r.flight r.place r.sequencer j v) → Law key record { words = s.words; homes = s.homes; views = views }
     reseated s r views seats = record {
       log = r.log;
-      flying = r.flying;
-      entry = r.entry;
+      flight = r.flight;
       sequencer = r.sequencer;
       place = r.place;
       wide = r.wide;
       some_cell = r.some_cell;
+      short = r.short;
       bounded = r.bounded;
       tail = r.tail;
       each_cell = r.each_cell;
-      in_flight = r.in_flight;
       each_place = r.each_place;
       each_seat = seats;
     }
 
     -- a receipt is split off
     pub copies : (id n : ℕ) (v : View) → Splits {S = S} (Law key) id v v (receipt_of n v)
-    copies id n v s r at = let ok = r.each_seat id v at in let O = SeatOk key r.log r.flying r.entry r.place r.sequencer in
+    copies id n v s r at = let ok = r.each_seat id v at in let O = SeatOk key r.log r.flight r.place r.sequencer in
         reseated s r (set s.views id v ++ receipt_of n v ∷ []) (λ j u e. ⊎_elim (seats_stay O s.views id v ok (λ i x _. r.each_seat i x) j u)
-        (λ (t : (j ≡ length (set s.views id v)) × (receipt_of n v ≡ u)). subst (O j) t.1 (witness_ok r.log r.flying r.entry r.place r.sequencer j v.shape (take n v.seen)
+        (λ (t : (j ≡ length (set s.views id v)) × (receipt_of n v ≡ u)). subst (O j) t.1 (witness_ok r.log r.flight r.place r.sequencer j v.shape (take n v.seen)
         (let b = ok.seen in (drop n v.seen ++ b.0, b.1 ∙ (ap (λ (l : List Entry). l ++ b.0) (front n v.seen) ∙ Rattle.std.proofs.Common.append_assoc (take n v.seen) (drop n v.seen) b.0)))))
         (at_end (set s.views id v) (receipt_of n v) u j e))
 
     pub copies_all : (id : ℕ) (v : View) → Splits {S = S} (Law key) id v v (witness v.shape v.seen)
-    copies_all id v s r at = let ok = r.each_seat id v at in let O = SeatOk key r.log r.flying r.entry r.place r.sequencer in let w : View = witness v.shape v.seen in
+    copies_all id v s r at = let ok = r.each_seat id v at in let O = SeatOk key r.log r.flight r.place r.sequencer in let w : View = witness v.shape v.seen in
         reseated s r (set s.views id v ++ w ∷ []) (λ j u e. ⊎_elim (seats_stay O s.views id v ok (λ i x _. r.each_seat i x) j u)
-        (λ (t : (j ≡ length (set s.views id v)) × (w ≡ u)). subst (O j) t.1 (witness_ok r.log r.flying r.entry r.place r.sequencer j v.shape v.seen ok.seen)) (at_end (set s.views id v) w u j e))
+        (λ (t : (j ≡ length (set s.views id v)) × (w ≡ u)). subst (O j) t.1 (witness_ok r.log r.flight r.place r.sequencer j v.shape v.seen ok.seen)) (at_end (set s.views id v) w u j e))
 
     -- a seat takes in what another has seen
     pub tells : (id other : ℕ) (v w : View) → Joins {S = S} (Law key) id v other w (telling v w) spent
-    tells id other v w s r at apart there = let ok = r.each_seat id v at in let O = SeatOk key r.log r.flying r.entry r.place r.sequencer in
+    tells id other v w s r at apart there = let ok = r.each_seat id v at in let O = SeatOk key r.log r.flight r.place r.sequencer in
         let theirs = ⊎_elim (λ (t : (other ≡ id) × (telling v w ≡ w)). absurd (apart t.0)) (λ (t : (other ≢ id) × (get_elem? s.views other ≡ some w)). r.each_seat other w t.1) (at_set s.views id other (telling v w) w there) in
         reseated s r (set (set s.views id (telling v w)) other spent)
-        (seats_stay O (set s.views id (telling v w)) other spent (witness_ok r.log r.flying r.entry r.place r.sequencer other spent.shape [] (r.log, refl))
+        (seats_stay O (set s.views id (telling v w)) other spent (witness_ok r.log r.flight r.place r.sequencer other spent.shape [] (r.log, refl))
         (λ j u _ e. seats_stay O s.views id (telling v w) record { seen = ok.seen; told = theirs.seen; sequencing = ok.sequencing; reading = ok.reading; quit = ok.quit } (λ i x _. r.each_seat i x) j u e))
 
     -- the end of a reader is split off
     pub copies_end : (id : ℕ) (v : View) → v.reading.quit ≡ true → Splits {S = S} (Law key) id v v (end_note v)
-    copies_end id v gone s r at = let ok = r.each_seat id v at in let O = SeatOk key r.log r.flying r.entry r.place r.sequencer in let w : View = end_note v in
+    copies_end id v gone s r at = let ok = r.each_seat id v at in let O = SeatOk key r.log r.flight r.place r.sequencer in let w : View = end_note v in
         let mine : (j : ℕ) → O j w = λ j. record { seen = (r.log, refl); told = (r.log, refl); sequencing = λ e. not_both false e refl; reading = λ a. not_both v.reading.active a (ok.quit gone).0; quit = ok.quit } in
         reseated s r (set s.views id v ++ w ∷ []) (λ j u e. ⊎_elim (seats_stay O s.views id v ok (λ i x _. r.each_seat i x) j u)
         (λ (t : (j ≡ length (set s.views id v)) × (w ≡ u)). subst (O j) t.1 (mine j)) (at_end (set s.views id v) w u j e))
 
     -- the sequencer hears of the end of a reader
     pub hears_end : (id other : ℕ) (v w : View) → v.sequencing.active ≡ true → w.reading.quit ≡ true → Joins {S = S} (Law key) id v other w (hearing_end v w) spent
-    hears_end id other v w act gone s r at apart there = let ok = r.each_seat id v at in let O = SeatOk key r.log r.flying r.entry r.place r.sequencer in let q : Sequencing = v.sequencing in let rd : Reading = w.reading in
+    hears_end id other v w act gone s r at apart there = let ok = r.each_seat id v at in let O = SeatOk key r.log r.flight r.place r.sequencer in let q : Sequencing = v.sequencing in let rd : Reading = w.reading in
         let theirs = ⊎_elim (λ (t : (other ≡ id) × (hearing_end v w ≡ w)). absurd (apart t.0)) (λ (t : (other ≢ id) × (get_elem? s.views other ≡ some w)). r.each_seat other w t.1) (at_set s.views id other (hearing_end v w) w there) in
         let end = theirs.quit gone in let own = ok.sequencing act in let k : Known = known_of q rd.place in let count = own.2.count in let inside = end.1 in
         let there_k = index_there q.places rd.place shut_place (omega arith) in let knows = own.2.knows rd.place k there_k in
         let mine : O id (hearing_end v w) = record {
           seen = ok.seen;
           told = ok.told;
-          sequencing = λ _. (own.0, own.1, learns key r.flying r.entry r.place r.place r.sequencer id rd.place (known_over rd.opening k) q own.2 (over_is_known k rd (r.place rd.place) knows end.2) (λ _ _. refl));
+          sequencing = λ _. (own.0, own.1, learns key r.flight r.place r.place r.sequencer id rd.place (known_over rd.opening k) q own.2 (over_is_known k rd (r.place rd.place) knows end.2) (λ _ _. refl));
           reading = ok.reading;
           quit = ok.quit;
         } in
         reseated s r (set (set s.views id (hearing_end v w)) other spent)
-        (seats_stay O (set s.views id (hearing_end v w)) other spent (witness_ok r.log r.flying r.entry r.place r.sequencer other spent.shape [] (r.log, refl))
+        (seats_stay O (set s.views id (hearing_end v w)) other spent (witness_ok r.log r.flight r.place r.sequencer other spent.shape [] (r.log, refl))
         (λ j u _ e. seats_stay O s.views id (hearing_end v w) mine (λ i x _. r.each_seat i x) j u e))
 
     -- the reader of the place p gets a seat of its own
@@ -153,7 +145,7 @@ module _ (key : Shape) where
     hands_out id p v act inside is_open unread s r at = let ok = r.each_seat id v at in let own = ok.sequencing act in let q : Sequencing = v.sequencing in let k : Known = known_of q p in let count = own.2.count in
         let there_k = index_there q.places p shut_place (omega arith) in let knows = own.2.knows p k there_k in let pl : Place = r.place p in let was = knows.unread is_open unread in let all = r.each_place p inside in
         let left : View = handed_out p v in let right : View = new_reader p v in let n : ℕ = length (set s.views id left) in let pl' : Place = record pl { unread = false; holder = n } in let k' : Known = record k { unread = false } in
-        let O = SeatOk key r.log r.flying r.entry (put r.place p pl') r.sequencer in
+        let O = SeatOk key r.log r.flight (put r.place p pl') r.sequencer in
         let knows' : KnownOk k' (put r.place p pl' p) = subst (KnownOk k') (sym (put_here r.place p pl')) record { shut = knows.shut; opening = knows.opening; start = knows.start; floor = knows.floor; lost = knows.lost; unread = λ _ e. not_both false e refl } in
         let others : (j : ℕ) (rd : Reading) → ReaderOk key r.log j rd (r.place rd.place) → ReaderOk key r.log j rd (put r.place p pl' rd.place) = λ j rd o. dite (ℕ_discrete rd.place p)
         (λ e. not_both (r.place rd.place).unread (ap (λ (z : ℕ). (r.place z).unread) e ∙ was.0) o.handed)
@@ -161,7 +153,7 @@ module _ (key : Shape) where
         let mine : O id left = record {
           seen = ok.seen;
           told = ok.told;
-          sequencing = λ _. (own.0, own.1, learns key r.flying r.entry r.place (put r.place p pl') r.sequencer id p k' q own.2 knows' (λ x ne. put_else r.place p pl' x ne));
+          sequencing = λ _. (own.0, own.1, learns key r.flight r.place (put r.place p pl') r.sequencer id p k' q own.2 knows' (λ x ne. put_else r.place p pl' x ne));
           reading = λ a. let o = ok.reading a in (o.0, others id v.reading o.1);
           quit = quit_stays key r.place p pl' v.reading (λ was. was) ok.quit;
         } in
@@ -179,7 +171,7 @@ module _ (key : Shape) where
               opening = sym knows.opening;
               start = sym (knows.start is_open);
               story = all.unread was.0;
-              picked = λ e. not_both false e refl;
+              picked = λ _ i x e. absurd (some-ne-none x (sym e));
             },
           );
           quit = λ e. not_both false e refl;
@@ -204,15 +196,15 @@ module _ (key : Shape) where
     -- the reader's part gets a seat of its own
     pub parts : (id : ℕ) (v : View) → v.reading.active ≡ true → Splits {S = S} (Law key) id v (without_reader v) (only_reader v)
     parts id v act s r at = let ok = r.each_seat id v at in let own = ok.reading act in let rd : Reading = v.reading in let p : ℕ = rd.place in let left : View = without_reader v in let right : View = only_reader v in
-        let n : ℕ = length (set s.views id left) in let pl' : Place = record (r.place p) { holder = n } in let O = SeatOk key r.log r.flying r.entry (put r.place p pl') r.sequencer in
+        let n : ℕ = length (set s.views id left) in let pl' : Place = record (r.place p) { holder = n } in let O = SeatOk key r.log r.flight (put r.place p pl') r.sequencer in
         let stays : (k : Known) → KnownOk k (r.place p) → KnownOk k pl' = λ k o. known_stays k (r.place p) n o in
         placed s r p pl' (set s.views id left ++ right ∷ []) refl refl refl (λ u. u)
         (λ j u e. ⊎_elim (seats_stay O s.views id left
-        record { seen = ok.seen; told = ok.told; sequencing = sequencer_stays key r.log r.flying r.entry r.place r.sequencer id p pl' v stays ok.sequencing; reading = λ a. not_both false a refl; quit = λ e. not_both false e refl }
+        record { seen = ok.seen; told = ok.told; sequencing = sequencer_stays key r.log r.flight r.place r.sequencer id p pl' v stays ok.sequencing; reading = λ a. not_both false a refl; quit = λ e. not_both false e refl }
         (λ i x other here. let o = r.each_seat i x here in record {
           seen = o.seen;
           told = o.told;
-          sequencing = sequencer_stays key r.log r.flying r.entry r.place r.sequencer i p pl' x stays o.sequencing;
+          sequencing = sequencer_stays key r.log r.flight r.place r.sequencer i p pl' x stays o.sequencing;
           reading = λ a. let y = o.reading a in (y.0, elsewhere s r p id pl' own.1.seat i other x.reading y.1);
           quit = quit_stays key r.place p pl' x.reading (λ was. was) o.quit;
         }) j u)
@@ -223,22 +215,22 @@ module _ (key : Shape) where
     pub joins : (id other : ℕ) (v w : View) → w.reading.active ≡ true → v.sequencing.active ≡ true → Joins {S = S} (Law key) id v other w (joined v w) spent
     joins id other v w act leads s r at apart there = let ok = r.each_seat id v at in let here = ⊎_elim (λ (t : (other ≡ id) × (joined v w ≡ w)). absurd (apart t.0)) (λ (t : (other ≢ id) × (get_elem? s.views other ≡ some w)). t.1) (at_set s.views id other (joined v w) w there) in
         let theirs = r.each_seat other w here in let own = theirs.reading act in let rd : Reading = w.reading in let p : ℕ = rd.place in let pl' : Place = record (r.place p) { holder = id } in
-        let O = SeatOk key r.log r.flying r.entry (put r.place p pl') r.sequencer in let stays : (k : Known) → KnownOk k (r.place p) → KnownOk k pl' = λ k o. known_stays k (r.place p) id o in
+        let O = SeatOk key r.log r.flight (put r.place p pl') r.sequencer in let stays : (k : Known) → KnownOk k (r.place p) → KnownOk k pl' = λ k o. known_stays k (r.place p) id o in
         placed s r p pl' (set (set s.views id (joined v w)) other spent) refl refl refl (λ u. u)
         (λ j u e. ⊎_elim
-        (λ (t : (j ≡ other) × (spent ≡ u)). subst (O j) t.1 (witness_ok r.log r.flying r.entry (put r.place p pl') r.sequencer j spent.shape [] (r.log, refl)))
+        (λ (t : (j ≡ other) × (spent ≡ u)). subst (O j) t.1 (witness_ok r.log r.flight (put r.place p pl') r.sequencer j spent.shape [] (r.log, refl)))
         (λ (t : (j ≢ other) × (get_elem? (set s.views id (joined v w)) j ≡ some u)). seats_stay (λ i x. i ≢ other → O i x) s.views id (joined v w)
         (λ _. record {
           seen = ok.seen;
           told = theirs.seen;
-          sequencing = sequencer_stays key r.log r.flying r.entry r.place r.sequencer id p pl' v stays ok.sequencing;
+          sequencing = sequencer_stays key r.log r.flight r.place r.sequencer id p pl' v stays ok.sequencing;
           reading = λ _. ((ok.sequencing leads).0, moved_reader r.log r.place other id rd own.1);
           quit = λ h. not_both rd.active act (theirs.quit h).0;
         })
         (λ i x not_id h not_other. let o = r.each_seat i x h in record {
           seen = o.seen;
           told = o.told;
-          sequencing = sequencer_stays key r.log r.flying r.entry r.place r.sequencer i p pl' x stays o.sequencing;
+          sequencing = sequencer_stays key r.log r.flight r.place r.sequencer i p pl' x stays o.sequencing;
           reading = λ a. let y = o.reading a in (y.0, elsewhere s r p other pl' own.1.seat i not_other x.reading y.1);
           quit = quit_stays key r.place p pl' x.reading (λ was. was) o.quit;
         }) j u t.1 t.0)
@@ -260,7 +252,7 @@ module _ (key : Shape) where
           unmoved key s r i id w record {
             seen = ok.seen;
             told = (r.log, refl);
-            sequencing = λ _. (own.0, own.1, learns key r.flying r.entry r.place r.place r.sequencer id p k' q own.2 record { shut = knows.shut; opening = knows.opening; start = knows.start; floor = λ _. omega arith; lost = knows.lost; unread = knows.unread } (λ _ _. refl));
+            sequencing = λ _. (own.0, own.1, learns key r.flight r.place r.place r.sequencer id p k' q own.2 record { shut = knows.shut; opening = knows.opening; start = knows.start; floor = λ _. omega arith; lost = knows.lost; unread = knows.unread } (λ _ _. refl));
             reading = λ _. (mine.0, now);
             quit = λ h. not_both rd.active reads (ok.quit h).0;
           },
@@ -273,32 +265,31 @@ module _ (key : Shape) where
               omega arith,
               omega arith,
               omega arith,
-              λ no. is ∙ no_drop key r.flying (key.first + length r.log) (get_or s.words (cursor_word p) 0) r.log id rd pl mine.1 all (ap (λ (k : Shape). k.drops) (sym own.0) ∙ no),
+              λ no. is ∙ no_drop key (length r.flight) (key.first + length r.log) (get_or s.words (cursor_word p) 0) r.log id rd pl mine.1 all (ap (λ (k : Shape). k.drops) (sym own.0) ∙ no),
             ),
           ),
         )
 
     -- a lane as it is made: nothing was accepted
     begins_with : (words : List ℕ) (place : ℕ → Place) (known : Known) → 0 < key.cells → key.first ≤ 4611686018427387904 → length words ≡ width key → get_or words 0 0 ≡ key.first
-        → ((p : ℕ) → p < key.places → PlaceOk key false key.first (place p) (get_or words (cursor_word p) 0)) → ((p : ℕ) → KnownOk known (place p))
+        → ((p : ℕ) → p < key.places → PlaceOk key 0 key.first (place p) (get_or words (cursor_word p) 0)) → ((p : ℕ) → KnownOk known (place p))
         → Law key (let t : State S View = opening words [] (record (opening_view key) { sequencing = record no_sequencing { active = true; places = replicate key.places known } }) in t)
     begins_with words place known some_cell low wide first places knows = let v : View = record (opening_view key) { sequencing = record no_sequencing { active = true; places = replicate key.places known } } in record {
       log = [];
-      flying = false;
-      entry = (0, 0);
+      flight = [];
       sequencer = 0;
       place = place;
       wide = wide;
       some_cell = some_cell;
+      short = omega arith;
       bounded = omega arith;
       tail = first ∙ omega arith;
       each_cell = λ i e x at. absurd (some-ne-none (e, x) (sym at));
-      in_flight = λ h. not_both false h refl;
-      each_place = λ p l. subst (λ (z : ℕ). PlaceOk key false z (place p) (get_or words (cursor_word p) 0)) (let e : key.first ≡ key.first + 0 = omega arith in e) (places p l);
+      each_place = λ p l. subst (λ (z : ℕ). PlaceOk key 0 z (place p) (get_or words (cursor_word p) 0)) (let e : key.first ≡ key.first + 0 = omega arith in e) (places p l);
       each_seat = one v record {
         seen = ([], refl);
         told = ([], refl);
-        sequencing = λ _. (refl, refl, record { seat = refl; in_flight = refl; entry_is = refl; count = length-replicate key.places known; knows = λ p k e. subst (λ (z : Known). KnownOk z (place p)) (all_same key.places p known k e) (knows p) });
+        sequencing = λ _. (refl, refl, record { seat = refl; in_flight = refl; count = length-replicate key.places known; knows = λ p k e. subst (λ (z : Known). KnownOk z (place p)) (all_same key.places p known k e) (knows p) });
         reading = λ e. not_both false e refl;
         quit = λ e. not_both false e refl;
       };
@@ -309,8 +300,8 @@ module _ (key : Shape) where
         all_same (suc n) zero a b e = some-injective a b e
         all_same (suc n) (suc p) a b e = all_same n p a b e
 
-        one : (v : View) → SeatOk key [] false (0, 0) place 0 0 v → (j : ℕ) (u : View) → get_elem? (v ∷ []) j ≡ some u → SeatOk key [] false (0, 0) place 0 j u
-        one v ok zero u e = subst (SeatOk key [] false (0, 0) place 0 0) (some-injective v u e) ok
+        one : (v : View) → SeatOk key [] [] place 0 0 v → (j : ℕ) (u : View) → get_elem? (v ∷ []) j ≡ some u → SeatOk key [] [] place 0 j u
+        one v ok zero u e = subst (SeatOk key [] [] place 0 0) (some-injective v u e) ok
         one v ok (suc j) u e = absurd (some-ne-none u (sym e))
 
     -- each place is closed
@@ -323,7 +314,6 @@ module _ (key : Shape) where
           after_first = omega arith;
           behind = λ e. not_both false e refl;
           near = λ e. not_both false e refl;
-          clear = λ e. not_both false e refl;
           unread = λ e. not_both false e refl;
           all_received = λ _. (0, refl);
         })

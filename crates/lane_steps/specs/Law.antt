@@ -26,6 +26,10 @@ Begins {A} xs start = (more : List A) × (xs ≡ start ++ more)
 abbrev pub HasWord : ℕ → List Entry → ℕ → ℕ → Type 0
 HasWord f log n x = (i : ℕ) × (e : ℕ) × (n ≡ f + i) × (get_elem? log i ≡ some (e, x))
 
+-- the emissions from the number n on had these words
+abbrev pub HasWords : ℕ → List Entry → ℕ → List ℕ → Type 0
+HasWords f log n xs = (i x : ℕ) → get_elem? xs i ≡ some x → HasWord f log (n + i) x
+
 -- A place since it was opened last: for each number from the start on, whether it was received or lost
 pub record Place : Type 0 where
   pub is_open : Bool
@@ -50,15 +54,14 @@ lost n [] = []
 lost n (true ∷ bs) = lost (suc n) bs
 lost n (false ∷ bs) = n ∷ lost (suc n) bs
 
--- a place, whose cursor is the word w
-pub record PlaceOk (key : Shape) (flying : Bool) (tail : ℕ) (pl : Place) (w : ℕ) : Type 0 where
+-- a place, whose cursor is the word w, where so many cells ahead of the tail are in flight
+pub record PlaceOk (key : Shape) (ahead tail : ℕ) (pl : Place) (w : ℕ) : Type 0 where
   pub shut : pl.is_open ≡ false → w ≡ closed
   pub stands : pl.is_open ≡ true → w ≡ cursor pl
   pub after_first : key.first ≤ pl.start
   pub behind : pl.is_open ≡ true → cursor pl ≤ tail
-  pub near : pl.is_open ≡ true → tail ≤ cursor pl + key.cells
-  -- the cell in flight is one that no open cursor has still to read
-  pub clear : pl.is_open ≡ true → flying ≡ true → tail < cursor pl + key.cells
+  -- no cell in flight is one that an open cursor has still to read
+  pub near : pl.is_open ≡ true → tail + ahead ≤ cursor pl + key.cells
   pub unread : pl.unread ≡ true → (k : ℕ) × (pl.story ≡ replicate k false)
   pub all_received : key.drops ≡ false → (k : ℕ) × (pl.story ≡ replicate k true)
 
@@ -71,10 +74,9 @@ pub record KnownOk (k : Known) (pl : Place) : Type 0 where
   pub lost : k.is_open ≡ true → k.lost ≡ lost pl.start pl.story
   pub unread : k.is_open ≡ true → k.unread ≡ true → (pl.unread ≡ true) × (pl.is_open ≡ true)
 
-pub record SequencerOk (key : Shape) (flying : Bool) (entry : Entry) (place : ℕ → Place) (sequencer j : ℕ) (q : Sequencing) : Type 0 where
+pub record SequencerOk (key : Shape) (flight : List Entry) (place : ℕ → Place) (sequencer j : ℕ) (q : Sequencing) : Type 0 where
   pub seat : j ≡ sequencer
-  pub in_flight : q.flying ≡ flying
-  pub entry_is : q.entry ≡ entry
+  pub in_flight : q.flight ≡ flight
   pub count : length q.places ≡ key.places
   pub knows : (p : ℕ) (k : Known) → get_elem? q.places p ≡ some k → KnownOk k (place p)
 
@@ -87,7 +89,8 @@ pub record ReaderOk (key : Shape) (log : List Entry) (j : ℕ) (r : Reading) (pl
   pub start : pl.start ≡ r.start
   -- what came since is lost
   pub story : (k : ℕ) × (pl.story ≡ r.story ++ replicate k false)
-  pub picked : r.picked ≡ true → (r.number ≤ cursor pl) × (r.number ≡ cursor pl → HasWord key.first log r.number r.word)
+  -- what it picked, where its cursor still stands there
+  pub picked : cursor pl ≡ r.start + length r.story → HasWords key.first log (cursor pl) r.picked
 
 -- the place was opened again since this reader's part was let in
 abbrev pub WasOpenedAgain : Reading → Place → Type 0
@@ -101,31 +104,30 @@ IsOver r pl = (r.opening ≤ pl.opening) × ((pl.is_open ≡ false) ⊎ WasOpene
 abbrev pub QuitOk : Shape → (ℕ → Place) → Reading → Type 0
 QuitOk key place r = r.quit ≡ true → (r.active ≡ false) × (r.place < key.places) × IsOver r (place r.place)
 
-pub record SeatOk (key : Shape) (log : List Entry) (flying : Bool) (entry : Entry) (place : ℕ → Place) (sequencer j : ℕ) (v : View) : Type 0 where
+pub record SeatOk (key : Shape) (log flight : List Entry) (place : ℕ → Place) (sequencer j : ℕ) (v : View) : Type 0 where
   pub seen : Begins log v.seen
   pub told : Begins log v.told
-  pub sequencing : v.sequencing.active ≡ true → (v.shape ≡ key) × (v.seen ≡ log) × SequencerOk key flying entry place sequencer j v.sequencing
+  pub sequencing : v.sequencing.active ≡ true → (v.shape ≡ key) × (v.seen ≡ log) × SequencerOk key flight place sequencer j v.sequencing
   pub reading : v.reading.active ≡ true → (v.shape ≡ key) × ReaderOk key log j v.reading (place v.reading.place)
   pub quit : QuitOk key place v.reading
 
 pub record Law {S : Type 0} (key : Shape) (s : State S View) : Type 0 where
   -- all accepted emissions
   pub log : List Entry
-  -- the cell of the next number holds the entry already
-  pub flying : Bool
-  pub entry : Entry
+  -- the cells of the next numbers hold these already, in order
+  pub flight : List Entry
   pub sequencer : ℕ
   pub place : ℕ → Place
   pub wide : length s.words ≡ width key
   pub some_cell : 0 < key.cells
+  pub short : length flight ≤ key.cells
   pub bounded : key.first + length log ≤ 4611686018427387904
   pub tail : slice_index s.words tail_word ≡ key.first + length log
-  pub each_cell : (i : ℕ) (e x : ℕ) → get_elem? log i ≡ some (e, x)
-      → length log ≤ i + key.cells → (flying ≡ true → length log < i + key.cells)
+  -- each of the last that were stored stands in its cell
+  pub each_cell : (i : ℕ) (e x : ℕ) → get_elem? (log ++ flight) i ≡ some (e, x) → length log + length flight ≤ i + key.cells
       → slice_index s.words (cell_word key (key.first + i)) ≡ x
-  pub in_flight : flying ≡ true → slice_index s.words (cell_word key (key.first + length log)) ≡ entry.1
-  pub each_place : (p : ℕ) → p < key.places → PlaceOk key flying (key.first + length log) (place p) (slice_index s.words (cursor_word p))
-  pub each_seat : (j : ℕ) (v : View) → get_elem? s.views j ≡ some v → SeatOk key log flying entry place sequencer j v
+  pub each_place : (p : ℕ) → p < key.places → PlaceOk key (length flight) (key.first + length log) (place p) (slice_index s.words (cursor_word p))
+  pub each_seat : (j : ℕ) (v : View) → get_elem? s.views j ≡ some v → SeatOk key log flight place sequencer j v
 
 -- what a place is known as, that nobody opened
 abbrev pub shut_place : Known
@@ -133,10 +135,10 @@ shut_place = record { is_open = false; unread = false; opening = 0; start = 0; f
 
 -- no cell in flight, and all places closed
 abbrev pub no_sequencing : Sequencing
-no_sequencing = record { active = false; flying = false; entry = (0, 0); places = [] }
+no_sequencing = record { active = false; flight = []; places = [] }
 
 abbrev pub no_reading : Reading
-no_reading = record { active = false; quit = false; place = 0; opening = 0; start = 0; story = []; picked = false; number = 0; word = 0 }
+no_reading = record { active = false; quit = false; place = 0; opening = 0; start = 0; story = []; picked = [] }
 
 abbrev pub opening_view : Shape → View
 opening_view key = record {

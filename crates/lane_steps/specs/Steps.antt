@@ -1,6 +1,6 @@
 -- What each step does to the view of the seat that makes it, and what it tells.
 use Rattle.std.specs.Prelude.{◌≡◌, ◌≢◌, ℕ, suc, ◌+◌, ◌-◌, ◌<◌, ◌≤◌, List, [], ◌∷◌}
-use Rattle.std.specs.Prelude.{◌++◌, length, replicate, take, cond, eqb, slice_index_or, slice_set, true, false}
+use Rattle.std.specs.Prelude.{◌++◌, length, replicate, take, drop, cond, eqb, slice_index, slice_index_or, slice_set, true, false}
 use mathlib.Core.Option.{some}
 use lib.ListN.{get_elem?}
 use Rattle.atomic_table.specs.Table.{Me, Step}
@@ -10,7 +10,7 @@ use Rattle.lane_steps.specs.declared.view.Sequencing.{Sequencing}
 use Rattle.lane_steps.specs.declared.view.Reading.{Reading}
 use Rattle.lane_steps.specs.declared.view.View.{View}
 use Rattle.lane_steps.specs.Layout.{tail_word, cursor_word}
-use Rattle.lane_steps.specs.Law.{Entry, closed, Begins, HasWord, lost, shut_place, no_sequencing, no_reading}
+use Rattle.lane_steps.specs.Law.{Entry, closed, Begins, HasWord, HasWords, lost, shut_place, no_sequencing, no_reading}
 
 -- the number of the next value for this reader, as it has seen it
 abbrev pub position : Reading → ℕ
@@ -25,17 +25,28 @@ load_noted i n v = record v { loads = v.loads ++ (i, n) ∷ [] }
 
 -- the reader got the value at its position
 abbrev pub got : Reading → Reading
-got r = record r { story = r.story ++ true ∷ []; picked = false }
+got r = record r { story = r.story ++ true ∷ []; picked = [] }
+
+-- the reader got the values that it picked
+abbrev pub got_picked : Reading → Reading
+got_picked r = record r { story = r.story ++ replicate (length r.picked) true; picked = [] }
 
 -- the reader found its cursor at n
 abbrev pub found_at : ℕ → Reading → Reading
-found_at n r = record r { story = r.story ++ replicate (n - position r) false; picked = false }
+found_at n r = record r { story = r.story ++ replicate (n - position r) false; picked = [] }
 
 abbrev pub picked_up : ℕ → Reading → Reading
-picked_up x r = record r { picked = true; number = position r; word = x }
+picked_up x r = record r { picked = x ∷ [] }
+
+abbrev pub picked_next : ℕ → Reading → Reading
+picked_next x r = record r { picked = r.picked ++ x ∷ [] }
+
+-- the number after those that it picked
+abbrev pub next_to_pick : Reading → ℕ
+next_to_pick r = position r + length r.picked
 
 abbrev pub ended : Reading → Reading
-ended r = record r { active = false; quit = true; picked = false }
+ended r = record r { active = false; quit = true; picked = [] }
 
 abbrev pub known_of : Sequencing → ℕ → Known
 known_of q p = slice_index_or q.places p shut_place
@@ -68,9 +79,18 @@ Noticed v n v' = (v' ≡ record v { seen = v'.seen; told = []; loads = v.loads +
 abbrev pub Picked : ℕ → View → ℕ → View → Type 0
 Picked i v n v' = v' ≡ record v { loads = v.loads ++ (i, n) ∷ []; reading = picked_up n v.reading }
 
+-- the reader's load of the cell of the next number to pick, the word i
+abbrev pub PickedNext : ℕ → View → ℕ → View → Type 0
+PickedNext i v n v' = v' ≡ record v { loads = v.loads ++ (i, n) ∷ []; reading = picked_next n v.reading }
+
 -- the reader's exchange at the position old
 abbrev pub Took : ℕ → View → ℕ → View → Type 0
-Took old v n v' = (n ≡ old → (v' ≡ record v { reading = got v.reading }) × HasWord v.shape.first v.seen v.reading.number v.reading.word)
+Took old v n v' = (n ≡ old → (v' ≡ record v { reading = got v.reading }) × HasWord v.shape.first v.seen old (slice_index v.reading.picked 0))
+    × (n ≢ old → (v' ≡ record v { reading = found_at n v.reading }) × (position v.reading < n) × (v.shape.drops ≡ true))
+
+-- the reader's exchange at the position old, past all that it picked
+abbrev pub TookPicked : ℕ → View → ℕ → View → Type 0
+TookPicked old v n v' = (n ≡ old → (v' ≡ record v { reading = got_picked v.reading }) × HasWords v.shape.first v.seen old v.reading.picked)
     × (n ≢ old → (v' ≡ record v { reading = found_at n v.reading }) × (position v.reading < n) × (v.shape.drops ≡ true))
 
 -- the reader's load of its cursor
@@ -106,17 +126,33 @@ Surveyed p v n v' =
 abbrev pub IsRoomy : ℕ → View → Type 0
 IsRoomy cells v = (p : ℕ) (k : Known) → get_elem? v.sequencing.places p ≡ some k → k.is_open ≡ true → next_number v < k.floor + cells
 
+-- each place that may be open has read the cell of the number n
+abbrev pub IsRoomyAt : ℕ → ℕ → View → Type 0
+IsRoomyAt cells n v = (p : ℕ) (k : Known) → get_elem? v.sequencing.places p ≡ some k → k.is_open ≡ true → n < k.floor + cells
+
+-- the number after those in flight
+abbrev pub next_to_store : View → ℕ
+next_to_store v = next_number v + length v.sequencing.flight
+
 -- a cursor may be opened at this number: the cells hold all from there on
 abbrev pub MayOpenAt : Shape → View → ℕ → Type 0
 MayOpenAt key v start = (key.first ≤ start) × (start ≤ next_number v) × (next_number v ≤ start + key.cells)
 
--- the store of x in a cell, for the emitter e
+-- the store of x in the cell of the next number, for the emitter e
 abbrev pub Filled : ℕ → ℕ → View → View → Type 0
-Filled e x v v' = v' ≡ record v { sequencing = record v.sequencing { flying = true; entry = (e, x) } }
+Filled e x v v' = v' ≡ record v { sequencing = record v.sequencing { flight = (e, x) ∷ drop 1 v.sequencing.flight } }
 
--- the store of the tail
+-- the store of x in the cell of the next number to store, for the emitter e
+abbrev pub FilledNext : ℕ → ℕ → View → View → Type 0
+FilledNext e x v v' = v' ≡ record v { sequencing = record v.sequencing { flight = v.sequencing.flight ++ (e, x) ∷ [] } }
+
+-- the store of the tail, which accepts the first in flight
 abbrev pub Accepted : View → View → Type 0
-Accepted v v' = v' ≡ record v { seen = v.seen ++ v.sequencing.entry ∷ []; sequencing = record v.sequencing { flying = false } }
+Accepted v v' = v' ≡ record v { seen = v.seen ++ take 1 v.sequencing.flight; sequencing = record v.sequencing { flight = drop 1 v.sequencing.flight } }
+
+-- the store of the tail that accepts all in flight
+abbrev pub AcceptedAll : View → View → Type 0
+AcceptedAll v v' = v' ≡ record v { seen = v.seen ++ v.sequencing.flight; sequencing = record v.sequencing { flight = [] } }
 
 -- the sequencer's exchange of the cursor of the place p, at old
 abbrev pub Dropped : ℕ → ℕ → View → ℕ → View → Type 0
@@ -152,6 +188,12 @@ module _ {S : Type 0} where
   abbrev pub picked : Step S → Me S View → ℕ → Me S View → Type 0
   picked st m n m' = (m'.1 ≡ m.1) × Picked st.word m.0 n m'.0
 
+  abbrev pub picked_more : Step S → Me S View → ℕ → Me S View → Type 0
+  picked_more st m n m' = (m'.1 ≡ m.1) × PickedNext st.word m.0 n m'.0
+
+  abbrev pub took_picked : Step S → Me S View → ℕ → Me S View → Type 0
+  took_picked st m n m' = (m'.1 ≡ m.1) × TookPicked st.first m.0 n m'.0
+
   abbrev pub took : Step S → Me S View → ℕ → Me S View → Type 0
   took st m n m' = (m'.1 ≡ m.1) × Took st.first m.0 n m'.0
 
@@ -166,6 +208,12 @@ module _ {S : Type 0} where
 
   abbrev pub filled : ℕ → Step S → Me S View → ℕ → Me S View → Type 0
   filled e st m n m' = (m'.1 ≡ m.1) × Filled e st.first m.0 m'.0
+
+  abbrev pub filled_next : ℕ → Step S → Me S View → ℕ → Me S View → Type 0
+  filled_next e st m n m' = (m'.1 ≡ m.1) × FilledNext e st.first m.0 m'.0
+
+  abbrev pub accepted_all : Step S → Me S View → ℕ → Me S View → Type 0
+  accepted_all st m n m' = (m'.1 ≡ m.1) × AcceptedAll m.0 m'.0
 
   abbrev pub accepted : Step S → Me S View → ℕ → Me S View → Type 0
   accepted st m n m' = (m'.1 ≡ m.1) × Accepted m.0 m'.0

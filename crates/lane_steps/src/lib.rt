@@ -23,6 +23,9 @@
 //! | cell | stores, before the tail | |
 //! | cursor | stores, to open a closed one; exchanges, to drop a value | exchanges, to receive; stores, to close |
 //!
+//! Several values may be in flight: the sequencer stores the cells of the next numbers one after another, and accepts them by
+//! one store of the tail. As a reader may load several cells from its position on, and receive them by one exchange.
+//!
 //! Each function makes one atomic step, and its contract says what that did to the [`View`] of the seat that made it; but
 //! `index_of`, `index_from` and `next_index` touch no word and find the index of a number's cell.
 #![tactic(auto)]

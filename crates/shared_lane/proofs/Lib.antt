@@ -1,9 +1,11 @@
 pub mod Accepting
 pub mod Beginning
+pub mod Entries
 pub mod Lives
 pub mod Makes
 pub mod Outstanding
 pub mod Policies
+pub mod Rooms
 pub mod Rounds
 pub mod Settling
 pub mod Sameness

@@ -11,13 +11,14 @@ use Rattle.circular_buffer.proofs.Places.{slice_get-drop, slice_get-append_left}
 use Rattle.shared_core.specs.Flow.{values_at}
 use Rattle.shared_core.specs.Story.{Interleaves, none as neither, left as from_left, right as from_right}
 use Rattle.shared_core.proofs.Lists.{values_at-range}
-use Rattle.lane_steps.specs.Law.{Entry, Begins, received, lost}
+use Rattle.lane_steps.specs.Law.{Entry, Begins, HasWord, HasWords, received, lost}
 use Rattle.lane_steps.proofs.Lists.{within}
 use Rattle.shared_lane.specs.Views.{ReaderSeen}
 use Rattle.shared_lane.specs.Caches.{word_of, IsLastOf}
 use Rattle.shared_lane.specs.declared.reader.Taken.{Taken}
 use Rattle.shared_lane.specs.declared.reader.Taken.TheVariants.{Value, Nothing, Overtaken}
-use Rattle.shared_lane.specs.Readers.{at, story_to, IsSameReader, TookNext}
+use Rattle.shared_lane.specs.Readers.{at, story_to, WentTo, IsSameReader, TookNext}
+use Rattle.shared_lane.specs.Picks.{TookAll}
 use Rattle.shared_lane.specs.Headline.{words_seen, Went, Lived, gave, given, WasLetIn, cache_then_later, pending, ReceivesCacheThenLater}
 
 -- ---- a story and a list of words, by index
@@ -254,3 +255,50 @@ has_seen_so_far r t Nothing took same other =
     let n : ℕ = took.0 in let long = reaches n r took.1.0 in let story : length t.story ≡ length (story_to n r) = ap length took.1.2 in
     let start = same.0 in let first : t.shape.first ≡ r.shape.first = (λ i. (same.2 i).first) in let end : n ≡ r.shape.first + length t.seen = took.2 in omega arith
 has_seen_so_far r t Overtaken took same other = absurd (other refl)
+
+-- ---- several values at once
+
+-- words that were accepted from the position on are taken one after another
+takes_each : (t : ReaderSeen) (story : List Bool) (words : List ℕ) (n : ℕ) → t.start + length story ≡ n → HasWords t.shape.first t.seen n words
+    → Lived (record t { story = story }) (map Some words) (record t { story = story ++ replicate (length words) true })
+takes_each t story [] n here has = λ i. record t { story = append-nil story i }
+takes_each t story (w ∷ ws) n here has = let r : ReaderSeen = record t { story = story } in let m : ReaderSeen = record t { story = story ++ true ∷ [] } in
+    let longer = length-append story (true ∷ []) in let first : HasWord t.shape.first t.seen (n + 0) w = has 0 w refl in let none_lost : n - at r ≡ 0 = omega arith in
+    let same : n + 0 ≡ n = omega arith in
+    let rest : HasWords t.shape.first t.seen (n + 1) ws = λ i x is. subst (λ (z : ℕ). HasWord t.shape.first t.seen z x) (let e : n + suc i ≡ n + 1 + i = omega arith in e) (has (suc i) x is) in (
+      m,
+      (
+        n,
+        omega arith,
+        (λ _. sym here),
+        (λ i. (sym (append-nil story) ∙ ap (λ (z : ℕ). story ++ replicate z false) (sym none_lost)) i ++ true ∷ []),
+        subst (λ (z : ℕ). HasWord t.shape.first t.seen z w) same first,
+      ),
+      (refl, refl, refl, ([], sym (append-nil t.seen)), refl, refl),
+      subst (λ (bs : List Bool). Lived m (map Some ws) (record t { story = bs })) (append_assoc story (true ∷ []) (replicate (length ws) true)) (takes_each t (story ++ true ∷ []) ws (n + 1) (omega arith) rest),
+    )
+
+given_some : (words : List ℕ) → given (map Some words) ≡ words
+given_some [] = refl
+given_some (w ∷ ws) = ap (λ l. w ∷ l) (given_some ws)
+
+-- an attempt that took none is one call
+found_none : (r t : ReaderSeen) (n : ℕ) → IsSameReader r t → WentTo n r t → Lived r (None ∷ []) t
+found_none r t n same went = (t, (n, went), same, refl)
+
+pub took_all_lived : (r t : ReaderSeen) (room : ℕ) (taken : Taken ℕ) (words : List ℕ) → IsSameReader r t → TookAll r room taken words t → Lived r (None ∷ map Some words) t × (given (None ∷ map Some words) ≡ words)
+took_all_lived r t room (Value k) words same took = let n : ℕ = took.0 in let story : List Bool = story_to n r in let m : ReaderSeen = record t { story = story } in let first : r.shape.first ≡ t.shape.first = (λ i. (sym same.2 i).first) in
+    let there = reaches n r took.1 in let start = same.0 in
+    let each = takes_each t story words n (omega arith) (subst (λ (f : ℕ). HasWords f t.seen n words) first took.4) in (
+      (
+        m,
+        (n, (took.1, took.2, refl)),
+        same,
+        subst (λ (z : ReaderSeen). Lived m (map Some words) z) (λ i. record t { story = (ap (λ (z : ℕ). story ++ replicate z true) took.5 ∙ sym took.3) i }) each,
+      ),
+      given_some words,
+    )
+took_all_lived r t room Nothing words same took = let found = took.1 in
+    (subst (λ (ws : List ℕ). Lived r (None ∷ map Some ws) t) (sym took.0) (found_none r t found.0 same found.1), given_some words)
+took_all_lived r t room Overtaken words same took = let far = took.1 in let n : ℕ = far.0 in let above = far.1 in
+    (subst (λ (ws : List ℕ). Lived r (None ∷ map Some ws) t) (sym took.0) (found_none r t n same ((omega arith), (λ keeps. absurd (true≢false (sym far.2 ∙ keeps))), far.3)), given_some words)

@@ -8,7 +8,7 @@ use Rattle.lane_steps.specs.declared.view.Sequencing.{Sequencing}
 use Rattle.lane_steps.specs.declared.view.View.{View}
 use Rattle.lane_steps.specs.Layout.{cursor_word}
 use Rattle.lane_steps.specs.Law.{closed, shut_place}
-use Rattle.lane_steps.specs.Steps.{known_of, known_at, known_over, with_known, place_over, next_number, IsRoomy, Surveyed}
+use Rattle.lane_steps.specs.Steps.{known_of, known_at, known_over, with_known, place_over, next_number, IsRoomy, IsRoomyAt, Surveyed}
 use Rattle.lane_steps.proofs.Lists.{not_both, within, index_is}
 use Rattle.shared_lane.specs.Surveys.{cursor_loads, open_count, opening_at, may_be_open, OpensNone, OnlyPlaces, Visit, Round, FoundAt, Cleared, Behind}
 
@@ -53,13 +53,13 @@ at_front [] n p h = absurd (omega arith)
 at_front (m ∷ ns) n zero h = refl
 at_front (m ∷ ns) n (suc p) h = at_front ns n p (omega arith)
 
-at_back : (ns : List ℕ) (n : ℕ) → get_or (ns ++ n ∷ []) (length ns) 0 ≡ n
+pub at_back : (ns : List ℕ) (n : ℕ) → get_or (ns ++ n ∷ []) (length ns) 0 ≡ n
 at_back [] n = refl
 at_back (m ∷ ns) n = at_back ns n
 
 pub round_none : (E : ℕ → Known → Known → Type 0) (v : View) → Round E v [] v
 round_none E v = record {
-  only = record { shape = refl; seen = refl; reading = refl; active = refl; flying = refl; count = refl; none_opened = λ p. refl };
+  only = record { shape = refl; seen = refl; reading = refl; active = refl; flight = refl; count = refl; none_opened = λ p. refl };
   loads = sym (append-nil v.loads);
   below = λ p h. absurd (omega arith);
   shut = λ p h. absurd (omega arith);
@@ -74,7 +74,7 @@ all_more Q ns n old new p h = let longer : length (ns ++ n ∷ []) ≡ length ns
 
 pub round_more : (E : ℕ → Known → Known → Type 0) (v v' w : View) (ns : List ℕ) (n : ℕ) → Round E v ns v' → Visit E v' (length ns) n w → Round E v (ns ++ n ∷ []) w
 round_more E v v' w ns n was step = let p : ℕ = length ns in let a = was.only in let b = step.only in let longer : length (ns ++ n ∷ []) ≡ p + 1 = length-append ns (n ∷ []) in record {
-  only = record { shape = b.shape ∙ a.shape; seen = b.seen ∙ a.seen; reading = b.reading ∙ a.reading; active = b.active ∙ a.active; flying = b.flying ∙ a.flying; count = b.count ∙ a.count; none_opened = λ x. b.none_opened x ∙ a.none_opened x };
+  only = record { shape = b.shape ∙ a.shape; seen = b.seen ∙ a.seen; reading = b.reading ∙ a.reading; active = b.active ∙ a.active; flight = b.flight ∙ a.flight; count = b.count ∙ a.count; none_opened = λ x. b.none_opened x ∙ a.none_opened x };
   loads = step.loads ∙ (ap (λ l. l ++ (cursor_word p, n) ∷ []) was.loads ∙ (append_assoc v.loads (cursor_loads 0 ns) ((cursor_word p, n) ∷ []) ∙ ap (λ l. v.loads ++ l) (sym (loads_more 0 ns n ∙ ap (λ (z : ℕ). cursor_loads 0 ns ++ (cursor_word z, n) ∷ []) (omega arith)))));
   below = all_more (λ z. z ≢ closed → z ≤ next_number v) ns n was.below (λ ne. let h = step.below ne in let same : next_number v' ≡ next_number v = (λ i. (a.shape i).first + length (a.seen i)) in omega arith);
   shut = λ x h e. dite (ℕ_discrete x p)
@@ -108,7 +108,7 @@ only_after v w p k l inside same a b c q = record {
   seen = sym b;
   reading = sym c;
   active = ap (λ (x : Sequencing). x.active) q;
-  flying = ap (λ (x : Sequencing). x.flying) q;
+  flight = ap (λ (x : Sequencing). x.flight) q;
   count = ap (λ (x : Sequencing). length x.places) q ∙ length-set v.sequencing.places p k;
   none_opened = opens_none v w p k inside same q;
 }
@@ -141,11 +141,11 @@ known_shut n k is e = not_both (known_at n k).is_open e (ap (λ (b : Bool). (con
 pub shut_at : (n : ℕ) (k : Known) → n ≡ closed → (known_at n k).is_open ≡ false
 shut_at n k is = ap (λ (b : Bool). (cond b (record k { is_open = false }) (record k { floor = n })).is_open) (Rattle.std.proofs.Common.eq-eqb n closed is)
 
-room_at : (tail cells m n : ℕ) (k k' : Known) → k' ≡ known_at m k → (m ≢ closed → tail < m + cells) → k'.is_open ≡ true → tail < k'.floor + cells
+pub room_at : (tail cells m n : ℕ) (k k' : Known) → k' ≡ known_at m k → (m ≢ closed → tail < m + cells) → k'.is_open ≡ true → tail < k'.floor + cells
 room_at tail cells m n k k' is near live = dite (ℕ_discrete m closed) (λ shut. known_shut m k shut (ap (λ (z : Known). z.is_open) (sym is) ∙ live))
     (λ ne. let f : k'.floor ≡ m = ap (λ (z : Known). z.floor) is ∙ known_open m k ne in let h = near ne in omega arith)
 
-room_cleared : (tail cells n : ℕ) (k k' : Known) → 0 < cells → Cleared tail cells n k k' → k'.is_open ≡ true → tail < k'.floor + cells
+pub room_cleared : (tail cells n : ℕ) (k k' : Known) → 0 < cells → Cleared tail cells n k k' → k'.is_open ≡ true → tail < k'.floor + cells
 room_cleared tail cells n k k' some_cell c live = dite (ℕ_discrete n closed)
     (λ shut. room_at tail cells n n k k' (c.kept (inl shut)) (λ ne. absurd (ne shut)) live)
     (λ ne. dite (dec_le (n + cells) tail)
@@ -153,12 +153,18 @@ room_cleared tail cells n k k' some_cell c live = dite (ℕ_discrete n closed)
     (λ e. room_at tail cells e.0 n (known_at n k) k' e.3 (λ m. let h = e.2 m in omega arith) live) d.1)
     (λ near. let lt : tail < n + cells = Rattle.std.proofs.Common.lt_of_not-le near in room_at tail cells n n k k' (c.kept (inr lt)) (λ _. lt) live))
 
+-- after a round there is room for the number n
+pub roomy_at : (E : ℕ → Known → Known → Type 0) (cells n : ℕ) (v w : View) (ns : List ℕ) → length ns ≡ length v.sequencing.places → Round E v ns w
+    → ((p : ℕ) (k k' : Known) → p < length ns → E (get_or ns p 0) k k' → k'.is_open ≡ true → n < k'.floor + cells) → IsRoomyAt cells n w
+roomy_at E cells n v w ns long round one p k at live = let count = round.only.count in let inside = within w.sequencing.places p k at in let here : p < length ns = omega arith in
+    let is : known_of w.sequencing p ≡ k = index_is w.sequencing.places p shut_place k at in
+    one p (known_of v.sequencing p) k here (subst (E (get_or ns p 0) (known_of v.sequencing p)) is (round.each p here)) live
+
 -- after a round there is room
 roomy : (E : ℕ → Known → Known → Type 0) (cells : ℕ) (v w : View) (ns : List ℕ) → length ns ≡ length v.sequencing.places → Round E v ns w
     → ((p : ℕ) (k k' : Known) → p < length ns → E (get_or ns p 0) k k' → k'.is_open ≡ true → next_number v < k'.floor + cells) → IsRoomy cells w
-roomy E cells v w ns long round one p k at live = let count = round.only.count in let inside = within w.sequencing.places p k at in let here : p < length ns = omega arith in
-    let is : known_of w.sequencing p ≡ k = index_is w.sequencing.places p shut_place k at in let same : next_number w ≡ next_number v = (λ i. (round.only.shape i).first + length (round.only.seen i)) in
-    let h = one p (known_of v.sequencing p) k here (subst (E (get_or ns p 0) (known_of v.sequencing p)) is (round.each p here)) live in omega arith
+roomy E cells v w ns long round one = let same : next_number v ≡ next_number w = (λ i. (sym round.only.shape i).first + length (sym round.only.seen i)) in
+    subst (λ (z : ℕ). IsRoomyAt cells z w) same (roomy_at E cells (next_number v) v w ns long round one)
 
 pub roomy_cleared : (tail cells : ℕ) (v w : View) (ns : List ℕ) → 0 < cells → tail ≡ next_number v → length ns ≡ length v.sequencing.places → Round (Cleared tail cells) v ns w → IsRoomy cells w
 roomy_cleared tail cells v w ns some_cell is long round = roomy (Cleared tail cells) cells v w ns long round (λ p k k' h c live. let r = room_cleared tail cells (get_or ns p 0) k k' some_cell c live in omega arith)

@@ -1,5 +1,5 @@
 -- Waiting emissions are accepted one after another.
-use Rattle.std.proofs.Common.{Bool, true, false, ◌≡◌, ◌≢◌, ℕ, zero, suc, ◌+◌, ◌<◌, ◌≤◌, List, [], ◌∷◌, ◌++◌, Some, map, take, drop, length, slice_get, sym, refl, ap, ◌∙◌, subst, arith, length-append, length-drop, append_assoc}
+use Rattle.std.proofs.Common.{Bool, false, ◌≡◌, ◌≢◌, ℕ, zero, suc, ◌+◌, ◌<◌, ◌≤◌, List, [], ◌∷◌, ◌++◌, Some, map, take, drop, length, slice_get, sym, refl, ap, ◌∙◌, subst, arith, length-append, length-drop, append_assoc}
 use mathlib.Core.List.{map-append}
 use lib.ListN.{length-map}
 use Rattle.std.proofs.lemmas.Option.{none-some}

@@ -1,5 +1,5 @@
 -- What is true of every sequencer stays true.
-use Rattle.std.proofs.Common.{◌≡◌, ℕ, suc, ◌+◌, ◌≤◌, ◌<◌, true, false, List, [], ◌∷◌, ◌++◌, length, map, take, drop, sym, refl, ap, ◌∙◌, subst, arith, length-append}
+use Rattle.std.proofs.Common.{◌≡◌, ℕ, suc, ◌+◌, ◌≤◌, ◌<◌, true, List, [], ◌∷◌, ◌++◌, length, map, take, drop, sym, ap, ◌∙◌, subst, arith, length-append}
 use Rattle.std.proofs.lemmas.Grind.{common_steps}
 use Rattle.std.proofs.lemmas.List.{map-append, length-take, length-drop}
 use Rattle.circular_buffer.specs.Buffer.{keep_last}
@@ -12,6 +12,8 @@ use Rattle.shared_lane.specs.Views.{SequencerSeen}
 use Rattle.shared_lane.specs.Kept.{IsSound}
 use Rattle.shared_lane.specs.Polls.{given_back}
 use Rattle.shared_lane.specs.Sequencers.{next, accepted_on}
+use Rattle.shared_lane.specs.Blocks.{accepted_all}
+use Rattle.shared_lane.proofs.Entries.{cached_after}
 use Rattle.shared_lane.proofs.Outstanding.{stand_on, stand_without}
 
 cached_on : (r : ℕ) (log : List Entry) (e : Entry) (ws : List ℕ) → IsLastOf log ws → IsLastOf (log ++ e ∷ []) (keep_last r (ws ++ e.1 ∷ []))
@@ -22,7 +24,7 @@ cached_on r log e ws latest =
 pub sound_accepted : (q : SequencerSeen) (e : Entry) → IsSound q → next q + length q.waiting < 4611686018427387904 → IsSound (accepted_on e q)
 sound_accepted q e was below = let longer : length (q.view.seen ++ e ∷ []) ≡ length q.view.seen + 1 = length-append q.view.seen (e ∷ []) in record {
   active = was.active;
-  no_flight = refl;
+  no_flight = was.no_flight;
   each_place_known = was.each_place_known;
   some_place = was.some_place;
   cells = was.cells;
@@ -36,6 +38,25 @@ sound_accepted q e was below = let longer : length (q.view.seen ++ e ∷ []) ≡
   waits = was.waits;
   stands = stand_on q.view.shape.first q.view.seen (e ∷ []) q.standing was.stands;
   cached = cached_on q.replay q.view.seen e q.cache was.cached;
+}
+
+pub sound_accepted_all : (q : SequencerSeen) (es : List Entry) → IsSound q → next q + length es + length q.waiting ≤ 4611686018427387904 → IsSound (accepted_all es q)
+sound_accepted_all q es was below = let longer : length (q.view.seen ++ es) ≡ length q.view.seen + length es = length-append q.view.seen es in record {
+  active = was.active;
+  no_flight = was.no_flight;
+  each_place_known = was.each_place_known;
+  some_place = was.some_place;
+  cells = was.cells;
+  drops = was.drops;
+  replay = was.replay;
+  few_tickets = was.few_tickets;
+  few_emits = was.few_emits;
+  numbers = omega arith;
+  tickets = was.tickets;
+  subscriptions = was.subscriptions;
+  waits = was.waits;
+  stands = stand_on q.view.shape.first q.view.seen es q.standing was.stands;
+  cached = cached_after q.replay q.view.seen es q.cache was.cached;
 }
 
 pub sound_given_back : (i : ℕ) (q : SequencerSeen) → IsSound q → IsSound (given_back i q)
@@ -58,11 +79,11 @@ sound_given_back i q was = let a = length-take i q.standing in let b = length-dr
 }
 
 -- it has loaded cursors, and may have let a reader in
-pub sound_seeing : (q : SequencerSeen) (v : View) (subscription : ℕ) → IsSound q → v.shape ≡ q.view.shape → v.seen ≡ q.view.seen → v.sequencing.active ≡ true → v.sequencing.flying ≡ false
+pub sound_seeing : (q : SequencerSeen) (v : View) (subscription : ℕ) → IsSound q → v.shape ≡ q.view.shape → v.seen ≡ q.view.seen → v.sequencing.active ≡ true → v.sequencing.flight ≡ []
     → length v.sequencing.places ≡ length q.view.sequencing.places → subscription ≤ 4611686018427387904 → IsSound (record q { view = v; subscription = subscription })
-sound_seeing q v subscription was shape log active flying places few = record {
+sound_seeing q v subscription was shape log active flight places few = record {
   active = active;
-  no_flight = flying;
+  no_flight = flight;
   each_place_known = places ∙ was.each_place_known ∙ ap (λ (z : Shape). z.places) (sym shape);
   some_place = subst (λ (z : Shape). 0 < z.places) (sym shape) was.some_place;
   cells = ap (λ (z : Shape). z.cells) shape ∙ was.cells;

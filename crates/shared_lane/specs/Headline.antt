@@ -10,6 +10,7 @@ use Rattle.shared_lane.specs.declared.reader.Taken.TheVariants.{Value, Nothing, 
 use Rattle.shared_lane.specs.Caches.{word_of, IsLastOf}
 use Rattle.shared_lane.specs.Views.{ReaderSeen}
 use Rattle.shared_lane.specs.Readers.{at, WentTo, IsSameReader, TookNext}
+use Rattle.shared_lane.specs.Picks.{TookAll}
 
 -- The words of the emissions that it has seen.
 abbrev pub words_seen : ReaderSeen → List ℕ
@@ -63,6 +64,11 @@ pub record ReceivesCacheThenLater (cache : List ℕ) (start now : ReaderSeen) (r
   -- those dropped are those that the sequencer moved its cursor past
   pub dropped_are_lost : map (λ index. now.start + index) dropped ≡ lost now.start now.story
   pub only_drop_oldest_drops : start.shape.drops ≡ false → dropped ≡ []
+
+-- Taking all that is there is one call that gives none, by which the position is found, and then one for each word.
+abbrev pub TakingAllIsTakingEach : Type 0
+TakingAllIsTakingEach = (r t : ReaderSeen) (room : ℕ) (taken : Taken ℕ) (words : List ℕ) → IsSameReader r t → TookAll r room taken words t
+    → Lived r (None ∷ map Some words) t × (given (None ∷ map Some words) ≡ words)
 
 -- So it is at each moment when the reader has seen as far as its position: after each call that gave a word or found nothing,
 -- and after a meeting.

@@ -31,7 +31,7 @@ pub record IsEnded (seat : Seat (Unit {0}) View) (from got missed : ℕ) : Type 
 -- what is true of what contracts see of a sequencer
 pub record IsSound (q : SequencerSeen) : Type 0 where
   pub active : q.view.sequencing.active ≡ true
-  pub no_flight : q.view.sequencing.flying ≡ false
+  pub no_flight : q.view.sequencing.flight ≡ []
   pub each_place_known : length q.view.sequencing.places ≡ q.view.shape.places
   pub some_place : 0 < q.view.shape.places
   pub cells : q.view.shape.cells ≡ max q.capacity 1

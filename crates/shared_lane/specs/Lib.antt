@@ -1,6 +1,8 @@
+pub mod Blocks
 pub mod Caches
 pub mod Kept
 pub mod Makes
+pub mod Picks
 pub mod Places
 pub mod Polls
 pub mod Readers

@@ -1,5 +1,5 @@
 -- How an emission stands whose ticket is polled.
-use Rattle.std.specs.Prelude.{◌≡◌, ◌≢◌, ◌⊎◌, ℕ, ◌+◌, ◌-◌, ◌<◌, ◌≤◌, List, [], length, slice_get, Some, Bool, true, false, ◌==◌, ◌&&◌, nat_lt}
+use Rattle.std.specs.Prelude.{◌≡◌, ◌≢◌, ◌⊎◌, ℕ, ◌+◌, ◌-◌, ◌<◌, List, [], length, slice_get, Some, Bool, true, false, ◌==◌, ◌&&◌, nat_lt}
 use Rattle.std.specs.List.{remove, list_any}
 use Rattle.flow_terms.specs.declared.answers.Emit.{Emit}
 use Rattle.flow_terms.specs.declared.answers.Emit.TheVariants as emit

@@ -102,7 +102,7 @@ AfterScan q then = (m : SequencerSeen) × (k : ℕ) × IsSameSequencer q m × Se
 -- the emission is the last of those accepted, and in the cache
 abbrev pub accepted_on : Entry → SequencerSeen → SequencerSeen
 accepted_on e q = record q {
-  view = record q.view { seen = q.view.seen ++ e ∷ []; sequencing = record q.view.sequencing { flying = false; entry = e } };
+  view = record q.view { seen = q.view.seen ++ e ∷ [] };
   cache = keep_last q.replay (q.cache ++ e.1 ∷ []);
 }
 

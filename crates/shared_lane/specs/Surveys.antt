@@ -47,7 +47,7 @@ pub record OnlyPlaces (v v' : View) : Type 0 where
   pub seen : v'.seen ≡ v.seen
   pub reading : v'.reading ≡ v.reading
   pub active : v'.sequencing.active ≡ v.sequencing.active
-  pub flying : v'.sequencing.flying ≡ v.sequencing.flying
+  pub flight : v'.sequencing.flight ≡ v.sequencing.flight
   pub count : length v'.sequencing.places ≡ length v.sequencing.places
   pub none_opened : OpensNone v v'
 

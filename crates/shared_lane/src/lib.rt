@@ -52,11 +52,13 @@
 //! parties that never met, fairness, wakes: nobody sleeps here.
 #![tactic(auto)]
 
+mod blocks;
 mod closed;
 mod ends;
 mod headline;
 mod lane;
 mod meeting;
+mod picking;
 mod reader;
 mod receipt;
 mod sequencer;
@@ -65,7 +67,7 @@ mod tickets;
 
 pub use closed::Closed;
 pub use ends::ended_reader_is_counted_no_more;
-pub use headline::each_reader_receives_cache_then_later;
+pub use headline::{each_reader_receives_cache_then_later, taking_all_is_taking_each};
 pub use lane::Lane;
 pub use meeting::{Met, meet};
 pub use reader::{Reader, Taken};

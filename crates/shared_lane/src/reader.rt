@@ -2,6 +2,7 @@
 use lane_steps::Place;
 use std::marker::Model;
 
+mod blocks;
 mod calls;
 
 /// What an attempt to take the next value came to.

@@ -7,6 +7,7 @@ use std::alloc::Allocator;
 use std::marker::Model;
 
 mod accepting;
+mod blocks;
 mod emissions;
 mod makes;
 mod places;

@@ -73,17 +73,23 @@ pub(crate) fn find_closed<A: Allocator>(words: &Words<A>, seat: &mut Place) -> O
     None
 }
 
-// Loads a cursor, and moves it by one if it stands too far behind the tail.
-fn clear_one<A: Allocator>(words: &Words<A>, seat: &mut Place, place: usize, tail: u64)
+/// Loads a cursor, moves it by one if it stands too far behind the tail, and returns what it found.
+pub(crate) fn clear_one<A: Allocator>(
+    words: &Words<A>,
+    seat: &mut Place,
+    place: usize,
+    tail: u64,
+) -> u64
     requires seat { IsSeatOf words.now seat.old × (seat.old.me.0.sequencing.active ≡ true) × (tail ≡ next_number seat.old.me.0) }
     requires sized { MayDropAt words.now.shape seat.old.me.0 place }
     ensures seat { IsSameSeat seat.old seat.new }
-    ensures visited { (n : ℕ) × Visit (Cleared tail words.now.shape.cells) seat.old.me.0 place n seat.new.me.0 }
+    ensures visited { Visit (Cleared tail words.now.shape.cells) seat.old.me.0 place result seat.new.me.0 }
 {
     let at = words.load_cursor(seat, place);
     if at != CLOSED && tail - at >= words.shape.cells as u64 {
         words.lose(seat, place, at);
     }
+    at
 }
 
 /// Loads every cursor, and moves those that stand too far behind the tail.

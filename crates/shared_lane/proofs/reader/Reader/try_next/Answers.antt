@@ -1,4 +1,4 @@
-use Rattle.std.proofs.Common.{rules, arith, ◌≡◌, ℕ, ◌+◌, ◌-◌, ◌<◌, ◌≤◌, List, [], ◌∷◌, ◌++◌, length, replicate, Bool, true, false, refl, sym, ap, ◌∙◌, subst, append_assoc, Fits, w64}
+use Rattle.std.proofs.Common.{rules, arith, ◌≡◌, ℕ, ◌+◌, ◌-◌, ◌<◌, ◌≤◌, List, [], ◌∷◌, ◌++◌, length, replicate, get_or, Bool, true, false, refl, sym, ap, ◌∙◌, subst, append_assoc, Fits, w64}
 use Rattle.lane_steps.specs.declared.view.View.{View}
 use Rattle.lane_steps.specs.declared.view.Reading.{Reading}
 use Rattle.lane_steps.specs.declared.view.Shape.{Shape}
@@ -120,5 +120,5 @@ returns-clause-taken g c = rw (← c.self.view_is) (let s = c.self.inside in let
       own.view.1,
       own.view.2,
       ap (λ (x : Reading). x.story) e4,
-      subst (λ (z : Shape × List Entry × ℕ × ℕ). HasWord z.0.first z.1 z.2 z.3) (λ i. (shape i, sym (ap (λ (v : View). v.seen) hit.0) i, (ap (λ (x : Reading). x.number) e3 ∙ pos) i, ap (λ (x : Reading). x.word) e3 i)) hit.1,
+      subst (λ (z : Shape × List Entry × ℕ). HasWord z.0.first z.1 n z.2) (λ i. (shape i, sym (ap (λ (v : View). v.seen) hit.0) i, get_or (ap (λ (x : Reading). x.picked) e3 i) 0 0)) hit.1,
     ))

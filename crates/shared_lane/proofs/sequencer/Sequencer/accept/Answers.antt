@@ -1,7 +1,8 @@
-use Rattle.std.proofs.Common.{◌≡◌, ◌<◌, false, ◌++◌, ◌∷◌, [], ◌∙◌, ap, subst, sym, ◌+◌, arith, length, length-append}
+use Rattle.std.proofs.Common.{◌≡◌, ◌<◌, List, take, drop, ◌++◌, ◌∷◌, [], ◌∙◌, ap, subst, sym, ◌+◌, arith, length, length-append}
 use Rattle.lane_steps.specs.declared.view.View.{View}
 use Rattle.lane_steps.specs.declared.view.Shape.{Shape}
 use Rattle.lane_steps.specs.Layout.{cell_index}
+use Rattle.lane_steps.specs.Law.{Entry}
 use Rattle.lane_steps.specs.Steps.{next_number}
 use Rattle.shared_lane.specs.Views.{LaneSeen, SequencerSeen, sequencer_of}
 use Rattle.shared_lane.specs.Kept.{IsSound}
@@ -17,7 +18,9 @@ store_cell-requires-clause-cell g c = let s = c.self.inside in let inv = c.self.
 pub invariant_of-self : goal.invariant_of-self
 invariant_of-self g c = let s = c.self.inside in let inv = c.self.invariant in let q : SequencerSeen = sequencer_of s.seat s.policy s.capacity s.cache.capacity s.emits s.cache.items s.waiting.items s.standing.items s.ticket s.subscription in
     let table = c.store_tail.ensures.seat.0 ∙ c.store_cell.ensures.seat.0 in let kept = c.push_back.ensures.items in
-    let view = c.store_tail.ensures.view ∙ ap (λ (v : View). let u : View = record v { seen = v.seen ++ v.sequencing.entry ∷ []; sequencing = record v.sequencing { flying = false } } in u) c.store_cell.ensures.view in
+    let view : c.store_tail.new.seat.me.0 ≡ (let u : View = record s.seat.me.0 { seen = s.seat.me.0.seen ++ (c.args.emitter, c.args.word) ∷ [] } in u) = c.store_tail.ensures.view
+    ∙ ap (λ (v : View). let u : View = record v { seen = v.seen ++ take 1 v.sequencing.flight; sequencing = record v.sequencing { flight = drop 1 v.sequencing.flight } } in u) c.store_cell.ensures.view
+    ∙ (λ i. record s.seat.me.0 { seen = s.seat.me.0.seen ++ (c.args.emitter, c.args.word) ∷ []; sequencing = record s.seat.me.0.sequencing { flight = (ap (λ (l : List Entry). drop 1 l) inv.sound.no_flight ∙ sym inv.sound.no_flight) i } }) in
     let now : SequencerSeen = sequencer_of c.store_tail.new.seat s.policy s.capacity c.push_back.new.self.capacity s.emits c.push_back.new.self.items s.waiting.items s.standing.items s.ticket s.subscription in
     let is : now ≡ accepted_on (c.args.emitter, c.args.word) q = (λ i. record {
       table = table i;

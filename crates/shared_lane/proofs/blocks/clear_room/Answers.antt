@@ -1,0 +1,25 @@
+use Rattle.std.proofs.Common.{arith, refl, ◌≡◌, ℕ, ◌+◌, List, [], ◌∷◌, ◌++◌, length, sym, ◌∙◌, subst, length-append}
+use Rattle.lane_steps.specs.Steps.{next_number}
+use Rattle.shared_lane.specs.Surveys.{Cleared, Visit}
+use Rattle.shared_lane.proofs.Rounds.{round_none, round_more}
+use Rattle.shared_lane.proofs.Rooms.{room_before, room_after}
+use Rattle.shared_lane.proofs.blocks.clear_room.Goals as goal
+
+pub loop-place-init : goal.loop-place-init
+loop-place-init g c = ((refl, refl, refl), ([], refl, round_none _ _, room_before _ _ _))
+
+pub room_left-room-requires : goal.room_left-room-requires
+room_left-room-requires g c = λ ne. let inv = c.loop-place.invariant.1 in let only = inv.2.only in let below = c.clear_one-at.ensures.visited.below ne in
+    let same : next_number c.loop-place.seat.me.0 ≡ next_number c.args.seat.now.me.0 = (λ i. (only.shape i).first + length (only.seen i)) in let tail = c.requires.seat.2 in omega arith
+
+pub loop-place-preserved : goal.loop-place-preserved
+loop-place-preserved g c = let before = c.loop-place.invariant.0 in let inv = c.loop-place.invariant.1 in let ns : List ℕ = inv.0 in let visit = c.clear_one-at.ensures.visited in let n : ℕ = c.clear_one-at.result in let here = c.clear_one-at.ensures.seat in
+    let long = inv.1 in let longer : length (ns ++ n ∷ []) ≡ length ns + 1 = length-append ns (n ∷ []) in let E = Cleared c.args.tail c.args.words.now.shape.cells in (
+      (here.0 ∙ before.0, here.1 ∙ before.1, here.2 ∙ before.2),
+      (
+        ns ++ n ∷ [],
+        omega arith,
+        round_more E c.args.seat.now.me.0 c.loop-place.seat.me.0 c.clear_one-at.new.seat.me.0 ns n inv.2 (subst (λ (z : ℕ). Visit E c.loop-place.seat.me.0 z n c.clear_one-at.new.seat.me.0) (sym long) visit),
+        room_after c.args.tail c.args.words.now.shape.cells c.args.most c.loop-place.room c.room_left-room.result ns n inv.3 c.room_left-room.ensures,
+      ),
+    )

@@ -1,0 +1,154 @@
+//! Emissions by the block: several cells are stored, and accepted by one store of the tail.
+ghost use Rattle.std.specs.Prelude.{◌≡◌, ◌≢◌, ℕ, ◌+◌, ◌<◌, ◌≤◌, [], length, false, IfOk, IfErr};
+ghost use Rattle.flow_terms.specs.declared.policy.Policy.TheVariants.{Suspend, DropOldest};
+ghost use Rattle.lane_steps.specs.Steps.{IsRoomyAt};
+ghost use Rattle.shared_lane.specs.Sequencers.{IsSequencerOf, IsSameSequencer, OnlyLoaded, Rounded, HasNumber, RefusedTry, AfterScan, next};
+ghost use Rattle.shared_lane.specs.Blocks.{entries, accepted_all, RoundedFor, AcceptedSome, TriedAllOn};
+
+use super::Sequencer;
+use super::state::LIMIT;
+use crate::blocks::{clear_room, load_room, store_cells};
+use crate::lane::Lane;
+use flow_terms::{Policy, Refusal};
+use std::alloc::Allocator;
+
+impl<A: Allocator> Sequencer<A> {
+    // Loads every cursor, as a try does, and says for how many of `most` emissions there is room: the first finds it by these
+    // loads, and each of the others would.
+    fn find_room_for<B: Allocator>(&mut self, lane: &Lane<B>, most: u64) -> u64
+        requires lane { IsSequencerOf lane.now self.old }
+        requires some { 0 < most }
+        ensures only { OnlyLoaded self.old self.new }
+        ensures few { result ≤ most }
+        ensures none { result ≡ 0 → Rounded self.old.capacity self.old false self.new × (self.new.policy ≢ DropOldest) }
+        ensures some { 0 < result → RoundedFor self.old.policy result self.old self.new.view }
+        ensures room { (n : ℕ) → next self.old ≤ n → n < next self.old + result → IsRoomyAt self.new.view.shape.cells n self.new.view }
+    {
+        let words = lane.words();
+        if let Policy::DropOldest = self.policy {
+            let room = clear_room(words, &mut self.seat, self.tail, most);
+            if room == 0 {
+                return 1;
+            }
+            return room;
+        }
+        load_room(words, &mut self.seat, self.tail, self.capacity, most)
+    }
+
+    // How many of so many words a block may have: as many as there are cells, and numbers left.
+    fn block_limit<B: Allocator>(&self, lane: &Lane<B>, count: usize) -> u64
+        requires lane { IsSequencerOf lane.now self.now }
+        requires first { self.now.waiting ≡ [] }
+        ensures few { (result ≤ count) × (result ≤ self.now.view.shape.cells) × (next self.now + result ≤ 4611686018427387904) }
+        ensures spent { result ≡ 0 → 0 < count → next self.now + length self.now.waiting ≡ 4611686018427387904 }
+    {
+        let cells = lane.cells();
+        let numbers = LIMIT - self.tail;
+        let fit = if cells < numbers { cells } else { numbers };
+        if (count as u64) < fit {
+            count as u64
+        } else {
+            fit
+        }
+    }
+
+    // Accepts a block: its cells are stored in order, then the tail, once.
+    fn accept_all<B: Allocator>(&mut self, lane: &Lane<B>, emitter: u32, block: &[u64])
+        requires lane { IsSequencerOf lane.now self.old }
+        requires room { (n : ℕ) → next self.old ≤ n → n < next self.old + length block.now → IsRoomyAt self.old.view.shape.cells n self.old.view }
+        requires short { length block.now ≤ self.old.view.shape.cells }
+        requires number { next self.old + length block.now + length self.old.waiting ≤ 4611686018427387904 }
+        ensures { self.new ≡ accepted_all (entries emitter block.now) self.old }
+    {
+        let words = lane.words();
+        let tail = self.tail + block.len() as u64;
+        let cell = store_cells(words, &mut self.seat, self.cell, emitter, block);
+        words.store_tail_past(&mut self.seat, tail);
+        self.tail = tail;
+        self.cell = cell;
+        self.cache.extend_from_slice(block);
+    }
+
+    // Accepts some of the words, from the first on: those for which one round over the cursors finds room.
+    fn accept_some<B: Allocator>(&mut self, lane: &Lane<B>, emitter: u32, words: &[u64]) -> usize
+        requires lane { IsSequencerOf lane.now self.old }
+        requires first { self.old.waiting ≡ [] }
+        requires some { 0 < length words.now }
+        ensures same { IsSequencerOf lane.now self.new × IsSameSequencer self.old self.new × (self.new.waiting ≡ []) }
+        ensures accepted { AcceptedSome self.old emitter words.now result self.new }
+    {
+        let most = self.block_limit(lane, words.len());
+        if most == 0 {
+            return 0;
+        }
+        let room = self.find_room_for(lane, most) as usize;
+        if room > 0 {
+            self.accept_all(lane, emitter, &words[..room]);
+        }
+        room
+    }
+
+    // Accepts block after block, up to the first word that is turned away, and returns how many words.
+    fn accept_blocks<B: Allocator>(&mut self, lane: &Lane<B>, emitter: u32, words: &[u64]) -> u64
+        requires lane { IsSequencerOf lane.now self.old }
+        requires first { self.old.waiting ≡ [] }
+        ensures same { IsSequencerOf lane.now self.new × IsSameSequencer self.old self.new }
+        ensures tried { TriedAllOn self.old emitter words.now result self.new }
+    {
+        let mut done = 0;
+        while done < words.len() {
+            let count = self.accept_some(lane, emitter, &words[done..]);
+            if count == 0 {
+                return done as u64;
+            }
+            done += count;
+        }
+        done as u64
+    }
+
+    /// Emits these words in order, up to the first that isn't accepted, and returns how many were: what
+    /// [`try_emit`](Sequencer::try_emit) of one after another comes to, but one look at the cursors and one store of the tail
+    /// serve for as many as there is room for. Kotlin has no such call.
+    ///
+    /// It first lets waiting emissions in, and what it let in stands whatever it answers. Under `Suspend` it stops where a try
+    /// would be `Full`, under `DropLatest` where one would be `Dropped`; under `DropOldest` all are accepted, and each reader
+    /// loses what it would have lost. Refused: `Spent` where the numbers are used up, and none was accepted.
+    pub fn try_emit_all<B: Allocator>(
+        &mut self,
+        lane: &Lane<B>,
+        emitter: u32,
+        words: &[u64],
+    ) -> Result<u64, Refusal>
+        requires { IsSequencerOf lane.now self.old }
+        ensures same { IsSequencerOf lane.now self.new × IsSameSequencer self.old self.new }
+        ensures refused { IfErr result (λ e. (words.now ≢ []) × AfterScan self.old (λ m. RefusedTry m e self.new)) }
+        ensures tried { IfOk result (λ n. AfterScan self.old (λ m. TriedAllOn m emitter words.now n self.new)) }
+    {
+        self.scan(lane);
+        self.try_all_after_scan(lane, emitter, words)
+    }
+
+    // The same, after waiting emissions were let in.
+    fn try_all_after_scan<B: Allocator>(
+        &mut self,
+        lane: &Lane<B>,
+        emitter: u32,
+        words: &[u64],
+    ) -> Result<u64, Refusal>
+        requires { IsSequencerOf lane.now self.old }
+        ensures same { IsSequencerOf lane.now self.new × IsSameSequencer self.old self.new }
+        ensures refused { IfErr result (λ e. (words.now ≢ []) × RefusedTry self.old e self.new) }
+        ensures tried { IfOk result (λ n. TriedAllOn self.old emitter words.now n self.new) }
+    {
+        if words.is_empty() {
+            return Ok(0);
+        }
+        if self.is_spent() {
+            return Err(Refusal::Spent);
+        }
+        if self.is_waiting() {
+            return Ok(0);
+        }
+        Ok(self.accept_blocks(lane, emitter, words))
+    }
+}
