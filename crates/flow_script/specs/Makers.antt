@@ -62,7 +62,7 @@ StartsOr None starting makes reply = (started : Started) × StartsAs starting st
 -- a flow for threads of the config, of which nobody has made a call but what will emit this source into it, which isn't collected yet
 abbrev pub IsShared : {U : Type 0} → Config → Started → Origin → Subscribing → Sharings SourceFlow U → Type 0
 IsShared config started origin shown it = IsMadeWith config shown.flow.party.flow
-    × (shown ≡ record { flow = at_rest (newcomer_of shown.flow.party); places = [] })
+    × (shown ≡ record { flow = at_rest (newcomer_of shown.flow.party.pass shown.flow.party); places = [] })
     × (named it.owner.party ≡ named shown.flow.party) × (it.waiting ≡ None)
     × (started_by it.strategy ≡ started) × Shows it.strategy [] × (origin_in it.source.source ≡ origin) × (it.course ≡ Idle)
 

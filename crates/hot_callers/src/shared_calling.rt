@@ -154,7 +154,7 @@ pub fn passed_on<R>(
 where
     R: Wait + Threads + RandomSource + AllocGlobal + Sync,
     ensures receipt { IfOk result (λ passed. IfSome passed.0 (IsOwnReceipt flow.old.party 1)) }
-    ensures round { IfOk result (λ _. (number : ℕ) × (flow.new ≡ at_rest (with_round (round.Subscribe (Ok number)) flow.old.party))) }
+    ensures round { IfOk result (λ _. (number : ℕ) × (flow.new ≡ at_rest (with_round (round.Subscribe (Ok number)) flow.new.party.seen flow.old.party))) }
     ensures same { named flow.new.party ≡ named flow.old.party }
 {
     let subscription = flow.subscribe(rt)?;
@@ -276,7 +276,7 @@ pub fn counted_with_cache(
 ) -> Result<u32, Refusal>
     ensures at_once { IfOk result (λ count. (words : List ℕ) × (values.new.items ≡ values.old.items ++ words) × WereAtOnce flow.old.party count words) }
     ensures refused { IfErr result (λ refusal. refusal ≡ NoMemory) }
-    ensures round { (count : ℕ) × (flow.new ≡ at_rest (with_round (round.Hold count) flow.old.party)) }
+    ensures round { (count : ℕ) × (flow.new ≡ at_rest (with_round (round.Hold count) flow.new.party.seen flow.old.party)) }
 {
     let held = flow.hold(rt);
     let count = held.count();

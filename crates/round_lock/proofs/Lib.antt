@@ -1,3 +1,4 @@
 pub mod Rounds
 pub mod Readings
 pub mod Locks
+pub mod Meeting

@@ -7,7 +7,7 @@ use Rattle.script_engines.specs.Subscribing.{Subscribing}
 
 -- an owner that has made no call
 pub fresh : (flow : Owning) (it : Subscribing) → flow ≡ at_rest flow.party → flow.party.rounds ≡ [] → it ≡ record { flow = flow; places = [] }
-    → it ≡ record { flow = at_rest (newcomer_of it.flow.party); places = [] }
+    → it ≡ record { flow = at_rest (newcomer_of it.flow.party.pass it.flow.party); places = [] }
 fresh flow it rests no_rounds is =
     rw is (ap (λ (o : Owning). record { flow = o; places = [] }) (rests ∙ ap (λ (rounds : List Round). at_rest (record flow.party { rounds = rounds })) no_rounds))
 

@@ -31,18 +31,18 @@ pub record Parties : Type 0 where
 
 -- an emitter of the flow that has made no call
 abbrev pub IsNewcomer : Parties → Emitting → Type 0
-IsNewcomer it e = (e.party ≡ newcomer_of it.subscriptions.flow.party) × (e.id ≡ 0) × (e.ticket ≡ None)
+IsNewcomer it e = (e.party ≡ newcomer_of e.party.pass it.subscriptions.flow.party) × (e.id ≡ 0) × (e.ticket ≡ None)
 
 -- a flow that was made with this config, of which nobody has made a call
 abbrev pub IsUntouched : Config → Parties → Type 0
 IsUntouched config it = IsMadeWith config it.subscriptions.flow.party.flow
-    × (it.subscriptions ≡ record { flow = at_rest (newcomer_of it.subscriptions.flow.party); places = [] })
+    × (it.subscriptions ≡ record { flow = at_rest (newcomer_of it.subscriptions.flow.party.pass it.subscriptions.flow.party); places = [] })
     × IsNewcomer it it.emitter × (it.emissions ≡ [])
 
 -- the emitter made the round of a try, with this answer, and nobody else made a call
 abbrev pub Tries : Parties → ℕ → Result (Tried ℕ) Refusal → Parties → Type 0
 Tries old value reply new = (answer : Result (Tried ReceiptSeen) Refusal) × (reply ≡ numbers_tried answer)
-    × (new ≡ record old { emitter = after_try old.emitter (emission_by old.emitter value) answer })
+    × (new ≡ record old { emitter = after_try old.emitter (emission_by old.emitter value) answer new.emitter.party.seen })
 
 -- the number of the receipt in place of the receipt, and a ticket for what has to wait
 abbrev pub begun_as : ℕ → Result (Begun ReceiptSeen (Unit {0})) Refusal → Result (Begun ℕ Ticket) Refusal
@@ -93,7 +93,7 @@ emitting = record {
   -- the owner made the round that emptied the replay cache
   Resets = λ old new. new ≡ record old {
     subscriptions = record old.subscriptions {
-      flow = at_rest (with_round round.Reset old.subscriptions.flow.party);
+      flow = at_rest (with_round round.Reset new.subscriptions.flow.party.seen old.subscriptions.flow.party);
     };
   };
 }

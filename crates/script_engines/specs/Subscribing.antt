@@ -7,6 +7,7 @@ use Rattle.flow_terms.specs.declared.ids.SubId.{SubId}
 use Rattle.flow_terms.specs.declared.answers.Next.{Next}
 use Rattle.flow_terms.specs.declared.answers.Next.TheVariants.{Value, Nothing, Closed}
 use Rattle.shared_flow.specs.declared.round.Round.TheVariants as round
+use Rattle.shared_flow.specs.Entering.{Made}
 use Rattle.shared_flow.specs.Looks.{WasLetInto, GaveIn, MissedTwice}
 use Rattle.shared_flow.specs.Owners.{Owning, at_rest, IsLeftOut}
 use Rattle.shared_flow.specs.Parties.{Subscribed, with_round, newcomer_of}
@@ -27,16 +28,16 @@ subscribing_of it = record { flow = it.flow; places = it.places.items }
 -- it out, or there was no memory for one and nobody made a call, and before both, these values are too many
 abbrev pub Subscribes : Subscribing → List ℕ → Result SubId Refusal → Subscribing → Type 0
 Subscribes old prelude (Ok id) new = (length prelude ≤ 16) × (id.0 ≡ length old.places) × ((s : Subscribed ℕ) × (s.rest ≡ prelude)
-    × (s.party ≡ newcomer_of old.flow.party) × WasLetInto old.flow.party.flow s.number s.reader
-    × (new ≡ record { flow = at_rest (with_round (round.Subscribe (Ok s.number)) old.flow.party); places = old.places ++ Some s ∷ [] }))
+    × (s.party ≡ newcomer_of s.party.pass old.flow.party) × WasLetInto old.flow.party.flow s.number s.reader
+    × (new ≡ record { flow = at_rest (with_round (round.Subscribe (Ok s.number)) new.flow.party.seen old.flow.party); places = old.places ++ Some s ∷ [] }))
 Subscribes old prelude (Err refusal) new = ((16 < length prelude) × (refusal ≡ PreludeTooLong) × (new ≡ old))
     ⊎ ((length prelude ≤ 16) × IsLeftOut old.flow refusal new.flow × (new.places ≡ old.places))
 
 -- a subscription looked at the lane, and took the next value, or took none and left its waker in a round
 abbrev pub Looks : Subscribed ℕ → Next ℕ → Subscribed ℕ → Type 0
-Looks s (Value v) t = ((t.party ≡ s.party) ⊎ (t.party ≡ with_round round.Next s.party)) × (t.number ≡ s.number)
+Looks s (Value v) t = ((t.party ≡ s.party) ⊎ Made round.Next s.party t.party) × (t.number ≡ s.number)
     × GreetedOr s v t (GaveIn (λ w. w) s.reader v t.reader)
-Looks s Nothing t = (t.party ≡ with_round round.Next s.party) × (t.number ≡ s.number) × IsPast s t × MissedTwice s.reader t.reader
+Looks s Nothing t = Made round.Next s.party t.party × (t.number ≡ s.number) × IsPast s t × MissedTwice s.reader t.reader
 Looks s Closed t = ⊥
 
 -- what stands at a place looked, if a subscription does
@@ -55,11 +56,11 @@ with_place it place left = record it { places = slice_set it.places place left }
 
 -- the owner made the round that read these values, or had no memory for them
 abbrev pub Caches : Subscribing → Result (List ℕ) Refusal → Subscribing → Type 0
-Caches old (Ok values) new = new ≡ record old { flow = at_rest (with_round (round.Cache (Ok values)) old.flow.party) }
-Caches old (Err refusal) new = (refusal ≡ NoMemory) × (new ≡ record old { flow = at_rest (with_round (round.Cache (Err NoMemory)) old.flow.party) })
+Caches old (Ok values) new = new ≡ record old { flow = at_rest (with_round (round.Cache (Ok values)) new.flow.party.seen old.flow.party) }
+Caches old (Err refusal) new = (refusal ≡ NoMemory) × (new ≡ record old { flow = at_rest (with_round (round.Cache (Err NoMemory)) new.flow.party.seen old.flow.party) })
 
 abbrev pub Counts : Subscribing → ℕ → Subscribing → Type 0
-Counts old count new = new ≡ record old { flow = at_rest (with_round (round.Count count) old.flow.party) }
+Counts old count new = new ≡ record old { flow = at_rest (with_round (round.Count count) new.flow.party.seen old.flow.party) }
 
 abbrev pub subscribing : Receipts Subscribing
 subscribing = record {

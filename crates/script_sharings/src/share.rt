@@ -37,7 +37,7 @@ impl<'a, W: Wait, S: Flow<Item = u64, Fault = u64>> Share<'a, W, S> {
         started: Started,
         source: S,
     ) -> Result<(SharedFlow<u64>, Share<'a, W, S>), Refusal>
-        ensures made { MadeUnless (making_refusal config) result (λ made. IsMadeWith config made.0.party.flow × (made.0 ≡ at_rest (newcomer_of made.0.party))) }
+        ensures made { MadeUnless (making_refusal config) result (λ made. IsMadeWith config made.0.party.flow × (made.0 ≡ at_rest (newcomer_of made.0.party.pass made.0.party))) }
         ensures sharing { IfOk result (λ made. SharesFrom made.0 started source made.1) }
         ensures shows { IfOk result (λ made. Shows (sharings_of made.1).strategy []) }
     {

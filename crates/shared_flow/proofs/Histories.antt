@@ -2,7 +2,6 @@
 use Rattle.std.proofs.Common.{◌≡◌, ℕ, ◌+◌, ◌-◌, ◌≤◌, List, [], ◌∷◌, ◌++◌, length, replicate, false, Option, None, refl, sym, ap, ◌∙◌, subst, arith, length-append}
 use Rattle.std.proofs.lemmas.List.{append-nil}
 use Rattle.round_lock.specs.declared.log.Log.{Log}
-use Rattle.round_lock.specs.History.After.{new, more}
 use Rattle.round_lock.proofs.Readings.{reads}
 use Rattle.lane_steps.specs.Law.{Begins}
 use Rattle.shared_lane.specs.Headline.{Lived, Went, WasLetIn, given, ReceivesCacheThenLater}
@@ -13,32 +12,31 @@ use Rattle.shared_lane.proofs.Lives.{receives, lived_more, given_one}
 use Rattle.shared_flow.specs.declared.round.Round.{Round}
 use Rattle.shared_flow.specs.Names.{SharedSeen, IsNew}
 use Rattle.shared_flow.specs.Queue.{progress_of}
+use Rattle.shared_flow.specs.Entering.{IsLeftBy}
+use Rattle.shared_flow.specs.Reach.{Rounds, rounds_in}
 use Rattle.shared_flow.specs.Rounds.{Does}
-use Rattle.shared_flow.specs.Laws.{IsLeftBy, IsOneFlow, IsRuled, HasOneList, EachSubscriptionLaw, knowing}
+use Rattle.shared_flow.specs.Laws.{IsOneFlow, IsRuled, HasOneList, EachSubscriptionLaw, knowing}
 use Rattle.shared_flow.proofs.Lives.{looks, reader_lived, with_prelude}
-use Rattle.shared_flow.proofs.Numbers.{Left, same_name}
+use Rattle.shared_flow.proofs.Boxes.{in_begins, same_own, unboxed}
+use Rattle.shared_flow.proofs.Numbers.{same_name}
 use Rattle.shared_flow.proofs.Ordering.{each_in_its_own_order}
 use Rattle.shared_flow.proofs.Queueing.{comes_to}
 
-pub one_flow : (made now : SharedSeen) (log : List (ℕ × Round)) → IsLeftBy made log now → IsOneFlow made log now
-one_flow made now log left = let comes = comes_to (λ s. s) made log now left in record {
+pub one_flow : (made now : SharedSeen) (log : Rounds) → IsLeftBy made log now → IsOneFlow made log now
+one_flow made now log left = let comes = comes_to made log now left in record {
   same_flow = same_name (λ s. s) made log now left;
   accepted_in_turn = comes;
   each_in_its_own_order = each_in_its_own_order log (progress_of now.sequencer) comes;
 }
 
 module _ {S : Type 0} (value : S → SharedSeen) where
-  -- what lies in a box, without it
-  unboxed : (made : S) (log : List (ℕ × Round)) (s : S) → Left value made log s → IsLeftBy (value made) log (value s)
-  unboxed _ _ _ (new s fresh) = new (value s) fresh
-  unboxed _ _ _ (more made log s pass r t before does) = more (value made) log (value s) pass r (value t) (unboxed made log s before) does
-
   pub one_list : (items : List S) (views : List (Log S Round)) → IsRuled value items views → HasOneList value items views
   one_list items views ruled = let one = reads (λ (s : S). IsNew (value s)) (λ (s : S) (r : Round) (t : S). Does (value s) r (value t)) items views ruled in record {
-    log = one.log;
-    parts = one.parts;
-    under = λ now is. let left = one.under now is in (value left.0, unboxed left.0 one.log now left.1);
-    taken = λ pass v now at is. let left = one.taken pass v now at is in (value left.0, unboxed left.0 one.log now left.1);
+    log = rounds_in value one.log;
+    parts = λ pass v at. one.parts pass v at ∙ same_own value pass one.log;
+    seen_by = λ pass v at. in_begins value one.log v.seen (one.seen_by pass v at);
+    under = λ now is. (value one.made, unboxed value one.made one.log now (one.under now is));
+    taken = λ pass v now at is. (value one.made, unboxed value one.made one.log now (one.taken pass v now at is).0);
   }
 
 -- a reader that hears of what was accepted stays where it is

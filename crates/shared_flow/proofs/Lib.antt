@@ -5,6 +5,8 @@ pub mod Starting
 pub mod Doing
 pub mod Numbers
 pub mod Reaching
+pub mod Boxes
+pub mod Making
 pub mod Rising
 pub mod Queueing
 pub mod Ordering

@@ -147,41 +147,42 @@ does_next s r t does =
 
 -- ---- over a whole history
 
-abbrev AllBelow : ℕ → List (ℕ × Round) → Type 0
-AllBelow n [] = ⊤
-AllBelow n (e ∷ log) = (after_number e.1 ≤ n) × AllBelow n log
+module _ {S : Type 0} where
+  abbrev AllBelow : ℕ → List (ℕ × Round × S) → Type 0
+  AllBelow n [] = ⊤
+  AllBelow n (e ∷ log) = (after_number e.1 ≤ n) × AllBelow n log
 
-all_more : (n m : ℕ) (log : List (ℕ × Round)) → n ≤ m → AllBelow n log → AllBelow m log
-all_more n m [] le all = all
-all_more n m (e ∷ log) le all = (let first = all.0 in omega (arith, first, le), all_more n m log le all.1)
+  all_more : (n m : ℕ) (log : List (ℕ × Round × S)) → n ≤ m → AllBelow n log → AllBelow m log
+  all_more n m [] le all = all
+  all_more n m (e ∷ log) le all = (let first = all.0 in omega (arith, first, le), all_more n m log le all.1)
 
-all_snoc : (n : ℕ) (log : List (ℕ × Round)) (e : ℕ × Round) → AllBelow n log → after_number e.1 ≤ n → AllBelow n (log ++ e ∷ [])
-all_snoc n [] e all last = (last, all)
-all_snoc n (x ∷ log) e all last = (all.0, all_snoc n log e all.1 last)
+  all_snoc : (n : ℕ) (log : List (ℕ × Round × S)) (e : ℕ × Round × S) → AllBelow n log → after_number e.1 ≤ n → AllBelow n (log ++ e ∷ [])
+  all_snoc n [] e all last = (last, all)
+  all_snoc n (x ∷ log) e all last = (all.0, all_snoc n log e all.1 last)
 
-own_below : (n pass : ℕ) (log : List (ℕ × Round)) → AllBelow n log → Below n (own_of pass log)
-own_below n pass [] all = all
-own_below n pass (e ∷ log) all = by (e.0 == pass) (own_below n pass log all.1)
-  where
-    by : (b : Bool) → Below n (own_of pass log) → Below n (cond b (e.1 ∷ own_of pass log) (own_of pass log))
-    by true rest = (all.0, rest)
-    by false rest = rest
+  own_below : (n pass : ℕ) (log : List (ℕ × Round × S)) → AllBelow n log → Below n (own_of pass log)
+  own_below n pass [] all = all
+  own_below n pass (e ∷ log) all = by (e.0 == pass) (own_below n pass log all.1)
+    where
+      by : (b : Bool) → Below n (own_of pass log) → Below n (cond b (e.1 ∷ own_of pass log) (own_of pass log))
+      by true rest = (all.0, rest)
+      by false rest = rest
 
 module _ {S : Type 0} (value : S → SharedSeen) where
-  abbrev pub Left : S → List (ℕ × Round) → S → Type 0
+  abbrev pub Left : S → List (ℕ × Round × S) → S → Type 0
   Left = After (λ (s : S). IsNew (value s)) (λ (s : S) (r : Round) (t : S). Does (value s) r (value t))
 
   -- the flow stays the one that was made
-  pub same_name : (made : S) (log : List (ℕ × Round)) (s : S) → Left made log s → (value s).name ≡ (value made).name
+  pub same_name : (made : S) (log : List (ℕ × Round × S)) (s : S) → Left made log s → (value s).name ≡ (value made).name
   same_name _ _ _ (new s fresh) = refl
   same_name _ _ _ (more made log s pass e t before does) = does.0 ∙ same_name made log s before
 
-  all_below : (made : S) (log : List (ℕ × Round)) (s : S) → Left made log s → AllBelow (next (value s).sequencer) log
+  all_below : (made : S) (log : List (ℕ × Round × S)) (s : S) → Left made log s → AllBelow (next (value s).sequencer) log
   all_below _ _ _ (new s fresh) = tt
   all_below _ _ _ (more made log s pass e t before does) =
       let goes = does_next (value s) e (value t) does in
-      all_snoc (next (value t).sequencer) log (pass, e) (all_more (next (value s).sequencer) (next (value t).sequencer) log goes.0 (all_below made log s before)) goes.1
+      all_snoc (next (value t).sequencer) log (pass, e, t) (all_more (next (value s).sequencer) (next (value t).sequencer) log goes.0 (all_below made log s before)) goes.1
 
   -- what an owner's rounds answered with is below the next number
-  pub rounds_below : (made : S) (log : List (ℕ × Round)) (s : S) (pass : ℕ) → Left made log s → Below (next (value s).sequencer) (own_of pass log)
+  pub rounds_below : (made : S) (log : List (ℕ × Round × S)) (s : S) (pass : ℕ) → Left made log s → Below (next (value s).sequencer) (own_of pass log)
   rounds_below made log s pass left = own_below (next (value s).sequencer) pass log (all_below made log s left)

@@ -16,6 +16,8 @@ use Rattle.shared_flow.specs.declared.round.Round.{Round}
 use Rattle.shared_flow.specs.declared.round.Round.TheVariants as round
 use Rattle.shared_flow.specs.Queue.{Progress, let_in, waits_in, IsAcceptedNow, IsWithdrawn, Goes, ComesTo, one_by, words_by, taken_up, emitted, EachInItsOwnOrder}
 use Rattle.shared_flow.specs.Queue.ComesTo.{begins, goes_on}
+use Rattle.shared_flow.specs.Names.{SharedSeen}
+use Rattle.shared_flow.specs.Reach.{Rounds}
 use Rattle.shared_flow.specs.Rounds.{entry}
 
 -- all emissions of a queue: those accepted, then those that wait
@@ -26,7 +28,7 @@ words_append : (e : ℕ) (xs ys : List Entry) → words_by e (xs ++ ys) ≡ word
 words_append e [] ys = refl
 words_append e (x ∷ xs) ys = ap (λ l. one_by e x ++ l) (words_append e xs ys) ∙ sym (append_assoc (one_by e x) (words_by e xs) (words_by e ys))
 
-emitted_append : (e : ℕ) (log : List (ℕ × Round)) (x : ℕ × Round) → emitted e (log ++ x ∷ []) ≡ emitted e log ++ taken_up e x.1
+emitted_append : (e : ℕ) (log : Rounds) (x : ℕ × Round × SharedSeen) → emitted e (log ++ x ∷ []) ≡ emitted e log ++ taken_up e x.1
 emitted_append e [] x = append-nil (taken_up e x.1)
 emitted_append e (y ∷ log) x = ap (λ l. taken_up e y.1 ++ l) (emitted_append e log x) ∙ sym (append_assoc (taken_up e y.1) (emitted e log) (taken_up e x.1))
 
@@ -136,14 +138,14 @@ module _ (e : ℕ) where
   goes_on_ordered (round.Count count) zs p p' goes was = unchanged zs p p' goes was
   goes_on_ordered (round.Hold count) zs p p' goes was = unchanged zs p p' goes was
 
-  in_order : (log : List (ℕ × Round)) (p : Progress) → ComesTo log p → Ordered (emitted e log) (all_of p)
+  in_order : (log : Rounds) (p : Progress) → ComesTo log p → Ordered (emitted e log) (all_of p)
   in_order _ _ begins = ([], none)
-  in_order _ _ (goes_on log p pass r p' before goes) =
+  in_order _ _ (goes_on log p pass r now p' before goes) =
       let was = in_order log p before in
       let in_first = subst (λ (l : List Entry). Ordered (emitted e log) l) (sym (all_same goes.0 p)) was in
       let called = goes_on_ordered r (emitted e log) (let_in goes.0 p) goes.1 goes.3 in_first in
       let last = subst (λ (l : List Entry). Ordered (emitted e log ++ taken_up e r) l) (sym (ap all_of goes.4 ∙ all_same goes.2 goes.1)) called in
-      subst (λ (zs : List ℕ). Ordered zs (all_of p')) (sym (emitted_append e log (pass, r))) last
+      subst (λ (zs : List ℕ). Ordered zs (all_of p')) (sym (emitted_append e log (pass, r, now))) last
 
-pub each_in_its_own_order : (log : List (ℕ × Round)) (p : Progress) → ComesTo log p → EachInItsOwnOrder log p
+pub each_in_its_own_order : (log : Rounds) (p : Progress) → ComesTo log p → EachInItsOwnOrder log p
 each_in_its_own_order log p comes e = in_order e log p comes

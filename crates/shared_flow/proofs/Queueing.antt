@@ -16,12 +16,13 @@ use Rattle.shared_lane.specs.declared.tickets.Waiting.{Waiting}
 use Rattle.shared_flow.specs.declared.round.Emission.{Emission}
 use Rattle.shared_flow.specs.declared.round.Round.{Round}
 use Rattle.shared_flow.specs.declared.round.Round.TheVariants as round
+use Rattle.shared_flow.specs.Entering.{IsLeftBy}
 use Rattle.shared_flow.specs.Names.{SharedSeen}
+use Rattle.shared_flow.specs.Reach.{Rounds}
 use Rattle.flow_terms.specs.declared.ids.Ticket.{Ticket}
 use Rattle.shared_flow.specs.Queue.{Progress, progress_of, let_in, waits_in, IsAcceptedNow, Goes, Proceeds, ComesTo}
 use Rattle.shared_flow.specs.Queue.ComesTo.{begins, goes_on}
 use Rattle.shared_flow.specs.Rounds.{Makes, Rests, Scanned, Does, entry}
-use Rattle.shared_flow.proofs.Numbers.{Left}
 
 abbrev progress : List Waiting → List Entry → Progress
 progress ws es = record { waiting = ws; accepted = es }
@@ -107,7 +108,6 @@ proceeds s r t does =
     let rest = rests_is n t.sequencer after.5.2 in
     (after.1, progress_of n, rest.0, subst (λ p. Goes r p (progress_of n)) (settled_is after.1 s.sequencer m after.3) (goes s.name.lane m r n after.5.1), rest.1)
 
-module _ {S : Type 0} (value : S → SharedSeen) where
-  pub comes_to : (made : S) (log : List (ℕ × Round)) (s : S) → Left value made log s → ComesTo log (progress_of (value s).sequencer)
-  comes_to _ _ _ (new s fresh) = subst (ComesTo []) (λ i. progress (sym fresh.1.7 i) (sym fresh.1.0 i)) begins
-  comes_to _ _ _ (more made log s pass e t before does) = goes_on log (progress_of (value s).sequencer) pass e (progress_of (value t).sequencer) (comes_to made log s before) (proceeds (value s) e (value t) does)
+pub comes_to : (made : SharedSeen) (log : Rounds) (s : SharedSeen) → IsLeftBy made log s → ComesTo log (progress_of s.sequencer)
+comes_to _ _ _ (new s fresh) = subst (ComesTo []) (λ i. progress (sym fresh.1.7 i) (sym fresh.1.0 i)) begins
+comes_to _ _ _ (more made log s pass e t before does) = goes_on log (progress_of s.sequencer) pass e t (progress_of t.sequencer) (comes_to made log s before) (proceeds s e t does)

@@ -5,8 +5,15 @@ use Rattle.shared_lane.specs.Views.{ReaderSeen, ReceiptSeen}
 use Rattle.shared_flow.specs.declared.round.Round.TheVariants as round
 use Rattle.shared_flow.specs.Emitters as emitters
 use Rattle.shared_flow.specs.Emitters.{IfEmitted, Waits}
-use Rattle.shared_flow.specs.Looks.{GaveIn, Missed, MissedOn, not_once, once_more, OnlyNext, by_one, Waited}
-use Rattle.shared_flow.specs.Parties.{Emitting, IsOwnReceipt, IsSameEmitter, named, with_round}
+use Rattle.futures.specs.Poll.{OnPending}
+use Rattle.futures.specs.declared.task.Poll.{Poll}
+use Rattle.futures.specs.declared.task.Poll.TheVariants.{Ready, Pending}
+use Rattle.shared_flow.specs.Preludes.{IsPast}
+use Rattle.shared_flow.specs.Looks.{GaveIn, Missed, MissedOn, MissedTwice, not_once, once_more, OnlyNext, by_one, Waited}
+use Rattle.flow_terms.specs.declared.answers.Withdrawn.{Withdrawn}
+use Rattle.flow_terms.specs.declared.answers.Withdrawn.TheVariants as withdrawn
+use Rattle.shared_flow.specs.Entering.{Made}
+use Rattle.shared_flow.specs.Parties.{Emitting, IsOwnReceipt, IsSameEmitter, Subscribed, UnlessLeft, named}
 use Rattle.shared_flow.specs.Reach.{Party}
 use Rattle.shared_flow.specs.Rounds.{IsReceiptOfOne}
 
@@ -37,8 +44,14 @@ emitted_weaker (Ok None) P Q weaker holds = tt
 emitted_weaker (Err refusal) P Q weaker holds = tt
 
 -- one round more, or none
-pub only_next : (p q r : Party) → OnlyNext p q → (r ≡ q) ⊎ (r ≡ with_round round.Next q) → OnlyNext p r
-only_next p q r rounds more = ⊎_elim (λ same. subst (OnlyNext p) (sym same) rounds) (λ one. subst (OnlyNext p) (sym one) (by_one p q rounds)) more
+pub only_next : (p q r : Party) → OnlyNext p q → (r ≡ q) ⊎ Made round.Next q r → OnlyNext p r
+only_next p q r rounds more = ⊎_elim (λ same. subst (OnlyNext p) (sym same) rounds) (λ one. by_one p q r rounds one) more
+
+-- a poll that is pending looked twice, where nothing is left of the prelude
+pub past_missed : {T A : Type 0} (polled : Poll A) (s g t : Subscribed T) → IsPast s g → t.rest ≡ g.rest → g.reader ≡ s.reader
+    → OnPending polled (MissedTwice g.reader t.reader) → OnPending polled (IsPast s t × MissedTwice s.reader t.reader)
+past_missed (Ready v) s g t past rest same missed = tt
+past_missed Pending s g t past rest same missed = ((past.0, rest ∙ past.1), subst (λ (r : ReaderSeen). MissedTwice r t.reader) same missed)
 
 -- a poll gave a value, after looks that gave none
 pub waited_on : {T : Type 0} (read_as : ℕ → T) (r s t : ReaderSeen) (v : T) → MissedOn r s → GaveIn read_as s v t → Waited read_as r v t
@@ -57,3 +70,9 @@ pub ok_before : {T : Type 0} (read_as : ℕ → T) (r m t : ReaderSeen) (answer 
     → IfOk answer (λ v. Waited read_as m v t) → IfOk answer (λ v. Waited read_as r v t)
 ok_before read_as r m t (Ok v) missed waited = waited_before read_as r m t v missed waited
 ok_before read_as r m t (Err refusal) missed waited = tt
+
+-- what is so of each answer
+pub unless_left : {N : Type 0} (answer : Withdrawn N) {P : Type 0} → P → UnlessLeft answer P
+unless_left (withdrawn.Left n) it = tt
+unless_left withdrawn.Removed it = it
+unless_left withdrawn.Gone it = it

@@ -13,6 +13,8 @@ use Rattle.flow_terms.specs.declared.ids.Ticket.{Ticket}
 use Rattle.shared_lane.specs.Views.{ReceiptSeen}
 use Rattle.shared_flow.specs.declared.round.Emission.{Emission}
 use Rattle.shared_flow.specs.declared.round.Round.TheVariants as round
+use Rattle.shared_flow.specs.Entering.{Made}
+use Rattle.shared_flow.specs.Reach.{Rounds}
 use Rattle.shared_flow.specs.Rounds.{numbers_tried, numbers_begun, poll_round, withdraw_round}
 use Rattle.shared_flow.specs.Parties.{Emitting, with_round, without_ticket, ticket_of, last_of_try, last_of_start, UnlessLeft, without_receipt}
 
@@ -20,54 +22,55 @@ use Rattle.shared_flow.specs.Parties.{Emitting, with_round, without_ticket, tick
 abbrev pub emission_by : Emitting → ℕ → Emission
 emission_by e word = record { emitter = e.id; word = word }
 
--- after a try with this answer
-abbrev pub after_try : Emitting → Emission → Result (Tried ReceiptSeen) Refusal → Emitting
-after_try e emission answer = record e {
-  party = with_round (round.Try emission (numbers_tried answer)) e.party;
+-- after a try with this answer, by which it has seen this list of rounds
+abbrev pub after_try : Emitting → Emission → Result (Tried ReceiptSeen) Refusal → Rounds → Emitting
+after_try e emission answer seen = record e {
+  party = with_round (round.Try emission (numbers_tried answer)) seen e.party;
   last = last_of_try e.last (numbers_tried answer);
 }
 
--- after a start with this answer
-abbrev pub after_start : Emitting → Emission → Result (Begun ReceiptSeen Ticket) Refusal → Emitting
-after_start e emission answer = record e {
-  party = with_round (round.Start emission (numbers_begun answer)) e.party;
+-- after a start with this answer, by which it has seen this list of rounds
+abbrev pub after_start : Emitting → Emission → Result (Begun ReceiptSeen Ticket) Refusal → Rounds → Emitting
+after_start e emission answer seen = record e {
+  party = with_round (round.Start emission (numbers_begun answer)) seen e.party;
   ticket = ticket_of answer;
   last = last_of_start e.last (numbers_begun answer);
 }
 
 -- it was started with this answer, of which the caller doesn't see the ticket
 abbrev pub WasStarted : Emitting → Emission → Result (Begun ReceiptSeen (Unit {0})) Refusal → Emitting → Type 0
-WasStarted e emission answer f = (begins : Result (Begun ReceiptSeen Ticket) Refusal) × (answer ≡ without_ticket begins) × (f ≡ after_start e emission begins)
+WasStarted e emission answer f = (begins : Result (Begun ReceiptSeen Ticket) Refusal) × (answer ≡ without_ticket begins)
+    × (f ≡ after_start e emission begins f.party.seen) × Made (round.Start emission (numbers_begun begins)) e.party f.party
 
 -- a poll found the emission in flight finished, with this receipt
 abbrev pub WasFinished : Emitting → ReceiptSeen → Emitting → Type 0
 WasFinished e receipt f = (ticket : Ticket) × (e.ticket ≡ Some ticket) × (f ≡ record e {
-  party = with_round (round.Poll ticket (emit.Done receipt.number)) e.party;
+  party = with_round (round.Poll ticket (emit.Done receipt.number)) f.party.seen e.party;
   ticket = None;
   last = Some receipt.number;
-})
+}) × Made (round.Poll ticket (emit.Done receipt.number)) e.party f.party
 
 -- a poll had no receipt for the emission in flight
 abbrev pub Waits : Emitting → Emitting → Type 0
 Waits e f = (ticket : Ticket) × (answer : Emit) × (e.ticket ≡ Some ticket) × (f ≡ record e {
-  party = with_round (poll_round ticket e.id e.last answer None) e.party;
-})
+  party = with_round (poll_round ticket e.id e.last answer None) f.party.seen e.party;
+}) × Made (poll_round ticket e.id e.last answer None) e.party f.party
 
 -- the emission in flight was given up, which had been accepted, with this receipt
 abbrev pub WasLeft : Emitting → ReceiptSeen → Emitting → Type 0
 WasLeft e receipt f = (ticket : Ticket) × (e.ticket ≡ Some ticket) × (f ≡ record e {
-  party = with_round (round.Withdraw ticket (withdrawn.Left receipt.number)) e.party;
+  party = with_round (round.Withdraw ticket (withdrawn.Left receipt.number)) f.party.seen e.party;
   ticket = None;
   last = Some receipt.number;
-})
+}) × Made (round.Withdraw ticket (withdrawn.Left receipt.number)) e.party f.party
 
 -- the emission in flight was given up, without a receipt
 abbrev pub WasGivenUp : {N : Type 0} → Emitting → Withdrawn N → Emitting → Type 0
 WasGivenUp e answer f = (ticket : Ticket) → e.ticket ≡ Some ticket
     → UnlessLeft answer ((w : Withdrawn ℕ) × (answer ≡ without_receipt w) × (f ≡ record e {
-      party = with_round (withdraw_round ticket e.id e.last w None) e.party;
+      party = with_round (withdraw_round ticket e.id e.last w None) f.party.seen e.party;
       ticket = None;
-    }))
+    }) × Made (withdraw_round ticket e.id e.last w None) e.party f.party)
 
 -- by polls, one after another, there was no receipt for the emission in flight
 pub data Waited : Emitting → Emitting → Type 0 where
@@ -77,9 +80,9 @@ pub data Waited : Emitting → Emitting → Type 0 where
 -- the emission in flight was withdrawn, without a receipt
 abbrev pub WasWithdrawn : Emitting → Emitting → Type 0
 WasWithdrawn e f = (ticket : Ticket) × (w : Withdrawn ℕ) × (e.ticket ≡ Some ticket) × (f ≡ record e {
-  party = with_round (withdraw_round ticket e.id e.last w None) e.party;
+  party = with_round (withdraw_round ticket e.id e.last w None) f.party.seen e.party;
   ticket = None;
-})
+}) × Made (withdraw_round ticket e.id e.last w None) e.party f.party
 
 -- What an emission comes to that is waited for: polls find it finished; or there is no memory to wait by, and it is given up, which
 -- had been accepted, or had not.

@@ -4,7 +4,7 @@ use mathlib.Core.Option.{some}
 use lib.ListN.{get_elem?}
 use Rattle.std.specs.Global.{Box}
 use Rattle.round_lock.specs.declared.log.Log.{Log}
-use Rattle.round_lock.specs.History.{After, OneHistory, own_of}
+use Rattle.round_lock.specs.History.{OneHistory, own_of}
 use Rattle.round_lock.specs.Law.{Lies, OneLock}
 use Rattle.atomic_table.specs.Table.{State}
 use Rattle.lane_steps.specs.Law.{Begins}
@@ -14,30 +14,29 @@ use Rattle.shared_lane.specs.Sequencers.{seen}
 use Rattle.shared_lane.specs.Views.{ReaderSeen}
 use Rattle.shared_flow.specs.declared.round.Round.{Round}
 use Rattle.shared_flow.specs.Names.{SharedSeen, IsNew}
+use Rattle.shared_flow.specs.Entering.{IsLeftBy}
+use Rattle.shared_flow.specs.Reach.{Rounds, rounds_in}
 use Rattle.shared_flow.specs.Lives.{Turn, LivesOn, received_in, ReceivesPreludeCacheThenLater}
 use Rattle.shared_flow.specs.Queue.{progress_of, ComesTo, EachInItsOwnOrder}
 use Rattle.shared_flow.specs.Rounds.{Does}
 
--- what some list of rounds left of a new flow
-abbrev pub IsLeftBy : SharedSeen → List (ℕ × Round) → SharedSeen → Type 0
-IsLeftBy = After IsNew Does
-
 -- Where a list of rounds left this of a new flow: it is that flow; the emissions that it accepted are those of the list, let in by
 -- the order in which they came; and each emitter's are accepted in its own order.
-pub record IsOneFlow (made : SharedSeen) (log : List (ℕ × Round)) (now : SharedSeen) : Type 0 where
+pub record IsOneFlow (made : SharedSeen) (log : Rounds) (now : SharedSeen) : Type 0 where
   pub same_flow : now.name ≡ made.name
   pub accepted_in_turn : ComesTo log (progress_of now.sequencer)
   pub each_in_its_own_order : EachInItsOwnOrder log (progress_of now.sequencer)
 
 abbrev pub OneFlowLaw : Type 0
-OneFlowLaw = (made now : SharedSeen) (log : List (ℕ × Round)) → IsLeftBy made log now → IsOneFlow made log now
+OneFlowLaw = (made now : SharedSeen) (log : Rounds) → IsLeftBy made log now → IsOneFlow made log now
 
 module _ {S : Type 0} (value : S → SharedSeen) where
-  -- There is one list of rounds. Each owner's rounds are its part of it, in that owner's order; and the flow, under the lock or with
-  -- an owner that has taken it, is what exactly that list left of a new one.
+  -- There is one list of rounds. Each owner's rounds are its part of it, in that owner's order; it begins with what each owner has seen;
+  -- and the flow, under the lock or with an owner that has taken it, is what exactly that list left of a new one.
   pub record HasOneList (items : List S) (views : List (Log S Round)) : Type 0 where
-    pub log : List (ℕ × Round)
+    pub log : Rounds
     pub parts : (pass : ℕ) (v : Log S Round) → get_elem? views pass ≡ some v → v.own ≡ own_of pass log
+    pub seen_by : (pass : ℕ) (v : Log S Round) → get_elem? views pass ≡ some v → Begins log (rounds_in value v.seen)
     pub under : (now : S) → items ≡ now ∷ [] → (made : SharedSeen) × IsLeftBy made log (value now)
     pub taken : (pass : ℕ) (v : Log S Round) (now : S) → get_elem? views pass ≡ some v → v.held ≡ Some now → (made : SharedSeen) × IsLeftBy made log (value now)
 
@@ -69,7 +68,7 @@ knowing now r = record r { seen = seen now.sequencer }
 -- when the subscription has seen as far as its position, and what it has seen is the beginning of what was accepted.
 abbrev pub EachSubscriptionLaw : {T : Type 0} → (ℕ → T) → Type 0
 EachSubscriptionLaw {T} read_as =
-    (made now : SharedSeen) (log : List (ℕ × Round)) (prelude left : List T) (cache : List ℕ) (start reader : ReaderSeen) (turns : List (Turn T))
+    (made now : SharedSeen) (log : Rounds) (prelude left : List T) (cache : List ℕ) (start reader : ReaderSeen) (turns : List (Turn T))
     → IsLeftBy made log now → WasLetIn cache start → LivesOn prelude start turns left reader
     → at reader ≤ reader.shape.first + length reader.seen → Begins (seen now.sequencer) reader.seen
     → IsOneFlow made log now × ReceivesPreludeCacheThenLater read_as prelude left cache start (knowing now reader) (received_in read_as turns)

@@ -5,6 +5,7 @@ pub mod Reach
 pub mod Sleeping
 pub mod Parties
 pub mod Emitters
+pub mod Entering
 pub mod Laws
 pub mod Looks
 pub mod Preludes

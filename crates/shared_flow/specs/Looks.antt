@@ -7,7 +7,7 @@ use Rattle.shared_lane.specs.Readers.{IsSameReader, TookNext}
 use Rattle.shared_flow.specs.declared.round.Round.TheVariants as round
 use Rattle.shared_flow.specs.Names.{FlowName, SharedSeen}
 use Rattle.shared_flow.specs.Reach.{Party}
-use Rattle.shared_flow.specs.Parties.{with_round}
+use Rattle.shared_flow.specs.Entering.{Made}
 use Rattle.shared_flow.specs.Rounds.{Does, WasAdmitted}
 
 -- the reader was let in to this flow, by the round that answered with this number
@@ -52,4 +52,4 @@ Waited read_as r v t = (m : ReaderSeen) × MissedOn r m × Gave read_as m v t
 -- the party's rounds grew by looks alone
 pub data OnlyNext : Party → Party → Type 0 where
   by_none : (p : Party) → OnlyNext p p
-  by_one : (p q : Party) → OnlyNext p q → OnlyNext p (with_round round.Next q)
+  by_one : (p q r : Party) → OnlyNext p q → Made round.Next q r → OnlyNext p r

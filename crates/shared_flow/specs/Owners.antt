@@ -9,6 +9,7 @@ use Rattle.shared_flow.specs.Names.{SharedSeen}
 use Rattle.shared_flow.specs.Reach.{Party}
 use Rattle.shared_flow.specs.Rounds.{Does, IsAtLimit}
 use Rattle.shared_flow.specs.Parties.{with_round}
+use Rattle.shared_flow.specs.Entering.{Found, Made}
 
 -- an owner: its flow and its rounds, and what it found under the lock, while the lock is kept
 pub record Owning : Type 0 where
@@ -24,9 +25,11 @@ pub record Keeping : Type 0 where
   pub count : ℕ
   pub shared : SharedSeen
 
--- The owner has the lock: what lies under it is its flow's, and is what the round with this count has made of what it found.
+-- The owner has the lock: what lies under it is its flow's, and is what the round with this count has made of what it found, which the
+-- list of rounds that it has seen had left.
 abbrev pub KeepsLock : Owning → Keeping → Type 0
-KeepsLock o k = (o.party.flow ≡ Some k.shared.name) × ((old : SharedSeen) × (o.held ≡ Some old) × Does old (round.Hold k.count) k.shared)
+KeepsLock o k = (o.party.flow ≡ Some k.shared.name)
+    × ((old : SharedSeen) × (o.held ≡ Some old) × Does old (round.Hold k.count) k.shared × Found o.party old o.party.seen)
 
 -- nothing has changed but what the sequencer has loaded, and nobody has lost a value
 abbrev pub OnlyMet : SharedSeen → SharedSeen → Type 0
@@ -38,8 +41,9 @@ IsKept k l = (l.count ≡ k.count) × OnlyMet k.shared l.shared
 -- nobody was let in: without memory the owner made no call, else its round was refused
 abbrev pub IsLeftOut : Owning → Refusal → Owning → Type 0
 IsLeftOut o refusal p = ((refusal ≡ NoMemory) × (p ≡ o))
-    ⊎ (IsAtLimit refusal × (p ≡ at_rest (with_round (round.Subscribe (Err refusal)) o.party)))
+    ⊎ (IsAtLimit refusal × (p ≡ at_rest (with_round (round.Subscribe (Err refusal)) p.party.seen o.party)) × Made (round.Subscribe (Err refusal)) o.party p.party)
 
 -- the values of the replay cache were added to a list, and the owner's round has their words
 abbrev pub AddsCache : {T : Type 0} → (ℕ → T) → Owning → List T → Owning → List T → Type 0
-AddsCache read_as o old p new = (words : List ℕ) × (new ≡ old ++ map read_as words) × (p ≡ at_rest (with_round (round.Cache (Ok words)) o.party))
+AddsCache read_as o old p new = (words : List ℕ) × (new ≡ old ++ map read_as words)
+    × (p ≡ at_rest (with_round (round.Cache (Ok words)) p.party.seen o.party)) × Made (round.Cache (Ok words)) o.party p.party

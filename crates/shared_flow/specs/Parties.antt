@@ -15,7 +15,7 @@ use Rattle.shared_lane.specs.Views.{ReaderSeen, ReceiptSeen}
 use Rattle.shared_flow.specs.declared.round.Emission.{Emission}
 use Rattle.shared_flow.specs.declared.round.Round.{Round}
 use Rattle.shared_flow.specs.Names.{FlowName}
-use Rattle.shared_flow.specs.Reach.{Party}
+use Rattle.shared_flow.specs.Reach.{Party, Rounds}
 use Rattle.shared_flow.specs.Rounds.{after_number, IsReceiptFor, IsReceiptOfOne}
 
 -- a fact about what an accepted try was given
@@ -66,13 +66,13 @@ pub record Subscribed (T : Type 0) : Type 0 where
   pub rest : List T
   pub reader : ReaderSeen
 
--- the party's rounds grew by this one
-abbrev pub with_round : Round → Party → Party
-with_round r p = record p { rounds = p.rounds ++ r ∷ [] }
+-- the party's rounds grew by this one, and it has seen this list
+abbrev pub with_round : Round → Rounds → Party → Party
+with_round r seen p = record p { rounds = p.rounds ++ r ∷ []; seen = seen }
 
--- a party of the same flow, which has made no call
-abbrev pub newcomer_of : Party → Party
-newcomer_of p = record p { rounds = [] }
+-- a party of the same flow, with this number, which has made no call and has seen as much
+abbrev pub newcomer_of : ℕ → Party → Party
+newcomer_of pass p = record p { pass = pass; rounds = [] }
 
 -- a fact about the flow that a party knows
 abbrev pub OfFlow : Party → (FlowName → Type 0) → Type 0

@@ -12,6 +12,8 @@ use Rattle.shared_lane.specs.declared.tickets.Waiting.{Waiting}
 use Rattle.shared_flow.specs.declared.round.Emission.{Emission}
 use Rattle.shared_flow.specs.declared.round.Round.{Round}
 use Rattle.shared_flow.specs.declared.round.Round.TheVariants as round
+use Rattle.shared_flow.specs.Names.{SharedSeen}
+use Rattle.shared_flow.specs.Reach.{Rounds}
 use Rattle.shared_flow.specs.Rounds.{entry}
 
 -- the emissions that wait, and those that were accepted
@@ -52,10 +54,10 @@ abbrev pub Proceeds : Round → Progress → Progress → Type 0
 Proceeds r p p' = (k : ℕ) × (m : Progress) × (l : ℕ) × Goes r (let_in k p) m × (p' ≡ let_in l m)
 
 -- what a history of rounds comes to
-pub data ComesTo : List (ℕ × Round) → Progress → Type 0 where
+pub data ComesTo : Rounds → Progress → Type 0 where
   begins : ComesTo [] (record { waiting = []; accepted = [] })
-  goes_on : (log : List (ℕ × Round)) (p : Progress) (pass : ℕ) (r : Round) (p' : Progress) → ComesTo log p → Proceeds r p p'
-      → ComesTo (log ++ (pass, r) ∷ []) p'
+  goes_on : (log : Rounds) (p : Progress) (pass : ℕ) (r : Round) (left : SharedSeen) (p' : Progress) → ComesTo log p → Proceeds r p p'
+      → ComesTo (log ++ (pass, r, left) ∷ []) p'
 
 -- the word of an emission, where it is this emitter's
 abbrev pub one_by : ℕ → Entry → List ℕ
@@ -74,11 +76,11 @@ taken_up e (round.Start m (Ok (begun.Waiting ticket))) = one_by e (entry m)
 taken_up e _ = []
 
 -- the words that this emitter emitted in a history, in its order
-abbrev pub emitted : ℕ → List (ℕ × Round) → List ℕ
+abbrev pub emitted : ℕ → Rounds → List ℕ
 emitted e [] = []
 emitted e (x ∷ log) = taken_up e x.1 ++ emitted e log
 
 -- Those of an emitter's emissions that were accepted, and then those that wait, are what it emitted, in its own order, less
 -- those that were withdrawn
-abbrev pub EachInItsOwnOrder : List (ℕ × Round) → Progress → Type 0
+abbrev pub EachInItsOwnOrder : Rounds → Progress → Type 0
 EachInItsOwnOrder log p = (e : ℕ) → (withdrawn : List ℕ) × Interleaves (words_by e (p.accepted ++ map entry_of p.waiting)) withdrawn (emitted e log)

@@ -3,7 +3,8 @@ ghost use Rattle.std.specs.Prelude.{◌≡◌, ◌++◌, [], ◌∷◌, Ok, Some
 ghost use Rattle.shared_lane.specs.Sequencers.{next};
 ghost use Rattle.shared_flow.specs.declared.round.Round.TheVariants as round;
 ghost use Rattle.shared_flow.specs.Names.{IsNew, SharedSeen, KnowsLane};
-ghost use Rattle.shared_flow.specs.Reach.{reach_of};
+ghost use Rattle.shared_flow.specs.Entering.{Found, Left, left_with};
+ghost use Rattle.shared_flow.specs.Reach.{party_of, reach_of};
 ghost use Rattle.shared_flow.specs.Rounds.{Does, Below};
 
 use crate::parker::{LOOKS, pause};
@@ -20,7 +21,7 @@ use std::marker::{Brand, Model};
 use std::sync::{Arc, Wait};
 
 /// An owner of the lock and of the lane, with room for the wakers of one call. Contracts see which lock it is, the flow, what the
-/// owner holds while it has the lock, and its own rounds.
+/// owner holds while it has the lock, its number, its own rounds, and the one list of rounds as far as it has seen it.
 #[derive(Drop)]
 pub(crate) struct Access {
     lock: Lock<Box<Shared>, Round>,
@@ -47,7 +48,7 @@ impl Access {
     /// The first owner.
     pub fn new(alloc: Global, config: Config, shared: Shared) -> Result<Access, Refusal>
         requires { (shared.name.config ≡ config) × IsNew shared }
-        ensures made { IfOk result (λ made. (made.flow ≡ Some shared.name) × (made.held ≡ None) × (made.rounds ≡ [])) }
+        ensures made { IfOk result (λ made. (made.flow ≡ Some shared.name) × (made.held ≡ None) × (made.rounds ≡ []) × (made.seen ≡ [])) }
         ensures memory { IsOkUnless result Refusal.NoMemory }
     {
         let state = Box::new(alloc, shared)?;
@@ -64,9 +65,9 @@ impl Access {
         })
     }
 
-    /// Another owner of the same flow, which has made no call.
+    /// Another owner of the same flow, which has made no call, and has seen as much.
     pub fn another(&mut self, rt: &impl Wait) -> Result<Access, Refusal>
-        ensures other { IfOk result (λ other. other ≡ record self.old { held = None; rounds = [] }) }
+        ensures other { IfOk result (λ other. other ≡ record self.old { held = None; pass = other.pass; rounds = [] }) }
         ensures memory { IsOkUnless result Refusal.NoMemory }
         ensures same { self.new ≡ self.old }
     {
@@ -105,9 +106,11 @@ impl Access {
         self.track.lane()
     }
 
-    /// Takes the lock. What lay under it is the owner's flow, and its next number is above each that the owner was answered.
+    /// Takes the lock. What lay under it is the owner's flow, and its next number is above each that the owner was answered. The
+    /// owner has seen the list of rounds that left it now.
     pub fn take(&mut self, rt: &impl Wait) -> Guarded<Box<Shared>>
-        ensures taken { self.new ≡ record self.old { held = Some result.state.value } }
+        ensures taken { self.new ≡ record self.old { held = Some result.state.value; seen = self.new.seen } }
+        ensures found { Found (party_of self.old) result.state.value self.new.seen }
         ensures named { self.old.flow ≡ Some result.state.value.name }
         ensures below { Below (next result.state.value.sequencer) self.old.rounds }
     {
@@ -117,7 +120,8 @@ impl Access {
     /// Gives the lock back, with the round that was made, and then wakes those that it helps.
     pub fn put(&mut self, rt: &impl Wait, guarded: Guarded<Box<Shared>>, round: Round)
         requires round { (old : SharedSeen) × (self.old.held ≡ Some old) × Does old round guarded.state.value }
-        ensures given { self.new ≡ record self.old { held = None; rounds = self.old.rounds ++ round ∷ [] } }
+        ensures given { self.new ≡ left_with round guarded.state.value self.old }
+        ensures left { Left round self.old self.new }
     {
         let mut guarded = guarded;
         guarded.state.change_wakes(&mut self.wakes);
@@ -128,7 +132,8 @@ impl Access {
     /// Gives the lock back as `put` does, after the replay cache was read: the round has the words that it had.
     pub fn put_cache(&mut self, rt: &impl Wait, guarded: Guarded<Box<Shared>>)
         requires round { (old : SharedSeen) × (self.old.held ≡ Some old) × Does old (round.Cache (Ok guarded.state.value.sequencer.cache)) guarded.state.value }
-        ensures given { self.new ≡ record self.old { held = None; rounds = self.old.rounds ++ round.Cache (Ok guarded.state.value.sequencer.cache) ∷ [] } }
+        ensures given { self.new ≡ left_with (round.Cache (Ok guarded.state.value.sequencer.cache)) guarded.state.value self.old }
+        ensures left { Left (round.Cache (Ok guarded.state.value.sequencer.cache)) self.old self.new }
     {
         let mut guarded = guarded;
         guarded.state.change_wakes(&mut self.wakes);
@@ -140,7 +145,7 @@ impl Access {
 // Puts it under a lock, whose first owner has made no call.
 fn locked(alloc: Global, state: Box<Shared>) -> Result<Lock<Box<Shared>, Round>, AllocError>
     requires { IsNew state.value }
-    ensures { IfOk result (λ lock. reach_of (λ s. s.value) lock ≡ record { lock = lock.place; flow = Some state.value.name; held = None; rounds = [] }) }
+    ensures { IfOk result (λ lock. reach_of (λ s. s.value) lock ≡ record { lock = lock.place; flow = Some state.value.name; held = None; pass = lock.pass; rounds = []; seen = [] }) }
 {
     Lock::new(alloc, state)
 }

@@ -7,7 +7,8 @@ ghost use Rattle.futures.specs.Poll.{IfReady, OnPending};
 ghost use Rattle.futures.specs.Task.{IsArmed, Keeps};
 ghost use Rattle.shared_flow.specs.declared.round.Round.TheVariants as round;
 ghost use Rattle.shared_flow.specs.Reach.{party_of};
-ghost use Rattle.shared_flow.specs.Rounds.{IsAfter, poll_round, withdraw_round};
+ghost use Rattle.shared_flow.specs.Entering.{Made};
+ghost use Rattle.shared_flow.specs.Rounds.{IsAfter, numbers_begun, numbers_tried, poll_round, withdraw_round};
 ghost use Rattle.shared_flow.specs.Emitters.{emission_by, after_try, after_start, WasStarted, WasFinished, Waits, WasLeft, WasGivenUp};
 ghost use Rattle.shared_flow.specs.Emitters.{Emits, EndsAs, IfEmitted, Waited, begun_with};
 ghost use Rattle.shared_flow.specs.Parties.{IsSameEmitter, Emitting, IsItsReceipt, IsOwnReceipt, IfTried, IfBegun};
@@ -28,7 +29,8 @@ use std::sync::Wait;
 /// One that emits into a shared flow, one emission after another: a coroutine that calls Kotlin's `emit` and `tryEmit`.
 ///
 /// It has no `Drop` and must be spent, by `close`. Lend it to a thread by `&mut`, and spend it after the join. Contracts see its
-/// flow, the rounds that it made under the lock, its id, the ticket of its emission in flight, and the number of its last receipt.
+/// flow, the rounds that it made under the lock, the one list of rounds as far as it has seen it, its id, the ticket of its emission
+/// in flight, and the number of its last receipt.
 pub struct Emitter<T: Word> {
     access: Access,
     id: u32,
@@ -73,7 +75,8 @@ impl<T: Word> Emitter<T> {
     /// `Full` where the emission would have to wait. Refused as `Spent` where the numbers below 2^62 are used up.
     pub fn try_emit(&mut self, rt: &impl Wait, value: T) -> Result<Tried<Receipt>, Refusal>
         requires idle { self.old.ticket ≡ None }
-        ensures round { self.new ≡ after_try self.old (emission_by self.old (T.word value)) result }
+        ensures round { self.new ≡ after_try self.old (emission_by self.old (T.word value)) result self.new.party.seen }
+        ensures made { Made (round.Try (emission_by self.old (T.word value)) (numbers_tried result)) self.old.party self.new.party }
         ensures receipt { IfTried result (IsItsReceipt self.old.party (emission_by self.old (T.word value))) }
         ensures rises { IfTried result (λ receipt. IsAfter self.old.last receipt.number) }
         ensures refused { IfErr result (λ refusal. refusal ≡ Spent) }
@@ -122,7 +125,8 @@ impl<T: Word> Emitter<T> {
     // The same, with the ticket.
     fn begin(&mut self, rt: &impl Wait, value: T) -> Result<Begun<Receipt, Ticket>, Refusal>
         requires idle { self.old.ticket ≡ None }
-        ensures round { self.new ≡ after_start self.old (emission_by self.old (T.word value)) result }
+        ensures round { self.new ≡ after_start self.old (emission_by self.old (T.word value)) result self.new.party.seen }
+        ensures made { Made (round.Start (emission_by self.old (T.word value)) (numbers_begun result)) self.old.party self.new.party }
         ensures receipt { IfBegun result (IsItsReceipt self.old.party (emission_by self.old (T.word value))) }
         ensures rises { IfBegun result (λ receipt. IsAfter self.old.last receipt.number) }
         ensures refused { IfErr result (λ refusal. (refusal ≡ Spent) ⊎ (refusal ≡ EmitsFull)) }

@@ -4,6 +4,7 @@ ghost use Rattle.flow_terms.specs.declared.refusal.Refusal.TheVariants.{Spent, S
 ghost use Rattle.shared_core.specs.Kept.{making_refusal};
 ghost use Rattle.shared_flow.specs.declared.round.Round.TheVariants as round;
 ghost use Rattle.shared_flow.specs.Names.{IsMadeWith};
+ghost use Rattle.shared_flow.specs.Entering.{Made};
 ghost use Rattle.shared_flow.specs.Parties.{with_round, newcomer_of};
 ghost use Rattle.shared_flow.specs.Owners.{at_rest, IsLeftOut, AddsCache};
 ghost use Rattle.shared_flow.specs.Looks.{WasLetInto};
@@ -29,8 +30,8 @@ pub use held::{Held, Kept};
 /// the last owner, emitter or subscription.
 ///
 /// Contracts see the flow, which its owners, emitters and subscriptions have in common, and the rounds of this owner: the calls that
-/// it made under the lock, with their answers. All rounds of a flow are one history, and each owner's are its part of it. They see
-/// too what it found under the lock, while a [`Held`] keeps that.
+/// it made under the lock, with their answers. All rounds of a flow are one list, and each owner's are its part of it; contracts see
+/// that list as far as this owner has seen it. They see too what it found under the lock, while a [`Held`] keeps that.
 #[derive(Drop)]
 pub struct SharedFlow<T: Word> {
     access: Access,
@@ -56,7 +57,7 @@ impl<T: Word> SharedFlow<T> {
         ensures refused { IfSome (making_refusal config) (λ refusal. result ≡ Err refusal) }
         ensures made { IfNone (making_refusal config) (IsOkUnless result Refusal.NoMemory) }
         ensures config { IfOk result (λ flow. IsMadeWith config flow.party.flow) }
-        ensures rounds { IfOk result (λ flow. (flow ≡ at_rest flow.party) × (flow.party.rounds ≡ [])) }
+        ensures rounds { IfOk result (λ flow. (flow ≡ at_rest flow.party) × (flow.party.rounds ≡ []) × (flow.party.seen ≡ [])) }
     {
         let shared = Shared::new(alloc, config)?;
         let access = Access::new(alloc, config, shared)?;
@@ -66,9 +67,10 @@ impl<T: Word> SharedFlow<T> {
         })
     }
 
-    /// Another owner of the same flow, which has made no call: in Kotlin, a second reference to it. Refused as `NoMemory`.
+    /// Another owner of the same flow, which has made no call and has seen as much: in Kotlin, a second reference to it. Refused as
+    /// `NoMemory`.
     pub fn dup(&mut self, rt: &impl Wait) -> Result<SharedFlow<T>, Refusal>
-        ensures other { IfOk result (λ other. other ≡ at_rest (newcomer_of self.old.party)) }
+        ensures other { IfOk result (λ other. other ≡ at_rest (newcomer_of other.party.pass self.old.party)) }
         ensures memory { IsOkUnless result Refusal.NoMemory }
         ensures same { self.new ≡ self.old }
     {
@@ -83,7 +85,7 @@ impl<T: Word> SharedFlow<T> {
     ///
     /// Two emitters with one id are one emitter in the flow.
     pub fn emitter(&mut self, rt: &impl Wait, id: u32) -> Result<Emitter<T>, Refusal>
-        ensures flow { IfOk result (λ emitter. emitter.party ≡ newcomer_of self.old.party) }
+        ensures flow { IfOk result (λ emitter. emitter.party ≡ newcomer_of emitter.party.pass self.old.party) }
         ensures id { IfOk result (λ emitter. emitter.id ≡ id) }
         ensures idle { IfOk result (λ emitter. emitter.ticket ≡ None) }
         ensures memory { IsOkUnless result Refusal.NoMemory }
@@ -98,8 +100,9 @@ impl<T: Word> SharedFlow<T> {
     /// Refused as `NoMemory`, then as `Spent` where the numbers of subscriptions below 2^62 are used up, then as
     /// `SubscribersFull` where `subscribers` are live.
     pub fn subscribe(&mut self, rt: &impl Wait) -> Result<Subscription<T>, Refusal>
-        ensures flow { IfOk result (λ subscription. subscription.party ≡ newcomer_of self.old.party) }
-        ensures round { IfOk result (λ subscription. self.new ≡ at_rest (with_round (round.Subscribe (Ok subscription.number)) self.old.party)) }
+        ensures flow { IfOk result (λ subscription. subscription.party ≡ newcomer_of subscription.party.pass self.old.party) }
+        ensures round { IfOk result (λ subscription. self.new ≡ at_rest (with_round (round.Subscribe (Ok subscription.number)) self.new.party.seen self.old.party)) }
+        ensures made { IfOk result (λ subscription. Made (round.Subscribe (Ok subscription.number)) self.old.party self.new.party) }
         ensures prelude { IfOk result (λ subscription. subscription.rest ≡ []) }
         ensures begins { IfOk result (λ subscription. WasLetInto self.old.party.flow subscription.number subscription.reader) }
         ensures refused { IfErr result (λ refusal. (refusal ≡ NoMemory) ⊎ IsAtLimit refusal) }
@@ -116,8 +119,9 @@ impl<T: Word> SharedFlow<T> {
         prelude: Prelude<T>,
     ) -> Result<Subscription<T>, Refusal>
         ensures prelude { IfOk result (λ subscription. subscription.rest ≡ prelude_values prelude) }
-        ensures flow { IfOk result (λ subscription. subscription.party ≡ newcomer_of self.old.party) }
-        ensures round { IfOk result (λ subscription. self.new ≡ at_rest (with_round (round.Subscribe (Ok subscription.number)) self.old.party)) }
+        ensures flow { IfOk result (λ subscription. subscription.party ≡ newcomer_of subscription.party.pass self.old.party) }
+        ensures round { IfOk result (λ subscription. self.new ≡ at_rest (with_round (round.Subscribe (Ok subscription.number)) self.new.party.seen self.old.party)) }
+        ensures made { IfOk result (λ subscription. Made (round.Subscribe (Ok subscription.number)) self.old.party self.new.party) }
         ensures begins { IfOk result (λ subscription. WasLetInto self.old.party.flow subscription.number subscription.reader) }
         ensures refused { IfErr result (λ refusal. (refusal ≡ NoMemory) ⊎ IsAtLimit refusal) }
         ensures kept { IfErr result (λ refusal. IsLeftOut self.old refusal self.new) }
@@ -140,7 +144,8 @@ impl<T: Word> SharedFlow<T> {
 
     /// Empties the replay cache: Kotlin's `resetReplayCache`. Live subscriptions keep what they have pending.
     pub fn reset_replay(&mut self, rt: &impl Wait)
-        ensures { self.new ≡ at_rest (with_round round.Reset self.old.party) }
+        ensures round { self.new ≡ at_rest (with_round round.Reset self.new.party.seen self.old.party) }
+        ensures made { Made round.Reset self.old.party self.new.party }
     {
         let mut guarded = self.access.take(rt);
         guarded.state.reset_replay();
@@ -153,7 +158,8 @@ impl<T: Word> SharedFlow<T> {
         ensures memory { IsOkUnless result Refusal.NoMemory }
         ensures ok { OnOk result (AddsCache T.read_as self.old out.old.items self.new out.new.items) }
         ensures err { OnErr result (out.new.items ≡ out.old.items) }
-        ensures unread { OnErr result (self.new ≡ at_rest (with_round (round.Cache (Err NoMemory)) self.old.party)) }
+        ensures unread { OnErr result (self.new ≡ at_rest (with_round (round.Cache (Err NoMemory)) self.new.party.seen self.old.party)) }
+        ensures unmade { OnErr result (Made (round.Cache (Err NoMemory)) self.old.party self.new.party) }
     {
         let mut guarded = self.access.take(rt);
         match guarded.state.replay_cache_into(out) {
@@ -170,7 +176,8 @@ impl<T: Word> SharedFlow<T> {
 
     /// How many subscriptions were live while the lock was held: Kotlin's `subscriptionCount`, as a plain number.
     pub fn subscription_count(&mut self, rt: &impl Wait) -> u32
-        ensures { self.new ≡ at_rest (with_round (round.Count result) self.old.party) }
+        ensures round { self.new ≡ at_rest (with_round (round.Count result) self.new.party.seen self.old.party) }
+        ensures made { Made (round.Count result) self.old.party self.new.party }
     {
         let mut guarded = self.access.take(rt);
         let count = guarded.state.subscription_count();

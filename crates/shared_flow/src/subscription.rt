@@ -6,7 +6,8 @@ ghost use Rattle.lane_steps.specs.Law.{Begins};
 ghost use Rattle.shared_lane.specs.Readers.{IsReaderOf, IsReceiptOf, IsSameReader, at, received_count, lost_count};
 ghost use Rattle.shared_flow.specs.declared.round.Round.TheVariants as round;
 ghost use Rattle.shared_flow.specs.Reach.{party_of};
-ghost use Rattle.shared_flow.specs.Parties.{Subscribed, OfFlow, with_round};
+ghost use Rattle.shared_flow.specs.Entering.{Made};
+ghost use Rattle.shared_flow.specs.Parties.{Subscribed, OfFlow};
 ghost use Rattle.shared_flow.specs.Looks.{Took, Gave, GaveIn, Missed, MissedTwice, MissedOn, OnlyNext, Waited};
 ghost use Rattle.shared_core.specs.Preludes.{prelude_values};
 ghost use Rattle.shared_flow.specs.Preludes.{IsGreeted, IsPast, GreetedOr, TookFirst};
@@ -30,8 +31,8 @@ use std::sync::Wait;
 /// A subscription of a shared flow: what runs inside Kotlin's `collect`. It never completes.
 ///
 /// It has no `Drop` and must be spent, by `cancel`: until then it takes a place, and under `Suspend` it holds up emitters. Lend it
-/// to a thread by `&mut`, and spend it after the join. Contracts see its flow, the rounds that it made under the lock, its number,
-/// what is left of its prelude, and its reader.
+/// to a thread by `&mut`, and spend it after the join. Contracts see its flow, the rounds that it made under the lock, the one list of
+/// rounds as far as it has seen it, its number, what is left of its prelude, and its reader.
 pub struct Subscription<T: Word> {
     access: Access,
     // Given first, and by nobody but this subscription: no lock, and no word of the lane.
@@ -122,8 +123,8 @@ impl<T: Word> Subscription<T> {
     /// It looks twice: first without the lock, and where that gives no value once more with it. A value that is there costs no lock,
     /// unless an emission waits that the receipt may help.
     pub fn poll_next(&mut self, rt: &impl Wait, cx: &mut Context<'_>) -> Poll<T>
-        ensures round { OnPending result (self.new.party ≡ with_round round.Next self.old.party) }
-        ensures rounds { (self.new.party ≡ self.old.party) ⊎ (self.new.party ≡ with_round round.Next self.old.party) }
+        ensures round { OnPending result (Made round.Next self.old.party self.new.party) }
+        ensures rounds { (self.new.party ≡ self.old.party) ⊎ Made round.Next self.old.party self.new.party }
         ensures same { self.new.number ≡ self.old.number }
         ensures ready { IfReady result (λ v. GreetedOr self.old v self.new (GaveIn T.read_as self.old.reader v self.new.reader)) }
         ensures pending { OnPending result (IsPast self.old self.new × MissedTwice self.old.reader self.new.reader) }
@@ -138,8 +139,8 @@ impl<T: Word> Subscription<T> {
 
     // A poll for the next value that was accepted.
     fn poll_accepted(&mut self, rt: &impl Wait, cx: &mut Context<'_>) -> Poll<T>
-        ensures round { OnPending result (self.new.party ≡ with_round round.Next self.old.party) }
-        ensures rounds { (self.new.party ≡ self.old.party) ⊎ (self.new.party ≡ with_round round.Next self.old.party) }
+        ensures round { OnPending result (Made round.Next self.old.party self.new.party) }
+        ensures rounds { (self.new.party ≡ self.old.party) ⊎ Made round.Next self.old.party self.new.party }
         ensures same { (self.new.number ≡ self.old.number) × (self.new.rest ≡ self.old.rest) }
         ensures ready { IfReady result (λ v. GaveIn T.read_as self.old.reader v self.new.reader) }
         ensures pending { OnPending result (MissedTwice self.old.reader self.new.reader) }
@@ -210,7 +211,7 @@ impl<T: Word> Subscription<T> {
     // Looks some times more before the thread sleeps. A value that another thread is about to accept is there sooner than a thread
     // that sleeps has been woken for it.
     fn look_on(&mut self, rt: &impl Wait) -> Option<T>
-        ensures rounds { (self.new.party ≡ self.old.party) ⊎ (self.new.party ≡ with_round round.Next self.old.party) }
+        ensures rounds { (self.new.party ≡ self.old.party) ⊎ Made round.Next self.old.party self.new.party }
         ensures same { (self.new.number ≡ self.old.number) × (self.new.rest ≡ self.old.rest) }
         ensures given { IfSome result (λ v. Waited T.read_as self.old.reader v self.new.reader) }
         ensures missed { IfNone result ((self.new.party ≡ self.old.party) × MissedOn self.old.reader self.new.reader) }
@@ -227,7 +228,7 @@ impl<T: Word> Subscription<T> {
     // Looks for a value without the lock: each look that comes before a subscription sleeps is made here. It takes the lock where
     // an emission waits that the receipt may help, which nobody else may ever do.
     fn look(&mut self, rt: &impl Wait) -> Option<T>
-        ensures rounds { (self.new.party ≡ self.old.party) ⊎ (self.new.party ≡ with_round round.Next self.old.party) }
+        ensures rounds { (self.new.party ≡ self.old.party) ⊎ Made round.Next self.old.party self.new.party }
         ensures same { (self.new.number ≡ self.old.number) × (self.new.rest ≡ self.old.rest) }
         ensures given { IfSome result (λ v. Gave T.read_as self.old.reader v self.new.reader) }
         ensures missed { IfNone result ((self.new.party ≡ self.old.party) × Missed self.old.reader self.new.reader) }
@@ -245,7 +246,8 @@ impl<T: Word> Subscription<T> {
     // receipt that takes no lock then saves no registers for them.
     #[inline(never)]
     fn make_room(&mut self, rt: &impl Wait)
-        ensures { self.new ≡ record self.old { party = with_round round.Next self.old.party } }
+        ensures made { Made round.Next self.old.party self.new.party }
+        ensures same { self.new ≡ record self.old { party = self.new.party } }
     {
         let mut guarded = self.access.take(rt);
         guarded.state.make_room();
@@ -255,7 +257,7 @@ impl<T: Word> Subscription<T> {
     // Looks for a value with the lock held. Without one the task sleeps.
     #[inline(never)]
     fn look_again(&mut self, rt: &impl Wait, cx: &mut Context<'_>) -> Poll<T>
-        ensures round { self.new.party ≡ with_round round.Next self.old.party }
+        ensures round { Made round.Next self.old.party self.new.party }
         ensures same { (self.new.number ≡ self.old.number) × (self.new.rest ≡ self.old.rest) }
         ensures ready { IfReady result (λ v. Gave T.read_as self.old.reader v self.new.reader) }
         ensures pending { OnPending result (Missed self.old.reader self.new.reader) }

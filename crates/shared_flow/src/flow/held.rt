@@ -3,6 +3,8 @@ ghost use Rattle.std.specs.Prelude.{◌≡◌, ◌<◌, ℕ, Some, length, slice
 ghost use Rattle.shared_lane.specs.Caches.{IsLastOf};
 ghost use Rattle.shared_lane.specs.Sequencers.{seen};
 ghost use Rattle.shared_flow.specs.declared.round.Round.TheVariants as round;
+ghost use Rattle.lane_steps.specs.Law.{Begins};
+ghost use Rattle.shared_flow.specs.Entering.{Made};
 ghost use Rattle.shared_flow.specs.Parties.{with_round};
 ghost use Rattle.shared_flow.specs.Owners.{KeepsLock, IsKept, at_rest};
 ghost use Rattle.shared_flow.specs.Meeting.{HasMet};
@@ -45,7 +47,8 @@ impl<T: Word> SharedFlow<T> {
     /// Takes the lock and keeps it, with what waits let in and the live subscriptions counted.
     pub fn hold(&mut self, rt: &impl Wait) -> Held<'_, T>
         ensures same_reference { result.flow.ghost_name ≡ self.entry.ghost_name }
-        ensures party { result.flow.now.party ≡ self.old.party }
+        ensures party { result.flow.now.party ≡ record self.old.party { seen = result.flow.now.party.seen } }
+        ensures seen { Begins result.flow.now.party.seen self.old.party.seen }
         ensures held { KeepsLock result.flow.now result.kept }
     {
         let mut guarded = self.access.take(rt);
@@ -100,7 +103,8 @@ impl<T: Word> Held<'_, T> {
     /// Gives the lock back, and then wakes those that were helped when it was taken.
     pub fn release(self, rt: &impl Wait)
         requires held { KeepsLock self.flow.now self.kept }
-        ensures { self.exit.0.now ≡ at_rest (with_round (round.Hold self.entry.kept.count) self.entry.flow.now.party) }
+        ensures round { self.exit.0.now ≡ at_rest (with_round (round.Hold self.entry.kept.count) self.exit.0.now.party.seen self.entry.flow.now.party) }
+        ensures made { Made (round.Hold self.entry.kept.count) self.entry.flow.now.party self.exit.0.now.party }
     {
         let Held { flow, kept } = self;
         let Kept { guarded, count } = kept;

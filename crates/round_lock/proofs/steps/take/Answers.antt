@@ -9,6 +9,7 @@ pub swap-requires : goal.swap-requires
 swap-requires g c = let at = c.requires.at in let seat = c.loop.seat in (
   c.loop.invariant.0 ∙ at.same,
   omega (arith, at.words),
-  subst (λ n. Allows (OneLock g.S.Called.first g.S.Called.step) n seat.id seat.me 0 (λ _. 2) (Took g.S.Called.first g.S.Called.step (step c.args.place.now.shared.table_id.slots 0 2 0 none) seat.me)) (sym at.slots)
-      (acquires g.S.Called.first g.S.Called.step (step c.args.place.now.shared.table_id.slots 0 2 0 none) _ _ (λ _. 2) (subst (λ m. m.1 ≡ carried m.0.held) (sym c.loop.invariant.1) at.carries) (subst (λ m. m.0.made ≢ None) (sym c.loop.invariant.1) at.begun) (wanted 2 refl) (λ n ne. wanted 2 refl)),
+  subst (λ n. Allows (OneLock g.S.Called.first g.S.Called.step) n seat.id seat.me 0 (λ _. 2) (Took g.S.Called.first g.S.Called.step g.N.Numbered.number (step c.args.place.now.shared.table_id.slots 0 2 0 none) seat.me)) (sym at.slots)
+      (subst (λ i. Allows (OneLock g.S.Called.first g.S.Called.step) 1 seat.id seat.me 0 (λ _. 2) (Took g.S.Called.first g.S.Called.step i (step c.args.place.now.shared.table_id.slots 0 2 0 none) seat.me)) (c.loop.invariant.2 ∙ sym c.requires.number)
+      (acquires g.S.Called.first g.S.Called.step (step c.args.place.now.shared.table_id.slots 0 2 0 none) seat.id _ (λ _. 2) (subst (λ m. m.1 ≡ carried m.0.held) (sym c.loop.invariant.1) at.carries) (subst (λ m. m.0.made ≢ None) (sym c.loop.invariant.1) at.begun) (wanted 2 refl) (λ n ne. wanted 2 refl))),
 )

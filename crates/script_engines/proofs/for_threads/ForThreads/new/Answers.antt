@@ -28,7 +28,7 @@ returns g c =
       (
         subst (λ (o : Owning). IsMadeWith c.args.config o.party.flow) same c.in_ok-flow.ensures.config,
         fresh flow (subscribing_of c.new-2.result) c.in_ok-flow.ensures.rounds.0 c.in_ok-flow.ensures.rounds.1 made,
-        (c.in_ok-emitter.ensures.flow ∙ ap (λ (o : Owning). newcomer_of o.party) same, c.in_ok-emitter.ensures.id, c.in_ok-emitter.ensures.idle),
+        (c.in_ok-emitter.ensures.flow ∙ ap (λ (o : Owning). newcomer_of c.in_ok-emitter.emitter.party.pass o.party) same, c.in_ok-emitter.ensures.id, c.in_ok-emitter.ensures.idle),
         c.new-3.ensures.items,
       ),
     )

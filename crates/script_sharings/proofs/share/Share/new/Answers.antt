@@ -21,7 +21,7 @@ returns-in_err-sharing-clause-made g c =
 pub returns-clause-made : goal.returns-clause-made
 returns-clause-made g c = (
   no_reason (making_refusal c.args.config) c.in_ok-flow.flow c.in_ok-flow.ensures.refused,
-  subst (λ (o : Owning). IsMadeWith c.args.config o.party.flow × (o ≡ at_rest (newcomer_of o.party))) (sym c.in_ok-sharing.ensures.same)
+  subst (λ (o : Owning). IsMadeWith c.args.config o.party.flow × (o ≡ at_rest (newcomer_of o.party.pass o.party))) (sym c.in_ok-sharing.ensures.same)
       (c.in_ok-flow.ensures.config, is_newcomer c.in_ok-flow.flow c.in_ok-flow.ensures.rounds.0 c.in_ok-flow.ensures.rounds.1),
 )
 

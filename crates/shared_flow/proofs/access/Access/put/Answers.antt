@@ -1,9 +1,23 @@
 use Rattle.std.proofs.Common.{sym, ap, subst, ◌∙◌}
+use Rattle.shared_flow.specs.Entering.{left_with}
 use Rattle.shared_flow.specs.Names.{SharedSeen}
-use Rattle.shared_flow.specs.Reach.{Reach}
+use Rattle.shared_flow.specs.Reach.{Reach, reach_of}
 use Rattle.shared_flow.specs.Rounds.{Does}
+use Rattle.shared_flow.proofs.Boxes.{gave_back}
 use Rattle.shared_flow.proofs.Reaching.{seen_is}
 use Rattle.shared_flow.proofs.access.Access.put.Goals as goal
+
+pub returns-clause-given : goal.returns-clause-given
+returns-clause-given g c =
+    let lock = c.self.inside.lock in
+    gave_back (λ s. s.value) lock c.put.new.self c.args.round _ c.put.ensures.given
+    ∙ ap (λ (s : SharedSeen). left_with c.args.round s (reach_of (λ s. s.value) lock)) (c.change_wakes.ensures ∙ c.deref_mut.ensures.value)
+    ∙ ap (left_with c.args.round c.args.guarded.state.value) c.self.view_is
+
+pub returns-clause-left : goal.returns-clause-left
+returns-clause-left g c =
+    let asked = c.requires.round in
+    record { found = asked.0; left = c.args.guarded.state.value; held = asked.1; does = asked.2; after = returns-clause-given g c }
 
 pub put-requires : goal.put-requires
 put-requires g c =

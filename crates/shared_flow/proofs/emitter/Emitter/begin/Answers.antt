@@ -3,10 +3,13 @@ use Rattle.shared_lane.specs.Sequencers.{next}
 use Rattle.shared_flow.specs.declared.round.Emission.{Emission}
 use Rattle.shared_flow.specs.declared.round.Round.TheVariants as round
 use Rattle.shared_flow.specs.Names.{SharedSeen}
-use Rattle.shared_flow.specs.Reach.{Reach}
+use Rattle.shared_flow.specs.Emitters.{emission_by}
+use Rattle.shared_flow.specs.Entering.{Made}
+use Rattle.shared_flow.specs.Reach.{Reach, party_of}
 use Rattle.shared_flow.specs.Rounds.{IsAfter, Does, numbers_begun}
 use Rattle.shared_flow.specs.Parties.{Emitting, IfBegun, WasAnswered}
 use Rattle.shared_flow.proofs.Rising.{after_start, start_rises}
+use Rattle.shared_flow.proofs.Making.{made}
 use Rattle.shared_flow.proofs.emitter.Emitter.begin.Goals as goal
 
 pub returns-clause-rises : goal.returns-clause-rises
@@ -32,3 +35,11 @@ put-requires g c =
     let emission : Emission = record { emitter = c.self.inside.id; word = c.to_word.result } in
     let did = subst (λ (s : SharedSeen). Does s (round.Start emission (numbers_begun c.start_emit-begun.result)) new) c.deref_mut.ensures.value c.start_emit-begun.ensures.does in
     record { round = (found, ap (λ (r : Reach). r.held) c.take-guarded.ensures.taken, subst (λ a. Does found (round.Start emission a) new) (sym c.number_begun-answer.ensures) did) }
+
+pub returns-clause-made : goal.returns-clause-made
+returns-clause-made g c =
+    let emission : Emission = record { emitter = c.self.inside.id; word = c.to_word.result } in
+    let it = made (round.Start emission c.number_begun-answer.result) c.self.inside.access c.take-guarded.new.self c.put.new.self c.take-guarded.result.state.value c.take-guarded.ensures.taken c.take-guarded.ensures.found c.put.ensures.left in
+    let answered = subst (λ a. Made (round.Start emission a) (party_of c.self.inside.access) (party_of c.put.new.self)) c.number_begun-answer.ensures it in
+    let worded = subst (λ word. Made (round.Start (record { emitter = c.self.inside.id; word = word }) (numbers_begun c.start_emit-begun.result)) (party_of c.self.inside.access) (party_of c.put.new.self)) c.to_word.ensures.word answered in
+    subst (λ (e : Emitting). Made (round.Start (emission_by e (g.T.Word.word c.args.value)) (numbers_begun c.start_emit-begun.result)) e.party (party_of c.put.new.self)) c.self.view_is worded

@@ -1,12 +1,16 @@
 use Rattle.shared_flow.specs.Names.{SharedSeen}
-use Rattle.std.proofs.Common.{◌≡◌, ◌+◌, ◌++◌, ◌∷◌, [], Some, IfSome, sym, ap, subst, ◌∙◌, None}
+use Rattle.std.proofs.Common.{rules, ◌≡◌, ◌+◌, ◌++◌, ◌∷◌, [], Some, IfSome, sym, ap, subst, ◌∙◌}
 use Rattle.flow_terms.specs.declared.answers.Withdrawn.TheVariants as withdrawn
 use Rattle.shared_flow.specs.declared.round.Round.{Round}
 use Rattle.shared_flow.specs.declared.round.Round.TheVariants as round
-use Rattle.shared_flow.specs.Reach.{Reach}
+use Rattle.std.proofs.lemmas.Option.{same_Some}
+use Rattle.shared_flow.specs.Entering.{Made}
+use Rattle.shared_flow.specs.Reach.{Reach, party_of}
 use Rattle.shared_flow.specs.Rounds.{IsReceiptAfter, after_number, Does, withdraw_round}
-use Rattle.shared_flow.specs.Parties.{WasAnswered}
+use Rattle.shared_flow.specs.Parties.{Emitting, WasAnswered}
 use Rattle.shared_flow.proofs.Rising.{answered_on, answered_last}
+use Rattle.shared_flow.proofs.Making.{made}
+use Rattle.shared_flow.proofs.Waiting.{unless_left}
 use Rattle.shared_flow.proofs.emitter.Emitter.cancel_emit.Goals as goal
 
 pub invariant_of-self : goal.invariant_of-self
@@ -40,3 +44,24 @@ put-requires-2 g c =
     let done = subst (λ receipt. IfSome receipt (λ r. (c.cancel_emit-withdrawn.result.withdrawn ≡ withdrawn.Left r.number) × IsReceiptAfter c.deref_mut.result.now.name.lane c.self.inside.id c.self.inside.last r)) c.in-Some-receipt.is c.cancel_emit-withdrawn.ensures.receipt in
     let at = subst (λ x. Does found (withdraw_round c.in-Some.ticket c.self.inside.id c.self.inside.last x (Some c.in-Some-receipt.receipt)) new) done.0 given_some in
     record { round = (found, ap (λ (r : Reach). r.held) c.take-guarded.ensures.taken, subst (λ x. Does found (round.Withdraw c.in-Some.ticket x) new) (sym done.0) at) }
+
+pub returns-in_default-receipt-clause-removed : goal.returns-in_default-receipt-clause-removed
+returns-in_default-receipt-clause-removed g c = λ ticket is.
+    let same : c.in-Some.ticket ≡ ticket = same_Some _ _ (sym c.in-Some.is ∙ (ap (λ (e : Emitting). e.ticket) c.self.view_is ∙ is)) in
+    rw (← same) (unless_left c.unless_left.result (
+      c.cancel_emit-withdrawn.result.withdrawn,
+      c.unless_left.ensures,
+      search rules,
+      rw (← c.self.view_is, ← c.withdrawn_without_receipt-round.ensures)
+          (made c.withdrawn_without_receipt-round.result c.self.inside.access c.take-guarded.new.self c.put.new.self c.take-guarded.result.state.value c.take-guarded.ensures.taken c.take-guarded.ensures.found c.put.ensures.left),
+    ))
+
+pub returns-clause-left : goal.returns-clause-left
+returns-clause-left g c =
+    let done = subst (λ receipt. IfSome receipt (λ r. (c.cancel_emit-withdrawn.result.withdrawn ≡ withdrawn.Left r.number) × IsReceiptAfter c.deref_mut.result.now.name.lane c.self.inside.id c.self.inside.last r)) c.in-Some-receipt.is c.cancel_emit-withdrawn.ensures.receipt in (
+      c.in-Some.ticket,
+      search rules,
+      search rules,
+      rw (← c.self.view_is) (subst (λ w. Made (round.Withdraw c.in-Some.ticket w) (party_of c.self.inside.access) (party_of c.put-2.new.self)) done.0
+          (made (round.Withdraw c.in-Some.ticket c.cancel_emit-withdrawn.result.withdrawn) c.self.inside.access c.take-guarded.new.self c.put-2.new.self c.take-guarded.result.state.value c.take-guarded.ensures.taken c.take-guarded.ensures.found c.put-2.ensures.left)),
+    )

@@ -3,10 +3,12 @@ use Rattle.std.proofs.Common.{rules, ◌≡◌, ◌+◌, ◌++◌, ◌∷◌, []
 use Rattle.flow_terms.specs.declared.answers.Emit.TheVariants as emit
 use Rattle.shared_flow.specs.declared.round.Round.{Round}
 use Rattle.shared_flow.specs.declared.round.Round.TheVariants as round
-use Rattle.shared_flow.specs.Reach.{Reach}
+use Rattle.shared_flow.specs.Entering.{Made}
+use Rattle.shared_flow.specs.Reach.{Reach, party_of}
 use Rattle.shared_flow.specs.Rounds.{IsReceiptAfter, after_number, Does, poll_round}
 use Rattle.shared_flow.specs.Parties.{WasAnswered}
 use Rattle.shared_flow.proofs.Rising.{answered_on, answered_last}
+use Rattle.shared_flow.proofs.Making.{made}
 use Rattle.shared_flow.proofs.emitter.Emitter.poll_emit.Goals as goal
 
 pub invariant_of-self : goal.invariant_of-self
@@ -16,7 +18,24 @@ invariant_of-self g c =
     (ap (λ (r : Reach). r.held) c.put.ensures.given, subst (WasAnswered c.self.inside.last) (sym grew) (answered_on c.self.inside.last c.self.inside.access.rounds made c.self.invariant.1))
 
 pub returns-in_default-receipt-clause-pending : goal.returns-in_default-receipt-clause-pending
-returns-in_default-receipt-clause-pending g c = (c.in-Some.ticket, c.poll_emit-emit.result.emit, search rules, search rules)
+returns-in_default-receipt-clause-pending g c = (
+  c.in-Some.ticket,
+  c.poll_emit-emit.result.emit,
+  search rules,
+  search rules,
+  rw (← c.self.view_is, ← c.polled_without_receipt-round.ensures)
+      (made c.polled_without_receipt-round.result c.self.inside.access c.take-guarded.new.self c.put.new.self c.take-guarded.result.state.value c.take-guarded.ensures.taken c.take-guarded.ensures.found c.put.ensures.left),
+)
+
+pub returns-clause-ready : goal.returns-clause-ready
+returns-clause-ready g c =
+    let done = subst (λ receipt. IfSome receipt (λ r. (c.poll_emit-emit.result.emit ≡ emit.Done r.number) × IsReceiptAfter c.deref_mut.result.now.name.lane c.self.inside.id c.self.inside.last r)) c.in-Some-receipt.is c.poll_emit-emit.ensures.receipt in (
+      c.in-Some.ticket,
+      search rules,
+      search rules,
+      rw (← c.self.view_is) (subst (λ e. Made (round.Poll c.in-Some.ticket e) (party_of c.self.inside.access) (party_of c.put-2.new.self)) done.0
+          (made (round.Poll c.in-Some.ticket c.poll_emit-emit.result.emit) c.self.inside.access c.take-guarded.new.self c.put-2.new.self c.take-guarded.result.state.value c.take-guarded.ensures.taken c.take-guarded.ensures.found c.put-2.ensures.left)),
+    )
 
 pub invariant_of-self-2 : goal.invariant_of-self-2
 invariant_of-self-2 g c =

@@ -3,10 +3,13 @@ use Rattle.shared_lane.specs.Sequencers.{next}
 use Rattle.shared_flow.specs.declared.round.Emission.{Emission}
 use Rattle.shared_flow.specs.declared.round.Round.TheVariants as round
 use Rattle.shared_flow.specs.Names.{SharedSeen}
-use Rattle.shared_flow.specs.Reach.{Reach}
+use Rattle.shared_flow.specs.Emitters.{emission_by}
+use Rattle.shared_flow.specs.Entering.{Made}
+use Rattle.shared_flow.specs.Reach.{Reach, party_of}
 use Rattle.shared_flow.specs.Rounds.{IsAfter, Does, numbers_tried}
 use Rattle.shared_flow.specs.Parties.{Emitting, IfTried, WasAnswered}
 use Rattle.shared_flow.proofs.Rising.{after_try, try_rises}
+use Rattle.shared_flow.proofs.Making.{made}
 use Rattle.shared_flow.proofs.emitter.Emitter.try_emit.Goals as goal
 
 pub returns-clause-rises : goal.returns-clause-rises
@@ -32,3 +35,11 @@ put-requires g c =
     let emission : Emission = record { emitter = c.self.inside.id; word = c.to_word.result } in
     let did = subst (λ (s : SharedSeen). Does s (round.Try emission (numbers_tried c.try_emit-tried.result)) new) c.deref_mut.ensures.value c.try_emit-tried.ensures.does in
     record { round = (found, ap (λ (r : Reach). r.held) c.take-guarded.ensures.taken, subst (λ a. Does found (round.Try emission a) new) (sym c.number_tried-answer.ensures) did) }
+
+pub returns-clause-made : goal.returns-clause-made
+returns-clause-made g c =
+    let emission : Emission = record { emitter = c.self.inside.id; word = c.to_word.result } in
+    let it = made (round.Try emission c.number_tried-answer.result) c.self.inside.access c.take-guarded.new.self c.put.new.self c.take-guarded.result.state.value c.take-guarded.ensures.taken c.take-guarded.ensures.found c.put.ensures.left in
+    let answered = subst (λ a. Made (round.Try emission a) (party_of c.self.inside.access) (party_of c.put.new.self)) c.number_tried-answer.ensures it in
+    let worded = subst (λ word. Made (round.Try (record { emitter = c.self.inside.id; word = word }) (numbers_tried c.try_emit-tried.result)) (party_of c.self.inside.access) (party_of c.put.new.self)) c.to_word.ensures.word answered in
+    subst (λ (e : Emitting). Made (round.Try (emission_by e (g.T.Word.word c.args.value)) (numbers_tried c.try_emit-tried.result)) e.party (party_of c.put.new.self)) c.self.view_is worded

@@ -2,8 +2,9 @@ use Rattle.flow_terms.specs.declared.refusal.Refusal.TheVariants.{NoMemory}
 use Rattle.shared_flow.specs.Rounds.{Does}
 use Rattle.shared_flow.specs.Reach.{Reach}
 use Rattle.shared_flow.specs.Names.{SharedSeen}
-use Rattle.std.proofs.Common.{Ok, Err, sym, ap, subst}
+use Rattle.std.proofs.Common.{rules, Ok, Err, sym, ap, subst}
 use Rattle.shared_flow.specs.declared.round.Round.TheVariants as round
+use Rattle.shared_flow.proofs.Making.{made}
 use Rattle.shared_flow.proofs.flow.SharedFlow.replay_cache_into.Goals as goal
 
 pub put_cache-requires : goal.put_cache-requires
@@ -18,3 +19,16 @@ put-requires g c =
     let after : SharedSeen = c.replay_cache_into.new.self in
     let did = subst (λ (s : SharedSeen). Does s (round.Cache (Err NoMemory)) after) c.deref_mut.ensures.value c.in-Err.ensures.unread in
     record { round = (found, ap (λ (r : Reach). r.held) c.take-guarded.ensures.taken, subst (λ e. Does found (round.Cache (Err e)) after) (sym c.in-Err.ensures.memory) did) }
+
+pub returns-in-Ok-clause-ok : goal.returns-in-Ok-clause-ok
+returns-in-Ok-clause-ok g c =
+    let words = c.replay_cache_into.new.self.sequencer.cache in (
+      words,
+      c.in-Ok.ensures.ok,
+      search rules,
+      rw (← c.self.view_is) (made (round.Cache (Ok words)) c.self.inside.access c.take-guarded.new.self c.put_cache.new.self c.take-guarded.result.state.value c.take-guarded.ensures.taken c.take-guarded.ensures.found c.put_cache.ensures.left),
+    )
+
+pub returns-in-Err-clause-unmade : goal.returns-in-Err-clause-unmade
+returns-in-Err-clause-unmade g c =
+    rw (← c.self.view_is, ← c.in-Err.ensures.memory) (made (round.Cache (Err c.in-Err.refusal)) c.self.inside.access c.take-guarded.new.self c.put.new.self c.take-guarded.result.state.value c.take-guarded.ensures.taken c.take-guarded.ensures.found c.put.ensures.left)

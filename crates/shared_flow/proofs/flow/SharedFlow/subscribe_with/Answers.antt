@@ -1,4 +1,4 @@
-use Rattle.std.proofs.Common.{Ok, IfOk, sym, ap, subst, ◌∙◌, Err, IfErr}
+use Rattle.std.proofs.Common.{rules, Ok, IfOk, inr, sym, ap, subst, ◌∙◌, Err, IfErr}
 use Rattle.shared_flow.specs.declared.round.Round.TheVariants as round
 use Rattle.shared_flow.specs.Names.{SharedSeen}
 use Rattle.shared_flow.specs.Reach.{Reach}
@@ -6,6 +6,7 @@ use Rattle.shared_flow.specs.Rounds.{Does, WasAdmitted, IsAtLimit}
 use Rattle.shared_flow.specs.Parties.{Subscribed}
 use Rattle.shared_flow.specs.Owners.{Owning}
 use Rattle.shared_flow.specs.Looks.{WasLetInto}
+use Rattle.shared_flow.proofs.Making.{made}
 use Rattle.shared_flow.proofs.flow.SharedFlow.subscribe_with.Goals as goal
 
 pub returns-in-Ok-clause-begins : goal.returns-in-Ok-clause-begins
@@ -34,3 +35,21 @@ put-requires-in-Err g c =
     let did = subst (λ (s : SharedSeen). IfErr c.subscribe-number.result.reader (λ refusal. Does s (round.Subscribe (Err refusal)) after × IsAtLimit refusal)) c.deref_mut.ensures.value c.subscribe-number.ensures.err in
     let left_out = subst (λ r. IfErr r (λ refusal. Does found (round.Subscribe (Err refusal)) after × IsAtLimit refusal)) c.in-Err.is did in
     record { round = (found, ap (λ (r : Reach). r.held) c.take-guarded.ensures.taken, left_out.0) }
+
+-- the owner that took the lock is the one that another was made of
+pub returns-in-Ok-clause-made : goal.returns-in-Ok-clause-made
+returns-in-Ok-clause-made g c =
+    let number = c.subscribe-number.result.number in
+    let owner : Reach = c.another.new.self in
+    rw (← c.self.view_is, ← c.in_ok-access.ensures.same, c.new.ensures)
+    (made (round.Subscribe (Ok number)) owner c.take-guarded.new.self c.put.new.self c.take-guarded.result.state.value c.take-guarded.ensures.taken c.take-guarded.ensures.found c.put.ensures.left)
+
+pub returns-in-Err-clause-kept : goal.returns-in-Err-clause-kept
+returns-in-Err-clause-kept g c =
+    let owner : Reach = c.another.new.self in
+    inr (
+      search rules,
+      search rules,
+      rw (← c.self.view_is, ← c.in_ok-access.ensures.same)
+          (made (round.Subscribe (Err c.in-Err.refusal)) owner c.take-guarded.new.self c.put-in-Err.new.self c.take-guarded.result.state.value c.take-guarded.ensures.taken c.take-guarded.ensures.found c.put-in-Err.ensures.left),
+    )

@@ -3,6 +3,7 @@ use Rattle.shared_flow.specs.declared.round.Round.TheVariants as round
 use Rattle.shared_flow.specs.Names.{SharedSeen}
 use Rattle.shared_flow.specs.Reach.{Reach}
 use Rattle.shared_flow.specs.Rounds.{Does}
+use Rattle.shared_flow.proofs.Making.{made}
 use Rattle.shared_flow.proofs.subscription.Subscription.look_again.Goals as goal
 
 pub put-requires : goal.put-requires
@@ -38,3 +39,12 @@ put-requires-in-Nothing g c =
             (subst (λ (s : SharedSeen). Does s round.Next c.look.new.self) c.deref_mut.ensures.value c.look.ensures.does),
       );
     }
+
+pub returns-in-Value-clause-round : goal.returns-in-Value-clause-round
+returns-in-Value-clause-round g c = rw (← c.self.view_is) (made round.Next c.self.inside.access c.take-guarded.new.self c.put.new.self c.take-guarded.result.state.value c.take-guarded.ensures.taken c.take-guarded.ensures.found c.put.ensures.left)
+
+pub returns-in-Nothing-clause-round : goal.returns-in-Nothing-clause-round
+returns-in-Nothing-clause-round g c = rw (← c.self.view_is) (made round.Next c.self.inside.access c.take-guarded.new.self c.put-in-Nothing.new.self c.take-guarded.result.state.value c.take-guarded.ensures.taken c.take-guarded.ensures.found c.put-in-Nothing.ensures.left)
+
+pub returns-in-Overtaken-clause-round : goal.returns-in-Overtaken-clause-round
+returns-in-Overtaken-clause-round g c = rw (← c.self.view_is) (made round.Next c.self.inside.access c.take-guarded.new.self c.put-in-Overtaken.new.self c.take-guarded.result.state.value c.take-guarded.ensures.taken c.take-guarded.ensures.found c.put-in-Overtaken.ensures.left)

@@ -1,0 +1,18 @@
+use Rattle.std.proofs.Common.{rules, ap}
+use Rattle.shared_flow.specs.Names.{SharedSeen}
+use Rattle.shared_flow.specs.Reach.{party_of}
+use Rattle.shared_flow.proofs.Making.{found_again}
+use Rattle.shared_flow.proofs.flow.SharedFlow.hold.Goals as goal
+
+pub returns-clause-held : goal.returns-clause-held
+returns-clause-held g c =
+    let found : SharedSeen = c.take-guarded.result.state.value in
+    let taken = c.take-guarded.ensures.taken in (
+      search rules,
+      (
+        found,
+        search rules,
+        search rules,
+        found_again (party_of c.self.inside.access) (party_of c.take-guarded.new.self) found c.take-guarded.ensures.found (ap party_of taken),
+      ),
+    )
