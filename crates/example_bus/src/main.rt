@@ -1,0 +1,187 @@
+//! An event bus on threads: two senders, two listeners that sleep while no message is there, and one who comes late.
+#![tactic(auto)]
+
+ghost use Rattle.std.specs.Prelude.{◌≡◌, None};
+
+mod message;
+
+use message::Message;
+use shared_core::{Config, Policy};
+use shared_flow::{Emitter, Parker, Refusal, SharedFlow, Subscription};
+use std::alloc::AllocGlobal;
+use std::process::ExitCode;
+use std::random::RandomSource;
+use std::sync::Wait;
+use std::thread::Threads;
+use std::{io, thread};
+
+/// Kotlin's `MutableSharedFlow(replay = 4, extraBufferCapacity = 60)`, and the limits that Kotlin lacks. There is room for all
+/// messages, so no sender waits for a listener.
+const BUS: Config = Config {
+    replay: 4,
+    extra: 60,
+    policy: Policy::Suspend,
+    subscribers: 2,
+    emits: 3,
+    first: 0,
+};
+
+/// How many messages each sender sends.
+const EACH: u32 = 10;
+
+/// The last message of all.
+const END: Message = Message {
+    sender: 0,
+    number: 0,
+};
+
+/// What the listeners heard.
+#[derive(Drop)]
+struct Heard {
+    one: Vec<Message>,
+    other: Vec<Message>,
+    late: Vec<Message>,
+}
+
+/// Sends the messages of one sender: a loop of `emit`. It needs that nothing is in flight, and `emit` leaves nothing in flight.
+fn send_all(
+    rt: &impl Wait,
+    emitter: &mut Emitter<Message>,
+    parker: &mut Parker,
+    sender: u32,
+) -> Result<(), Refusal>
+    requires { emitter.old.ticket ≡ None }
+{
+    for number in 1..=EACH {
+        emitter.emit(rt, parker, Message { sender, number })?;
+    }
+    Ok(())
+}
+
+/// One sender's thread, with an owner of the bus that was moved into it.
+fn send<R>(rt: &R, mut bus: SharedFlow<Message>, sender: u32) -> Result<(), Refusal>
+where
+    R: Wait + RandomSource + AllocGlobal,
+{
+    let mut parker = Parker::new(rt)?;
+    let mut emitter = bus.emitter(rt, sender)?;
+    let sent = send_all(rt, &mut emitter, &mut parker, sender);
+    emitter.close(rt);
+    sent
+}
+
+/// Both senders, and then the last message, which is sent also where a sender gave up: the listeners wait for it.
+fn send_both<R>(
+    rt: &R,
+    one: SharedFlow<Message>,
+    other: SharedFlow<Message>,
+    closing: &mut Emitter<Message>,
+    parker: &mut Parker,
+) -> Result<(), Refusal>
+where
+    R: Wait + Threads + RandomSource + AllocGlobal + Sync,
+    requires { closing.old.ticket ≡ None }
+{
+    let (first, second) = thread::join(rt, move || send(rt, one, 1), move || send(rt, other, 2));
+    closing.emit(rt, parker, END)?;
+    first.and(second)
+}
+
+/// Listens up to the last message of all. The thread sleeps while none is there.
+fn listen<R>(rt: &R, reader: &mut Subscription<Message>) -> Result<Vec<Message>, Refusal>
+where
+    R: Wait + RandomSource + AllocGlobal,
+{
+    let mut parker = Parker::new(rt)?;
+    let mut heard = Vec::new(rt.alloc());
+    for _ in rt.forever() {
+        let message = reader.next(rt, &mut parker)?;
+        heard.push(message)?;
+        if message == END {
+            break;
+        }
+    }
+    Ok(heard)
+}
+
+/// Listens from the replay cache on.
+fn listen_late<R>(rt: &R, bus: &mut SharedFlow<Message>) -> Result<Vec<Message>, Refusal>
+where
+    R: Wait + RandomSource + AllocGlobal,
+{
+    let mut reader = bus.subscribe(rt)?;
+    let heard = listen(rt, &mut reader);
+    reader.cancel(rt);
+    heard
+}
+
+/// All threads but the late listener's. Where no thread can be had, `join` calls the second closure first, so the senders stand there.
+fn hear_both<R>(
+    rt: &R,
+    bus: &mut SharedFlow<Message>,
+    one: &mut Subscription<Message>,
+    other: &mut Subscription<Message>,
+) -> Result<(Vec<Message>, Vec<Message>), Refusal>
+where
+    R: Wait + Threads + RandomSource + AllocGlobal + Sync,
+{
+    let first = bus.dup(rt)?;
+    let second = bus.dup(rt)?;
+    let mut parker = Parker::new(rt)?;
+    let mut closing = bus.emitter(rt, 0)?;
+    let ((one, other), sent) = thread::join(
+        rt,
+        || thread::join(rt, || listen(rt, one), || listen(rt, other)),
+        ||
+            requires { closing.ticket ≡ None }
+        { send_both(rt, first, second, &mut closing, &mut parker) },
+    );
+    closing.close(rt);
+    sent?;
+    Ok((one?, other?))
+}
+
+/// The bus with two listeners from the start, and one who comes when all is over.
+fn run<R>(rt: &R) -> Result<Heard, Refusal>
+where
+    R: Wait + Threads + RandomSource + AllocGlobal + Sync,
+{
+    let mut bus = SharedFlow::new(rt.alloc(), BUS)?;
+    let mut first = bus.subscribe(rt)?;
+    let heard = match bus.subscribe(rt) {
+        Ok(mut second) => {
+            let heard = hear_both(rt, &mut bus, &mut first, &mut second);
+            second.cancel(rt);
+            heard
+        }
+        Err(refusal) => Err(refusal),
+    };
+    first.cancel(rt);
+    let (one, other) = heard?;
+    let late = listen_late(rt, &mut bus)?;
+    Ok(Heard { one, other, late })
+}
+
+/// Whether the messages of a sender are all there, in its order.
+fn is_in_order(heard: &[Message], sender: u32) -> bool {
+    let sent = heard.iter().filter(|message| message.sender == sender);
+    sent.map(|message| message.number).eq(1..=EACH)
+}
+
+fn main(rt: HostRuntime) -> io::Result<ExitCode> {
+    match run(&rt) {
+        Ok(Heard { one, other, late }) => {
+            let is_same = one == other;
+            let are_in_order = is_in_order(&one, 1) && is_in_order(&one, 2);
+            let are_last = one.as_slice().ends_with(late.as_slice());
+            println!(rt; "heard: {}, by both the same: {is_same}", one.len())?;
+            println!(rt; "each sender in order: {are_in_order}")?;
+            println!(rt; "late: {}, the last ones: {are_last}", late.len())?;
+            Ok(ExitCode::SUCCESS)
+        }
+        Err(refusal) => {
+            eprintln!(rt; "refused: {refusal}")?;
+            Ok(ExitCode::FAILURE)
+        }
+    }
+}
