@@ -7,7 +7,7 @@
 #include <stdio.h>
 #include <stdlib.h>
 
-enum { MANY = 20000, SETS = 20000 };
+enum { MANY = 20000, SETS = 20000, AT_ONCE = 64 };
 
 /* Ends the program, and says where, if the reply isn't this one. */
 static void expect(const char *call, hillgauze_reply reply, uint32_t kind, uint64_t word) {
@@ -23,6 +23,17 @@ static void expect_refusal(const char *call, hillgauze_reply reply, uint32_t ref
     if (reply.refusal != refusal || reply.kind != 0 || reply.word != 0) {
         fprintf(stderr, "%s: refusal %u, not %u\n", call, (unsigned)reply.refusal, (unsigned)refusal);
         exit(1);
+    }
+}
+
+/* Ends the program if the values aren't these. */
+static void expect_values(const char *call, const uint64_t *values, const uint64_t *wanted, size_t count) {
+    for (size_t i = 0; i < count; i++) {
+        if (values[i] != wanted[i]) {
+            fprintf(stderr, "%s: %llu at %zu, not %llu\n", call, (unsigned long long)values[i], i,
+                    (unsigned long long)wanted[i]);
+            exit(1);
+        }
     }
 }
 
@@ -58,13 +69,86 @@ static void on_one_thread(void) {
     expect("free", hillgauze_shared_free(&flow), HILLGAUZE_DONE, 0);
 }
 
+/* Four places: of six values four are accepted. What comes stands first, and what is behind it stays. */
+static void blocks_on_one_thread(void) {
+    hillgauze_shared flow = HILLGAUZE_NULL;
+    hillgauze_config config = flow_config(0, 4, HILLGAUZE_SUSPEND);
+    uint64_t values[6] = {10, 11, 12, 13, 14, 15};
+    uint64_t came[3] = {1, 2, 3};
+    config.first = ((uint64_t)1 << 62) - 7;
+    expect("new", hillgauze_shared_new(&flow, &config), HILLGAUZE_DONE, 0);
+    expect("subscribe", hillgauze_shared_subscribe(&flow), HILLGAUZE_DONE, config.first);
+    expect("try_next_all", hillgauze_shared_try_next_all(&flow, config.first, came, 3), HILLGAUZE_NOTHING, 0);
+    expect("try_emit_all", hillgauze_shared_try_emit_all(&flow, 0, values, 6), HILLGAUZE_COUNT, 4);
+    expect("try_emit_all", hillgauze_shared_try_emit_all(&flow, 0, values + 4, 2), HILLGAUZE_COUNT, 0);
+    expect("try_next_all", hillgauze_shared_try_next_all(&flow, config.first, came, 0), HILLGAUZE_COUNT, 0);
+    expect_values("try_next_all", came, (uint64_t[]){1, 2, 3}, 3);
+    expect("try_next_all", hillgauze_shared_try_next_all(&flow, config.first, came, 3), HILLGAUZE_COUNT, 3);
+    expect_values("try_next_all", came, (uint64_t[]){10, 11, 12}, 3);
+    expect("try_emit_all", hillgauze_shared_try_emit_all(&flow, 0, values + 4, 2), HILLGAUZE_COUNT, 2);
+    expect("try_next_all", hillgauze_shared_try_next_all(&flow, config.first, came, 1), HILLGAUZE_COUNT, 1);
+    expect_values("try_next_all", came, (uint64_t[]){13, 11, 12}, 3);
+    expect("try_next_all", hillgauze_shared_try_next_all(&flow, config.first, came, 3), HILLGAUZE_COUNT, 2);
+    expect_values("try_next_all", came, (uint64_t[]){14, 15, 12}, 3);
+    expect("try_emit_all", hillgauze_shared_try_emit_all(&flow, 0, values, 2), HILLGAUZE_COUNT, 1);
+    expect_refusal("try_emit_all", hillgauze_shared_try_emit_all(&flow, 0, values, 2), HILLGAUZE_SPENT);
+    expect("try_emit_all", hillgauze_shared_try_emit_all(&flow, 0, values, 0), HILLGAUZE_COUNT, 0);
+    expect("cancel", hillgauze_shared_cancel(&flow, config.first), HILLGAUZE_DONE, 0);
+    expect("try_next_all", hillgauze_shared_try_next_all(&flow, config.first, came, 3), HILLGAUZE_CLOSED, 0);
+    expect("try_next_all", hillgauze_shared_try_next_all(&flow, config.first, came, 0), HILLGAUZE_COUNT, 0);
+    expect_values("try_next_all", came, (uint64_t[]){14, 15, 12}, 3);
+    expect("free", hillgauze_shared_free(&flow), HILLGAUZE_DONE, 0);
+}
+
+/* A reader takes 64 values at once, at most. */
+static void blocks_of_a_lane(void) {
+    hillgauze_sequencer sequencer = HILLGAUZE_NULL;
+    hillgauze_reader reader = HILLGAUZE_NULL;
+    hillgauze_config config = flow_config(0, AT_ONCE + 2, HILLGAUZE_SUSPEND);
+    uint64_t values[AT_ONCE + 3], came[AT_ONCE + 1];
+    for (uint64_t i = 0; i < AT_ONCE + 3; i++) {
+        values[i] = 100 + i;
+    }
+    for (int i = 0; i < AT_ONCE + 1; i++) {
+        came[i] = 7;
+    }
+    expect("new", hillgauze_lane_new(&sequencer, &config), HILLGAUZE_DONE, 0);
+    expect("admit", hillgauze_lane_admit(&sequencer, &reader), HILLGAUZE_DONE, 0);
+    expect("try_next_all", hillgauze_reader_try_next_all(&reader, came, 0), HILLGAUZE_NOTHING, 0);
+    expect("try_emit_all", hillgauze_lane_try_emit_all(&sequencer, 0, values, 0), HILLGAUZE_COUNT, 0);
+    expect("try_emit_all", hillgauze_lane_try_emit_all(&sequencer, 0, values, AT_ONCE + 3), HILLGAUZE_COUNT,
+           AT_ONCE + 2);
+    expect("start_emit", hillgauze_lane_start_emit(&sequencer, 0, 99), HILLGAUZE_WAITING, 0);
+    expect("try_next_all", hillgauze_reader_try_next_all(&reader, came, 0), HILLGAUZE_COUNT, 0);
+    expect("try_next_all", hillgauze_reader_try_next_all(&reader, came, AT_ONCE + 1), HILLGAUZE_COUNT, AT_ONCE);
+    expect_values("try_next_all", came, values, AT_ONCE);
+    expect_values("try_next_all", came + AT_ONCE, (uint64_t[]){7}, 1);
+    expect("try_emit_all", hillgauze_lane_try_emit_all(&sequencer, 0, values, 1), HILLGAUZE_COUNT, 1);
+    expect("poll_emit", hillgauze_lane_poll_emit(&sequencer, 0), HILLGAUZE_DONE, AT_ONCE + 2);
+    expect("try_next_all", hillgauze_reader_try_next_all(&reader, came, 3), HILLGAUZE_COUNT, 3);
+    expect_values("try_next_all", came, (uint64_t[]){100 + AT_ONCE, 101 + AT_ONCE, 99, 103}, 4);
+    expect("try_next_all", hillgauze_reader_try_next_all(&reader, came, 3), HILLGAUZE_COUNT, 1);
+    expect_values("try_next_all", came, (uint64_t[]){100, 101 + AT_ONCE, 99}, 3);
+    expect("try_next_all", hillgauze_reader_try_next_all(&reader, came, 3), HILLGAUZE_NOTHING, 0);
+    expect("received", hillgauze_reader_received(&reader), HILLGAUZE_COUNT, AT_ONCE + 4);
+    expect("free", hillgauze_lane_free(&sequencer), HILLGAUZE_DONE, 0);
+    expect("close", hillgauze_reader_close(&reader), HILLGAUZE_DONE, 0);
+}
+
 /* What is refused leaves everything as it was. */
 static void refused(void) {
     hillgauze_shared flow = HILLGAUZE_NULL;
+    hillgauze_sequencer no_sequencer = HILLGAUZE_NULL;
+    hillgauze_reader no_reader = HILLGAUZE_NULL;
     hillgauze_collector no_flow = HILLGAUZE_NULL;
+    uint64_t came[2] = {5, 6};
     hillgauze_config config = flow_config(1, 0, HILLGAUZE_SUSPEND);
     uint64_t prelude[17] = {0};
     expect_refusal("next", hillgauze_shared_next(&flow, 0), HILLGAUZE_NULL_HANDLE);
+    expect_refusal("try_emit_all", hillgauze_shared_try_emit_all(&flow, 0, came, 2), HILLGAUZE_NULL_HANDLE);
+    expect_refusal("try_next_all", hillgauze_shared_try_next_all(&flow, 0, came, 2), HILLGAUZE_NULL_HANDLE);
+    expect_refusal("try_emit_all", hillgauze_lane_try_emit_all(&no_sequencer, 0, came, 2), HILLGAUZE_NULL_HANDLE);
+    expect_refusal("try_next_all", hillgauze_reader_try_next_all(&no_reader, came, 2), HILLGAUZE_NULL_HANDLE);
     config.policy = 3;
     expect_refusal("new", hillgauze_shared_new(&flow, &config), HILLGAUZE_NO_SUCH_POLICY);
     config = flow_config(65537, 0, HILLGAUZE_SUSPEND);
@@ -77,6 +161,9 @@ static void refused(void) {
     expect_refusal("subscribe_with", hillgauze_shared_subscribe_with(&flow, prelude, 17), HILLGAUZE_PRELUDE_TOO_LONG);
     no_flow.object = flow.object; /* no program should: here it shows what a call of another kind is answered */
     expect_refusal("try_next", hillgauze_collector_try_next(&no_flow), HILLGAUZE_OTHER_KIND);
+    no_reader.object = flow.object;
+    expect_refusal("try_next_all", hillgauze_reader_try_next_all(&no_reader, came, 2), HILLGAUZE_OTHER_KIND);
+    expect_values("try_next_all", came, (uint64_t[]){5, 6}, 2);
     expect("free", hillgauze_shared_free(&flow), HILLGAUZE_DONE, 0);
     expect_refusal("free", hillgauze_shared_free(&flow), HILLGAUZE_NULL_HANDLE);
 }
@@ -188,6 +275,8 @@ static void a_state(void) {
 
 int main(void) {
     on_one_thread();
+    blocks_on_one_thread();
+    blocks_of_a_lane();
     refused();
     between_threads();
     a_state();

@@ -22,7 +22,7 @@
 #define AFTER(promise) ((void)(promise))
 #endif
 
-enum { MOST_PLACES = 4, READERS = 2, MANY = 10000, SETS = 10000, TURNS = 10000 };
+enum { MOST_PLACES = 4, MOST_AT_ONCE = 3, READERS = 2, MANY = 10000, SETS = 10000, TURNS = 10000 };
 
 /* What is passed on: nothing of it is atomic. */
 struct parcel {
@@ -50,12 +50,13 @@ static int is_kind(hillgauze_reply reply, uint32_t kind) { return reply.refusal 
 /* ---- From the emitter to the readers, and back ---- */
 
 /*
- * How many structs a lane needs with so many places. That an emission was accepted says that each reader went on to ask
- * for the value that had its place, so it is done with the one before that: two more than there are places, of which a
- * lane without any counts as one.
+ * How many structs a lane needs with so many places, where a call emits or gives so many values at most. That an
+ * emission was accepted says that each reader went on to ask for the value that had its place, so it is done with those
+ * that came before by another call. Where a call has one value, that is two more than there are places, of which a lane
+ * without any counts as one.
  */
-static uint64_t slot_count(uint64_t places) {
-    uint64_t count = (places > 0 ? places : 1) + 2;
+static uint64_t slot_count(uint64_t places, uint64_t at_once) {
+    uint64_t count = (places > 0 ? places : 1) + 2 * at_once;
 #ifdef TOO_EARLY
     count -= 1;
 #endif
@@ -63,7 +64,7 @@ static uint64_t slot_count(uint64_t places) {
 }
 
 /* The structs, of which a lane uses the first ones over and over; and a byte for each promise. */
-static struct parcel slots[MOST_PLACES + 2];
+static struct parcel slots[MOST_PLACES + 2 * MOST_AT_ONCE];
 static char emitted[MANY];
 static char asked[READERS][MANY];
 
@@ -123,7 +124,7 @@ static void there_and_back(uint64_t places) {
     hillgauze_config config = {.extra = places, .subscribers = READERS, .emits = 1};
     struct receiver receivers[READERS];
     pthread_t threads[READERS];
-    uint64_t count = slot_count(places), lag = places > 0 ? places : 1;
+    uint64_t count = slot_count(places, 1), lag = places > 0 ? places : 1;
     expect("lane_new", hillgauze_lane_new(&sequencer, &config), HILLGAUZE_DONE, 0);
     for (int i = 0; i < READERS; i++) {
         receivers[i] = (struct receiver){.reader = HILLGAUZE_NULL, .index = i, .slots = count};
@@ -140,6 +141,73 @@ static void there_and_back(uint64_t places) {
         }
         for (int i = 0; i < READERS && number >= lag; i++) {
             AFTER(&asked[i][number - lag]);
+        }
+    }
+    for (int i = 0; i < READERS; i++) {
+        pthread_join(threads[i], NULL);
+        expect("close", hillgauze_reader_close(&receivers[i].reader), HILLGAUZE_DONE, 0);
+    }
+    expect("free", hillgauze_lane_free(&sequencer), HILLGAUZE_DONE, 0);
+}
+
+/* ---- The same by the block ---- */
+
+/* Takes the indices of some structs at once, and reads those. */
+static void *receive_blocks(void *place) {
+    struct receiver *receiver = place;
+    for (uint64_t wanted = 0, turn = 0; wanted < MANY; turn++) {
+        uint64_t words[MOST_AT_ONCE] = {0}, room = turn % MOST_AT_ONCE + 1;
+        for (uint64_t number = wanted; number < wanted + room && number < MANY; number++) {
+            BEFORE(&asked[receiver->index][number]);
+        }
+        hillgauze_reply reply = hillgauze_reader_try_next_all(&receiver->reader, words, room);
+        if (is_kind(reply, HILLGAUZE_NOTHING)) {
+            sched_yield();
+            continue;
+        }
+        expect("try_next_all", reply, HILLGAUZE_COUNT, reply.word);
+        expect_that(1 <= reply.word && reply.word <= room, "try_next_all", "some came, and no more than there is room");
+        for (uint64_t i = 0; i < reply.word; i++, wanted++) {
+            expect_that(words[i] == wanted % receiver->slots, "try_next_all", "the values come in order");
+            AFTER(&emitted[wanted]);
+            expect_parcel("try_next_all", &slots[words[i]], wanted);
+        }
+    }
+    return NULL;
+}
+
+/* The emitter fills some structs as soon as it may, and emits them at once. Those that aren't accepted it emits again. */
+static void blocks_there_and_back(uint64_t places) {
+    hillgauze_sequencer sequencer = HILLGAUZE_NULL;
+    hillgauze_config config = {.extra = places, .subscribers = READERS, .emits = 1};
+    struct receiver receivers[READERS];
+    pthread_t threads[READERS];
+    uint64_t count = slot_count(places, MOST_AT_ONCE), filled = 0;
+    expect("lane_new", hillgauze_lane_new(&sequencer, &config), HILLGAUZE_DONE, 0);
+    for (int i = 0; i < READERS; i++) {
+        receivers[i] = (struct receiver){.reader = HILLGAUZE_NULL, .index = i, .slots = count};
+        expect("lane_admit", hillgauze_lane_admit(&sequencer, &receivers[i].reader), HILLGAUZE_DONE, 0);
+        threads[i] = start(receive_blocks, &receivers[i]);
+    }
+    for (uint64_t number = 0, turn = 0; number < MANY; turn++) {
+        uint64_t words[MOST_AT_ONCE] = {0}, most = number + turn % MOST_AT_ONCE + 1;
+        for (; filled < most && filled < MANY; filled++) {
+            fill(&slots[filled % count], filled);
+            BEFORE(&emitted[filled]);
+        }
+        for (uint64_t i = 0; i < filled - number; i++) {
+            words[i] = (number + i) % count;
+        }
+        hillgauze_reply reply = hillgauze_lane_try_emit_all(&sequencer, 0, words, filled - number);
+        expect("try_emit_all", reply, HILLGAUZE_COUNT, reply.word);
+        expect_that(reply.word <= filled - number, "try_emit_all", "no more are accepted than there are");
+        if (reply.word == 0) {
+            sched_yield();
+        }
+        for (uint64_t accepted = number + reply.word; number < accepted; number++) {
+            for (int i = 0; i < READERS && number >= places; i++) {
+                AFTER(&asked[i][number - places]);
+            }
         }
     }
     for (int i = 0; i < READERS; i++) {
@@ -351,6 +419,9 @@ static void endings(void) {
 int main(void) {
     for (uint64_t places = 0; places <= MOST_PLACES; places += 2) {
         there_and_back(places);
+    }
+    for (uint64_t places = 1; places <= MOST_PLACES; places++) {
+        blocks_there_and_back(places);
     }
     closings();
     values();

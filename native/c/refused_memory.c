@@ -249,6 +249,10 @@ static void order_of_refusals(struct flows *flows) {
 
     refuse_all();
     expect_refusal("lane_admit", hillgauze_lane_admit(&full, &reader), HILLGAUZE_NO_MEMORY);
+    refuse(2, UINT_MAX);
+    expect_refusal("lane_admit", hillgauze_lane_admit(&full, &reader), HILLGAUZE_NO_MEMORY);
+    expect_that(requests == 2, "lane_admit", "its second request, for what is taken at once, was refused");
+    refuse_all();
     expect_refusal("lane_admit", hillgauze_lane_admit(&full, &only), HILLGAUZE_HANDLE_TAKEN);
     expect_refusal("take_seat", hillgauze_state_take_seat(&flows->seat, 2, &seat), HILLGAUZE_NO_MEMORY);
     expect_refusal("state_new", hillgauze_state_new(&seat, 0, 0), HILLGAUZE_BAD_LIMIT);
@@ -282,7 +286,7 @@ static void number_of_a_reader(void) {
 }
 
 static void shared_without_memory(hillgauze_shared *flow) {
-    uint64_t prelude = 9;
+    uint64_t prelude = 9, value = 0;
     expect("subscribe", hillgauze_shared_subscribe(flow), HILLGAUZE_DONE, 0);
     expect("subscribe_with", hillgauze_shared_subscribe_with(flow, &prelude, 1), HILLGAUZE_DONE, 1);
     expect("try_emit", hillgauze_shared_try_emit(flow, 0, 10), HILLGAUZE_ACCEPTED, 0);
@@ -292,6 +296,8 @@ static void shared_without_memory(hillgauze_shared *flow) {
     expect("cancel", hillgauze_shared_cancel(flow, 1), HILLGAUZE_DONE, 0);
     expect("next", hillgauze_shared_next(flow, 0), HILLGAUZE_VALUE, 10);
     expect("poll_emit", hillgauze_shared_poll_emit(flow, 0), HILLGAUZE_DONE, 1);
+    expect("try_next_all", hillgauze_shared_try_next_all(flow, 0, &value, 1), HILLGAUZE_COUNT, 1);
+    expect("try_emit_all", hillgauze_shared_try_emit_all(flow, 0, &value, 1), HILLGAUZE_COUNT, 1);
     expect("pending", hillgauze_shared_pending(flow, 0), HILLGAUZE_COUNT, 1);
     expect("count", hillgauze_shared_count(flow), HILLGAUZE_COUNT, 1);
     expect("cache_len", hillgauze_shared_cache_len(flow), HILLGAUZE_COUNT, 1);
@@ -301,6 +307,7 @@ static void shared_without_memory(hillgauze_shared *flow) {
 }
 
 static void lane_without_memory(hillgauze_sequencer *sequencer, hillgauze_reader *reader) {
+    uint64_t value = 0;
     expect("try_emit", hillgauze_lane_try_emit(sequencer, 0, 10), HILLGAUZE_ACCEPTED, 0);
     expect("start_emit", hillgauze_lane_start_emit(sequencer, 0, 11), HILLGAUZE_WAITING, 0);
     expect("start_emit", hillgauze_lane_start_emit(sequencer, 0, 12), HILLGAUZE_WAITING, 1);
@@ -308,13 +315,15 @@ static void lane_without_memory(hillgauze_sequencer *sequencer, hillgauze_reader
     expect("try_next", hillgauze_reader_try_next(reader), HILLGAUZE_VALUE, 10);
     expect("scan", hillgauze_lane_scan(sequencer), HILLGAUZE_COUNT, 1);
     expect("poll_emit", hillgauze_lane_poll_emit(sequencer, 0), HILLGAUZE_DONE, 1);
+    expect("try_next_all", hillgauze_reader_try_next_all(reader, &value, 1), HILLGAUZE_COUNT, 1);
+    expect("try_emit_all", hillgauze_lane_try_emit_all(sequencer, 0, &value, 1), HILLGAUZE_COUNT, 1);
     expect("count", hillgauze_lane_count(sequencer), HILLGAUZE_COUNT, 1);
     expect("cache_len", hillgauze_lane_cache_len(sequencer), HILLGAUZE_COUNT, 1);
     expect("cache_at", hillgauze_lane_cache_at(sequencer, 0), HILLGAUZE_VALUE, 11);
     expect("reset", hillgauze_lane_reset(sequencer), HILLGAUZE_DONE, 0);
     expect("free", hillgauze_lane_free(sequencer), HILLGAUZE_DONE, 0);
     expect("start", hillgauze_reader_start(reader), HILLGAUZE_COUNT, 0);
-    expect("received", hillgauze_reader_received(reader), HILLGAUZE_COUNT, 1);
+    expect("received", hillgauze_reader_received(reader), HILLGAUZE_COUNT, 2);
     expect("dropped", hillgauze_reader_dropped(reader), HILLGAUZE_COUNT, 0);
     expect("close", hillgauze_reader_close(reader), HILLGAUZE_DONE, 0);
 }
@@ -334,7 +343,7 @@ static void state_without_memory(hillgauze_state *seat, hillgauze_state *other) 
     expect("free", hillgauze_collector_free(&collector), HILLGAUZE_DONE, 0);
 }
 
-/* The other forty calls do without memory. */
+/* The other forty-four calls do without memory. */
 static void without_memory(void) {
     struct flows flows = {.flow = HILLGAUZE_NULL};
     hillgauze_state alone = HILLGAUZE_NULL;

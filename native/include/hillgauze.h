@@ -9,7 +9,9 @@
  * What the library asks, and no proof sees:
  *
  * 1. A pointer that is passed isn't NULL, points to what its type says, and is aligned. That holds of a slice, too,
- *    even where it has no values. Two handles of one call are two different ones.
+ *    even where it has no values: a slice is a pointer and the count of the values there. Two handles of one call are
+ *    two different ones. While a call runs nothing else writes a slice that it reads, or reads or writes one that it
+ *    fills.
  * 2. A handle was begun with HILLGAUZE_NULL, and since then only these functions wrote it. It may be moved to
  *    another place in memory: then the old place is no handle any more. It isn't copied.
  * 3. One call at a time on one handle. Any thread may make it, and each kind of handle may go from thread to
@@ -26,11 +28,12 @@
  * one order with the program's own. So, in the words of C11, what a thread did before the first of two calls happens
  * before what another does after the second, where
  *
- * - the first begins an emission, by hillgauze_lane_try_emit or hillgauze_lane_start_emit, and the second is the
- *   hillgauze_reader_try_next that answers its value;
- * - the first is the hillgauze_reader_try_next that answers a value, and in the second, under another policy than
- *   DROP_OLDEST, an emission is accepted that takes its place: one whose number is greater than the value's by at
- *   least `replay` and `extra` together, or by at least 1 where both are 0;
+ * - the first begins an emission, by hillgauze_lane_try_emit, hillgauze_lane_try_emit_all or
+ *   hillgauze_lane_start_emit, and the second is the hillgauze_reader_try_next or hillgauze_reader_try_next_all that
+ *   gives its value;
+ * - the first is the hillgauze_reader_try_next or hillgauze_reader_try_next_all that gives a value, and in the second,
+ *   under another policy than DROP_OLDEST, an emission is accepted that takes its place: one whose number is greater
+ *   than the value's by at least `replay` and `extra` together, or by at least 1 where both are 0;
  * - the first is hillgauze_reader_close, and the second finds the reader's place free: hillgauze_lane_count, which
  *   doesn't count it any more, or hillgauze_lane_admit, which gives it to another reader;
  * - the first changes the value of a state flow, by hillgauze_state_set or hillgauze_state_compare_and_set, and the
@@ -121,7 +124,7 @@ enum hillgauze_kind {
     HILLGAUZE_NOTHING = 10,  /* there is no value */
     HILLGAUZE_OVERTAKEN = 11, /* the value was dropped just as it was to be received: ask again */
     HILLGAUZE_CLOSED = 12,   /* the subscription isn't live */
-    HILLGAUZE_COUNT = 13,    /* word is the number that was asked for */
+    HILLGAUZE_COUNT = 13,    /* word is the number that was asked for, or how many values were accepted or came */
     HILLGAUZE_UNEQUAL = 14   /* the state's value wasn't the one that was expected, and stays */
 };
 
@@ -159,6 +162,14 @@ hillgauze_reply hillgauze_shared_new(hillgauze_shared *flow, const hillgauze_con
 hillgauze_reply hillgauze_shared_try_emit(hillgauze_shared *flow, uint32_t emitter, uint64_t value);
 
 /*
+ * Tries these values one after another, up to the first that isn't accepted. COUNT says how many were: all, or there
+ * is no room for the next one, or DROP_LATEST drops it, or the numbers are used up. Refused: SPENT, where the first
+ * one is.
+ */
+hillgauze_reply hillgauze_shared_try_emit_all(hillgauze_shared *flow, uint32_t emitter, const uint64_t *values,
+                                              size_t count);
+
+/*
  * Begins an emission. ACCEPTED; DROPPED under DROP_LATEST; WAITING with a ticket under SUSPEND, where it waits for
  * room, or, on a flow without places, until each subscription has received it. Refused: SPENT, EMITS_FULL.
  */
@@ -188,6 +199,14 @@ hillgauze_reply hillgauze_shared_subscribe_with(hillgauze_shared *flow, const ui
 
 /* Receives the oldest value that the subscription has pending. VALUE, NOTHING or CLOSED. */
 hillgauze_reply hillgauze_shared_next(hillgauze_shared *flow, uint64_t subscription);
+
+/*
+ * Receives the oldest values that the subscription has pending, as many as find room in `values`, and puts them there
+ * in order, from the first place on; what is behind them stays. COUNT says how many; NOTHING or CLOSED where there is
+ * none. Without room, `count` being 0, it asks for none: COUNT 0.
+ */
+hillgauze_reply hillgauze_shared_try_next_all(hillgauze_shared *flow, uint64_t subscription, uint64_t *values,
+                                              size_t count);
 
 /* Ends a subscription, and gives up what it has pending. DONE, or CLOSED where it wasn't live. */
 hillgauze_reply hillgauze_shared_cancel(hillgauze_shared *flow, uint64_t subscription);
@@ -229,6 +248,16 @@ hillgauze_reply hillgauze_lane_new(hillgauze_sequencer *sequencer, const hillgau
 hillgauze_reply hillgauze_lane_try_emit(hillgauze_sequencer *sequencer, uint32_t emitter, uint64_t value);
 
 /*
+ * Tries these values one after another, up to the first that isn't accepted, after it let in the emissions that wait:
+ * those stay let in, whatever it answers. One look at the readers serves for as many values as find room. COUNT says
+ * how many were accepted: all, or there is no room for the next one, or DROP_LATEST drops it, or the numbers are used
+ * up. Under DROP_OLDEST it moves a reader that is too far behind past its oldest values. Refused: SPENT, where the
+ * first one is.
+ */
+hillgauze_reply hillgauze_lane_try_emit_all(hillgauze_sequencer *sequencer, uint32_t emitter, const uint64_t *values,
+                                            size_t count);
+
+/*
  * Begins an emission, after it let in those that wait. ACCEPTED; DROPPED under DROP_LATEST; WAITING with a ticket
  * under SUSPEND, where it waits for room, or, on a lane without places, until each reader has received it. Refused:
  * SPENT, EMITS_FULL.
@@ -249,7 +278,8 @@ hillgauze_reply hillgauze_lane_scan(hillgauze_sequencer *sequencer);
 
 /*
  * Lets a reader in, and puts it in a null handle. It begins at the oldest value of the replay cache, as it is now,
- * and may go to another thread. DONE. Refused: NO_MEMORY, SPENT, SUBSCRIBERS_FULL.
+ * and may go to another thread. It takes the memory of the values that it will take at once. DONE.
+ * Refused: NO_MEMORY, SPENT, SUBSCRIBERS_FULL.
  */
 hillgauze_reply hillgauze_lane_admit(hillgauze_sequencer *sequencer, hillgauze_reader *reader);
 
@@ -279,6 +309,14 @@ hillgauze_reply hillgauze_lane_free(hillgauze_sequencer *sequencer);
  * value was dropped just then.
  */
 hillgauze_reply hillgauze_reader_try_next(hillgauze_reader *reader);
+
+/*
+ * Takes the reader's next values at once, as many as are there and find room in `values`, and at most 64, and puts
+ * them there in order, from the first place on; what is behind them stays. COUNT says how many, 0 where there is a
+ * value and no room; NOTHING where it found none; OVERTAKEN, under DROP_OLDEST alone, where the first of them was
+ * dropped just then, and none was received.
+ */
+hillgauze_reply hillgauze_reader_try_next_all(hillgauze_reader *reader, uint64_t *values, size_t count);
 
 /* The number of the emission at which the reader began: COUNT. */
 hillgauze_reply hillgauze_reader_start(hillgauze_reader *reader);

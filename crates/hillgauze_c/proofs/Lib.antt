@@ -2,3 +2,4 @@ mod AsBox
 mod Handled
 mod HandleSteps
 mod Making
+pub mod Received

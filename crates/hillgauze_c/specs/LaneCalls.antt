@@ -1,5 +1,5 @@
 -- What an export on a lane does: what `shared_lane` says of its own call, told to C.
-use Rattle.std.specs.Prelude.{◌≡◌, ◌⊎◌, ◌≢◌, ℕ, [], length, slice_get, Option, Some, Result, Ok, Err}
+use Rattle.std.specs.Prelude.{◌≡◌, ◌⊎◌, ◌≢◌, ℕ, List, [], ◌++◌, length, drop, min, slice_get, Option, Some, Result, Ok, Err}
 use Rattle.flow_terms.specs.declared.answers.Tried.{Tried}
 use Rattle.flow_terms.specs.declared.answers.Begun.{Begun}
 use Rattle.flow_terms.specs.declared.answers.Emit.{Emit}
@@ -11,6 +11,8 @@ use Rattle.shared_core.specs.declared.config.Config.{Config}
 use Rattle.shared_lane.specs.declared.reader.Taken.{Taken}
 use Rattle.shared_lane.specs.Views.{LaneSeen, SequencerSeen, ReaderSeen}
 use Rattle.shared_lane.specs.Sequencers.{IsSameSequencer, HasNumber, HasTicketNumber, TriedOn, RefusedTry, BegunOn, RefusedStart, AfterScan, IsFresh, IsSequencerOf, Settled, IsStuck, OnlyLoaded}
+use Rattle.shared_lane.specs.Blocks.{TriedAllOn}
+use Rattle.shared_lane.specs.Picks.{TookAll}
 use Rattle.shared_lane.specs.Polls.{PolledOn, WithdrawnFrom}
 use Rattle.shared_lane.specs.Places.{LetIn, NotLetIn, Counted}
 use Rattle.shared_lane.specs.Readers.{IsSameReader, TookNext}
@@ -37,6 +39,10 @@ IsNotAdmitted q e t = NotLetIn q e t ⊎ ((e ≡ NoMemory) × (t ≡ q))
 abbrev pub TriedBy : ℕ → ℕ → SequencerSeen → Result (Tried ℕ) Refusal → SequencerSeen → Type 0
 TriedBy emitter word q (Ok answer) t = IsSameSequencer q t × AfterScan q (λ m. HasNumber m × TriedOn m (emitter, word) answer t)
 TriedBy emitter word q (Err refusal) t = IsSameSequencer q t × AfterScan q (λ m. RefusedTry m refusal t)
+
+abbrev pub TriedAllBy : ℕ → List ℕ → SequencerSeen → Result ℕ Refusal → SequencerSeen → Type 0
+TriedAllBy emitter words q (Ok count) t = IsSameSequencer q t × AfterScan q (λ m. TriedAllOn m emitter words count t)
+TriedAllBy emitter words q (Err refusal) t = IsSameSequencer q t × (words ≢ []) × AfterScan q (λ m. RefusedTry m refusal t)
 
 abbrev pub BegunBy : ℕ → ℕ → SequencerSeen → Result (Begun ℕ Ticket) Refusal → SequencerSeen → Type 0
 BegunBy emitter word q (Ok answer) t = IsSameSequencer q t × AfterScan q (λ m. HasNumber m × HasTicketNumber m × BegunOn m (emitter, word) answer t)
@@ -81,3 +87,8 @@ began_at r = r.start
 
 abbrev pub TookAndStayed : ReaderSeen → Taken ℕ → ReaderSeen → Type 0
 TookAndStayed r answer t = IsSameReader r t × TookNext r answer t
+
+-- What a reader takes at once, as many as there is room for, and at most 64, stands at the front of what was handed in.
+abbrev pub TookAtOnce : List ℕ → List ℕ → ReaderSeen → Taken ℕ → ReaderSeen → Type 0
+TookAtOnce before after r answer t = IsSameReader r t
+    × ((xs : List ℕ) × (after ≡ xs ++ drop (length xs) before) × TookAll r (min 64 (length before)) answer xs t)

@@ -77,6 +77,21 @@ abbrev pub ended_reply : Bool → Reply
 ended_reply true = answered 1 0
 ended_reply false = answered 12 0
 
+-- how many tries in a row were accepted, or receipts in a row gave a value
+abbrev pub tries_reply : Result ℕ Refusal → Reply
+tries_reply (Ok count) = answered 13 count
+tries_reply (Err refusal) = refusal_reply refusal
+
+abbrev pub receipts_reply : Next ℕ → Reply
+receipts_reply (next.Value count) = answered 13 count
+receipts_reply next.Nothing = answered 10 0
+receipts_reply next.Closed = answered 12 0
+
+abbrev pub takes_reply : Taken ℕ → Reply
+takes_reply (taken.Value count) = answered 13 count
+takes_reply taken.Nothing = answered 10 0
+takes_reply taken.Overtaken = answered 11 0
+
 -- whether the value was the one that was expected
 abbrev pub compared_reply : Bool → Reply
 compared_reply true = answered 1 0

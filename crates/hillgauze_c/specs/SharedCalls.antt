@@ -1,6 +1,8 @@
 -- What an export on a shared flow does: what `shared_core` says of its own call, told to C.
-use Rattle.std.specs.Prelude.{◌≡◌, ◌⊎◌, ◌<◌, ◌≤◌, ℕ, List, Option, length, slice_get}
+use Rattle.std.specs.Prelude.{◌≡◌, ◌⊎◌, ◌<◌, ◌≤◌, ◌++◌, ℕ, List, Option, length, drop, slice_get}
+use Rattle.flow_terms.specs.declared.answers.Next.{Next}
 use Rattle.shared_core.specs.Flow.{State, empty}
+use Rattle.shared_core.specs.Blocks.{next_all}
 use Rattle.shared_core.specs.Calls as calls
 use Rattle.shared_core.specs.Kept.{parameters_of}
 use Rattle.shared_core.specs.Shown.{Seen, Follows, Leaves, Shows}
@@ -41,3 +43,8 @@ Resets old reply new = (reply ≡ answered 1 0) × Leaves calls.reset old new
 
 abbrev pub IsFreshFlow : Config → Object → Type 0
 IsFreshFlow config object = (flow : Seen ℕ) × (object ≡ Shared flow) × Shows flow (empty (parameters_of config))
+
+-- The values that came stand at the front of what was handed in, which says how many were asked for.
+abbrev pub ReceivesInto : ℕ → List ℕ → List ℕ → Seen ℕ → Next ℕ → Seen ℕ → Type 0
+ReceivesInto n before after old answer new =
+    (values : List ℕ) × (after ≡ values ++ drop (length values) before) × Follows (next_all n (length before)) old (answer, values) new

@@ -1,7 +1,7 @@
 //! What every call answers C.
 ghost use Rattle.std.specs.Prelude.{◌≡◌};
 ghost use Rattle.hillgauze_c.specs.Replies.{refused_as, answered, tried_reply, begun_reply, emit_reply, withdrawn_reply, next_reply, subscribed_reply, value_reply};
-ghost use Rattle.hillgauze_c.specs.Replies.{ended_reply, taken_reply, compared_reply, refusal_reply, made_reply};
+ghost use Rattle.hillgauze_c.specs.Replies.{ended_reply, taken_reply, compared_reply, refusal_reply, made_reply, tries_reply, receipts_reply, takes_reply};
 
 use flow_terms::{Begun, Emit, Next, Refusal, SubId, Ticket, Tried, Withdrawn};
 use shared_lane::Taken;
@@ -114,6 +114,38 @@ impl Reply {
             Ok(Tried::Dropped) => Reply::answered(DROPPED, 0),
             Ok(Tried::Full) => Reply::answered(FULL, 0),
             Err(refusal) => Reply::of_refusal(refusal),
+        }
+    }
+
+    /// To tries in a row: how many were accepted.
+    pub fn of_tries(answer: Result<u64, Refusal>) -> Reply
+        ensures { result ≡ tries_reply answer }
+    {
+        match answer {
+            Ok(count) => Reply::of_count(count),
+            Err(refusal) => Reply::of_refusal(refusal),
+        }
+    }
+
+    /// To a subscription's receipts in a row: how many values came.
+    pub fn of_receipts(answer: Next<u64>) -> Reply
+        ensures { result ≡ receipts_reply answer }
+    {
+        match answer {
+            Next::Value(count) => Reply::of_count(count),
+            Next::Nothing => Reply::answered(NOTHING, 0),
+            Next::Closed => Reply::answered(CLOSED, 0),
+        }
+    }
+
+    /// To a reader's receipts at once: how many values came.
+    pub fn of_takes(answer: Taken<u64>) -> Reply
+        ensures { result ≡ takes_reply answer }
+    {
+        match answer {
+            Taken::Value(count) => Reply::of_count(count),
+            Taken::Nothing => Reply::answered(NOTHING, 0),
+            Taken::Overtaken => Reply::answered(OVERTAKEN, 0),
         }
     }
 

@@ -29,10 +29,41 @@
 //!
 //! # Order between threads
 //! What a thread did before it began an emission happens before what another does after it received the value, by
-//! [`try_next`](Reader::try_next), [`recv`](Reader::recv) or [`poll_next`](Reader::poll_next); what it did before it
-//! changed a state, before what another does after it found that value or a later one; and what it did before it
-//! dropped the last who could emit or set, before what another does after it was told of the end. So a value may be an
-//! index of what lies elsewhere. `hillgauze.h` has the whole list.
+//! whichever call of [`Reader`] that gives values; what it did before it changed a state, before what another does after
+//! it found that value or a later one; and what it did before it dropped the last who could emit or set, before what
+//! another does after it was told of the end. So a value may be an index of what lies elsewhere. `hillgauze.h` has the
+//! whole list.
+//!
+//! # Blocks
+//! Values may go by the block, which costs less: [`Sequencer::try_emit_all`] looks at the readers once for as many as
+//! there is room for, and [`Reader::recv_many`] takes as many as are there, up to 64 by one step.
+//!
+//! ```
+//! use hillgauze::{Config, Sequencer};
+//! use std::thread;
+//!
+//! let mut sequencer = Sequencer::new(Config { extra: 256, ..Config::default() })?;
+//! let mut reader = sequencer.admit()?;
+//! let summing = thread::spawn(move || {
+//!     let (mut sum, mut values) = (0, Vec::new());
+//!     while reader.recv_many(&mut values, 100) > 0 {
+//!         sum += values.drain(..).sum::<u64>();
+//!     }
+//!     sum
+//! });
+//! let values: Vec<u64> = (1..=1000).collect();
+//! let mut rest = &values[..];
+//! while !rest.is_empty() {
+//!     let accepted = sequencer.try_emit_all(0, rest)?;
+//!     if accepted == 0 {
+//!         thread::yield_now();
+//!     }
+//!     rest = &rest[accepted as usize..];
+//! }
+//! drop(sequencer);
+//! assert_eq!(summing.join().unwrap(), 500_500);
+//! # Ok::<(), hillgauze::Refusal>(())
+//! ```
 //!
 //! # Want of memory
 //! A flow takes its memory when it is made, a reader and a seat a little when they come; where there is none, that is
@@ -47,6 +78,7 @@
 #![deny(unsafe_op_in_unsafe_fn)]
 
 mod answers;
+mod blocks;
 mod collector;
 mod config;
 mod raw;

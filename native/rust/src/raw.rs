@@ -96,6 +96,12 @@ impl RawConfig {
 unsafe extern "C" {
     pub(crate) fn hillgauze_shared_new(flow: *mut Shared, config: *const RawConfig) -> Reply;
     pub(crate) fn hillgauze_shared_try_emit(flow: *mut Shared, emitter: u32, value: u64) -> Reply;
+    pub(crate) fn hillgauze_shared_try_emit_all(
+        flow: *mut Shared,
+        emitter: u32,
+        values: *const u64,
+        count: usize,
+    ) -> Reply;
     pub(crate) fn hillgauze_shared_start_emit(flow: *mut Shared, emitter: u32, value: u64)
         -> Reply;
     pub(crate) fn hillgauze_shared_poll_emit(flow: *mut Shared, ticket: u64) -> Reply;
@@ -107,6 +113,12 @@ unsafe extern "C" {
         count: usize,
     ) -> Reply;
     pub(crate) fn hillgauze_shared_next(flow: *mut Shared, subscription: u64) -> Reply;
+    pub(crate) fn hillgauze_shared_try_next_all(
+        flow: *mut Shared,
+        subscription: u64,
+        values: *mut u64,
+        count: usize,
+    ) -> Reply;
     pub(crate) fn hillgauze_shared_cancel(flow: *mut Shared, subscription: u64) -> Reply;
     pub(crate) fn hillgauze_shared_pending(flow: *mut Shared, subscription: u64) -> Reply;
     pub(crate) fn hillgauze_shared_count(flow: *mut Shared) -> Reply;
@@ -120,6 +132,12 @@ unsafe extern "C" {
         sequencer: *mut Sequencer,
         emitter: u32,
         value: u64,
+    ) -> Reply;
+    pub(crate) fn hillgauze_lane_try_emit_all(
+        sequencer: *mut Sequencer,
+        emitter: u32,
+        values: *const u64,
+        count: usize,
     ) -> Reply;
     pub(crate) fn hillgauze_lane_start_emit(
         sequencer: *mut Sequencer,
@@ -137,6 +155,11 @@ unsafe extern "C" {
     pub(crate) fn hillgauze_lane_free(sequencer: *mut Sequencer) -> Reply;
 
     pub(crate) fn hillgauze_reader_try_next(reader: *mut Reader) -> Reply;
+    pub(crate) fn hillgauze_reader_try_next_all(
+        reader: *mut Reader,
+        values: *mut u64,
+        count: usize,
+    ) -> Reply;
     pub(crate) fn hillgauze_reader_start(reader: *mut Reader) -> Reply;
     pub(crate) fn hillgauze_reader_received(reader: *mut Reader) -> Reply;
     pub(crate) fn hillgauze_reader_dropped(reader: *mut Reader) -> Reply;

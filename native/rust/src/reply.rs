@@ -148,6 +148,26 @@ impl Reply {
         }
     }
 
+    /// How many values a subscription received at once.
+    pub(crate) fn received(self) -> Next<u64> {
+        match self.certain() {
+            COUNT => Next::Value(self.word),
+            NOTHING => Next::Nothing,
+            CLOSED => Next::Closed,
+            _ => self.unforeseen(),
+        }
+    }
+
+    /// How many values a reader took at once.
+    pub(crate) fn taken_at_once(self) -> Taken<u64> {
+        match self.certain() {
+            COUNT => Taken::Value(self.word),
+            NOTHING => Taken::Nothing,
+            OVERTAKEN => Taken::Overtaken,
+            _ => self.unforeseen(),
+        }
+    }
+
     pub(crate) fn taken<T: Word>(self) -> Taken<T> {
         match self.certain() {
             VALUE => Taken::Value(T::from_word(self.word)),

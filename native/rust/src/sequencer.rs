@@ -1,6 +1,7 @@
 //! The one party of a lane that emits.
 
 use crate::answers::{Begun, Emit, Ticket, Tried, Withdrawn};
+use crate::blocks::emit_all;
 use crate::config::Config;
 use crate::raw::{self, Handle, RawConfig};
 use crate::reader::Reader;
@@ -82,6 +83,43 @@ impl<T: Word> Sequencer<T> {
             self.emitter.wake_all();
         }
         tried
+    }
+
+    /// Emits these values in order, up to the first that isn't accepted, and answers how many were: what
+    /// [`try_emit`](Sequencer::try_emit) of one after another comes to, but one look at the readers serves for as many
+    /// as there is room for.
+    ///
+    /// It first lets waiting emissions in, and what it let in stands whatever it answers. Under `Suspend` it stops
+    /// where a try would be `Full`, under `DropLatest` where one would be `Dropped`; under `DropOldest` all are
+    /// accepted, and each reader loses what it would have lost. Refused as `Spent` where the numbers are used up and
+    /// none was accepted.
+    ///
+    /// ```
+    /// use hillgauze::{Config, Policy, Sequencer};
+    ///
+    /// let config = Config { extra: 3, policy: Policy::DropLatest, ..Config::default() };
+    /// let mut sequencer = Sequencer::new(config)?;
+    /// let mut reader = sequencer.admit()?;
+    /// assert_eq!(sequencer.try_emit_all(0, &['a', 'b', 'c', 'd', 'e'])?, 3);
+    /// let mut values = Vec::new();
+    /// assert_eq!(reader.recv_many(&mut values, 10), 3);
+    /// assert_eq!(values, ['a', 'b', 'c']);
+    /// # Ok::<(), hillgauze::Refusal>(())
+    /// ```
+    pub fn try_emit_all(&mut self, emitter: u32, values: &[T]) -> Result<u64, Refusal> {
+        emit_all(values, |words| {
+            let (words, count) = (words.as_ptr(), words.len());
+            // SAFETY: the handle is live, no other call has it, and there are `count` words.
+            let reply = unsafe {
+                raw::hillgauze_lane_try_emit_all(self.handle.at(), emitter, words, count)
+            };
+            let accepted = reply.granted().map(Reply::count);
+            // After each block: code of others, which makes words of the next one, may panic.
+            if self.tickets > 0 || matches!(accepted, Ok(1..)) {
+                self.emitter.wake_all();
+            }
+            accepted
+        })
     }
 
     /// Begins an emission, which gets a ticket where it isn't done at once: Kotlin's `emit`.

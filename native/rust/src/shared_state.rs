@@ -1,9 +1,11 @@
 //! A shared flow on one thread.
 
 use crate::answers::{Begun, Emit, Next, SubId, Ticket, Tried, Withdrawn};
+use crate::blocks::{add, emit_all, BLOCK};
 use crate::config::Config;
 use crate::raw::{self, Handle, RawConfig};
 use crate::refusal::Refusal;
+use crate::reply::Reply;
 use crate::word::Word;
 use std::fmt;
 use std::marker::PhantomData;
@@ -65,6 +67,36 @@ impl<T: Word> SharedState<T> {
         Ok(reply.granted()?.tried())
     }
 
+    /// Tries to emit these values, one after another, up to the first that isn't accepted, and answers how many were:
+    /// Kotlin's `tryEmit` in a loop.
+    ///
+    /// Refused as `Spent` where the first one is. Each is accepted, dropped or held up as by
+    /// [`try_emit`](SharedState::try_emit):
+    ///
+    /// ```
+    /// use hillgauze::{Config, Next, SharedState};
+    ///
+    /// let mut flow = SharedState::new(Config { extra: 3, ..Config::default() })?;
+    /// let only = flow.subscribe()?;
+    /// assert_eq!(flow.try_emit_all(0, &[7, 8, 9, 10, 11])?, 3);
+    /// let mut values = Vec::new();
+    /// assert_eq!(flow.try_next_all(only, &mut values, 2), Next::Value(2));
+    /// assert_eq!(flow.try_next_all(only, &mut values, 2), Next::Value(1));
+    /// assert_eq!(flow.try_next_all(only, &mut values, 2), Next::Nothing);
+    /// assert_eq!(values, [7, 8, 9]);
+    /// # Ok::<(), hillgauze::Refusal>(())
+    /// ```
+    pub fn try_emit_all(&mut self, emitter: u32, values: &[T]) -> Result<u64, Refusal> {
+        emit_all(values, |words| {
+            let (words, count) = (words.as_ptr(), words.len());
+            // SAFETY: the handle is live, no other call has it, and there are `count` words.
+            let reply = unsafe {
+                raw::hillgauze_shared_try_emit_all(self.handle.at(), emitter, words, count)
+            };
+            reply.granted().map(Reply::count)
+        })
+    }
+
     /// Begins an emission: Kotlin's `emit`, up to where it suspends.
     ///
     /// `Waiting` gives a ticket for an emission that isn't finished. It is out until `poll_emit` answers `Done` or
@@ -119,6 +151,40 @@ impl<T: Word> SharedState<T> {
     pub fn next(&mut self, subscription: SubId) -> Next<T> {
         // SAFETY: the handle is live, and no other call has it.
         unsafe { raw::hillgauze_shared_next(self.handle.at(), subscription.0) }.next()
+    }
+
+    /// Receives the oldest values that the subscription has pending, one after another, `most` of them at most, and adds
+    /// them to `values`: Kotlin's `collect`, for several values.
+    ///
+    /// `Value` tells how many came. Else `Nothing` and `Closed` come as by [`next`](SharedState::next), where it would
+    /// answer so at once. Where `most` is 0 it asks for nothing, and answers `Value(0)`.
+    pub fn try_next_all(
+        &mut self,
+        subscription: SubId,
+        values: &mut Vec<T>,
+        most: usize,
+    ) -> Next<u64> {
+        let mut block = [0; BLOCK];
+        let mut left = most;
+        loop {
+            let room = left.min(BLOCK);
+            let words = block.as_mut_ptr();
+            // SAFETY: the handle is live, no other call has it, and there is room for `room` words.
+            let reply = unsafe {
+                raw::hillgauze_shared_try_next_all(self.handle.at(), subscription.0, words, room)
+            };
+            match reply.received() {
+                Next::Value(count) => {
+                    add(values, &block, count);
+                    left -= count as usize;
+                    if left == 0 || count < room as u64 {
+                        return Next::Value((most - left) as u64);
+                    }
+                }
+                none if left == most => return none,
+                _ => return Next::Value((most - left) as u64),
+            }
+        }
     }
 
     /// Ends a subscription and gives up what it has pending: Kotlin's `collect`, cancelled. Answers whether it was

@@ -87,6 +87,102 @@ fn pending_and_preludes_are_counted() {
     assert!(!flow.cancel(only));
 }
 
+#[test]
+fn blocks_on_one_thread() {
+    let values: Vec<u16> = (0..130).collect();
+    let mut flow = SharedState::new(one_subscriber(100, 1, LIMIT - 101)).unwrap();
+    let only = flow.subscribe().unwrap();
+    let mut came = vec![7];
+    assert_eq!(flow.try_next_all(only, &mut came, 9), Next::Nothing);
+    assert_eq!(flow.try_emit_all(0, &values), Ok(100));
+    assert_eq!(flow.try_emit_all(0, &values), Ok(0));
+    assert_eq!(flow.pending(only), 100);
+    assert_eq!(flow.try_next_all(only, &mut came, 0), Next::Value(0));
+    assert_eq!(flow.try_next_all(only, &mut came, 70), Next::Value(70));
+    assert_eq!(flow.pending(only), 30);
+    assert_eq!(
+        flow.try_next_all(only, &mut came, usize::MAX),
+        Next::Value(30)
+    );
+    assert_eq!(came[0], 7);
+    assert_eq!(came[1..], values[..100]);
+    assert_eq!(flow.try_emit_all(0, &values), Ok(1));
+    assert_eq!(flow.try_emit_all(0, &values), Err(Refusal::Spent));
+    assert_eq!(flow.try_emit_all(0, &[]), Ok(0));
+    assert!(flow.cancel(only));
+    assert_eq!(flow.try_next_all(only, &mut came, 1), Next::Closed);
+    assert_eq!(flow.try_next_all(only, &mut came, 0), Next::Value(0));
+    assert_eq!(came.len(), 101);
+}
+
+/// How many of 200 values are accepted by a flow, and by a lane, that have such places and one subscriber, and what
+/// that one receives.
+fn accepted_by_both(config: Config) -> [(u64, Vec<u64>); 2] {
+    let values: Vec<u64> = (0..200).collect();
+    let mut flow = SharedState::new(config).unwrap();
+    let only = flow.subscribe().unwrap();
+    let of_flow = flow.try_emit_all(0, &values).unwrap();
+    let mut from_flow = Vec::new();
+    let answered = flow.try_next_all(only, &mut from_flow, 200);
+    assert_eq!(answered, received_at_once(from_flow.len()));
+
+    let mut sequencer = Sequencer::new(config).unwrap();
+    let mut reader = sequencer.admit().unwrap();
+    let of_lane = sequencer.try_emit_all(0, &values).unwrap();
+    drop(sequencer);
+    let mut from_lane = Vec::new();
+    assert_eq!(reader.recv_many(&mut from_lane, 200), from_lane.len());
+    assert_eq!(reader.recv_many(&mut from_lane, 200), 0);
+    [(of_flow, from_flow), (of_lane, from_lane)]
+}
+
+fn received_at_once(count: usize) -> Next<u64> {
+    match count {
+        0 => Next::Nothing,
+        count => Next::Value(count as u64),
+    }
+}
+
+#[test]
+fn blocks_under_each_policy() {
+    let with = |policy, extra| Config {
+        policy,
+        ..one_subscriber(extra, 1, 0)
+    };
+    for extra in [1, 63, 64, 65, 128, 150, 199, 200] {
+        let first: Vec<u64> = (0..extra).collect();
+        let last: Vec<u64> = (200 - extra..200).collect();
+        for accepted in accepted_by_both(with(Policy::Suspend, extra)) {
+            assert_eq!(accepted, (extra, first.clone()));
+        }
+        for accepted in accepted_by_both(with(Policy::DropLatest, extra)) {
+            assert_eq!(accepted, (extra, first.clone()));
+        }
+        for accepted in accepted_by_both(with(Policy::DropOldest, extra)) {
+            assert_eq!(accepted, (200, last.clone()));
+        }
+    }
+    for accepted in accepted_by_both(with(Policy::Suspend, 0)) {
+        assert_eq!(accepted, (0, Vec::new()));
+    }
+}
+
+/// The refusal of a later block isn't told: values before it were accepted.
+#[test]
+fn blocks_up_to_the_last_number() {
+    let values = [1u64; 130];
+    for left in [63, 64, 65, 128] {
+        let config = one_subscriber(200, 1, LIMIT - left);
+        let mut flow = SharedState::new(config).unwrap();
+        assert_eq!(flow.try_emit_all(0, &values), Ok(left));
+        assert_eq!(flow.try_emit_all(0, &values), Err(Refusal::Spent));
+        let mut sequencer = Sequencer::new(config).unwrap();
+        assert_eq!(sequencer.try_emit_all(0, &values), Ok(left));
+        assert_eq!(sequencer.try_emit_all(0, &values), Err(Refusal::Spent));
+        assert_eq!(sequencer.try_emit_all(0, &[]), Ok(0));
+    }
+}
+
 /// What the reader says of itself: where it began, and how many values it received and lost.
 fn counts<T: hillgauze::Word>(reader: &Reader<T>) -> (u64, u64, u64) {
     (reader.start(), reader.received(), reader.dropped())
@@ -140,6 +236,54 @@ fn lane_drops_oldest() {
     assert_eq!(reader.start(), 4);
     assert_eq!(reader.try_next(), Taken::Value(5));
     assert_eq!(counts(&reader), (4, 1, 0));
+}
+
+#[test]
+fn a_reader_takes_64_at_once() {
+    let values: Vec<i32> = (-50..50).collect();
+    let mut sequencer = Sequencer::new(one_subscriber(100, 1, 0)).unwrap();
+    let mut reader = sequencer.admit().unwrap();
+    let mut came = vec![7];
+    assert_eq!(reader.try_next_all(&mut came, 9), Taken::Nothing);
+    assert_eq!(reader.try_next_all(&mut came, 0), Taken::Nothing);
+    assert_eq!(sequencer.try_emit_all(0, &values), Ok(100));
+    assert_eq!(reader.try_next_all(&mut came, 0), Taken::Value(0));
+    assert_eq!(reader.recv_many(&mut came, 0), 0);
+    assert_eq!(reader.try_next_all(&mut came, 2), Taken::Value(2));
+    assert_eq!(reader.try_next_all(&mut came, usize::MAX), Taken::Value(64));
+    assert_eq!(counts(&reader), (0, 66, 0));
+    assert_eq!(reader.try_next(), Taken::Value(16));
+    assert_eq!(sequencer.try_emit_all(0, &values), Ok(67));
+    assert_eq!(reader.recv_many(&mut came, 99), 99);
+    assert_eq!(reader.recv_many(&mut came, usize::MAX), 1);
+    let wanted = [7].iter().chain(&values[..66]).chain(&values[67..]);
+    assert!(came.iter().eq(wanted.chain(&values[..67])));
+    drop(sequencer);
+    assert_eq!(reader.recv_many(&mut came, usize::MAX), 0);
+    assert_eq!(counts(&reader), (0, 167, 0));
+}
+
+/// A block comes behind the emissions that wait, and lets these in first, also where it has no values.
+#[test]
+fn a_block_lets_in_what_waits() {
+    let mut sequencer = Sequencer::new(one_subscriber(2, 2, 0)).unwrap();
+    let mut reader = sequencer.admit().unwrap();
+    let mut came = Vec::new();
+    assert_eq!(sequencer.try_emit_all(0, &[1u64, 2, 3]), Ok(2));
+    assert_eq!(sequencer.start_emit(0, 3), Ok(Begun::Waiting(Ticket(0))));
+    assert_eq!(sequencer.start_emit(0, 4), Ok(Begun::Waiting(Ticket(1))));
+    assert_eq!(sequencer.try_emit_all(0, &[5, 6]), Ok(0));
+    assert_eq!(reader.recv_many(&mut came, 1), 1);
+    assert_eq!(sequencer.try_emit_all(0, &[5, 6]), Ok(0));
+    assert_eq!(sequencer.poll_emit(Ticket(0)), Emit::Done(2));
+    assert_eq!(sequencer.poll_emit(Ticket(1)), Emit::Waiting);
+    assert_eq!(reader.recv_many(&mut came, 1), 1);
+    assert_eq!(sequencer.try_emit_all(0, &[]), Ok(0));
+    assert_eq!(sequencer.poll_emit(Ticket(1)), Emit::Done(3));
+    assert_eq!(reader.recv_many(&mut came, 9), 2);
+    assert_eq!(sequencer.try_emit_all(0, &[5, 6]), Ok(2));
+    assert_eq!(reader.recv_many(&mut came, 9), 2);
+    assert_eq!(came, [1, 2, 3, 4, 5, 6]);
 }
 
 #[test]

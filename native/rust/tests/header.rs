@@ -18,6 +18,7 @@ fn in_rust(declaration: &str) -> String {
         "uint64_t" => "u64",
         "size_t" => "usize",
         "const uint64_t *" => "*const u64",
+        "uint64_t *" => "*mut u64",
         "const hillgauze_config *" => "*const RawConfig",
         "hillgauze_shared *" => "*mut Shared",
         "hillgauze_sequencer *" => "*mut Sequencer",

@@ -175,7 +175,7 @@ fn a_reader_is_refused() {
             assert_eq!((reader.received(), reader.dropped()), (1, 0));
         },
     );
-    assert!(requests > 0);
+    assert_eq!(requests, 2, "for itself, and for what it takes at once");
     assert_eq!(flows.1.try_next(), Taken::Value(8));
     assert_eq!(flows.1.try_next(), Taken::Nothing);
 }

@@ -5,7 +5,9 @@ use hillgauze::{
     Tried, Word,
 };
 use std::future::{poll_fn, Future};
+use std::panic::{catch_unwind, AssertUnwindSafe};
 use std::pin::pin;
+use std::sync::atomic::{AtomicBool, Ordering::SeqCst};
 use std::sync::{Arc, Mutex};
 use std::task::{Context, Poll, Wake, Waker};
 use std::thread::{self, Thread};
@@ -108,6 +110,136 @@ fn what_is_accepted_is_received_where_the_latest_are_dropped() {
 fn each_value_is_received_or_dropped_where_the_oldest_are() {
     let (accepted, received) = three_threads(Policy::DropOldest);
     assert_eq!(accepted.len() as u64, VALUES + 1);
+    for (values, closed) in received {
+        assert!(
+            values.windows(2).all(|pair| pair[0] < pair[1]),
+            "a reader received out of order"
+        );
+        assert_eq!(values.last(), Some(&VALUES));
+        assert_eq!(closed.received, values.len() as u64);
+        assert_eq!(closed.received + closed.dropped, VALUES + 1);
+    }
+}
+
+/// Sizes from 1 to `most`, in no order.
+fn sizes(most: u64, seed: u64) -> impl FnMut() -> usize {
+    let mut state = seed;
+    move || {
+        // Marsaglia's xorshift.
+        state ^= state << 13;
+        state ^= state >> 7;
+        state ^= state << 17;
+        (state % most) as usize + 1
+    }
+}
+
+/// Emits a million values and one last value, in blocks of many sizes; answers which were accepted. Under `DropLatest`
+/// the value that ends a block is dropped, but for the last one.
+fn emit_blocks(sequencer: &mut Sequencer<u64>, policy: Policy) -> Vec<u64> {
+    let values: Vec<u64> = (0..=VALUES).collect();
+    let mut size = sizes(200, 7);
+    let mut accepted = Vec::new();
+    let mut done = 0;
+    while done < values.len() {
+        let end = values.len().min(done + size());
+        let block = &values[done..end];
+        let count = sequencer.try_emit_all(0, block).unwrap() as usize;
+        accepted.extend_from_slice(&block[..count]);
+        done += count;
+        if count == block.len() {
+            continue;
+        }
+        if policy == Policy::DropLatest && done < values.len() - 1 {
+            done += 1;
+        }
+        thread::yield_now();
+    }
+    accepted
+}
+
+/// All that the reader receives until the end, in blocks of many sizes, by sleeping.
+fn slept_for_blocks(mut reader: Reader<u64>) -> (Vec<u64>, Closed) {
+    let mut size = sizes(200, 8);
+    let mut values = Vec::new();
+    loop {
+        let (before, most) = (values.len(), size());
+        let count = reader.recv_many(&mut values, most);
+        assert!(count <= most && values.len() == before + count);
+        if count == 0 {
+            return (values, reader.close());
+        }
+    }
+}
+
+/// All that the reader receives until the last value, in blocks of many sizes and each tenth time one alone, by asking
+/// without end.
+fn asked_for_blocks(mut reader: Reader<u64>, last: u64) -> (Vec<u64>, Closed) {
+    let mut size = sizes(80, 9);
+    let mut values = Vec::new();
+    while values.last() != Some(&last) {
+        let (before, most) = (values.len(), size());
+        if most % 10 == 0 {
+            values.extend(reader.next());
+            continue;
+        }
+        match reader.try_next_all(&mut values, most) {
+            Taken::Value(count) => {
+                assert!((1..=most.min(64) as u64).contains(&count));
+                assert_eq!(values.len(), before + count as usize);
+            }
+            nothing => {
+                assert_eq!(values.len(), before);
+                if nothing == Taken::Nothing {
+                    thread::yield_now();
+                }
+            }
+        }
+    }
+    (values, reader.close())
+}
+
+/// What a sequencer on this thread accepted by the block, and what two readers on threads of their own received so.
+fn three_threads_by_the_block(policy: Policy) -> (Vec<u64>, [(Vec<u64>, Closed); 2]) {
+    let mut sequencer = lane(policy, 100);
+    let sleeping = sequencer.admit().unwrap();
+    let asking = sequencer.admit().unwrap();
+    let sleeping = thread::spawn(|| slept_for_blocks(sleeping));
+    let asking = thread::spawn(|| asked_for_blocks(asking, VALUES));
+    let accepted = emit_blocks(&mut sequencer, policy);
+    drop(sequencer);
+    (accepted, [sleeping.join().unwrap(), asking.join().unwrap()])
+}
+
+#[test]
+fn no_value_of_a_block_is_lost_where_emissions_wait() {
+    let (accepted, received) = three_threads_by_the_block(Policy::Suspend);
+    assert!(accepted.iter().copied().eq(0..=VALUES));
+    for (values, closed) in received {
+        assert!(values == accepted, "a reader received something else");
+        let wanted = Closed {
+            start: 0,
+            received: VALUES + 1,
+            dropped: 0,
+        };
+        assert_eq!(closed, wanted);
+    }
+}
+
+#[test]
+fn what_is_accepted_of_a_block_is_received_where_the_latest_are_dropped() {
+    let (accepted, received) = three_threads_by_the_block(Policy::DropLatest);
+    assert_eq!(accepted.last(), Some(&VALUES));
+    for (values, closed) in received {
+        assert!(values == accepted, "a reader received something else");
+        assert_eq!(closed.received, accepted.len() as u64);
+        assert_eq!(closed.dropped, 0);
+    }
+}
+
+#[test]
+fn each_value_of_a_block_is_received_or_dropped_where_the_oldest_are() {
+    let (accepted, received) = three_threads_by_the_block(Policy::DropOldest);
+    assert!(accepted.iter().copied().eq(0..=VALUES));
     for (values, closed) in received {
         assert!(
             values.windows(2).all(|pair| pair[0] < pair[1]),
@@ -275,6 +407,128 @@ fn no_wake_up_is_lost_between_two() {
     }
     drop(turns);
     answering.join().unwrap();
+}
+
+/// The next values, as many as come, up to three.
+fn next_few<T: Word>(reader: &mut Reader<T>) -> Vec<T> {
+    let mut values = Vec::new();
+    let count = block_on(poll_fn(|context| {
+        reader.poll_recv_many(context, &mut values, 3)
+    }));
+    assert_eq!(values.len(), count);
+    values
+}
+
+/// Emits a block, as far as there is room at first, and then the rest.
+fn emit_block(sequencer: &mut Sequencer<u64>, values: &[u64]) {
+    let mut rest = values;
+    while !rest.is_empty() {
+        let accepted = sequencer.try_emit_all(0, rest).unwrap();
+        rest = &rest[accepted as usize..];
+        if accepted == 0 {
+            thread::yield_now();
+        }
+    }
+}
+
+/// Two threads hand blocks to and fro, as above. Each sleeps until the other has emitted.
+#[test]
+fn no_wake_up_is_lost_between_two_by_the_block() {
+    let (mut turns, mut answers) = (lane(Policy::Suspend, 3), lane(Policy::Suspend, 3));
+    let (mut asked, mut answered) = (turns.admit().unwrap(), answers.admit().unwrap());
+    let answering = thread::spawn(move || loop {
+        let came = next_few(&mut asked);
+        if came.is_empty() {
+            return;
+        }
+        emit_block(&mut answers, &came);
+    });
+    for turn in 0..30_000 {
+        let block = [turn, turn + 1, turn + 2];
+        let block = &block[..turn as usize % 3 + 1];
+        emit_block(&mut turns, block);
+        let mut came = Vec::new();
+        while came.len() < block.len() {
+            came.extend(next_few(&mut answered));
+        }
+        assert_eq!(came, block);
+    }
+    drop(turns);
+    answering.join().unwrap();
+    assert!(next_few(&mut answered).is_empty());
+}
+
+/// A thread that sleeps in `recv_many` is woken by a block, and at the end.
+#[test]
+fn a_block_wakes_a_thread() {
+    let mut sequencer = lane(Policy::Suspend, 8);
+    let mut reader = sequencer.admit().unwrap();
+    let mut heard = StateSeat::new(0u64, 2).unwrap();
+    let mut collector = heard.take_seat(0).unwrap().collect();
+    let listening = thread::spawn(move || {
+        let mut values = Vec::new();
+        while reader.recv_many(&mut values, 8) > 0 {
+            heard.set(values.len() as u64);
+        }
+        values
+    });
+    for turn in 1..=2000u64 {
+        emit_block(&mut sequencer, &[turn; 2]);
+        while collector.recv_timeout(LONG).expect("a reader slept on") < 2 * turn {}
+    }
+    drop(sequencer);
+    assert_eq!(listening.join().unwrap().len(), 4000);
+}
+
+/// A value of whose words some can't be made.
+#[derive(Clone, Copy, PartialEq, Eq, Debug)]
+struct Below64(u64);
+
+impl Word for Below64 {
+    fn to_word(self) -> u64 {
+        assert!(self.0 < 64, "a word of others panics");
+        self.0
+    }
+
+    fn from_word(word: u64) -> Below64 {
+        Below64(word)
+    }
+}
+
+/// Notes that it was woken.
+struct Noting(AtomicBool);
+
+impl Wake for Noting {
+    fn wake(self: Arc<Self>) {
+        self.0.store(true, SeqCst);
+    }
+}
+
+/// Where a block is emitted and the words of the next one can't be made, its receivers are woken all the same.
+#[test]
+fn a_panic_between_two_blocks_keeps_nobody_asleep() {
+    let mut sequencer = Sequencer::new(Config {
+        extra: 100,
+        ..Config::default()
+    })
+    .unwrap();
+    let mut reader = sequencer.admit().unwrap();
+    let noting = Arc::new(Noting(AtomicBool::new(false)));
+    let waker = Waker::from(Arc::clone(&noting));
+    let mut context = Context::from_waker(&waker);
+    let mut came = Vec::new();
+    assert!(reader
+        .poll_recv_many(&mut context, &mut came, 100)
+        .is_pending());
+    let values: Vec<Below64> = (0..65).map(Below64).collect();
+    let emitting = AssertUnwindSafe(|| sequencer.try_emit_all(0, &values));
+    assert!(catch_unwind(emitting).is_err());
+    assert!(noting.0.load(SeqCst));
+    assert_eq!(
+        reader.poll_recv_many(&mut context, &mut came, 100),
+        Poll::Ready(64)
+    );
+    assert_eq!(came, values[..64]);
 }
 
 /// Counts in a state each turn that it hears.

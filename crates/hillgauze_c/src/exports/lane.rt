@@ -1,9 +1,9 @@
 //! A lane's sequencer.
 ghost use Rattle.std.specs.Prelude.{◌≡◌, ◌≢◌, None};
-ghost use Rattle.hillgauze_c.specs.Replies.{refused_as, tried_reply, begun_reply, emit_reply, withdrawn_reply};
+ghost use Rattle.hillgauze_c.specs.Replies.{refused_as, tried_reply, tries_reply, begun_reply, emit_reply, withdrawn_reply};
 ghost use Rattle.hillgauze_c.specs.Makes.{IsMadeIn};
 ghost use Rattle.hillgauze_c.specs.Kinds.{IsFreed, IsTaken, Told, sequencer_of};
-ghost use Rattle.hillgauze_c.specs.LaneCalls.{OnSequencer, TriedBy, BegunBy, PolledBy, WithdrawnBy, Scans, CountsReaders, ReadsLaneCache, HasCacheLength, ResetsLane, Admits, IsFreshLane};
+ghost use Rattle.hillgauze_c.specs.LaneCalls.{OnSequencer, TriedBy, TriedAllBy, BegunBy, PolledBy, WithdrawnBy, Scans, CountsReaders, ReadsLaneCache, HasCacheLength, ResetsLane, Admits, IsFreshLane};
 
 use crate::config::FlowConfig;
 use crate::handle::Handle;
@@ -46,6 +46,24 @@ pub extern "C" fn hillgauze_lane_try_emit(sequencer: &mut Handle, emitter: u32, 
         return Reply::refused(OTHER_KIND);
     };
     Reply::of_try(sequencing.try_emit(emitter, value))
+}
+
+/// Emits these values in order, up to the first for which there is no room.
+#[unsafe(no_mangle)]
+pub extern "C" fn hillgauze_lane_try_emit_all(
+    sequencer: &mut Handle,
+    emitter: u32,
+    values: &[u64],
+) -> Reply
+    ensures { OnSequencer (Told tries_reply (TriedAllBy emitter values.now)) sequencer.old.object result sequencer.new.object }
+{
+    let Some(object) = sequencer.lend() else {
+        return Reply::refused(NULL_HANDLE);
+    };
+    let Some(sequencing) = object.sequencer() else {
+        return Reply::refused(OTHER_KIND);
+    };
+    Reply::of_tries(sequencing.try_emit_all(emitter, values))
 }
 
 /// Begins an emission.
@@ -192,7 +210,7 @@ pub extern "C" fn hillgauze_lane_admit(
     if !reader.make(alloc, Object::Vacant) {
         return Reply::of_refusal(Refusal::NoMemory);
     }
-    match sequencing.admit() {
+    match sequencing.admit(alloc) {
         Ok(reading) => {
             reader.put(Object::Reader(reading));
             Reply::done()

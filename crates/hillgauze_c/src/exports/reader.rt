@@ -1,8 +1,9 @@
 //! A lane's reader.
+ghost use Rattle.std.specs.Prelude.{◌≡◌, ◌≢◌};
 ghost use Rattle.shared_lane.specs.Readers.{received_count, lost_count};
-ghost use Rattle.hillgauze_c.specs.Replies.{taken_reply};
+ghost use Rattle.hillgauze_c.specs.Replies.{taken_reply, takes_reply};
 ghost use Rattle.hillgauze_c.specs.Kinds.{IsFreed, Told, reader_of};
-ghost use Rattle.hillgauze_c.specs.LaneCalls.{OnReader, TookAndStayed, Tells, began_at};
+ghost use Rattle.hillgauze_c.specs.LaneCalls.{OnReader, TookAndStayed, TookAtOnce, Tells, began_at};
 
 use crate::handle::Handle;
 use crate::reply::{NULL_HANDLE, OTHER_KIND, Reply};
@@ -20,6 +21,21 @@ pub extern "C" fn hillgauze_reader_try_next(reader: &mut Handle) -> Reply
         return Reply::refused(OTHER_KIND);
     };
     Reply::of_taking(reading.try_next())
+}
+
+/// Takes the reader's next values at once, as many as are there and find room, and at most 64.
+#[unsafe(no_mangle)]
+pub extern "C" fn hillgauze_reader_try_next_all(reader: &mut Handle, values: &mut [u64]) -> Reply
+    ensures taken { OnReader (Told takes_reply (TookAtOnce values.old values.new)) reader.old.object result reader.new.object }
+    ensures untouched { result.refusal ≢ 0 → values.new ≡ values.old }
+{
+    let Some(object) = reader.lend() else {
+        return Reply::refused(NULL_HANDLE);
+    };
+    let Some(reading) = object.reader() else {
+        return Reply::refused(OTHER_KIND);
+    };
+    Reply::of_takes(reading.try_next_all(values))
 }
 
 /// The number of the emission at which the reader began.

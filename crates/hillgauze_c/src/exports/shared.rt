@@ -1,14 +1,17 @@
 //! The shared flow on one thread.
+ghost use Rattle.std.specs.Prelude.{◌≡◌, ◌≢◌};
+ghost use Rattle.shared_core.specs.Blocks as blocks;
 ghost use Rattle.shared_core.specs.Calls as calls;
 ghost use Rattle.shared_core.specs.Shown.{CountsPending};
-ghost use Rattle.hillgauze_c.specs.Replies.{tried_reply, begun_reply, emit_reply, withdrawn_reply, subscribed_reply, next_reply, ended_reply};
+ghost use Rattle.hillgauze_c.specs.Replies.{tried_reply, tries_reply, begun_reply, emit_reply, withdrawn_reply, subscribed_reply, next_reply, ended_reply, receipts_reply};
 ghost use Rattle.hillgauze_c.specs.Makes.{IsMadeIn};
-ghost use Rattle.hillgauze_c.specs.Kinds.{IsFreed, shared_of};
-ghost use Rattle.hillgauze_c.specs.SharedCalls.{OnShared, Answers, CountsAs, IsFreshFlow, IsLiveCount, IsCacheLength, SubscribesWith, ReadsCache, Resets};
+ghost use Rattle.hillgauze_c.specs.Kinds.{IsFreed, Told, shared_of};
+ghost use Rattle.hillgauze_c.specs.SharedCalls.{OnShared, Answers, CountsAs, IsFreshFlow, IsLiveCount, IsCacheLength, SubscribesWith, ReadsCache, ReceivesInto, Resets};
 
 use crate::config::FlowConfig;
 use crate::handle::Handle;
 use crate::object::Object;
+use crate::receipts::receive_into;
 use crate::reply::{HANDLE_TAKEN, NO_SUCH_POLICY, NULL_HANDLE, OTHER_KIND, Reply};
 use flow_terms::{SubId, Ticket};
 use shared_core::{Prelude, SharedState};
@@ -47,6 +50,24 @@ pub extern "C" fn hillgauze_shared_try_emit(flow: &mut Handle, emitter: u32, val
         return Reply::refused(OTHER_KIND);
     };
     Reply::of_try(shared.try_emit(emitter, value))
+}
+
+/// Emits these values in order, up to the first for which there is no room.
+#[unsafe(no_mangle)]
+pub extern "C" fn hillgauze_shared_try_emit_all(
+    flow: &mut Handle,
+    emitter: u32,
+    values: &[u64],
+) -> Reply
+    ensures { OnShared (Answers tries_reply (blocks.try_emit_all emitter values.now)) flow.old.object result flow.new.object }
+{
+    let Some(object) = flow.lend() else {
+        return Reply::refused(NULL_HANDLE);
+    };
+    let Some(shared) = object.shared() else {
+        return Reply::refused(OTHER_KIND);
+    };
+    Reply::of_tries(shared.try_emit_all(emitter, values))
 }
 
 /// Begins an emission.
@@ -134,6 +155,25 @@ pub extern "C" fn hillgauze_shared_next(flow: &mut Handle, subscription: u64) ->
         return Reply::refused(OTHER_KIND);
     };
     Reply::of_next(shared.next(SubId(subscription)))
+}
+
+/// Receives the oldest values that the subscription has pending, as far as there is room for them.
+#[unsafe(no_mangle)]
+pub extern "C" fn hillgauze_shared_try_next_all(
+    flow: &mut Handle,
+    subscription: u64,
+    values: &mut [u64],
+) -> Reply
+    ensures received { OnShared (Told receipts_reply (ReceivesInto subscription values.old values.new)) flow.old.object result flow.new.object }
+    ensures untouched { result.refusal ≢ 0 → values.new ≡ values.old }
+{
+    let Some(object) = flow.lend() else {
+        return Reply::refused(NULL_HANDLE);
+    };
+    let Some(shared) = object.shared() else {
+        return Reply::refused(OTHER_KIND);
+    };
+    Reply::of_receipts(receive_into(shared, SubId(subscription), values))
 }
 
 /// Ends a subscription.

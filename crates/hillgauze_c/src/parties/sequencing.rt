@@ -2,12 +2,14 @@
 ghost use Rattle.std.specs.Prelude.{◌≡◌, ◌<◌, ◌≢◌, [], None, length, slice_get, Some, IfOk, IfErr, IfSome, IfNone, IsOkUnless};
 ghost use Rattle.shared_core.specs.Kept.{making_refusal};
 ghost use Rattle.shared_lane.specs.Sequencers.{IsSameSequencer, HasNumber, HasTicketNumber, TriedOn, RefusedTry, BegunOn, RefusedStart, AfterScan, IsFresh, Settled, IsStuck, OnlyLoaded};
+ghost use Rattle.shared_lane.specs.Blocks.{TriedAllOn};
 ghost use Rattle.shared_lane.specs.Polls.{PolledOn, WithdrawnFrom};
 ghost use Rattle.shared_lane.specs.Places.{Counted};
 ghost use Rattle.flow_terms.specs.declared.refusal.Refusal.TheVariants.{NoMemory};
 ghost use Rattle.hillgauze_c.specs.LaneCalls.{IsAdmitted, IsNotAdmitted};
 
 use super::Reading;
+use super::reading::reserved;
 use flow_terms::{Begun, Emit, Refusal, Ticket, Tried, Withdrawn};
 use shared_core::Config;
 use shared_lane::{Lane, Sequencer};
@@ -57,6 +59,15 @@ impl Sequencing {
         self.sequencer.try_emit(&self.lane, emitter, word)
     }
 
+    /// Emits these words in order, up to the first that isn't accepted.
+    pub fn try_emit_all(&mut self, emitter: u32, words: &[u64]) -> Result<u64, Refusal>
+        ensures same { IsSameSequencer self.old self.new }
+        ensures refused { IfErr result (λ e. (words.now ≢ []) × AfterScan self.old (λ m. RefusedTry m e self.new)) }
+        ensures tried { IfOk result (λ n. AfterScan self.old (λ m. TriedAllOn m emitter words.now n self.new)) }
+    {
+        self.sequencer.try_emit_all(&self.lane, emitter, words)
+    }
+
     /// Begins an emission.
     pub fn start_emit(&mut self, emitter: u32, word: u64) -> Result<Begun<u64, Ticket>, Refusal>
         ensures same { IsSameSequencer self.old self.new }
@@ -99,13 +110,14 @@ impl Sequencing {
     }
 
     /// Lets a reader in.
-    pub fn admit(&mut self) -> Result<Reading, Refusal>
+    pub fn admit(&mut self, alloc: Global) -> Result<Reading, Refusal>
         ensures ok { IfOk result (λ r. IsAdmitted self.old r self.new) }
         ensures err { IfErr result (λ e. IsNotAdmitted self.old e self.new) }
     {
+        let block = reserved(alloc)?;
         let lane = Arc::try_clone(&self.lane)?;
         let reader = self.sequencer.admit(&self.lane)?;
-        Ok(Reading::over(lane, reader))
+        Ok(Reading::over(lane, reader, block))
     }
 
     /// Empties the replay cache.
