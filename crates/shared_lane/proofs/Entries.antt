@@ -48,6 +48,6 @@ pub joined_more : (blocks : List (List Entry)) (es : List Entry) → joined (blo
 joined_more [] es = append-nil es
 joined_more (b ∷ blocks) es = ap (λ l. b ++ l) (joined_more blocks es) ∙ sym (append_assoc b (joined blocks) es)
 
-pub in_turn_more : (q m t : SequencerSeen) (blocks : List (List Entry)) (es : List Entry) → AcceptedInTurn q blocks m → AcceptedTogether m es t → AcceptedInTurn q (blocks ++ es ∷ []) t
-in_turn_more q m t [] es is last = (t, subst (λ (z : SequencerSeen). AcceptedTogether z es t) is last, refl)
-in_turn_more q m t (b ∷ blocks) es in_turn last = (in_turn.0, in_turn.1, in_turn_more in_turn.0 m t blocks es in_turn.2 last)
+pub in_turn_more : (q m t : SequencerSeen) (blocks : List (List Entry)) (es : List Entry) → AcceptedInTurn q blocks m → 0 < length es → AcceptedTogether m es t → AcceptedInTurn q (blocks ++ es ∷ []) t
+in_turn_more q m t [] es is some last = (t, some, subst (λ (z : SequencerSeen). AcceptedTogether z es t) is last, refl)
+in_turn_more q m t (b ∷ blocks) es in_turn some last = (in_turn.0, in_turn.1, in_turn.2, in_turn_more in_turn.0 m t blocks es in_turn.3 some last)

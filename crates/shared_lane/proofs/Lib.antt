@@ -11,3 +11,4 @@ pub mod Settling
 pub mod Sameness
 pub mod Soundness
 pub mod Stories
+pub mod Together

@@ -10,7 +10,7 @@ use Rattle.lane_steps.specs.Law.{Entry, closed}
 use Rattle.shared_lane.specs.Caches.{word_of}
 use Rattle.shared_lane.specs.Views.{SequencerSeen}
 use Rattle.shared_lane.specs.Surveys.{Round, FoundAt, Cleared, Behind}
-use Rattle.shared_lane.specs.Sequencers.{next, seen, OnlyLoaded, TriedOn, RefusedTry}
+use Rattle.shared_lane.specs.Sequencers.{next, seen, OnlyLoaded, AcceptedOn, TriedOn, RefusedTry}
 
 -- the emissions of these words, for one emitter
 abbrev pub entries : ℕ → List ℕ → List Entry
@@ -52,10 +52,21 @@ RoundedFor DropLatest k q v = (ns : List ℕ) × (length ns ≡ q.view.shape.pla
 abbrev pub AcceptedTogether : SequencerSeen → List Entry → SequencerSeen → Type 0
 AcceptedTogether q es t = (q.waiting ≡ []) × ((m : SequencerSeen) × OnlyLoaded q m × RoundedFor q.policy (length es) q m.view × (t ≡ accepted_all es m))
 
--- block after block was accepted
+-- the emissions were accepted one after another, each by a try of its own
+abbrev pub AcceptedEach : SequencerSeen → List Entry → SequencerSeen → Type 0
+AcceptedEach q [] t = t ≡ q
+AcceptedEach q (e ∷ es) t = (m : SequencerSeen) × AcceptedOn q e (next q) m × AcceptedEach m es t
+
+-- Accepting some together is accepting each of them by a try of its own, where the tries find the cursors as the one round did. But for
+-- the loads, of which there are more then, what is left is the same.
+abbrev pub TogetherIsEach : Type 0
+TogetherIsEach = (q t : SequencerSeen) (e : Entry) (es : List Entry) → AcceptedTogether q (e ∷ es) t
+    → (u : SequencerSeen) × AcceptedEach q (e ∷ es) u × (u ≡ record t { view = record t.view { loads = u.view.loads } })
+
+-- block after block was accepted, and none was empty
 abbrev pub AcceptedInTurn : SequencerSeen → List (List Entry) → SequencerSeen → Type 0
 AcceptedInTurn q [] t = t ≡ q
-AcceptedInTurn q (es ∷ blocks) t = (m : SequencerSeen) × AcceptedTogether q es m × AcceptedInTurn m blocks t
+AcceptedInTurn q (es ∷ blocks) t = (m : SequencerSeen) × (0 < length es) × AcceptedTogether q es m × AcceptedInTurn m blocks t
 
 -- the emissions of all blocks, in order
 abbrev pub joined : List (List Entry) → List Entry

@@ -21,6 +21,12 @@
 //! reader's cursor, a load of the tail, a load of the value and one exchange of the cursor. Nothing else, and nothing
 //! allocates after making.
 //!
+//! # By the block
+//! [`try_emit_all`](Sequencer::try_emit_all) emits many words: one pass over the cursors says for how many there is room, their
+//! cells are stored, and one store of the tail accepts them all. [`try_next_all`](Reader::try_next_all) takes what is there: the
+//! cells from the reader's position on are loaded, and one exchange of its cursor receives them all. Tail and cursors are what
+//! threads hand each other, so they go to and fro once for a block.
+//!
 //! # What a slow reader meets
 //! The cells are as many as `replay + extra`, at least one. Where an open cursor stands that far behind the tail there is no
 //! room: under `Suspend` a try is `Full` and an emission waits, with a ticket, until a [`scan`](Sequencer::scan) (which each
@@ -67,7 +73,10 @@ mod tickets;
 
 pub use closed::Closed;
 pub use ends::ended_reader_is_counted_no_more;
-pub use headline::{each_reader_receives_cache_then_later, taking_all_is_taking_each};
+pub use headline::{
+    accepting_together_is_accepting_each, each_reader_receives_cache_then_later,
+    taking_all_is_taking_each,
+};
 pub use lane::Lane;
 pub use meeting::{Met, meet};
 pub use reader::{Reader, Taken};

@@ -12,7 +12,8 @@ impl Reader {
     /// Takes all values that are there, as many as `out` has room for, and appends them: a load of its cursor and of the tail,
     /// a load of each value, and one exchange for all of them. It takes no memory.
     ///
-    /// `Value` says how many. `Nothing` and `Overtaken` as [`try_next`](Reader::try_next) answers them; then `out` is as it was.
+    /// `Value` says how many: none, where `out` has no room. `Nothing` and `Overtaken` as [`try_next`](Reader::try_next) answers
+    /// them; then nothing was received, and `out` is as it was.
     pub fn try_next_all<A: Allocator, B: Allocator>(
         &mut self,
         lane: &Lane<A>,
