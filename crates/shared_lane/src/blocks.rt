@@ -19,8 +19,7 @@ fn room_left(at: u64, tail: u64, lag: u64, most: u64) -> u64
     if at == CLOSED {
         return most;
     }
-    let room = lag.saturating_sub(tail - at);
-    if room < most { room } else { most }
+    lag.saturating_sub(tail - at).min(most)
 }
 
 /// Loads every cursor, and says for how many of `most` emissions they leave room.

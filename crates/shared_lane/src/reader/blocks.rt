@@ -34,7 +34,7 @@ impl Reader {
             return Taken::Nothing;
         }
         let before = out.len();
-        let count = fitting(tail - at, (out.capacity() - before) as u64);
+        let count = (tail - at).min((out.capacity() - before) as u64);
         let next = pick_words(words, &mut self.seat, cell, count, out);
         let found = words.receive_picked(&mut self.seat, self.place, at, count);
         if found != at {
@@ -48,11 +48,4 @@ impl Reader {
         self.taken += count;
         Taken::Value(count)
     }
-}
-
-// As many as are there, and find room.
-fn fitting(there: u64, room: u64) -> u64
-    ensures { result ≡ min room there }
-{
-    if there < room { there } else { room }
 }

@@ -44,12 +44,7 @@ impl<A: Allocator> Sequencer<A> {
     {
         let cells = lane.cells();
         let numbers = LIMIT - self.tail;
-        let fit = if cells < numbers { cells } else { numbers };
-        if (count as u64) < fit {
-            count as u64
-        } else {
-            fit
-        }
+        cells.min(numbers).min(count as u64)
     }
 
     // Accepts a block: its cells are stored in order, then the tail, once.

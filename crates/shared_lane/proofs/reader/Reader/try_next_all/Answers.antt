@@ -33,7 +33,7 @@ invariant_of-self g c = let s = c.self.inside in let inv = c.self.invariant in l
 
 pub invariant_of-self-then-found-at : goal.invariant_of-self-then-found-at
 invariant_of-self-then-found-at g c = let s = c.self.inside in let inv = c.self.invariant in let r : Reading = s.seat.me.0.reading in let n : ℕ = c.load_own-at.result in let own = c.load_own-at.ensures in let tail = c.load_tail-tail.ensures in
-    let pick = c.pick_words-next.ensures in let got' = c.receive_picked-found.ensures in let picked = pick.picked in let xs : List ℕ = picked.0 in let k : ℕ = c.fitting-count.result in
+    let pick = c.pick_words-next.ensures in let got' = c.receive_picked-found.ensures in let picked = pick.picked in let xs : List ℕ = picked.0 in let k : ℕ = c.min-count.result in
     let e2 = ap (λ (v : View). v.reading) tail.view.0 ∙ ap (λ (v : View). v.reading) own.view.0 in let e3 = ap (λ (v : View). v.reading) picked.3 ∙ ap (λ (x : Reading). let y : Reading = record x { picked = xs } in y) e2 in
     let m : ℕ = c.receive_picked-found.result in let miss = got'.view.1 c.if-found-at.true in
     let e4 = ap (λ (v : View). v.reading) miss.0 ∙ ap (found_at m) e3 in let pos = position_found n r own.view.1 in let p : ℕ = position r in let le = own.view.1 in
@@ -53,7 +53,7 @@ invariant_of-self-then-found-at g c = let s = c.self.inside in let inv = c.self.
 
 pub returns-then-found-at-clause-taken : goal.returns-then-found-at-clause-taken
 returns-then-found-at-clause-taken g c = rw (← c.self.view_is) (let s = c.self.inside in let inv = c.self.invariant in let r : Reading = s.seat.me.0.reading in let n : ℕ = c.load_own-at.result in let own = c.load_own-at.ensures in let tail = c.load_tail-tail.ensures in
-    let pick = c.pick_words-next.ensures in let got' = c.receive_picked-found.ensures in let picked = pick.picked in let xs : List ℕ = picked.0 in let k : ℕ = c.fitting-count.result in
+    let pick = c.pick_words-next.ensures in let got' = c.receive_picked-found.ensures in let picked = pick.picked in let xs : List ℕ = picked.0 in let k : ℕ = c.min-count.result in
     let e2 = ap (λ (v : View). v.reading) tail.view.0 ∙ ap (λ (v : View). v.reading) own.view.0 in let e3 = ap (λ (v : View). v.reading) picked.3 ∙ ap (λ (x : Reading). let y : Reading = record x { picked = xs } in y) e2 in
     let m : ℕ = c.receive_picked-found.result in let miss = got'.view.1 c.if-found-at.true in
     let e4 = ap (λ (v : View). v.reading) miss.0 ∙ ap (found_at m) e3 in let pos = position_found n r own.view.1 in let p : ℕ = position r in let le = own.view.1 in
@@ -62,7 +62,7 @@ returns-then-found-at-clause-taken g c = rw (← c.self.view_is) (let s = c.self
     let story = ap (λ (x : Reading). x.story) e4 ∙ (ap (λ (z : ℕ). (r.story ++ replicate (n - p) false) ++ replicate (m - z) false) pos ∙ found_twice p n m r.story le (omega arith)) in
     let tail_is : ℕ = c.load_tail-tail.result in let before = s.seat.me.0.loads in
     let there = ap (λ (v : View). position v.reading) own.view.0 ∙ pos in let near = tail.view.4 in let ne = c.if-tail-at.false in
-    let room : k ≡ min (vec_capacity c.args.out.now - length c.args.out.now.items) (c.load_tail-tail.result - n) = let a = c.fitting-count.ensures in let b = c.capacity.ensures in let d = c.len-before.ensures in let long = c.args.out.now.ok.0 in omega arith in
+    let room : k ≡ min (vec_capacity c.args.out.now - length c.args.out.now.items) (c.load_tail-tail.result - n) = let a = c.min-count.ensures in let b = c.capacity.ensures in let d = c.len-before.ensures in let long = c.args.out.now.ok.0 in omega arith in
     let of_lane : s.seat.me.0.shape ≡ c.words-words.result.now.shape = ap (λ (z : ReaderSeen). z.shape) c.self.view_is ∙ (c.requires.1 ∙ sym (ap (λ (z : LaneSeen). z.shape) c.words-words.ensures)) in
     let begins = ap (λ (v : View). v.shape) tail.view.0 ∙ ap (λ (v : View). v.shape) own.view.0 in let seen = ap (λ (v : View). v.seen) miss.0 ∙ ap (λ (v : View). v.seen) picked.3 in
     let loads = ap (λ (v : View). v.loads) miss.0 ∙ (ap (λ (v : View). v.loads) picked.3
@@ -95,13 +95,13 @@ returns-then-found-at-clause-taken g c = rw (← c.self.view_is) (let s = c.self
 
 pub overflow_add-self-2 : goal.overflow_add-self-2
 overflow_add-self-2 g c = let s = c.self.inside in let inv = c.self.invariant in let r : Reading = s.seat.me.0.reading in let n : ℕ = c.load_own-at.result in let own = c.load_own-at.ensures in let tail = c.load_tail-tail.ensures in let once = each_once s.start r.story in let counted = inv.taken_is in
-    let here : position c.load_own-at.new.seat.me.0.reading ≡ n = ap (λ (v : View). position v.reading) own.view.0 ∙ position_found n r own.view.1 in let le = tail.view.4 in let k : ℕ = c.fitting-count.result in
-    let room : k ≡ min (vec_capacity c.args.out.now - length c.args.out.now.items) (c.load_tail-tail.result - n) = let a = c.fitting-count.ensures in let b = c.capacity.ensures in let d = c.len-before.ensures in let long = c.args.out.now.ok.0 in omega arith in
+    let here : position c.load_own-at.new.seat.me.0.reading ≡ n = ap (λ (v : View). position v.reading) own.view.0 ∙ position_found n r own.view.1 in let le = tail.view.4 in let k : ℕ = c.min-count.result in
+    let room : k ≡ min (vec_capacity c.args.out.now - length c.args.out.now.items) (c.load_tail-tail.result - n) = let a = c.min-count.ensures in let b = c.capacity.ensures in let d = c.len-before.ensures in let long = c.args.out.now.ok.0 in omega arith in
     let small : Fits w64 c.load_tail-tail.result = search rules in let few = own.view.1 in record { fits = let h = small.fits in omega arith }
 
 pub invariant_of-self-2 : goal.invariant_of-self-2
 invariant_of-self-2 g c = let s = c.self.inside in let inv = c.self.invariant in let r : Reading = s.seat.me.0.reading in let n : ℕ = c.load_own-at.result in let own = c.load_own-at.ensures in let tail = c.load_tail-tail.ensures in
-    let pick = c.pick_words-next.ensures in let got' = c.receive_picked-found.ensures in let picked = pick.picked in let xs : List ℕ = picked.0 in let k : ℕ = c.fitting-count.result in
+    let pick = c.pick_words-next.ensures in let got' = c.receive_picked-found.ensures in let picked = pick.picked in let xs : List ℕ = picked.0 in let k : ℕ = c.min-count.result in
     let e2 = ap (λ (v : View). v.reading) tail.view.0 ∙ ap (λ (v : View). v.reading) own.view.0 in let e3 = ap (λ (v : View). v.reading) picked.3 ∙ ap (λ (x : Reading). let y : Reading = record x { picked = xs } in y) e2 in
     let hit = got'.view.0 c.if-found-at.false in
     let e4 = ap (λ (v : View). v.reading) hit.0 ∙ ap got_picked e3 in let pos = position_found n r own.view.1 in let p : ℕ = position r in
@@ -122,7 +122,7 @@ invariant_of-self-2 g c = let s = c.self.inside in let inv = c.self.invariant in
 
 pub returns-clause-taken : goal.returns-clause-taken
 returns-clause-taken g c = rw (← c.self.view_is) (let s = c.self.inside in let inv = c.self.invariant in let r : Reading = s.seat.me.0.reading in let n : ℕ = c.load_own-at.result in let own = c.load_own-at.ensures in let tail = c.load_tail-tail.ensures in
-    let pick = c.pick_words-next.ensures in let got' = c.receive_picked-found.ensures in let picked = pick.picked in let xs : List ℕ = picked.0 in let k : ℕ = c.fitting-count.result in
+    let pick = c.pick_words-next.ensures in let got' = c.receive_picked-found.ensures in let picked = pick.picked in let xs : List ℕ = picked.0 in let k : ℕ = c.min-count.result in
     let e2 = ap (λ (v : View). v.reading) tail.view.0 ∙ ap (λ (v : View). v.reading) own.view.0 in let e3 = ap (λ (v : View). v.reading) picked.3 ∙ ap (λ (x : Reading). let y : Reading = record x { picked = xs } in y) e2 in
     let hit = got'.view.0 c.if-found-at.false in
     let e4 = ap (λ (v : View). v.reading) hit.0 ∙ ap got_picked e3 in let pos = position_found n r own.view.1 in let tail_is : ℕ = c.load_tail-tail.result in
@@ -130,7 +130,7 @@ returns-clause-taken g c = rw (← c.self.view_is) (let s = c.self.inside in let
     let begins = ap (λ (v : View). v.shape) tail.view.0 ∙ ap (λ (v : View). v.shape) own.view.0 in let seen = ap (λ (v : View). v.seen) hit.0 ∙ ap (λ (v : View). v.seen) picked.3 in
     let end : tail_is ≡ s.seat.me.0.shape.first + length c.receive_picked-found.new.seat.me.0.seen = tail.view.3 ∙ (λ i. (begins i).first + length (sym seen i)) in
     let there = ap (λ (v : View). position v.reading) own.view.0 ∙ pos in let near = tail.view.4 in let ne = c.if-tail-at.false in
-    let room : k ≡ min (vec_capacity c.args.out.now - length c.args.out.now.items) (c.load_tail-tail.result - n) = let a = c.fitting-count.ensures in let b = c.capacity.ensures in let d = c.len-before.ensures in let long = c.args.out.now.ok.0 in omega arith in (
+    let room : k ≡ min (vec_capacity c.args.out.now - length c.args.out.now.items) (c.load_tail-tail.result - n) = let a = c.min-count.ensures in let b = c.capacity.ensures in let d = c.len-before.ensures in let long = c.args.out.now.ok.0 in omega arith in (
       xs,
       picked.2,
       (
