@@ -1,27 +1,28 @@
 //! A reader takes several values at once.
-ghost use Rattle.std.specs.Prelude.{◌≡◌, ◌-◌, ℕ, List, ◌++◌, length, min, vec_capacity};
+ghost use Rattle.std.specs.Prelude.{◌≡◌, ◌-◌, ℕ, List, ◌++◌, length, map, min, vec_capacity};
 ghost use Rattle.shared_lane.specs.Readers.{IsReaderOf, IsSameReader};
 ghost use Rattle.shared_lane.specs.Picks.{TookAll};
 
 use super::{Reader, Taken};
 use crate::lane::Lane;
 use crate::picking::pick_words;
+use flow_terms::Word;
 use std::alloc::Allocator;
 
 impl Reader {
-    /// Takes all values that are there, as many as `out` has room for, and appends them: a load of its cursor and of the tail,
-    /// a load of each value, and one exchange for all of them. It takes no memory.
+    /// Takes all values that are there, as many as `out` has room for, and appends them, each read from its word: a load of its
+    /// cursor and of the tail, a load of each word, and one exchange for all of them. It takes no memory.
     ///
     /// `Value` says how many: none, where `out` has no room. `Nothing` and `Overtaken` as [`try_next`](Reader::try_next) answers
     /// them; then nothing was received, and `out` is as it was.
-    pub fn try_next_all<A: Allocator, B: Allocator>(
+    pub fn try_next_all<T: Word, A: Allocator, B: Allocator>(
         &mut self,
         lane: &Lane<A>,
-        out: &mut Vec<u64, B>,
+        out: &mut Vec<T, B>,
     ) -> Taken<u64>
         requires { IsReaderOf lane.now self.old }
         ensures same { IsReaderOf lane.now self.new × IsSameReader self.old self.new }
-        ensures taken { (xs : List ℕ) × (out.new.items ≡ out.old.items ++ xs) × TookAll self.old (vec_capacity out.old - length out.old.items) result xs self.new }
+        ensures taken { (xs : List ℕ) × (out.new.items ≡ out.old.items ++ map T.read_as xs) × TookAll self.old (vec_capacity out.old - length out.old.items) result xs self.new }
         ensures capacity { vec_capacity out.new ≡ vec_capacity out.old }
     {
         let words = lane.words();

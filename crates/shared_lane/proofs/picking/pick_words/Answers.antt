@@ -1,5 +1,5 @@
-use Rattle.std.proofs.Common.{◌≡◌, ℕ, suc, ◌+◌, List, [], ◌∷◌, ◌++◌, length, refl, sym, ap, ◌∙◌, arith, length-append, append_assoc}
-use Rattle.std.proofs.lemmas.List.{append-nil}
+use Rattle.std.proofs.Common.{◌≡◌, ℕ, suc, ◌+◌, List, [], ◌∷◌, ◌++◌, length, map, refl, sym, ap, ◌∙◌, arith, length-append, append_assoc}
+use Rattle.std.proofs.lemmas.List.{append-nil, length-map, map_push}
 use Rattle.lane_steps.specs.declared.view.View.{View}
 use Rattle.lane_steps.specs.declared.view.Shape.{Shape}
 use Rattle.lane_steps.specs.Layout.{cell_index, cell_word}
@@ -22,6 +22,10 @@ further key v w u xs x was now = now ∙ (ap (λ (z : View). let t : View = reco
 to_pick : (key : Shape) (v w : View) (xs : List ℕ) (i : ℕ) → length xs ≡ i → w ≡ with_picked key xs v → next_to_pick w.reading ≡ position v.reading + i
 to_pick key v w xs i long is = ap (λ (z : View). next_to_pick z.reading) is ∙ ap (λ (z : ℕ). position v.reading + z) long
 
+-- one value more was appended
+read_more : {T : Type 0} (read : ℕ → T) (out was : List T) (xs : List ℕ) (x : ℕ) (v : T) → out ≡ was ++ map read xs → v ≡ read x → out ++ v ∷ [] ≡ was ++ map read (xs ++ x ∷ [])
+read_more read out was xs x v is at = (λ i. is i ++ at i ∷ []) ∙ (append_assoc was (map read xs) (read x ∷ []) ∙ ap (λ (l : List _). was ++ l) (sym (map_push read xs x)))
+
 pub loop-picked-init : goal.loop-picked-init
 loop-picked-init g c = let v : View = c.args.seat.now.me.0 in (
   (refl, refl, refl),
@@ -43,7 +47,7 @@ load_next_cell-word-requires-clause-position g c = let inv = c.loop-picked.invar
 
 pub push_reserved-requires : goal.push_reserved-requires
 push_reserved-requires g c = let inv = c.loop-picked.invariant in let room = c.requires.room in let test = c.loop-picked-test.true in let long = c.loop-picked.out.ok.0 in let cap = inv.1 in
-    let count : length c.loop-picked.out.items ≡ length c.args.out.now.items + c.loop-picked._picked = ap length inv.3.2 ∙ (length-append c.args.out.now.items inv.3.0 ∙ ap (λ (z : ℕ). length c.args.out.now.items + z) inv.3.1) in omega arith
+    let count : length c.loop-picked.out.items ≡ length c.args.out.now.items + c.loop-picked._picked = ap length inv.3.2 ∙ (length-append c.args.out.now.items (map g.T.Word.read_as inv.3.0) ∙ ap (λ (z : ℕ). length c.args.out.now.items + z) (length-map inv.3.0 g.T.Word.read_as ∙ inv.3.1)) in omega arith
 
 pub loop-picked-preserved : goal.loop-picked-preserved
 loop-picked-preserved g c = let inv = c.loop-picked.invariant in let v : View = c.args.seat.now.me.0 in let key : Shape = c.args.words.now.shape in let xs : List ℕ = inv.3.0 in let x : ℕ = c.load_next_cell-word.result in let i : ℕ = c.loop-picked._picked in
@@ -54,7 +58,7 @@ loop-picked-preserved g c = let inv = c.loop-picked.invariant in let v : View = 
       (
         xs ++ x ∷ [],
         omega arith,
-        push.items ∙ (ap (λ (l : List ℕ). l ++ x ∷ []) inv.3.2 ∙ append_assoc c.args.out.now.items xs (x ∷ [])),
+        push.items ∙ read_more g.T.Word.read_as c.loop-picked.out.items c.args.out.now.items xs x c.from_word.result inv.3.2 c.from_word.ensures,
         further key v c.loop-picked.seat.me.0 c.load_next_cell-word.new.seat.me.0 xs x inv.3.3 load.view,
       ),
     )

@@ -1,4 +1,4 @@
-use Rattle.std.proofs.Common.{rules, arith, ◌≡◌, ℕ, ◌+◌, ◌-◌, ◌<◌, ◌≤◌, min, List, [], ◌∷◌, ◌++◌, length, replicate, take, Bool, true, false, refl, sym, ap, ◌∙◌, subst, append_assoc, length-append, Fits, w64}
+use Rattle.std.proofs.Common.{rules, arith, ◌≡◌, ℕ, ◌+◌, ◌-◌, ◌<◌, ◌≤◌, min, List, [], ◌∷◌, ◌++◌, length, map, replicate, take, Bool, true, false, refl, sym, ap, ◌∙◌, subst, append_assoc, length-append, Fits, w64}
 use lib.ListN.{length-replicate}
 use Rattle.std.specs.Vec.{vec_capacity}
 use Rattle.std.proofs.lemmas.List.{append-nil}
@@ -70,7 +70,7 @@ returns-then-found-at-clause-taken g c = rw (← c.self.view_is) (let s = c.self
     (ap (λ (v : View). v.loads) tail.view.0 ∙ ap (λ (l : List (ℕ × ℕ)). l ++ (tail_word, tail_is) ∷ []) (ap (λ (v : View). v.loads) own.view.0))) in
     let len : c.len-before.result ≡ length c.args.out.now.items = let d = c.len-before.ensures in let long = c.args.out.now.ok.0 in omega arith in (
       [],
-      c.truncate.ensures.items ∙ ((λ i. take (len i) (picked.2 i)) ∙ (take-append_seam c.args.out.now.items xs ∙ sym (append-nil c.args.out.now.items))),
+      c.truncate.ensures.items ∙ ((λ i. take (len i) (picked.2 i)) ∙ (take-append_seam c.args.out.now.items (map g.T.Word.read_as xs) ∙ sym (append-nil c.args.out.now.items))),
       (
         refl,
         (
