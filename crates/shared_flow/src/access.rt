@@ -1,9 +1,9 @@
 //! What every owner of a shared flow holds.
 ghost use Rattle.std.specs.Prelude.{◌≡◌, ◌++◌, [], ◌∷◌, Ok, Some, None, IfOk, IsOkUnless};
-ghost use Rattle.shared_lane.specs.Sequencers.{next};
+ghost use Rattle.shared_lane.specs.Sequencers.{IsSameSequencer, OnlyLoaded, next};
 ghost use Rattle.shared_flow.specs.declared.round.Round.TheVariants as round;
 ghost use Rattle.shared_flow.specs.Names.{IsNew, SharedSeen, KnowsLane};
-ghost use Rattle.shared_flow.specs.Entering.{Found, Left, left_with};
+ghost use Rattle.shared_flow.specs.Entering.{Found, Left};
 ghost use Rattle.shared_flow.specs.Reach.{party_of, reach_of};
 ghost use Rattle.shared_flow.specs.Rounds.{Does, Below};
 
@@ -42,6 +42,13 @@ impl Model for Access {
     ghost view = { λ a. reach_of (λ s. s.value) a.lock };
 
     ghost invariant = { λ a. KnowsFlow a.wakes_count (reach_of (λ s. s.value) a.lock).flow (arc_value a.track) };
+}
+
+/// What lies under the lock, for one who has taken it, and the number of the next emission as it was then. It has no `Drop`,
+/// so that it is given back.
+pub(crate) struct Inside {
+    pub(crate) guarded: Guarded<Box<Shared>>,
+    before: u64,
 }
 
 impl Access {
@@ -106,40 +113,52 @@ impl Access {
         self.track.lane()
     }
 
-    /// Takes the lock. What lay under it is the owner's flow, and its next number is above each that the owner was answered. The
-    /// owner has seen the list of rounds that left it now.
-    pub fn take(&mut self, rt: &impl Wait) -> Guarded<Box<Shared>>
-        ensures taken { self.new ≡ record self.old { held = Some result.state.value; seen = self.new.seen } }
-        ensures found { Found (party_of self.old) result.state.value self.new.seen }
-        ensures named { self.old.flow ≡ Some result.state.value.name }
-        ensures below { Below (next result.state.value.sequencer) self.old.rounds }
+    /// Takes the lock. What lay under it is the owner's flow, and its next number is above each that the owner was answered.
+    /// The owner has seen the list of rounds that left it now.
+    pub fn enter(&mut self, rt: &impl Wait) -> Inside
+        ensures taken { self.new ≡ record self.old { held = Some result.guarded.state.value; seen = self.new.seen } }
+        ensures found { Found (party_of self.old) result.guarded.state.value self.new.seen }
+        ensures named { self.old.flow ≡ Some result.guarded.state.value.name }
+        ensures below { Below (next result.guarded.state.value.sequencer) self.old.rounds }
     {
-        self.lock.take(rt)
+        let guarded = self.lock.take(rt);
+        let before = guarded.state.next_number();
+        Inside { guarded, before }
     }
 
-    /// Gives the lock back, with the round that was made, and then wakes those that it helps.
-    pub fn put(&mut self, rt: &impl Wait, guarded: Guarded<Box<Shared>>, round: Round)
-        requires round { (old : SharedSeen) × (self.old.held ≡ Some old) × Does old round guarded.state.value }
-        ensures given { self.new ≡ left_with round guarded.state.value self.old }
+    /// Helps those whom the round that was made has helped, gives the lock back with that round, and then wakes them.
+    pub fn leave(&mut self, rt: &impl Wait, inside: Inside, round: Round)
+        requires round { (old : SharedSeen) × (self.old.held ≡ Some old) × Does old round inside.guarded.state.value }
         ensures left { Left round self.old self.new }
     {
-        let mut guarded = guarded;
-        guarded.state.change_wakes(&mut self.wakes);
+        let guarded = helped(&mut self.wakes, inside);
         self.lock.put(rt, guarded, round);
         self.wakes.fire();
     }
 
-    /// Gives the lock back as `put` does, after the replay cache was read: the round has the words that it had.
-    pub fn put_cache(&mut self, rt: &impl Wait, guarded: Guarded<Box<Shared>>)
-        requires round { (old : SharedSeen) × (self.old.held ≡ Some old) × Does old (round.Cache (Ok guarded.state.value.sequencer.cache)) guarded.state.value }
-        ensures given { self.new ≡ left_with (round.Cache (Ok guarded.state.value.sequencer.cache)) guarded.state.value self.old }
-        ensures left { Left (round.Cache (Ok guarded.state.value.sequencer.cache)) self.old self.new }
+    /// Leaves as `leave` does, after the replay cache was read: the round has the words that it had.
+    pub fn leave_cache(&mut self, rt: &impl Wait, inside: Inside)
+        requires round { (old : SharedSeen) × (self.old.held ≡ Some old) × Does old (round.Cache (Ok inside.guarded.state.value.sequencer.cache)) inside.guarded.state.value }
+        ensures left { Left (round.Cache (Ok inside.guarded.state.value.sequencer.cache)) self.old self.new }
     {
-        let mut guarded = guarded;
-        guarded.state.change_wakes(&mut self.wakes);
+        let guarded = helped(&mut self.wakes, inside);
         self.lock.put_as::<Brand>(rt, guarded);
         self.wakes.fire();
     }
+}
+
+// Helps those whom a round has helped, and takes their wakers out from under the lock.
+fn helped(wakes: &mut Wakes, inside: Inside) -> Guarded<Box<Shared>>
+    ensures same { (result.state.value.name ≡ inside.guarded.state.value.name) × IsSameSequencer inside.guarded.state.value.sequencer result.state.value.sequencer }
+    ensures only { OnlyLoaded inside.guarded.state.value.sequencer result.state.value.sequencer }
+{
+    let Inside {
+        mut guarded,
+        before,
+    } = inside;
+    guarded.state.help(before);
+    guarded.state.change_wakes(wakes);
+    guarded
 }
 
 // Puts it under a lock, whose first owner has made no call.

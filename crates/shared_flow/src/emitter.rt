@@ -86,11 +86,11 @@ impl<T: Word> Emitter<T> {
             emitter: self.id,
             word: value.to_word(),
         };
-        let mut guarded = self.access.take(rt);
-        let tried = guarded.state.try_emit(emission);
+        let mut inside = self.access.enter(rt);
+        let tried = inside.guarded.state.try_emit(emission);
         let answer = number_tried(&tried);
         self.last = last_tried(self.last, &answer);
-        self.access.put(rt, guarded, Round::Try(emission, answer));
+        self.access.leave(rt, inside, Round::Try(emission, answer));
         tried
     }
 
@@ -136,12 +136,13 @@ impl<T: Word> Emitter<T> {
             emitter: self.id,
             word: value.to_word(),
         };
-        let mut guarded = self.access.take(rt);
-        let begun = guarded.state.start_emit(emission);
+        let mut inside = self.access.enter(rt);
+        let begun = inside.guarded.state.start_emit(emission);
         let answer = number_begun(&begun);
         self.last = last_begun(self.last, &answer);
         self.ticket = begun_ticket(&begun);
-        self.access.put(rt, guarded, Round::Start(emission, answer));
+        self.access
+            .leave(rt, inside, Round::Start(emission, answer));
         begun
     }
 
@@ -159,21 +160,23 @@ impl<T: Word> Emitter<T> {
         let Some(ticket) = self.ticket else {
             unreachable!()
         };
-        let mut guarded = self.access.take(rt);
-        let Polled { emit, receipt } = guarded
+        let mut inside = self.access.enter(rt);
+        let Polled { emit, receipt } = inside
+            .guarded
             .state
             .poll_emit(ticket, self.id, self.last, &self.bed);
         let Some(receipt) = receipt else {
-            guarded
+            inside
+                .guarded
                 .state
                 .sleep_emission(ticket, emit, &mut self.bed, cx);
             let round = polled_without_receipt(ticket, self.id, self.last, emit);
-            self.access.put(rt, guarded, round);
+            self.access.leave(rt, inside, round);
             return Poll::Pending;
         };
         self.ticket = None;
         self.last = Some(receipt.number());
-        self.access.put(rt, guarded, Round::Poll(ticket, emit));
+        self.access.leave(rt, inside, Round::Poll(ticket, emit));
         Poll::Ready(receipt)
     }
 
@@ -257,19 +260,20 @@ impl<T: Word> Emitter<T> {
         let Some(ticket) = self.ticket else {
             return Withdrawn::Gone;
         };
-        let mut guarded = self.access.take(rt);
-        let Released { withdrawn, receipt } = guarded
+        let mut inside = self.access.enter(rt);
+        let Released { withdrawn, receipt } = inside
+            .guarded
             .state
             .cancel_emit(ticket, self.id, self.last, &self.bed);
         self.ticket = None;
         let Some(receipt) = receipt else {
             let round = withdrawn_without_receipt(ticket, self.id, self.last, withdrawn);
-            self.access.put(rt, guarded, round);
+            self.access.leave(rt, inside, round);
             return unless_left(withdrawn);
         };
         self.last = Some(receipt.number());
         self.access
-            .put(rt, guarded, Round::Withdraw(ticket, withdrawn));
+            .leave(rt, inside, Round::Withdraw(ticket, withdrawn));
         Withdrawn::Left(receipt)
     }
 

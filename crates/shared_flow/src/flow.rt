@@ -127,15 +127,16 @@ impl<T: Word> SharedFlow<T> {
         ensures kept { IfErr result (λ refusal. IsLeftOut self.old refusal self.new) }
     {
         let access = self.access.another(rt)?;
-        let mut guarded = self.access.take(rt);
-        let Admitted { number, reader } = guarded.state.subscribe();
+        let mut inside = self.access.enter(rt);
+        let Admitted { number, reader } = inside.guarded.state.subscribe();
         match reader {
             Ok(reader) => {
-                self.access.put(rt, guarded, Round::Subscribe(Ok(number)));
+                self.access.leave(rt, inside, Round::Subscribe(Ok(number)));
                 Ok(Subscription::new(access, number, prelude, reader))
             }
             Err(refusal) => {
-                self.access.put(rt, guarded, Round::Subscribe(Err(refusal)));
+                self.access
+                    .leave(rt, inside, Round::Subscribe(Err(refusal)));
                 drop(access);
                 Err(refusal)
             }
@@ -147,9 +148,9 @@ impl<T: Word> SharedFlow<T> {
         ensures round { self.new ≡ at_rest (with_round round.Reset self.new.party.seen self.old.party) }
         ensures made { Made round.Reset self.old.party self.new.party }
     {
-        let mut guarded = self.access.take(rt);
-        guarded.state.reset_replay();
-        self.access.put(rt, guarded, Round::Reset);
+        let mut inside = self.access.enter(rt);
+        inside.guarded.state.reset_replay();
+        self.access.leave(rt, inside, Round::Reset);
     }
 
     /// Adds the replay cache to `out`, the oldest value first: Kotlin's `replayCache`. Refused as `NoMemory`, and then `out` is
@@ -161,14 +162,14 @@ impl<T: Word> SharedFlow<T> {
         ensures unread { OnErr result (self.new ≡ at_rest (with_round (round.Cache (Err NoMemory)) self.new.party.seen self.old.party)) }
         ensures unmade { OnErr result (Made (round.Cache (Err NoMemory)) self.old.party self.new.party) }
     {
-        let mut guarded = self.access.take(rt);
-        match guarded.state.replay_cache_into(out) {
+        let mut inside = self.access.enter(rt);
+        match inside.guarded.state.replay_cache_into(out) {
             Ok(()) => {
-                self.access.put_cache(rt, guarded);
+                self.access.leave_cache(rt, inside);
                 Ok(())
             }
             Err(refusal) => {
-                self.access.put(rt, guarded, Round::Cache(Err(refusal)));
+                self.access.leave(rt, inside, Round::Cache(Err(refusal)));
                 Err(refusal)
             }
         }
@@ -179,9 +180,9 @@ impl<T: Word> SharedFlow<T> {
         ensures round { self.new ≡ at_rest (with_round (round.Count result) self.new.party.seen self.old.party) }
         ensures made { Made (round.Count result) self.old.party self.new.party }
     {
-        let mut guarded = self.access.take(rt);
-        let count = guarded.state.subscription_count();
-        self.access.put(rt, guarded, Round::Count(count));
+        let mut inside = self.access.enter(rt);
+        let count = inside.guarded.state.subscription_count();
+        self.access.leave(rt, inside, Round::Count(count));
         count
     }
 }

@@ -2,7 +2,7 @@
 ghost use Rattle.std.specs.Prelude.{◌≡◌, ◌+◌, ◌≤◌, IfOk, IfSome, IfNone, IsOkUnless};
 ghost use Rattle.futures.specs.Task.{IsArmed, Keeps};
 ghost use Rattle.shared_core.specs.Kept.{making_refusal};
-ghost use Rattle.shared_lane.specs.Sequencers.{IsFresh, IsSameSequencer, IsSequencerOf, OnlyLoaded};
+ghost use Rattle.shared_lane.specs.Sequencers.{IsFresh, IsSameSequencer, IsSequencerOf, OnlyLoaded, next};
 ghost use Rattle.shared_flow.specs.Names.{IsNew};
 ghost use Rattle.shared_flow.specs.Rounds.{Does};
 
@@ -104,9 +104,16 @@ impl Shared {
         mem::swap(&mut self.wakes, wakes);
     }
 
+    /// The number that the next emission that is accepted has.
+    pub(crate) fn next_number(&self) -> u64
+        ensures { result ≡ next self.now.sequencer }
+    {
+        self.sequencer.next_number()
+    }
+
     /// Wakes those whom a call helped: the subscriptions that sleep, where something was accepted since the number `before` was
     /// the next one, and the emissions that are finished by now.
-    fn help(&mut self, before: u64)
+    pub(crate) fn help(&mut self, before: u64)
         ensures same { (self.new.name ≡ self.old.name) × IsSameSequencer self.old.sequencer self.new.sequencer }
         ensures only { OnlyLoaded self.old.sequencer self.new.sequencer }
     {

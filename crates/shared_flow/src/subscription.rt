@@ -249,9 +249,9 @@ impl<T: Word> Subscription<T> {
         ensures made { Made round.Next self.old.party self.new.party }
         ensures same { self.new ≡ record self.old { party = self.new.party } }
     {
-        let mut guarded = self.access.take(rt);
-        guarded.state.make_room();
-        self.access.put(rt, guarded, Round::Next);
+        let mut inside = self.access.enter(rt);
+        inside.guarded.state.make_room();
+        self.access.leave(rt, inside, Round::Next);
     }
 
     // Looks for a value with the lock held. Without one the task sleeps.
@@ -264,22 +264,23 @@ impl<T: Word> Subscription<T> {
         ensures armed { OnPending result (IsArmed cx.new) }
         ensures kept { Keeps cx.old cx.new }
     {
-        let mut guarded = self.access.take(rt);
-        match guarded.state.look(&mut self.reader) {
+        let mut inside = self.access.enter(rt);
+        match inside.guarded.state.look(&mut self.reader) {
             Taken::Value(word) => {
-                self.access.put(rt, guarded, Round::Next);
+                self.access.leave(rt, inside, Round::Next);
                 Poll::Ready(T::from_word(word))
             }
             Taken::Nothing => {
-                guarded
+                inside
+                    .guarded
                     .state
                     .sleep_subscription(self.number, &mut self.bed, cx);
-                self.access.put(rt, guarded, Round::Next);
+                self.access.leave(rt, inside, Round::Next);
                 Poll::Pending
             }
             // Nobody moves a cursor but under the lock, so that this doesn't come: it asks to be polled again.
             Taken::Overtaken => {
-                self.access.put(rt, guarded, Round::Next);
+                self.access.leave(rt, inside, Round::Next);
                 let _again: Poll<()> = cx.yield_now();
                 Poll::Pending
             }
@@ -342,9 +343,9 @@ impl<T: Word> Subscription<T> {
             bed,
             marker: _,
         } = self;
-        let mut guarded = access.take(rt);
-        guarded.state.cancel(reader, number, &bed);
-        access.put(rt, guarded, Round::Cancel(number));
+        let mut inside = access.enter(rt);
+        inside.guarded.state.cancel(reader, number, &bed);
+        access.leave(rt, inside, Round::Cancel(number));
         drop(access);
     }
 }

@@ -10,18 +10,17 @@ ghost use Rattle.shared_flow.specs.Owners.{KeepsLock, IsKept, at_rest};
 ghost use Rattle.shared_flow.specs.Meeting.{HasMet};
 
 use super::SharedFlow;
+use crate::access::Inside;
 use crate::round::Round;
-use crate::shared::Shared;
 use crate::subscription::Subscription;
 use flow_terms::Word;
-use round_lock::Guarded;
 use shared_lane::Met;
 use std::marker::Model;
 use std::sync::Wait;
 
 /// What lies under the lock of a flow, while a [`Held`] keeps it, and the count of subscriptions.
 pub struct Kept {
-    guarded: Guarded<Box<Shared>>,
+    inside: Inside,
     count: u32,
 }
 
@@ -30,7 +29,7 @@ impl Model for Kept {
 
     ghost Value = { Keeping };
 
-    ghost view = { λ k. record { count = k.count; shared = k.guarded.state.value } };
+    ghost view = { λ k. record { count = k.count; shared = k.inside.guarded.state.value } };
 }
 
 /// A flow whose lock is kept: nothing is emitted into it, and nobody is let in, until it is released. Subscriptions receive on, by
@@ -51,11 +50,11 @@ impl<T: Word> SharedFlow<T> {
         ensures seen { Begins result.flow.now.party.seen self.old.party.seen }
         ensures held { KeepsLock result.flow.now result.kept }
     {
-        let mut guarded = self.access.take(rt);
-        let count = guarded.state.hold();
+        let mut inside = self.access.enter(rt);
+        let count = inside.guarded.state.hold();
         Held {
             flow: self,
-            kept: Kept { guarded, count },
+            kept: Kept { inside, count },
         }
     }
 }
@@ -73,7 +72,7 @@ impl<T: Word> Held<'_, T> {
         ensures length { result ≡ length self.now.kept.shared.sequencer.cache }
         ensures latest { IsLastOf (seen self.now.kept.shared.sequencer) self.now.kept.shared.sequencer.cache }
     {
-        self.kept.guarded.state.replay_len()
+        self.kept.inside.guarded.state.replay_len()
     }
 
     /// The value of the replay cache with this index, from the oldest on.
@@ -81,7 +80,7 @@ impl<T: Word> Held<'_, T> {
         requires { index < length self.now.kept.shared.sequencer.cache }
         ensures { (word : ℕ) × (slice_get self.now.kept.shared.sequencer.cache index ≡ Some word) × (result ≡ T.read_as word) }
     {
-        T::from_word(self.kept.guarded.state.replay_at(index))
+        T::from_word(self.kept.inside.guarded.state.replay_at(index))
     }
 
     /// Tells a subscription of this flow all that was accepted and all that was dropped for it, and counts it exactly:
@@ -97,7 +96,7 @@ impl<T: Word> Held<'_, T> {
         ensures rest { subscription.new.rest ≡ subscription.old.rest }
         ensures met { HasMet self.new.kept.shared.sequencer subscription.old.reader subscription.new.reader result }
     {
-        subscription.meet(&mut *self.kept.guarded.state)
+        subscription.meet(&mut *self.kept.inside.guarded.state)
     }
 
     /// Gives the lock back, and then wakes those that were helped when it was taken.
@@ -107,7 +106,7 @@ impl<T: Word> Held<'_, T> {
         ensures made { Made (round.Hold self.entry.kept.count) self.entry.flow.now.party self.exit.0.now.party }
     {
         let Held { flow, kept } = self;
-        let Kept { guarded, count } = kept;
-        flow.access.put(rt, guarded, Round::Hold(count));
+        let Kept { inside, count } = kept;
+        flow.access.leave(rt, inside, Round::Hold(count));
     }
 }

@@ -42,21 +42,6 @@ impl Shared {
         ensures refused { IfErr result (λ refusal. refusal ≡ Spent) }
         ensures policy { TriedUnder self.old.name.config.policy result }
     {
-        let before = self.sequencer.next_number();
-        let tried = self.tried(emission);
-        self.help(before);
-        tried
-    }
-
-    // The same, without waking anybody.
-    fn tried(&mut self, emission: Emission) -> Result<Tried<Receipt>, Refusal>
-        ensures same { (self.new.name ≡ self.old.name) × IsSameSequencer self.old.sequencer self.new.sequencer }
-        ensures made { MakesAfterScan self.old (round.Try emission (numbers_tried result)) self.new }
-        ensures receipt { IfTried result (IsReceiptFor self.old.name.lane emission) }
-        ensures later { IfTried result (λ r. next self.old.sequencer ≤ r.number) }
-        ensures refused { IfErr result (λ refusal. refusal ≡ Spent) }
-        ensures policy { TriedUnder self.old.name.config.policy result }
-    {
         match self.tried_number(emission)? {
             Tried::Accepted(number) => Ok(Tried::Accepted(self.receipt_for(emission, number))),
             Tried::Dropped => Ok(Tried::Dropped),
@@ -64,7 +49,7 @@ impl Shared {
         }
     }
 
-    // The same, with the number of an accepted emission in the place of its receipt.
+    // With the number of an accepted emission in the place of its receipt.
     fn tried_number(&mut self, emission: Emission) -> Result<Tried<u64>, Refusal>
         ensures same { (self.new.name ≡ self.old.name) × IsSameSequencer self.old.sequencer self.new.sequencer }
         ensures made { MakesAfterScan self.old (round.Try emission result) self.new }
@@ -86,10 +71,8 @@ impl Shared {
         ensures refused { IfErr result (λ refusal. (refusal ≡ Spent) ⊎ (refusal ≡ EmitsFull)) }
         ensures policy { BegunUnder self.old.name.config.policy result }
     {
-        let before = self.sequencer.next_number();
         let begun = self.begun(emission);
         self.watch(&begun);
-        self.help(before);
         begun
     }
 
@@ -105,7 +88,7 @@ impl Shared {
         }
     }
 
-    // The same, without waking anybody.
+    // Without looking at the cursors once more, where it isn't finished.
     fn begun(&mut self, emission: Emission) -> Result<Begun<Receipt, Ticket>, Refusal>
         ensures same { (self.new.name ≡ self.old.name) × IsSameSequencer self.old.sequencer self.new.sequencer }
         ensures made { MakesAfterScan self.old (round.Start emission (numbers_begun result)) self.new }
@@ -121,7 +104,7 @@ impl Shared {
         }
     }
 
-    // The same, with the number of an accepted emission in the place of its receipt.
+    // With the number of an accepted emission in the place of its receipt.
     fn begun_number(&mut self, emission: Emission) -> Result<Begun<u64, Ticket>, Refusal>
         ensures same { (self.new.name ≡ self.old.name) × IsSameSequencer self.old.sequencer self.new.sequencer }
         ensures made { MakesAfterScan self.old (round.Start emission result) self.new }
@@ -166,25 +149,14 @@ impl Shared {
         ensures does { Does self.old (poll_round ticket emitter last result.emit result.receipt) self.new }
         ensures receipt { IfSome result.receipt (λ r. (result.emit ≡ emit.Done r.number) × IsReceiptAfter self.old.name.lane emitter last r) }
     {
-        let before = self.sequencer.next_number();
-        let polled = self.polled(ticket, emitter, last);
+        self.sequencer.scan(self.track.lane());
+        let polled = self.asked(ticket, emitter, last);
         self.emissions
             .rise_unless_waiting(ticket, polled.emit, bed, &mut self.wakes);
-        self.help(before);
         polled
     }
 
-    // The same, without waking anybody.
-    fn polled(&mut self, ticket: Ticket, emitter: u32, last: Option<u64>) -> Polled
-        ensures same { (self.new.name ≡ self.old.name) × IsSameSequencer self.old.sequencer self.new.sequencer }
-        ensures made { MakesAfterScan self.old (poll_round ticket emitter last result.emit result.receipt) self.new }
-        ensures receipt { IfSome result.receipt (λ r. (result.emit ≡ emit.Done r.number) × IsReceiptAfter self.old.name.lane emitter last r) }
-    {
-        self.sequencer.scan(self.track.lane());
-        self.asked(ticket, emitter, last)
-    }
-
-    // The same, after what waited was let in.
+    // After what waited was let in.
     fn asked(&mut self, ticket: Ticket, emitter: u32, last: Option<u64>) -> Polled
         ensures same { (self.new.name ≡ self.old.name) × IsSameSequencer self.old.sequencer self.new.sequencer }
         ensures made { Makes self.old.name.lane self.old.sequencer (poll_round ticket emitter last result.emit result.receipt) self.new.sequencer }
@@ -243,24 +215,13 @@ impl Shared {
         ensures does { Does self.old (withdraw_round ticket emitter last result.withdrawn result.receipt) self.new }
         ensures receipt { IfSome result.receipt (λ r. (result.withdrawn ≡ withdrawn.Left r.number) × IsReceiptAfter self.old.name.lane emitter last r) }
     {
-        let before = self.sequencer.next_number();
-        let released = self.released(ticket, emitter, last);
+        self.sequencer.scan(self.track.lane());
+        let released = self.given_up(ticket, emitter, last);
         self.emissions.rise(ticket.0, bed, &mut self.wakes);
-        self.help(before);
         released
     }
 
-    // The same, without waking anybody.
-    fn released(&mut self, ticket: Ticket, emitter: u32, last: Option<u64>) -> Released
-        ensures same { (self.new.name ≡ self.old.name) × IsSameSequencer self.old.sequencer self.new.sequencer }
-        ensures made { MakesAfterScan self.old (withdraw_round ticket emitter last result.withdrawn result.receipt) self.new }
-        ensures receipt { IfSome result.receipt (λ r. (result.withdrawn ≡ withdrawn.Left r.number) × IsReceiptAfter self.old.name.lane emitter last r) }
-    {
-        self.sequencer.scan(self.track.lane());
-        self.given_up(ticket, emitter, last)
-    }
-
-    // The same, after what waited was let in.
+    // After what waited was let in.
     fn given_up(&mut self, ticket: Ticket, emitter: u32, last: Option<u64>) -> Released
         ensures same { (self.new.name ≡ self.old.name) × IsSameSequencer self.old.sequencer self.new.sequencer }
         ensures made { Makes self.old.name.lane self.old.sequencer (withdraw_round ticket emitter last result.withdrawn result.receipt) self.new.sequencer }

@@ -5,13 +5,12 @@ ghost use Rattle.flow_terms.specs.declared.refusal.Refusal.TheVariants.{NoMemory
 ghost use Rattle.futures.specs.Task.{IsArmed, Keeps};
 ghost use Rattle.shared_lane.specs.Readers.{IsReaderOf};
 ghost use Rattle.shared_lane.specs.Caches.{IsLastOf};
-ghost use Rattle.shared_lane.specs.Sequencers.{IsSameSequencer, AfterScan, seen};
-ghost use Rattle.shared_lane.specs.Places.{NotLetIn};
+ghost use Rattle.shared_lane.specs.Sequencers.{seen};
 ghost use Rattle.shared_flow.specs.declared.round.Round.TheVariants as round;
 ghost use Rattle.shared_flow.specs.Looks.{Looked};
 ghost use Rattle.shared_flow.specs.Meeting.{HasMet};
 ghost use Rattle.shared_flow.specs.Owners.{OnlyMet};
-ghost use Rattle.shared_flow.specs.Rounds.{Does, WasAdmitted, IsAtLimit, IsLetIn};
+ghost use Rattle.shared_flow.specs.Rounds.{Does, IsAtLimit, IsLetIn};
 
 use super::Shared;
 use crate::sleepers::Bed;
@@ -38,20 +37,8 @@ impl Shared {
 
     /// Lets a reader in, which starts at the oldest value of the replay cache.
     pub(crate) fn subscribe(&mut self) -> Admitted
-        ensures ok { IfOk result.reader (λ reader. Does self.old (round.Subscribe (Ok result.number)) self.new × WasAdmitted self.old reader self.new) }
+        ensures ok { IfOk result.reader (λ reader. Does self.old (round.Subscribe (Ok result.number)) self.new × IsLetIn self.old result.number reader self.new) }
         ensures err { IfErr result.reader (λ refusal. Does self.old (round.Subscribe (Err refusal)) self.new × IsAtLimit refusal) }
-    {
-        let before = self.sequencer.next_number();
-        let admitted = self.admitted();
-        self.help(before);
-        admitted
-    }
-
-    // The same, without waking anybody.
-    fn admitted(&mut self) -> Admitted
-        ensures same { (self.new.name ≡ self.old.name) × IsSameSequencer self.old.sequencer self.new.sequencer }
-        ensures ok { IfOk result.reader (λ reader. IsLetIn self.old result.number reader self.new) }
-        ensures err { IfErr result.reader (λ refusal. AfterScan self.old.sequencer (λ m. NotLetIn m refusal self.new.sequencer)) }
     {
         self.sequencer.scan(self.track.lane());
         let number = self.sequencer.next_subscription();
@@ -63,9 +50,7 @@ impl Shared {
     pub(crate) fn make_room(&mut self)
         ensures { Does self.old round.Next self.new }
     {
-        let before = self.sequencer.next_number();
         self.sequencer.scan(self.track.lane());
-        self.help(before);
     }
 
     /// A look of a subscription at the lane, after what waits was let in. Who has the lock alone accepts: what this look doesn't
@@ -76,15 +61,11 @@ impl Shared {
         ensures reader { IsReaderOf self.old.name.lane reader.new }
         ensures looked { Looked reader.old result reader.new }
     {
-        let before = self.sequencer.next_number();
         self.sequencer.scan(self.track.lane());
         let taken = reader.try_next(self.track.lane());
         if let Taken::Value(_) = taken {
             self.sequencer.scan(self.track.lane());
-            self.help(before);
-            return taken;
         }
-        self.help(before);
         taken
     }
 
@@ -102,21 +83,17 @@ impl Shared {
         requires { IsReaderOf self.old.name.lane reader }
         ensures { Does self.old (round.Cancel number) self.new }
     {
-        let before = self.sequencer.next_number();
         reader.close(self.track.lane());
         self.subscriptions.rise(number, bed, &mut self.wakes);
         self.sequencer.scan(self.track.lane());
-        self.help(before);
     }
 
     /// Empties the replay cache.
     pub(crate) fn reset_replay(&mut self)
         ensures { Does self.old round.Reset self.new }
     {
-        let before = self.sequencer.next_number();
         self.sequencer.scan(self.track.lane());
         self.sequencer.reset_replay();
-        self.help(before);
     }
 
     /// Adds the replay cache to `out`, the oldest value first. Refused as `NoMemory`, and then `out` is as it was.
@@ -127,11 +104,8 @@ impl Shared {
         ensures err { OnErr result (out.new.items ≡ out.old.items) }
         ensures unread { OnErr result (Does self.old (round.Cache (Err NoMemory)) self.new) }
     {
-        let before = self.sequencer.next_number();
         self.sequencer.scan(self.track.lane());
-        let read = self.read_cache(out);
-        self.help(before);
-        read
+        self.read_cache(out)
     }
 
     fn read_cache<T: Word>(&self, out: &mut Vec<T>) -> Result<(), Refusal>
@@ -151,22 +125,16 @@ impl Shared {
     pub(crate) fn subscription_count(&mut self) -> u32
         ensures { Does self.old (round.Count result) self.new }
     {
-        let before = self.sequencer.next_number();
         self.sequencer.scan(self.track.lane());
-        let count = self.sequencer.live(self.track.lane());
-        self.help(before);
-        count
+        self.sequencer.live(self.track.lane())
     }
 
     /// Lets in what waits, and counts the live subscriptions, for one who keeps the lock.
     pub(crate) fn hold(&mut self) -> u32
         ensures { Does self.old (round.Hold result) self.new }
     {
-        let before = self.sequencer.next_number();
         self.sequencer.scan(self.track.lane());
-        let count = self.sequencer.live(self.track.lane());
-        self.help(before);
-        count
+        self.sequencer.live(self.track.lane())
     }
 
     /// How many values the replay cache has.

@@ -14,32 +14,32 @@ use Rattle.shared_flow.proofs.emitter.Emitter.begin.Goals as goal
 
 pub returns-clause-rises : goal.returns-clause-rises
 returns-clause-rises g c =
-    let found = c.take-guarded.result.state.value in
+    let found = c.enter-inside.result.guarded.state.value in
     let later = subst (λ (s : SharedSeen). IfBegun c.start_emit-begun.result (λ r. next s.sequencer ≤ r.number)) c.deref_mut.ensures.value c.start_emit-begun.ensures.later in
     subst (λ last. IfBegun c.start_emit-begun.result (λ r. IsAfter last r.number)) (ap (λ (e : Emitting). e.last) c.self.view_is)
-    (start_rises c.start_emit-begun.result c.self.inside.last (next found.sequencer) c.self.inside.access.rounds later c.take-guarded.ensures.below c.self.invariant.1)
+    (start_rises c.start_emit-begun.result c.self.inside.last (next found.sequencer) c.self.inside.access.rounds later c.enter-inside.ensures.below c.self.invariant.1)
 
 pub invariant_of-self : goal.invariant_of-self
 invariant_of-self g c =
     let rounds = c.self.inside.access.rounds in
     let answer = c.number_begun-answer.result in
     let emission : Emission = record { emitter = c.self.inside.id; word = c.to_word.result } in
-    let grew = ap (λ (r : Reach). r.rounds) c.put.ensures.given ∙ ap (λ (r : Reach). r.rounds ++ round.Start emission answer ∷ []) c.take-guarded.ensures.taken in
+    let grew = ap (λ (r : Reach). r.rounds) c.leave.ensures.left.after ∙ ap (λ (r : Reach). r.rounds ++ round.Start emission answer ∷ []) c.enter-inside.ensures.taken in
     let ends = after_start c.self.inside.last rounds emission answer c.self.invariant.1 in
-    (ap (λ (r : Reach). r.held) c.put.ensures.given, subst (WasAnswered c.last_begun-self-inside.result) (sym grew) (subst (λ l. WasAnswered l (rounds ++ round.Start emission answer ∷ [])) (sym c.last_begun-self-inside.ensures) ends))
+    (ap (λ (r : Reach). r.held) c.leave.ensures.left.after, subst (WasAnswered c.last_begun-self-inside.result) (sym grew) (subst (λ l. WasAnswered l (rounds ++ round.Start emission answer ∷ [])) (sym c.last_begun-self-inside.ensures) ends))
 
-pub put-requires : goal.put-requires
-put-requires g c =
-    let found : SharedSeen = c.take-guarded.result.state.value in
+pub leave-requires : goal.leave-requires
+leave-requires g c =
+    let found : SharedSeen = c.enter-inside.result.guarded.state.value in
     let new : SharedSeen = c.start_emit-begun.new.self in
     let emission : Emission = record { emitter = c.self.inside.id; word = c.to_word.result } in
     let did = subst (λ (s : SharedSeen). Does s (round.Start emission (numbers_begun c.start_emit-begun.result)) new) c.deref_mut.ensures.value c.start_emit-begun.ensures.does in
-    record { round = (found, ap (λ (r : Reach). r.held) c.take-guarded.ensures.taken, subst (λ a. Does found (round.Start emission a) new) (sym c.number_begun-answer.ensures) did) }
+    record { round = (found, ap (λ (r : Reach). r.held) c.enter-inside.ensures.taken, subst (λ a. Does found (round.Start emission a) new) (sym c.number_begun-answer.ensures) did) }
 
 pub returns-clause-made : goal.returns-clause-made
 returns-clause-made g c =
     let emission : Emission = record { emitter = c.self.inside.id; word = c.to_word.result } in
-    let it = made (round.Start emission c.number_begun-answer.result) c.self.inside.access c.take-guarded.new.self c.put.new.self c.take-guarded.result.state.value c.take-guarded.ensures.taken c.take-guarded.ensures.found c.put.ensures.left in
-    let answered = subst (λ a. Made (round.Start emission a) (party_of c.self.inside.access) (party_of c.put.new.self)) c.number_begun-answer.ensures it in
-    let worded = subst (λ word. Made (round.Start (record { emitter = c.self.inside.id; word = word }) (numbers_begun c.start_emit-begun.result)) (party_of c.self.inside.access) (party_of c.put.new.self)) c.to_word.ensures.word answered in
-    subst (λ (e : Emitting). Made (round.Start (emission_by e (g.T.Word.word c.args.value)) (numbers_begun c.start_emit-begun.result)) e.party (party_of c.put.new.self)) c.self.view_is worded
+    let it = made (round.Start emission c.number_begun-answer.result) c.self.inside.access c.enter-inside.new.self c.leave.new.self c.enter-inside.result.guarded.state.value c.enter-inside.ensures.taken c.enter-inside.ensures.found c.leave.ensures.left in
+    let answered = subst (λ a. Made (round.Start emission a) (party_of c.self.inside.access) (party_of c.leave.new.self)) c.number_begun-answer.ensures it in
+    let worded = subst (λ word. Made (round.Start (record { emitter = c.self.inside.id; word = word }) (numbers_begun c.start_emit-begun.result)) (party_of c.self.inside.access) (party_of c.leave.new.self)) c.to_word.ensures.word answered in
+    subst (λ (e : Emitting). Made (round.Start (emission_by e (g.T.Word.word c.args.value)) (numbers_begun c.start_emit-begun.result)) e.party (party_of c.leave.new.self)) c.self.view_is worded

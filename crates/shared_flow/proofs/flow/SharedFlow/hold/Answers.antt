@@ -6,13 +6,13 @@ use Rattle.shared_flow.proofs.flow.SharedFlow.hold.Goals as goal
 
 pub returns-clause-held : goal.returns-clause-held
 returns-clause-held g c =
-    let found : SharedSeen = c.take-guarded.result.state.value in
-    let taken = c.take-guarded.ensures.taken in (
+    let found : SharedSeen = c.enter-inside.result.guarded.state.value in
+    let taken = c.enter-inside.ensures.taken in (
       search rules,
       (
         found,
         search rules,
         search rules,
-        found_again (party_of c.self.inside.access) (party_of c.take-guarded.new.self) found c.take-guarded.ensures.found (ap party_of taken),
+        found_again (party_of c.self.inside.access) (party_of c.enter-inside.new.self) found c.enter-inside.ensures.found (ap party_of taken),
       ),
     )

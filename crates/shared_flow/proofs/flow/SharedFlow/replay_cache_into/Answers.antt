@@ -7,18 +7,18 @@ use Rattle.shared_flow.specs.declared.round.Round.TheVariants as round
 use Rattle.shared_flow.proofs.Making.{made}
 use Rattle.shared_flow.proofs.flow.SharedFlow.replay_cache_into.Goals as goal
 
-pub put_cache-requires : goal.put_cache-requires
-put_cache-requires g c =
-    let found : SharedSeen = c.take-guarded.result.state.value in
+pub leave_cache-requires : goal.leave_cache-requires
+leave_cache-requires g c =
+    let found : SharedSeen = c.enter-inside.result.guarded.state.value in
     let after : SharedSeen = c.replay_cache_into.new.self in
-    record { round = (found, ap (λ (r : Reach). r.held) c.take-guarded.ensures.taken, subst (λ (s : SharedSeen). Does s (round.Cache (Ok after.sequencer.cache)) after) c.deref_mut.ensures.value c.in-Ok.ensures.read) }
+    record { round = (found, ap (λ (r : Reach). r.held) c.enter-inside.ensures.taken, subst (λ (s : SharedSeen). Does s (round.Cache (Ok after.sequencer.cache)) after) c.deref_mut.ensures.value c.in-Ok.ensures.read) }
 
-pub put-requires : goal.put-requires
-put-requires g c =
-    let found : SharedSeen = c.take-guarded.result.state.value in
+pub leave-requires : goal.leave-requires
+leave-requires g c =
+    let found : SharedSeen = c.enter-inside.result.guarded.state.value in
     let after : SharedSeen = c.replay_cache_into.new.self in
     let did = subst (λ (s : SharedSeen). Does s (round.Cache (Err NoMemory)) after) c.deref_mut.ensures.value c.in-Err.ensures.unread in
-    record { round = (found, ap (λ (r : Reach). r.held) c.take-guarded.ensures.taken, subst (λ e. Does found (round.Cache (Err e)) after) (sym c.in-Err.ensures.memory) did) }
+    record { round = (found, ap (λ (r : Reach). r.held) c.enter-inside.ensures.taken, subst (λ e. Does found (round.Cache (Err e)) after) (sym c.in-Err.ensures.memory) did) }
 
 pub returns-in-Ok-clause-ok : goal.returns-in-Ok-clause-ok
 returns-in-Ok-clause-ok g c =
@@ -26,9 +26,9 @@ returns-in-Ok-clause-ok g c =
       words,
       c.in-Ok.ensures.ok,
       search rules,
-      rw (← c.self.view_is) (made (round.Cache (Ok words)) c.self.inside.access c.take-guarded.new.self c.put_cache.new.self c.take-guarded.result.state.value c.take-guarded.ensures.taken c.take-guarded.ensures.found c.put_cache.ensures.left),
+      rw (← c.self.view_is) (made (round.Cache (Ok words)) c.self.inside.access c.enter-inside.new.self c.leave_cache.new.self c.enter-inside.result.guarded.state.value c.enter-inside.ensures.taken c.enter-inside.ensures.found c.leave_cache.ensures.left),
     )
 
 pub returns-in-Err-clause-unmade : goal.returns-in-Err-clause-unmade
 returns-in-Err-clause-unmade g c =
-    rw (← c.self.view_is, ← c.in-Err.ensures.memory) (made (round.Cache (Err c.in-Err.refusal)) c.self.inside.access c.take-guarded.new.self c.put.new.self c.take-guarded.result.state.value c.take-guarded.ensures.taken c.take-guarded.ensures.found c.put.ensures.left)
+    rw (← c.self.view_is, ← c.in-Err.ensures.memory) (made (round.Cache (Err c.in-Err.refusal)) c.self.inside.access c.enter-inside.new.self c.leave.new.self c.enter-inside.result.guarded.state.value c.enter-inside.ensures.taken c.enter-inside.ensures.found c.leave.ensures.left)

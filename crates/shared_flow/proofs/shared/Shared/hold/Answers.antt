@@ -11,10 +11,6 @@ returns c = (
     search rules,
     search rules,
     search rules,
-    (
-      c.help.new.self.sequencer,
-      (c.live-count.new.self, c.live-count.ensures.only, c.live-count.ensures.count, c.help.ensures.only),
-      (c.help.new.self.sequencer, inl refl, (refl, refl, refl, λ p. refl)),
-    ),
+    (c.live.new.self, (c.live.new.self, c.live.ensures.only, c.live.ensures.count, (refl, refl, refl, λ _. refl)), (c.live.new.self, inl refl, (refl, refl, refl, λ _. refl))),
   ),
 )

@@ -1,26 +1,15 @@
-use Rattle.std.proofs.Common.{Ok, Err}
-use Rattle.shared_flow.specs.declared.round.Round.TheVariants as round
-use Rattle.shared_flow.proofs.Doing.{if_ok, if_err, does, only_refusals}
+use Rattle.std.proofs.Common.{rules, refl, inl}
+use Rattle.shared_flow.proofs.Doing.{if_ok, if_err, only_refusals}
 use Rattle.shared_flow.proofs.shared.Shared.subscribe.Goals as goal
 
 pub returns-clause-ok : goal.returns-clause-ok
-returns-clause-ok c =
-    let old = c.args.self.now in
-    let mid = c.admitted-admitted.new.self in
-    let new = c.help.new.self in
-    if_ok c.admitted-admitted.result.reader _ _ (λ reader p. (
-      does old mid new (round.Subscribe (Ok c.admitted-admitted.result.number)) c.admitted-admitted.ensures.same.0 c.admitted-admitted.ensures.same.1
-          (p.0, p.1, p.2, p.3, p.4, (p.5.0, (reader, p.5.1))) c.help.ensures.same.0 c.help.ensures.same.1 c.help.ensures.only,
-      (p.0, p.1, p.2, p.3, p.4, (mid.sequencer, p.5.1, c.help.ensures.only)),
-    )) c.admitted-admitted.ensures.ok
+returns-clause-ok c = if_ok c.admit-reader.result _ _ (λ r p. (
+  (search rules, search rules, (c.scan.new.self, c.scan.result, search rules, search rules, search rules, (c.admit-reader.new.self, (c.next_subscription-number.ensures, (r, search rules)), (c.admit-reader.new.self, inl refl, (refl, refl, refl, λ _. refl))))),
+  (c.scan.new.self, c.scan.result, search rules, search rules, search rules, (c.next_subscription-number.ensures, search rules)),
+)) c.admit-reader.ensures.ok
 
 pub returns-clause-err : goal.returns-clause-err
-returns-clause-err c =
-    let old = c.args.self.now in
-    let mid = c.admitted-admitted.new.self in
-    let new = c.help.new.self in
-    if_err c.admitted-admitted.result.reader _ _ (λ e p. (
-      does old mid new (round.Subscribe (Err e)) c.admitted-admitted.ensures.same.0 c.admitted-admitted.ensures.same.1
-          p c.help.ensures.same.0 c.help.ensures.same.1 c.help.ensures.only,
-      only_refusals p.0 e mid.sequencer p.5,
-    )) c.admitted-admitted.ensures.err
+returns-clause-err c = if_err c.admit-reader.result _ _ (λ e p. (
+  (search rules, search rules, (c.scan.new.self, c.scan.result, search rules, search rules, search rules, (c.admit-reader.new.self, p, (c.admit-reader.new.self, inl refl, (refl, refl, refl, λ _. refl))))),
+  only_refusals c.scan.new.self e c.admit-reader.new.self p,
+)) c.admit-reader.ensures.err

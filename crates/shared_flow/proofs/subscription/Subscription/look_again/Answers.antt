@@ -6,45 +6,45 @@ use Rattle.shared_flow.specs.Rounds.{Does}
 use Rattle.shared_flow.proofs.Making.{made}
 use Rattle.shared_flow.proofs.subscription.Subscription.look_again.Goals as goal
 
-pub put-requires : goal.put-requires
-put-requires g c =
-    let found : SharedSeen = c.take-guarded.result.state.value in
+pub leave-requires : goal.leave-requires
+leave-requires g c =
+    let found : SharedSeen = c.enter-inside.result.guarded.state.value in
     record {
       round = (
         found,
-        ap (λ (r : Reach). r.held) c.take-guarded.ensures.taken,
+        ap (λ (r : Reach). r.held) c.enter-inside.ensures.taken,
         subst (λ (s : SharedSeen). Does s round.Next c.look.new.self) c.deref_mut.ensures.value c.look.ensures.does,
       );
     }
 
-pub put-requires-in-Overtaken : goal.put-requires-in-Overtaken
-put-requires-in-Overtaken g c =
-    let found : SharedSeen = c.take-guarded.result.state.value in
+pub leave-requires-in-Overtaken : goal.leave-requires-in-Overtaken
+leave-requires-in-Overtaken g c =
+    let found : SharedSeen = c.enter-inside.result.guarded.state.value in
     record {
       round = (
         found,
-        ap (λ (r : Reach). r.held) c.take-guarded.ensures.taken,
+        ap (λ (r : Reach). r.held) c.enter-inside.ensures.taken,
         subst (λ (s : SharedSeen). Does s round.Next c.look.new.self) c.deref_mut.ensures.value c.look.ensures.does,
       );
     }
 
-pub put-requires-in-Nothing : goal.put-requires-in-Nothing
-put-requires-in-Nothing g c =
-    let found : SharedSeen = c.take-guarded.result.state.value in
+pub leave-requires-in-Nothing : goal.leave-requires-in-Nothing
+leave-requires-in-Nothing g c =
+    let found : SharedSeen = c.enter-inside.result.guarded.state.value in
     record {
       round = (
         found,
-        ap (λ (r : Reach). r.held) c.take-guarded.ensures.taken,
+        ap (λ (r : Reach). r.held) c.enter-inside.ensures.taken,
         subst (λ (s : SharedSeen). Does found round.Next s) (sym (c.sleep_subscription.ensures.same ∙ c.deref_mut-in-Nothing.ensures.value))
             (subst (λ (s : SharedSeen). Does s round.Next c.look.new.self) c.deref_mut.ensures.value c.look.ensures.does),
       );
     }
 
 pub returns-in-Value-clause-round : goal.returns-in-Value-clause-round
-returns-in-Value-clause-round g c = rw (← c.self.view_is) (made round.Next c.self.inside.access c.take-guarded.new.self c.put.new.self c.take-guarded.result.state.value c.take-guarded.ensures.taken c.take-guarded.ensures.found c.put.ensures.left)
+returns-in-Value-clause-round g c = rw (← c.self.view_is) (made round.Next c.self.inside.access c.enter-inside.new.self c.leave.new.self c.enter-inside.result.guarded.state.value c.enter-inside.ensures.taken c.enter-inside.ensures.found c.leave.ensures.left)
 
 pub returns-in-Nothing-clause-round : goal.returns-in-Nothing-clause-round
-returns-in-Nothing-clause-round g c = rw (← c.self.view_is) (made round.Next c.self.inside.access c.take-guarded.new.self c.put-in-Nothing.new.self c.take-guarded.result.state.value c.take-guarded.ensures.taken c.take-guarded.ensures.found c.put-in-Nothing.ensures.left)
+returns-in-Nothing-clause-round g c = rw (← c.self.view_is) (made round.Next c.self.inside.access c.enter-inside.new.self c.leave-in-Nothing.new.self c.enter-inside.result.guarded.state.value c.enter-inside.ensures.taken c.enter-inside.ensures.found c.leave-in-Nothing.ensures.left)
 
 pub returns-in-Overtaken-clause-round : goal.returns-in-Overtaken-clause-round
-returns-in-Overtaken-clause-round g c = rw (← c.self.view_is) (made round.Next c.self.inside.access c.take-guarded.new.self c.put-in-Overtaken.new.self c.take-guarded.result.state.value c.take-guarded.ensures.taken c.take-guarded.ensures.found c.put-in-Overtaken.ensures.left)
+returns-in-Overtaken-clause-round g c = rw (← c.self.view_is) (made round.Next c.self.inside.access c.enter-inside.new.self c.leave-in-Overtaken.new.self c.enter-inside.result.guarded.state.value c.enter-inside.ensures.taken c.enter-inside.ensures.found c.leave-in-Overtaken.ensures.left)
