@@ -13,7 +13,7 @@ pub use core_calling::{received_in_turn, received_once};
 pub use lane_calling::{drained, emitted_and_taken, taken_from_the_cache};
 pub use shared_calling::{
     asked, awaited, counted_with_cache, emitted, emitted_and_heard, finished, heard_at_once,
-    passed_on, received,
+    passed_on, received, taken_at_once,
 };
 pub use sharing_calling::first_poll;
 pub use state_calling::{Dimmer, Light, asked_twice};

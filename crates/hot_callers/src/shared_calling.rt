@@ -16,7 +16,9 @@ ghost use Rattle.hot_callers.specs.SharedCalls.{AreOfOneFlow, HasTaken, IsSameSu
 use cold_flow::Refusal;
 use futures::task::{Doorbell, Poll, Queue};
 use shared_core::{Begun, Tried};
-use shared_flow::{Emitter, Held, Parker, Receipt, SharedFlow, Subscription, Taken};
+use shared_flow::{
+    Emitter, Held, Parker, Receipt, SharedFlow, Subscription, Taken, taking_all_is_taking_each,
+};
 use std::alloc::{AllocError, AllocGlobal};
 use std::random::RandomSource;
 use std::sync::Wait;
@@ -212,6 +214,14 @@ pub fn asked(
     }
     let answer = awaited(rt, parker, subscription)?;
     Ok(Some(answer))
+}
+
+/// Takes all that is pending, as many values as the list has room for: turn by turn the subscription received what was added.
+pub fn taken_at_once(subscription: &mut Subscription<u64>, values: &mut Vec<u64>) -> Taken<u64>
+    ensures { (taken : List ℕ) × (values.new.items ≡ values.old.items ++ taken) × HasTaken subscription.old taken subscription.new }
+{
+    taking_all_is_taking_each::<u64>();
+    subscription.try_next_all(values)
 }
 
 /// Emits a value and tells a subscription of it: where that finds nothing then, it is past this emission already. `None` where

@@ -3,6 +3,7 @@ pub mod Receipts
 pub mod Refusals
 pub mod Starting
 pub mod Doing
+pub mod Trying
 pub mod Numbers
 pub mod Reaching
 pub mod Boxes
@@ -12,4 +13,7 @@ pub mod Queueing
 pub mod Ordering
 pub mod Histories
 pub mod Lives
+pub mod Turns
 pub mod Waiting
+pub mod Takes
+pub mod Emits

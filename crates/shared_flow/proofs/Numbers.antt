@@ -1,6 +1,6 @@
 -- The numbers that rounds answer with are below the next one, and rise.
 use Rattle.std.specs.Prelude.{⊤}
-use Rattle.std.proofs.Common.{◌≡◌, ◌≢◌, ◌⊎◌, ◌==◌, ℕ, zero, suc, ◌+◌, ◌<◌, ◌≤◌, Bool, true, false, cond, List, [], ◌∷◌, ◌++◌, length, Ok, Err, refl, sym, ap, ◌∙◌, subst, arith, length-append, ⊎_elim}
+use Rattle.std.proofs.Common.{◌≡◌, ◌≢◌, ◌⊎◌, ◌==◌, ℕ, zero, suc, ◌+◌, ◌<◌, ◌≤◌, Bool, true, false, cond, List, [], ◌∷◌, ◌++◌, length, take, Ok, Err, refl, sym, ap, ◌∙◌, subst, arith, length-append, ⊎_elim}
 use mathlib.Core.Option.{some, some-ne-none}
 use lib.ListN.{get_elem?}
 use Rattle.flow_terms.specs.declared.answers.Tried.TheVariants as tried
@@ -10,6 +10,7 @@ use Rattle.flow_terms.specs.declared.answers.Withdrawn.TheVariants as withdrawn
 use Rattle.round_lock.specs.History.{After, own_of}
 use Rattle.round_lock.specs.History.After.{new, more}
 use Rattle.lane_steps.specs.Law.{Entry}
+use Rattle.shared_lane.specs.Blocks.{entries}
 use Rattle.shared_lane.specs.Views.{LaneSeen, SequencerSeen}
 use Rattle.flow_terms.specs.declared.ids.Ticket.{Ticket}
 use Rattle.flow_terms.specs.declared.refusal.Refusal.{Refusal}
@@ -68,6 +69,13 @@ one_more q e t same is =
     let count = ap length is ∙ length-append (seen q) (e ∷ []) in
     omega (arith, first, count)
 
+-- some more were accepted, or none
+some_more : (q : SequencerSeen) (es : List Entry) (t : SequencerSeen) → t.view.shape ≡ q.view.shape → seen t ≡ seen q ++ es → next q ≤ next t
+some_more q es t same is =
+    let first : t.view.shape.first ≡ q.view.shape.first = ap (λ z. z.first) same in
+    let count = ap length is ∙ length-append (seen q) es in
+    omega (arith, first, count)
+
 same_log : (q t : SequencerSeen) → t.view.shape ≡ q.view.shape → seen t ≡ seen q → next t ≡ next q
 same_log q t same is =
     let first : t.view.shape.first ≡ q.view.shape.first = ap (λ z. z.first) same in
@@ -106,6 +114,8 @@ makes_next lane q (round.Try e (Ok (tried.Accepted n))) t same on = let more = o
 makes_next lane q (round.Try e (Ok tried.Dropped)) t same on = unnumbered q t (loaded_next q t on.1.0)
 makes_next lane q (round.Try e (Ok tried.Full)) t same on = unnumbered q t (full_next q t on.1)
 makes_next lane q (round.Try e (Err refusal)) t same on = unnumbered q t (same_state q t on.2)
+makes_next lane q (round.TryAll emitter words (Ok n)) t same on = unnumbered q t (some_more q (entries emitter (take n words)) t same on.accepted)
+makes_next lane q (round.TryAll emitter words (Err refusal)) t same on = unnumbered q t (same_state q t on.1.2)
 makes_next lane q (round.Start e (Ok (begun.Accepted n))) t same on = let more = one_more q (e.emitter, e.word) t same on.2 in let is = on.1 in (omega (arith, more), omega (arith, more, is))
 makes_next lane q (round.Start e (Ok begun.Dropped)) t same on = unnumbered q t (loaded_next q t on.1.0)
 makes_next lane q (round.Start e (Ok (begun.Waiting ticket))) t same on = unnumbered q t (waiting_next q (e.emitter, e.word) ticket t same on)

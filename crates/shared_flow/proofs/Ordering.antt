@@ -10,11 +10,12 @@ use Rattle.lane_steps.specs.Law.{Entry}
 use Rattle.shared_core.specs.Story.{Interleaves}
 use Rattle.shared_core.specs.Story.Interleaves.{none, left, right}
 use Rattle.shared_core.proofs.Lists.{Interleaves-push_left}
+use Rattle.shared_lane.specs.Blocks.{entries}
 use Rattle.shared_lane.specs.Sequencers.{entry_of}
 use Rattle.shared_flow.specs.declared.round.Emission.{Emission}
 use Rattle.shared_flow.specs.declared.round.Round.{Round}
 use Rattle.shared_flow.specs.declared.round.Round.TheVariants as round
-use Rattle.shared_flow.specs.Queue.{Progress, let_in, waits_in, IsAcceptedNow, IsWithdrawn, Goes, ComesTo, one_by, words_by, taken_up, emitted, EachInItsOwnOrder}
+use Rattle.shared_flow.specs.Queue.{Progress, let_in, waits_in, IsAcceptedNow, AreAcceptedNow, IsWithdrawn, Goes, ComesTo, one_by, words_by, taken_up, emitted, EachInItsOwnOrder}
 use Rattle.shared_flow.specs.Queue.ComesTo.{begins, goes_on}
 use Rattle.shared_flow.specs.Names.{SharedSeen}
 use Rattle.shared_flow.specs.Reach.{Rounds}
@@ -115,11 +116,27 @@ module _ (e : ℕ) where
   unchanged : (zs : List ℕ) (p p' : Progress) → p' ≡ p → Ordered zs (all_of p) → Ordered (zs ++ []) (all_of p')
   unchanged zs p p' is was = same_ordered zs (all_of p) (all_of p') (ap all_of is) was
 
+  ordered_all : (es : List Entry) (zs : List ℕ) (xs : List Entry) → Ordered zs xs → Ordered (zs ++ words_by e es) (xs ++ es)
+  ordered_all [] zs xs was = same_ordered zs xs (xs ++ []) (append-nil xs) was
+  ordered_all (x ∷ es) zs xs was = subst (λ (l : List ℕ × List Entry). Ordered l.0 l.1) (λ i. (append_assoc zs (one_by e x) (words_by e es) i, append_assoc xs (x ∷ []) es i))
+      (ordered_all es (zs ++ one_by e x) (xs ++ x ∷ []) (ordered_more zs xs x was))
+
+  all_now : (es : List Entry) (zs : List ℕ) (p p' : Progress) → AreAcceptedNow es p p' → Ordered zs (all_of p) → Ordered (zs ++ words_by e es) (all_of p')
+  all_now es zs p p' now was = ⊎_elim
+      (λ empty. let is : p' ≡ p = now.1 ∙ (λ i. record p { accepted = (ap (λ l. p.accepted ++ l) empty ∙ append-nil p.accepted) i }) in
+      subst (λ (l : List Entry). Ordered (zs ++ words_by e l) (all_of p')) (sym empty) (unchanged zs p p' is was))
+      (λ first. let before : all_of p ≡ p.accepted = ap (λ ws. p.accepted ++ map entry_of ws) first ∙ append-nil p.accepted in
+      let after : all_of p' ≡ all_of p ++ es = ap all_of now.1 ∙ ap (λ ws. (p.accepted ++ es) ++ map entry_of ws) first ∙ append-nil (p.accepted ++ es) ∙ ap (λ l. l ++ es) (sym before) in
+      subst (λ (l : List Entry). Ordered (zs ++ words_by e es) l) (sym after) (ordered_all es zs (all_of p) was))
+      now.0
+
   goes_on_ordered : (r : Round) (zs : List ℕ) (p p' : Progress) → Goes r p p' → Ordered zs (all_of p) → Ordered (zs ++ taken_up e r) (all_of p')
   goes_on_ordered (round.Try m (Ok (tried.Accepted n))) zs p p' goes was = accepted_now m zs p p' goes was
   goes_on_ordered (round.Try m (Ok tried.Dropped)) zs p p' goes was = unchanged zs p p' goes was
   goes_on_ordered (round.Try m (Ok tried.Full)) zs p p' goes was = unchanged zs p p' goes was
   goes_on_ordered (round.Try m (Err refusal)) zs p p' goes was = unchanged zs p p' goes was
+  goes_on_ordered (round.TryAll emitter words (Ok n)) zs p p' goes was = all_now (entries emitter (take n words)) zs p p' goes was
+  goes_on_ordered (round.TryAll emitter words (Err refusal)) zs p p' goes was = unchanged zs p p' goes was
   goes_on_ordered (round.Start m (Ok (begun.Accepted n))) zs p p' goes was = accepted_now m zs p p' goes was
   goes_on_ordered (round.Start m (Ok begun.Dropped)) zs p p' goes was = unchanged zs p p' goes was
   goes_on_ordered (round.Start m (Ok (begun.Waiting ticket))) zs p p' goes was = ⊎_elim (λ now. accepted_now m zs p p' now was) (λ later. waits m ticket.0 zs p p' later was) goes

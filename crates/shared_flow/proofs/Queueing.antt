@@ -1,5 +1,5 @@
 -- What a history of rounds comes to is what the sequencer has: those that wait, and those that it accepted.
-use Rattle.std.proofs.Common.{◌≡◌, ◌≢◌, ◌⊎◌, ℕ, List, [], ◌∷◌, ◌++◌, false, Ok, Err, sym, ap, ◌∙◌, subst, ⊎_elim, inl, inr}
+use Rattle.std.proofs.Common.{◌≡◌, ◌≢◌, ◌⊎◌, ℕ, List, [], ◌∷◌, ◌++◌, take, false, Ok, Err, sym, ap, ◌∙◌, subst, ⊎_elim, inl, inr}
 use Rattle.std.proofs.lemmas.List.{append-nil}
 use Rattle.flow_terms.specs.declared.answers.Tried.TheVariants as tried
 use Rattle.flow_terms.specs.declared.answers.Begun.TheVariants as begun
@@ -9,6 +9,7 @@ use Rattle.flow_terms.specs.declared.refusal.Refusal.{Refusal}
 use Rattle.flow_terms.specs.declared.refusal.Refusal.TheVariants as refusals
 use Rattle.round_lock.specs.History.After.{new, more}
 use Rattle.lane_steps.specs.Law.{Entry}
+use Rattle.shared_lane.specs.Blocks.{entries, TriedAllOn}
 use Rattle.shared_lane.specs.Views.{LaneSeen, SequencerSeen}
 use Rattle.shared_lane.specs.Sequencers.{OnlyLoaded, Rounded, waited, Settled, RefusedStart, seen}
 use Rattle.shared_lane.specs.Places.{NotLetIn}
@@ -20,9 +21,10 @@ use Rattle.shared_flow.specs.Entering.{IsLeftBy}
 use Rattle.shared_flow.specs.Names.{SharedSeen}
 use Rattle.shared_flow.specs.Reach.{Rounds}
 use Rattle.flow_terms.specs.declared.ids.Ticket.{Ticket}
-use Rattle.shared_flow.specs.Queue.{Progress, progress_of, let_in, waits_in, IsAcceptedNow, Goes, Proceeds, ComesTo}
+use Rattle.shared_flow.specs.Queue.{Progress, progress_of, let_in, waits_in, IsAcceptedNow, AreAcceptedNow, Goes, Proceeds, ComesTo}
 use Rattle.shared_flow.specs.Queue.ComesTo.{begins, goes_on}
 use Rattle.shared_flow.specs.Rounds.{Makes, Rests, Scanned, Does, entry}
+use Rattle.shared_flow.proofs.Trying.{tried_waiting, tried_first}
 
 abbrev progress : List Waiting → List Entry → Progress
 progress ws es = record { waiting = ws; accepted = es }
@@ -64,6 +66,9 @@ shut_is q _ t on = absurd on
 accepted_now : (q t : SequencerSeen) (e : Emission) → q.waiting ≡ [] → t.waiting ≡ q.waiting → seen t ≡ seen q ++ entry e ∷ [] → IsAcceptedNow e (progress_of q) (progress_of t)
 accepted_now q t e none ws es = (none, λ i. progress (ws i) (es i))
 
+all_now : (q t : SequencerSeen) (emitter : ℕ) (words : List ℕ) (n : ℕ) → TriedAllOn q emitter words n t → AreAcceptedNow (entries emitter (take n words)) (progress_of q) (progress_of t)
+all_now q t emitter words n on = let ws = tried_waiting q t emitter words n on in (tried_first q t emitter words n on, λ i. progress (ws i) (on.accepted i))
+
 queued : (q t : SequencerSeen) (e : Emission) (ticket : Ticket) → ticket.0 ≡ q.ticket → t ≡ record (waited (entry e) q) { view = t.view } → seen t ≡ seen q → progress_of t ≡ waits_in e ticket.0 (progress_of q)
 queued q t e ticket number waits log =
     let ws = ap (λ (z : SequencerSeen). z.waiting) waits ∙ ap (λ k. q.waiting ++ record { ticket = k; emitter = e.emitter; word = e.word } ∷ []) (sym number) in
@@ -75,6 +80,8 @@ goes lane q (round.Try e (Ok (tried.Accepted n))) t on = accepted_now q t e on.0
 goes lane q (round.Try e (Ok tried.Dropped)) t on = loaded_is q t on.1.0
 goes lane q (round.Try e (Ok tried.Full)) t on = full_is q t on.1
 goes lane q (round.Try e (Err refusal)) t on = state_is q t on.2
+goes lane q (round.TryAll emitter words (Ok n)) t on = all_now q t emitter words n on
+goes lane q (round.TryAll emitter words (Err refusal)) t on = state_is q t on.1.2
 goes lane q (round.Start e (Ok (begun.Accepted n))) t on = accepted_now q t e on.0 on.4.0 on.2
 goes lane q (round.Start e (Ok begun.Dropped)) t on = loaded_is q t on.1.0
 goes lane q (round.Start e (Ok (begun.Waiting ticket))) t on = ⊎_elim

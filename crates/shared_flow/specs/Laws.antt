@@ -12,12 +12,15 @@ use Rattle.shared_lane.specs.Headline.{WasLetIn}
 use Rattle.shared_lane.specs.Readers.{at}
 use Rattle.shared_lane.specs.Sequencers.{seen}
 use Rattle.shared_lane.specs.Views.{ReaderSeen}
+use Rattle.shared_lane.specs.declared.reader.Taken.{Taken}
 use Rattle.shared_flow.specs.declared.round.Round.{Round}
 use Rattle.shared_flow.specs.Names.{SharedSeen, IsNew}
+use Rattle.shared_flow.specs.Blocks.{TookAllFirst}
 use Rattle.shared_flow.specs.Entering.{IsLeftBy}
 use Rattle.shared_flow.specs.Reach.{Rounds, rounds_in}
 use Rattle.shared_flow.specs.Lives.{Turn, LivesOn, received_in, ReceivesPreludeCacheThenLater}
 use Rattle.shared_flow.specs.Queue.{progress_of, ComesTo, EachInItsOwnOrder}
+use Rattle.shared_flow.specs.Parties.{Subscribed}
 use Rattle.shared_flow.specs.Rounds.{Does}
 
 -- Where a list of rounds left this of a new flow: it is that flow; the emissions that it accepted are those of the list, let in by
@@ -72,3 +75,8 @@ EachSubscriptionLaw {T} read_as =
     → IsLeftBy made log now → WasLetIn cache start → LivesOn prelude start turns left reader
     → at reader ≤ reader.shape.first + length reader.seen → Begins (seen now.sequencer) reader.seen
     → IsOneFlow made log now × ReceivesPreludeCacheThenLater read_as prelude left cache start (knowing now reader) (received_in read_as turns)
+
+-- what a subscription takes at once it takes by so many turns
+abbrev pub TakingAllIsTakingEach : {T : Type 0} → (ℕ → T) → Type 0
+TakingAllIsTakingEach {T} read_as = (s t : Subscribed T) (room : ℕ) (taken : Taken ℕ) (values : List T) → TookAllFirst read_as s room taken values t
+    → (turns : List (Turn T)) × LivesOn s.rest s.reader turns t.rest t.reader × (received_in read_as turns ≡ values)

@@ -9,6 +9,7 @@ pub mod Entering
 pub mod Laws
 pub mod Looks
 pub mod Preludes
+pub mod Blocks
 pub mod Lives
 pub mod Owners
 pub mod Meeting

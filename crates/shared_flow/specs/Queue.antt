@@ -6,6 +6,7 @@ use Rattle.flow_terms.specs.declared.answers.Tried.TheVariants as tried
 use Rattle.flow_terms.specs.declared.answers.Begun.TheVariants as begun
 use Rattle.flow_terms.specs.declared.answers.Withdrawn.TheVariants as withdrawn
 use Rattle.lane_steps.specs.Law.{Entry}
+use Rattle.shared_lane.specs.Blocks.{entries}
 use Rattle.shared_lane.specs.Sequencers.{entry_of, seen}
 use Rattle.shared_lane.specs.Views.{SequencerSeen}
 use Rattle.shared_lane.specs.declared.tickets.Waiting.{Waiting}
@@ -32,6 +33,10 @@ let_in k p = record { waiting = drop k p.waiting; accepted = p.accepted ++ map e
 abbrev pub IsAcceptedNow : Emission → Progress → Progress → Type 0
 IsAcceptedNow e p p' = (p.waiting ≡ []) × (p' ≡ record p { accepted = p.accepted ++ entry e ∷ [] })
 
+-- so are these, one after another: none of them, or none waits
+abbrev pub AreAcceptedNow : List Entry → Progress → Progress → Type 0
+AreAcceptedNow es p p' = ((es ≡ []) ⊎ (p.waiting ≡ [])) × (p' ≡ record p { accepted = p.accepted ++ es })
+
 -- it waits behind all others
 abbrev pub waits_in : Emission → ℕ → Progress → Progress
 waits_in e ticket p = record p { waiting = p.waiting ++ record { ticket = ticket; emitter = e.emitter; word = e.word } ∷ [] }
@@ -43,6 +48,7 @@ IsWithdrawn ticket p p' = (i : ℕ) × (w : Waiting) × (slice_get p.waiting i �
 -- what a call does to the queue
 abbrev pub Goes : Round → Progress → Progress → Type 0
 Goes (round.Try e (Ok (tried.Accepted n))) p p' = IsAcceptedNow e p p'
+Goes (round.TryAll emitter words (Ok n)) p p' = AreAcceptedNow (entries emitter (take n words)) p p'
 Goes (round.Start e (Ok (begun.Accepted n))) p p' = IsAcceptedNow e p p'
 -- a ticket is also out for an emission that is accepted, and isn't finished before all have received it
 Goes (round.Start e (Ok (begun.Waiting ticket))) p p' = IsAcceptedNow e p p' ⊎ (p' ≡ waits_in e ticket.0 p)
@@ -68,9 +74,10 @@ abbrev pub words_by : ℕ → List Entry → List ℕ
 words_by e [] = []
 words_by e (x ∷ xs) = one_by e x ++ words_by e xs
 
--- the word that this emitter emitted by a call: accepted at once, or with a ticket
+-- the words that this emitter emitted by a call: accepted at once, or with a ticket
 abbrev pub taken_up : ℕ → Round → List ℕ
 taken_up e (round.Try m (Ok (tried.Accepted n))) = one_by e (entry m)
+taken_up e (round.TryAll emitter words (Ok n)) = words_by e (entries emitter (take n words))
 taken_up e (round.Start m (Ok (begun.Accepted n))) = one_by e (entry m)
 taken_up e (round.Start m (Ok (begun.Waiting ticket))) = one_by e (entry m)
 taken_up e _ = []

@@ -14,6 +14,7 @@ use Rattle.flow_terms.specs.declared.ids.Ticket.{Ticket}
 use Rattle.lane_steps.specs.Law.{Entry}
 use Rattle.shared_lane.specs.Views.{LaneSeen, ReaderSeen, ReceiptSeen, SequencerSeen}
 use Rattle.shared_lane.specs.Sequencers.{IsSameSequencer, OnlyLoaded, AfterScan, TriedOn, RefusedTry, BegunOn, RefusedStart}
+use Rattle.shared_lane.specs.Blocks.{TriedAllOn}
 use Rattle.shared_lane.specs.Polls.{PolledOn, WithdrawnFrom, IsOutFor, IsNotOut}
 use Rattle.shared_lane.specs.Places.{LetIn, NotLetIn, Counted}
 use Rattle.shared_flow.specs.declared.round.Emission.{Emission}
@@ -51,6 +52,8 @@ withdraw_round ticket emitter last withdrawn.Gone r = round.Withdraw ticket with
 abbrev pub Makes : LaneSeen → SequencerSeen → Round → SequencerSeen → Type 0
 Makes lane q (round.Try e (Ok answer)) t = TriedOn q (entry e) answer t
 Makes lane q (round.Try e (Err refusal)) t = RefusedTry q refusal t
+Makes lane q (round.TryAll emitter words (Ok n)) t = TriedAllOn q emitter words n t
+Makes lane q (round.TryAll emitter words (Err refusal)) t = (words ≢ []) × RefusedTry q refusal t
 Makes lane q (round.Start e (Ok answer)) t = BegunOn q (entry e) answer t
 Makes lane q (round.Start e (Err refusal)) t = RefusedStart q refusal t
 Makes lane q (round.Poll ticket answer) t = PolledOn q ticket.0 answer t

@@ -1,5 +1,5 @@
 //! What every owner of a shared flow holds.
-ghost use Rattle.std.specs.Prelude.{◌≡◌, ◌++◌, [], ◌∷◌, Ok, Some, None, IfOk, IsOkUnless};
+ghost use Rattle.std.specs.Prelude.{◌≡◌, ◌++◌, [], ◌∷◌, Ok, Some, None, map, IfOk, IsOkUnless};
 ghost use Rattle.shared_lane.specs.Sequencers.{IsSameSequencer, OnlyLoaded, next};
 ghost use Rattle.shared_flow.specs.declared.round.Round.TheVariants as round;
 ghost use Rattle.shared_flow.specs.Names.{IsNew, SharedSeen, KnowsLane};
@@ -12,8 +12,8 @@ use crate::round::Round;
 use crate::shared::{Shared, wakes_of};
 use crate::track::Track;
 use crate::wakes::Wakes;
-use flow_terms::Refusal;
-use round_lock::{Guarded, Lock};
+use flow_terms::{Refusal, Word};
+use round_lock::{Guarded, Lock, Made};
 use shared_core::Config;
 use shared_lane::Lane;
 use std::alloc::{AllocError, Global};
@@ -133,6 +133,24 @@ impl Access {
     {
         let guarded = helped(&mut self.wakes, inside);
         self.lock.put(rt, guarded, round);
+        self.wakes.fire();
+    }
+
+    /// Leaves as `leave` does, after an emitter tried these values: the round has their words, of which the program makes no list.
+    pub fn leave_block<T: Word, M: Made<Round>>(
+        &mut self,
+        rt: &impl Wait,
+        inside: Inside,
+        emitter: u32,
+        values: &[T],
+        answer: Result<u64, Refusal>,
+    )
+        requires picked { M.entry ≡ Some (round.TryAll emitter (map T.word values.now) answer) }
+        requires round { (old : SharedSeen) × (self.old.held ≡ Some old) × Does old (round.TryAll emitter (map T.word values.now) answer) inside.guarded.state.value }
+        ensures left { Left (round.TryAll emitter (map T.word values.now) answer) self.old self.new }
+    {
+        let guarded = helped(&mut self.wakes, inside);
+        self.lock.put_as::<M>(rt, guarded);
         self.wakes.fire();
     }
 

@@ -26,6 +26,10 @@ use shared_lane::Receipt;
 use std::marker::{Model, PhantomData};
 use std::sync::Wait;
 
+mod blocks;
+
+pub use blocks::CutShort;
+
 /// One that emits into a shared flow, one emission after another: a coroutine that calls Kotlin's `emit` and `tryEmit`.
 ///
 /// It has no `Drop` and must be spent, by `close`. Lend it to a thread by `&mut`, and spend it after the join. Contracts see its

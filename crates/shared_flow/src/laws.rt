@@ -1,5 +1,5 @@
 //! What holds of a shared flow for every order of calls by any of its owners, emitters and subscriptions on threads.
-ghost use Rattle.shared_flow.specs.Laws.{EachLockLaw, OneListLaw, OneFlowLaw, EachSubscriptionLaw};
+ghost use Rattle.shared_flow.specs.Laws.{EachLockLaw, OneListLaw, OneFlowLaw, EachSubscriptionLaw, TakingAllIsTakingEach};
 
 use flow_terms::Word;
 
@@ -25,4 +25,10 @@ pub fn each_emitter_in_its_own_order()
 /// start and the emissions accepted later in that one list of rounds, in order and once, less just those that its policy dropped.
 pub fn each_subscription_receives_prelude_cache_then_later<T: Word>()
     ensures { EachSubscriptionLaw T.read_as }
+{}
+
+/// A law, with nothing to run. What a subscription takes at once, it takes by so many turns: it is given the values of its prelude one
+/// after another; or it looks once without a word, by which its reader's position is found, and then once for each word.
+pub fn taking_all_is_taking_each<T: Word>()
+    ensures { TakingAllIsTakingEach T.read_as }
 {}

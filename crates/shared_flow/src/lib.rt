@@ -38,10 +38,14 @@
 //! A thread that has nothing else to do calls `Emitter::emit` and `Subscription::next`: each looks on for some microseconds without
 //! the lock, makes these polls then, and sleeps by the thread's `Parker` between two of them.
 //!
+//! # Values by the block
+//! `Emitter::try_emit_all` emits many values by one round, up to the first that isn't accepted, and `Subscription::try_next_all`
+//! takes all that are there, as many as a vector has room for. Neither takes memory, and neither waits: `emit_all` and `next_all` do.
+//!
 //! # Who is woken
 //! - An acceptance wakes each subscription that sleeps: the value is pending for it. Nothing else wakes one.
-//! - A call that takes the lock wakes the emissions that sleep and are finished by then. A `try_next` takes no lock and wakes
-//!   nobody.
+//! - A call that takes the lock wakes the emissions that sleep and are finished by then. A `try_next` or `try_next_all` takes no lock
+//!   and wakes nobody.
 //! - A withdrawal helps nobody: an emission that waited had taken no room, and an accepted value stays pending.
 //! - A waker can't be thrown away, so who stops waiting by `cancel`, `cancel_emit` or `close` wakes its own task; and so does one
 //!   that slept and is polled again without having been woken, where that poll ends its wait.
@@ -60,12 +64,13 @@ mod subscription;
 mod track;
 mod wakes;
 
-pub use emitter::Emitter;
+pub use emitter::{CutShort, Emitter};
 pub use flow::{Held, Kept, SharedFlow};
 pub use flow_terms::{Refusal, Word};
 pub use laws::{
     each_emitter_in_its_own_order, each_lock_has_one_list,
     each_subscription_receives_prelude_cache_then_later, one_list_of_rounds,
+    taking_all_is_taking_each,
 };
 pub use parker::Parker;
 pub use round::{Emission, Round};

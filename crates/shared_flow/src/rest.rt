@@ -1,9 +1,11 @@
 //! What is left of a prelude.
-ghost use Rattle.std.specs.Prelude.{◌≡◌};
+ghost use Rattle.std.specs.Prelude.{◌≡◌, ◌↔◌, ◌-◌, ◌++◌, List, [], true, length, vec_capacity};
 ghost use Rattle.shared_core.specs.Preludes.{prelude_values};
 ghost use Rattle.shared_flow.specs.Preludes.{GivesFirst};
+ghost use Rattle.shared_flow.specs.Blocks.{GivesSome};
 
 use shared_core::Prelude;
+use std::alloc::Allocator;
 use std::marker::Model;
 
 /// The values of a prelude that its subscription wasn't given yet. Contracts see these values, in order.
@@ -38,6 +40,29 @@ impl<T: Copy> Rest<T> {
             given: 0,
             count,
         }
+    }
+
+    /// Whether nothing is left.
+    pub(crate) fn is_empty(&self) -> bool
+        ensures { (result ≡ true) ↔ (self.now ≡ []) }
+    {
+        self.given == self.count
+    }
+
+    /// Appends the values that are left, as many as `out` has room for, and returns how many.
+    pub(crate) fn give_into<B: Allocator>(&mut self, out: &mut Vec<T, B>) -> u64
+        ensures given { (values : List T) × (out.new.items ≡ out.old.items ++ values) × (result ≡ length values) × GivesSome self.old (vec_capacity out.old - length out.old.items) values self.new }
+        ensures capacity { vec_capacity out.new ≡ vec_capacity out.old }
+    {
+        let mut count = 0;
+        while out.len() < out.capacity() {
+            let Some(value) = self.give() else {
+                return count;
+            };
+            out.push_reserved(value);
+            count += 1;
+        }
+        count
     }
 
     /// Gives the first value that is left, if one is.

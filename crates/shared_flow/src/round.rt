@@ -20,6 +20,8 @@ pub struct Emission {
 pub enum Round {
     /// `Emitter::try_emit`, with the number of an accepted emission.
     Try(Emission, Result<Tried<u64>, Refusal>),
+    /// `Emitter::try_emit_all`, with the emitter, the words of all its values, and how many of them were accepted, from the first on.
+    TryAll(u32, LinkedList<u64>, Result<u64, Refusal>),
     /// `Emitter::start_emit`, with the number of an accepted emission or the ticket of one that waits.
     Start(Emission, Result<Begun<u64, Ticket>, Refusal>),
     /// `Emitter::poll_emit`.

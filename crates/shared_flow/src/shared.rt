@@ -20,6 +20,7 @@ use std::marker::Model;
 use std::mem;
 use std::sync::Arc;
 
+mod blocks;
 mod emissions;
 mod subscriptions;
 

@@ -28,6 +28,8 @@ use shared_lane::{Met, Reader, Receipt, Taken};
 use std::marker::{Model, PhantomData};
 use std::sync::Wait;
 
+mod blocks;
+
 /// A subscription of a shared flow: what runs inside Kotlin's `collect`. It never completes.
 ///
 /// It has no `Drop` and must be spent, by `cancel`: until then it takes a place, and under `Suspend` it holds up emitters. Lend it

@@ -1,0 +1,9 @@
+use Rattle.std.proofs.Common.{◌≡◌, ◌-◌, List, ◌++◌, length, vec_capacity}
+use Rattle.shared_flow.proofs.rest.Rest.give_into.Given as goal
+
+abbrev pub invariant-loop-self : goal.invariant-loop-self
+invariant-loop-self g l = (vec_capacity l.out ≡ vec_capacity l.initial.out)
+    × ((values : List _) × (l.out.items ≡ l.initial.out.items ++ values) × (l.count ≡ length values) × (l.initial.self ≡ values ++ l.self))
+
+abbrev pub decreases-loop-self : goal.decreases-loop-self
+decreases-loop-self g l = vec_capacity l.out - length l.out.items
