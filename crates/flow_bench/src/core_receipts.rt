@@ -1,8 +1,9 @@
 //! Receipts of a shared flow for one thread.
 
+use crate::blocks::{ByBlock, places};
 use crate::fault::Fault;
-use crate::receipts::{Receipts, Takes, receipts_of};
-use crate::sides::{Admits, Emits, Ends};
+use crate::receipts::{BLOCK, Receipts, Received, Takes, TakesBlocks, receipts_of};
+use crate::sides::{Admits, Emits, EmitsBlocks, Ends};
 use shared_core::{Config, Next, SharedState, SubId, Tried};
 use std::alloc::AllocGlobal;
 use std::random::RandomSource;
@@ -18,11 +19,25 @@ impl Emits for SharedState<u64> {
 
 impl Takes<SubId> for SharedState<u64> {
     #[inline]
-    fn take<R: Wait>(&mut self, _rt: &R, reader: &mut SubId) -> Option<u64> {
+    fn take<R: Wait>(&mut self, _rt: &R, reader: &mut SubId, taken: Received) -> Option<Received> {
         match self.next(*reader) {
-            Next::Value(value) => Some(value),
+            Next::Value(value) => Some(taken.with(value)),
             Next::Nothing | Next::Closed => None,
         }
+    }
+}
+
+impl EmitsBlocks for SharedState<u64> {
+    #[inline]
+    fn emit_block<R: Wait>(&mut self, _rt: &R, block: &[u64]) -> u64 {
+        self.try_emit_all(0, block).unwrap_or(0)
+    }
+}
+
+impl TakesBlocks<SubId> for SharedState<u64> {
+    #[inline]
+    fn take_block<R: Wait>(&mut self, _rt: &R, reader: &mut SubId, block: &mut Vec<u64>) {
+        let _taken = self.try_next_all(*reader, block);
     }
 }
 
@@ -44,4 +59,14 @@ where
 {
     let mut flow = SharedState::<u64>::new(rt.alloc(), config)?;
     receipts_of(rt, &mut flow, config.subscribers, values)
+}
+
+/// The same, by so many blocks.
+pub(crate) fn receipts_by_block<R>(rt: &R, config: Config, blocks: u64) -> Result<Receipts, Fault>
+where
+    R: Clock + AllocGlobal + RandomSource + Wait,
+{
+    let flow = SharedState::<u64>::new(rt.alloc(), config)?;
+    let mut flow = ByBlock::of(flow, places(rt, BLOCK)?);
+    receipts_of(rt, &mut flow, config.subscribers, blocks)
 }

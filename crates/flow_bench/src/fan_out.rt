@@ -5,7 +5,7 @@ use crate::elapsed::{nanoseconds_since, now};
 use crate::fault::Fault;
 use crate::pause::Pause;
 use crate::report::report;
-use crate::sides::Emits;
+use crate::sides::Feeds;
 use crate::{lane_fan_out, shared_fan_out};
 use bench_figures::{Figure, Part, Size, Unit};
 use cold_flow::Policy;
@@ -23,9 +23,25 @@ const SCENARIOS: [(&'static str, u32); 3] = [
     ("fan-out-n4", 4),
 ];
 
+/// How many values a block has.
+pub(crate) const BLOCK: usize = 64;
+
+/// Each scenario by the block.
+const BY_BLOCK: [(&'static str, u32); 3] = [
+    ("fan-out-by64-n1", 1),
+    ("fan-out-by64-n2", 2),
+    ("fan-out-by64-n4", 4),
+];
+
 /// A reader that takes values in a thread of its own, up to an end.
 pub(crate) trait Drains<U> {
     fn drain<R: Clock + Wait>(&mut self, rt: &R, end: U);
+}
+
+/// A reader that takes values by the block.
+pub(crate) trait ReadsBlocks {
+    /// Takes what is there, as far as the block has room.
+    fn read_block<R: Wait>(&mut self, rt: &R, block: &mut Vec<u64>);
 }
 
 pub(crate) trait InOrder {
@@ -42,26 +58,36 @@ pub(crate) struct FannedOut {
     nanoseconds: u64,
 }
 
-/// By which flow it is measured.
+/// By which flow it is measured, and how its values go.
 #[derive(Clone, Copy)]
 enum Engine {
     Lane,
     Shared,
+    LaneByBlock,
 }
 
 impl Engine {
     fn part(self) -> Part {
         match self {
-            Engine::Lane => Part::Lane,
+            Engine::Lane | Engine::LaneByBlock => Part::Lane,
             Engine::Shared => Part::Shared,
         }
     }
 
-    /// How many values are emitted: fewer to subscriptions, which sleep.
+    /// How many values are emitted: fewer to subscriptions, which sleep, and more by the block.
     fn values(self) -> u64 {
         match self {
             Engine::Lane => 5_000_000,
             Engine::Shared => 2_000_000,
+            Engine::LaneByBlock => 10_000_000,
+        }
+    }
+
+    /// Each scenario, with its number of readers.
+    fn scenarios(self) -> [(&'static str, u32); 3] {
+        match self {
+            Engine::Lane | Engine::Shared => SCENARIOS,
+            Engine::LaneByBlock => BY_BLOCK,
         }
     }
 
@@ -73,11 +99,12 @@ impl Engine {
         match self {
             Engine::Lane => lane_fan_out::fanned_out(rt, config, values),
             Engine::Shared => shared_fan_out::fanned_out(rt, config, values),
+            Engine::LaneByBlock => lane_fan_out::fanned_out_by_block(rt, config, values),
         }
     }
 }
 
-/// Makes the measurement by each flow.
+/// Makes the measurement by each flow, value by value.
 pub(crate) fn measure<R>(rt: &R, size: Size) -> Result<(), Fault>
 where
     R: Clock + Print + AllocGlobal + RandomSource + Threads + Wait + Sync,
@@ -86,13 +113,21 @@ where
     measure_by(rt, Engine::Shared, size)
 }
 
+/// Makes it by the block.
+pub(crate) fn measure_by_block<R>(rt: &R, size: Size) -> Result<(), Fault>
+where
+    R: Clock + Print + AllocGlobal + RandomSource + Threads + Wait + Sync,
+{
+    measure_by(rt, Engine::LaneByBlock, size)
+}
+
 /// Makes it with 1, 2 and 4 readers.
 fn measure_by<R>(rt: &R, engine: Engine, size: Size) -> Result<(), Fault>
 where
     R: Clock + Print + AllocGlobal + RandomSource + Threads + Wait + Sync,
 {
     let values = size.of(engine.values());
-    for (scenario, readers) in SCENARIOS {
+    for (scenario, readers) in engine.scenarios() {
         let config = config_of(readers, 1024, Policy::Suspend);
         let fanned_out = engine.fanned_out(rt, config, values)?;
         let figure = Figure {
@@ -118,7 +153,7 @@ pub(crate) fn fan_out<R, E, L>(
 ) -> Result<FannedOut, Fault>
 where
     R: Clock + Threads + Wait + Sync,
-    E: Emits + Send,
+    E: Feeds + Send,
     L: Drains<u64> + InOrder + Send,
 {
     let start = now(rt);
@@ -136,15 +171,16 @@ where
 
 /// Emits the numbers from 0 to below `values`. Where there is no room it doesn't sleep, but tries again.
 #[inline(never)]
-fn feed<R: Wait, E: Emits>(rt: &R, emitter: &mut E, values: u64) {
+fn feed<R: Wait, E: Feeds>(rt: &R, emitter: &mut E, values: u64) {
     let mut next: u64 = 0;
     let mut pause = Pause::new();
     for _ in rt.forever() {
         if next >= values {
             break;
         }
-        if emitter.emit(rt, next) {
-            next = next.wrapping_add(1);
+        let accepted = emitter.feed(rt, next, values);
+        if accepted > 0 {
+            next = next.wrapping_add(accepted);
             pause = Pause::new();
         } else {
             pause.wait();

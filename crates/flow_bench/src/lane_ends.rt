@@ -3,8 +3,8 @@
 ghost use Rattle.shared_lane.specs.Readers.{IsReaderOf};
 ghost use Rattle.shared_lane.specs.Sequencers.{IsSequencerOf};
 
-use crate::fan_out::InOrder;
-use crate::sides::{Admits, Emits, Ends};
+use crate::fan_out::{InOrder, ReadsBlocks};
+use crate::sides::{Admits, Emits, EmitsBlocks, Ends, Feeds};
 use cold_flow::Refusal;
 use shared_core::Tried;
 use shared_lane::{Lane, Reader, Sequencer, Taken};
@@ -64,6 +64,21 @@ impl Emits for LaneSequencer<'_> {
     }
 }
 
+impl EmitsBlocks for LaneSequencer<'_> {
+    #[inline]
+    fn emit_block<R: Wait>(&mut self, _rt: &R, block: &[u64]) -> u64 {
+        let accepted = self.sequencer.try_emit_all(self.lane, 0, block);
+        accepted.unwrap_or(0)
+    }
+}
+
+impl Feeds for LaneSequencer<'_> {
+    #[inline]
+    fn feed<R: Wait>(&mut self, rt: &R, next: u64, _end: u64) -> u64 {
+        u64::from(self.emit(rt, next))
+    }
+}
+
 impl<'a> Admits<LaneReader<'a>> for LaneSequencer<'a> {
     fn admit<R: AllocGlobal + RandomSource + Wait>(&mut self, _rt: &R) -> Option<LaneReader<'a>> {
         self.try_admit().ok()
@@ -82,6 +97,13 @@ impl LaneReader<'_> {
 
     pub(crate) fn dropped(&self) -> u64 {
         self.reader.dropped()
+    }
+}
+
+impl ReadsBlocks for LaneReader<'_> {
+    #[inline]
+    fn read_block<R: Wait>(&mut self, _rt: &R, block: &mut Vec<u64>) {
+        let _taken = self.reader.try_next_all(self.lane, block);
     }
 }
 

@@ -1,10 +1,11 @@
 //! A fan-out of a lane, whose readers look again and again.
 
-use crate::fan_out::{Drains, FannedOut, fan_out};
+use crate::blocks::{ByBlock, places};
+use crate::fan_out::{BLOCK, Drains, FannedOut, InOrder, fan_out};
 use crate::fault::Fault;
 use crate::lane_ends::{LaneReader, LaneSequencer};
 use crate::pause::Pause;
-use crate::sides::{admit_all, end_all};
+use crate::sides::{Admits, Ends, Feeds, admit_all, end_all};
 use shared_core::Config;
 use shared_lane::{Lane, Taken};
 use std::alloc::AllocGlobal;
@@ -31,15 +32,28 @@ where
     taken_by(rt, &mut sequencer, config.subscribers, values)
 }
 
-/// The same with so many readers of a lane that has none.
-fn taken_by<R>(
+/// The same by the block.
+pub(crate) fn fanned_out_by_block<R>(
     rt: &R,
-    sequencer: &mut LaneSequencer<'_>,
-    count: u32,
+    config: Config,
     values: u64,
 ) -> Result<FannedOut, Fault>
 where
     R: Clock + AllocGlobal + RandomSource + Threads + Wait + Sync,
+{
+    let (lane, sequencer) = Lane::new(rt.alloc(), config)?;
+    let lane = Box::new(rt.alloc(), lane)?;
+    let sequencer = LaneSequencer::of(&lane, sequencer);
+    let mut sequencer = ByBlock::of(sequencer, places(rt, BLOCK)?);
+    taken_by(rt, &mut sequencer, config.subscribers, values)
+}
+
+/// The same with so many readers of a lane that has none.
+fn taken_by<R, F, L>(rt: &R, sequencer: &mut F, count: u32, values: u64) -> Result<FannedOut, Fault>
+where
+    R: Clock + AllocGlobal + RandomSource + Threads + Wait + Sync,
+    F: Admits<L> + Feeds + Send,
+    L: Drains<u64> + InOrder + Ends + Send,
 {
     let mut readers = admit_all(rt, sequencer, count)?;
     let fanned_out = fan_out(rt, sequencer, &mut readers, values);

@@ -6,6 +6,7 @@
 //! where the command line names no scenario.
 #![tactic(auto)]
 
+mod blocks;
 mod chains;
 mod config;
 mod core_receipts;

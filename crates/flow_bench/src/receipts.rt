@@ -4,7 +4,7 @@ use crate::config::config_of;
 use crate::elapsed::{nanoseconds_since, now};
 use crate::fault::Fault;
 use crate::report::report;
-use crate::sides::{Admits, Emits, Ends, admit_all, end_all};
+use crate::sides::{Admits, Emits, EmitsBlocks, Ends, admit_all, end_all};
 use crate::sums::sum_to;
 use crate::{core_receipts, lane_receipts, shared_receipts};
 use bench_figures::{Figure, Part, Size, Unit};
@@ -19,6 +19,9 @@ use std::time::Instant;
 /// How many values are emitted.
 const VALUES: u64 = 2_000_000;
 
+/// How many of them a block has.
+pub(crate) const BLOCK: usize = 16;
+
 /// Each scenario, with its number of readers.
 const SCENARIOS: [(&'static str, u32); 3] = [
     ("receipts-n1", 1),
@@ -26,10 +29,23 @@ const SCENARIOS: [(&'static str, u32); 3] = [
     ("receipts-n8", 8),
 ];
 
+/// Each scenario by the block.
+const BY_BLOCK: [(&'static str, u32); 3] = [
+    ("receipts-by16-n1", 1),
+    ("receipts-by16-n4", 4),
+    ("receipts-by16-n8", 8),
+];
+
 /// Who emits, and has its readers take.
 pub(crate) trait Takes<L>: Emits {
-    /// The reader takes a value, if there is one.
-    fn take<R: Wait>(&mut self, rt: &R, reader: &mut L) -> Option<u64>;
+    /// The reader takes what one emission has, if it is there: what was taken, with that.
+    fn take<R: Wait>(&mut self, rt: &R, reader: &mut L, taken: Received) -> Option<Received>;
+}
+
+/// Who emits by the block, and has its readers take so.
+pub(crate) trait TakesBlocks<L>: EmitsBlocks {
+    /// The reader takes what is there, as far as the block has room.
+    fn take_block<R: Wait>(&mut self, rt: &R, reader: &mut L, block: &mut Vec<u64>);
 }
 
 /// What all readers took.
@@ -58,19 +74,32 @@ impl Receipts {
 
 /// What the readers took so far.
 #[derive(Clone, Copy)]
-struct Received {
+pub(crate) struct Received {
     /// The last value.
     last: u64,
     /// The sum of all of them, modulo 2^64.
     total: u64,
 }
 
-/// By which flow they are measured.
+impl Received {
+    /// With one value more.
+    #[inline]
+    pub(crate) fn with(self, value: u64) -> Received {
+        Received {
+            last: value,
+            total: self.total.wrapping_add(value),
+        }
+    }
+}
+
+/// By which flow they are measured, and how its values go.
 #[derive(Clone, Copy)]
 enum Engine {
     Core,
     Shared,
     Lane,
+    CoreByBlock,
+    LaneByBlock,
 }
 
 impl Engine {
@@ -83,19 +112,37 @@ impl Engine {
             Engine::Core => core_receipts::receipts(rt, config, values),
             Engine::Shared => shared_receipts::receipts(rt, config, values),
             Engine::Lane => lane_receipts::receipts(rt, config, values),
+            Engine::CoreByBlock => core_receipts::receipts_by_block(
+                rt,
+                config,
+                values / BLOCK as u64,
+            ),
+            Engine::LaneByBlock => lane_receipts::receipts_by_block(
+                rt,
+                config,
+                values / BLOCK as u64,
+            ),
         }
     }
 
     fn part(self) -> Part {
         match self {
-            Engine::Core => Part::Core,
+            Engine::Core | Engine::CoreByBlock => Part::Core,
             Engine::Shared => Part::Shared,
-            Engine::Lane => Part::Lane,
+            Engine::Lane | Engine::LaneByBlock => Part::Lane,
+        }
+    }
+
+    /// Each scenario, with its number of readers.
+    fn scenarios(self) -> [(&'static str, u32); 3] {
+        match self {
+            Engine::Core | Engine::Shared | Engine::Lane => SCENARIOS,
+            Engine::CoreByBlock | Engine::LaneByBlock => BY_BLOCK,
         }
     }
 }
 
-/// Makes the measurement by each flow.
+/// Makes the measurement by each flow, value by value.
 pub(crate) fn measure<R>(rt: &R, size: Size) -> Result<(), Fault>
 where
     R: Clock + Print + AllocGlobal + RandomSource + Wait,
@@ -105,13 +152,22 @@ where
     measure_by(rt, Engine::Lane, size)
 }
 
+/// Makes it by the block.
+pub(crate) fn measure_by_block<R>(rt: &R, size: Size) -> Result<(), Fault>
+where
+    R: Clock + Print + AllocGlobal + RandomSource + Wait,
+{
+    measure_by(rt, Engine::CoreByBlock, size)?;
+    measure_by(rt, Engine::LaneByBlock, size)
+}
+
 /// Makes it with 1, 4 and 8 readers.
 fn measure_by<R>(rt: &R, engine: Engine, size: Size) -> Result<(), Fault>
 where
     R: Clock + Print + AllocGlobal + RandomSource + Wait,
 {
     let values = size.of(VALUES);
-    for (scenario, readers) in SCENARIOS {
+    for (scenario, readers) in engine.scenarios() {
         let config = config_of(readers, 64, Policy::Suspend);
         let receipts = engine.receipts(rt, config, values)?;
         let readers = u64::from(readers);
@@ -129,12 +185,12 @@ where
     Ok(())
 }
 
-/// The receipts of so many readers of a flow that has none.
+/// The receipts of so many readers of a flow that has none, and so many emissions.
 pub(crate) fn receipts_of<R, F, L>(
     rt: &R,
     flow: &mut F,
     readers: u32,
-    values: u64,
+    emissions: u64,
 ) -> Result<Receipts, Fault>
 where
     R: Clock + AllocGlobal + RandomSource + Wait,
@@ -143,27 +199,27 @@ where
 {
     let mut readers = admit_all(rt, flow, readers)?;
     let start = now(rt);
-    let total = emit_and_take(rt, flow, &mut readers, values);
+    let total = emit_and_take(rt, flow, &mut readers, emissions);
     let receipts = Receipts::since(rt, start, total);
     end_all(rt, readers);
     receipts
 }
 
-/// Emits the numbers from 1 up, each once the one before was taken, and gives the sum of what was taken. Each emission
-/// is one above the last value that was taken.
+/// Emits the numbers from 1 up, each emission once the one before was taken, and gives the sum of what was taken. Each
+/// emission begins one above the last value that was taken.
 #[inline(never)]
 pub(crate) fn emit_and_take<R, F, L>(
     rt: &R,
     flow: &mut F,
     readers: &mut Vec<L>,
-    values: u64,
+    emissions: u64,
 ) -> Option<u64>
 where
     R: Wait,
     F: Takes<L>,
 {
     let mut taken = Received { last: 0, total: 0 };
-    for _ in 0..values {
+    for _ in 0..emissions {
         if !flow.emit(rt, taken.last.wrapping_add(1)) {
             return None;
         }
@@ -172,7 +228,7 @@ where
     Some(taken.total)
 }
 
-/// Each reader takes a value, if there is one for each.
+/// Each reader takes what one emission has, if it is there for each.
 fn take_all<R, F, L>(
     rt: &R,
     flow: &mut F,
@@ -184,9 +240,7 @@ where
     F: Takes<L>,
 {
     for reader in readers.iter_mut() {
-        let value = flow.take(rt, reader)?;
-        taken.last = value;
-        taken.total = taken.total.wrapping_add(value);
+        taken = flow.take(rt, reader, taken)?;
     }
     Some(taken)
 }

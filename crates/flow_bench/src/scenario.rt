@@ -16,8 +16,12 @@ use std::thread::Threads;
 pub enum Scenario {
     /// `receipts`: receipts of a shared flow on one thread, by the core, by the flow for threads and by a lane.
     Receipts,
+    /// `receipts-by16`: the same by blocks of 16 values.
+    ReceiptsBy16,
     /// `fan-out`: a lane between threads that loses no value, and a shared flow.
     FanOut,
+    /// `fan-out-by64`: the same by blocks of 64 values.
+    FanOutBy64,
     /// `lossy`: a lane between threads that drops the oldest values.
     Lossy,
     /// `state`: a state flow, alone and between threads.
@@ -32,9 +36,11 @@ pub enum Scenario {
 
 impl Scenario {
     /// Every scenario.
-    pub const ALL: [Scenario; 7] = [
+    pub const ALL: [Scenario; 9] = [
         Scenario::Receipts,
+        Scenario::ReceiptsBy16,
         Scenario::FanOut,
+        Scenario::FanOutBy64,
         Scenario::Lossy,
         Scenario::State,
         Scenario::Split,
@@ -46,7 +52,9 @@ impl Scenario {
     pub(crate) fn of(name: &str) -> Option<Scenario> {
         match name {
             "receipts" => Some(Scenario::Receipts),
+            "receipts-by16" => Some(Scenario::ReceiptsBy16),
             "fan-out" => Some(Scenario::FanOut),
+            "fan-out-by64" => Some(Scenario::FanOutBy64),
             "lossy" => Some(Scenario::Lossy),
             "state" => Some(Scenario::State),
             "split" => Some(Scenario::Split),
@@ -63,7 +71,9 @@ impl Scenario {
     {
         match self {
             Scenario::Receipts => receipts::measure(rt, size),
+            Scenario::ReceiptsBy16 => receipts::measure_by_block(rt, size),
             Scenario::FanOut => fan_out::measure(rt, size),
+            Scenario::FanOutBy64 => fan_out::measure_by_block(rt, size),
             Scenario::Lossy => lane_lossy::measure(rt, size),
             Scenario::State => {
                 state_alone::measure(rt, size)?;

@@ -2,7 +2,7 @@
 
 use crate::elapsed::now;
 use crate::fault::Fault;
-use crate::receipts::{Receipts, Takes, emit_and_take};
+use crate::receipts::{Receipts, Received, Takes, emit_and_take};
 use crate::shared_ends::IdleEmitter;
 use crate::sides::{Admits, Emits, admit_all, end_all};
 use futures::task::{Context, Doorbell, Poll, Solo};
@@ -36,9 +36,14 @@ impl Emits for Polling<'_> {
 
 impl Takes<Subscription<u64>> for Polling<'_> {
     #[inline]
-    fn take<R: Wait>(&mut self, rt: &R, reader: &mut Subscription<u64>) -> Option<u64> {
+    fn take<R: Wait>(
+        &mut self,
+        rt: &R,
+        reader: &mut Subscription<u64>,
+        taken: Received,
+    ) -> Option<Received> {
         match reader.poll_next(rt, &mut self.cx) {
-            Poll::Ready(value) => Some(value),
+            Poll::Ready(value) => Some(taken.with(value)),
             Poll::Pending => None,
         }
     }

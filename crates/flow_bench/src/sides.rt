@@ -11,6 +11,18 @@ pub(crate) trait Emits {
     fn emit<R: Wait>(&mut self, rt: &R, value: u64) -> bool;
 }
 
+/// Who emits by the block.
+pub(crate) trait EmitsBlocks {
+    /// Emits these values, from the first on: how many were accepted.
+    fn emit_block<R: Wait>(&mut self, rt: &R, block: &[u64]) -> u64;
+}
+
+/// Who emits numbers in their order.
+pub(crate) trait Feeds {
+    /// Emits the number `next`, or a block of numbers from it on, all below `end`: how many were accepted.
+    fn feed<R: Wait>(&mut self, rt: &R, next: u64, end: u64) -> u64;
+}
+
 /// A reader. It must be ended.
 pub(crate) trait Ends {
     fn end<R: Wait>(self, rt: &R);
