@@ -13,7 +13,14 @@ const (
 )
 
 func main() {
-	scenarios := map[string]func(){"receipts": receipts, "fan-out": fanOut, "lossy": lossy, "split": split}
+	scenarios := map[string]func(){
+		"receipts":      func() { receipts(peer, "receipts-n", 1) },
+		"receipts-by16": func() { receipts(peer+"-by1", "receipts-by16-n", 16) },
+		"fan-out":       func() { fanOut(peer, "fan-out-n") },
+		"fan-out-by64":  func() { fanOut(peer+"-by1", "fan-out-by64-n") },
+		"lossy":         lossy,
+		"split":         split,
+	}
 	for _, word := range os.Args[1:] {
 		if measure, known := scenarios[word]; known {
 			measure()
@@ -29,12 +36,13 @@ func channels(readers, capacity int) []chan uint64 {
 	return all
 }
 
-func receipts() {
+// receipts emits atOnce values before each reader takes them.
+func receipts(peer, name string, atOnce int64) {
 	for _, readers := range []int{1, 4, 8} {
-		scenario := fmt.Sprintf("receipts-n%d", readers)
+		scenario := fmt.Sprintf("%s%d", name, readers)
 		cost(peer, scenario, "receipt", values, int64(readers), func(count int64) time.Duration {
 			start := time.Now()
-			sum := sumOnOneThread(readers, count)
+			sum := sumOnOneThread(readers, atOnce, count)
 			taken := time.Since(start)
 			check(sum == sumBelow(count)*uint64(readers), "a value was lost")
 			return taken
@@ -42,13 +50,21 @@ func receipts() {
 	}
 }
 
-func sumOnOneThread(readers int, count int64) uint64 {
+func sumOnOneThread(readers int, atOnce, count int64) uint64 {
 	all := channels(readers, 64)
 	sum := uint64(0)
-	for value := int64(0); value < count; value++ {
-		sendTo(all, uint64(value))
+	for first, end := int64(0), int64(0); first < count; first = end {
+		end = first + atOnce
+		if end > count {
+			end = count
+		}
+		for value := first; value < end; value++ {
+			sendTo(all, uint64(value))
+		}
 		for _, channel := range all {
-			sum += <-channel
+			for value := first; value < end; value++ {
+				sum += <-channel
+			}
 		}
 	}
 	return sum
@@ -75,9 +91,9 @@ func sumOf(channel chan uint64, sums chan uint64) {
 	sums <- sum
 }
 
-func fanOut() {
+func fanOut(peer, name string) {
 	for _, readers := range []int{1, 2, 4} {
-		scenario := fmt.Sprintf("fan-out-n%d", readers)
+		scenario := fmt.Sprintf("%s%d", name, readers)
 		rate(peer, scenario, "values", values, func(count int64) time.Duration { return timeOf(readers, 1024, count) })
 	}
 }

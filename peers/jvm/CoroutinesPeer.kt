@@ -27,19 +27,39 @@ private fun checkSum(sum: Long, count: Long) =
 private fun receipts() {
     for (readers in listOf(1, 4, 8)) {
         cost("kotlin-broadcast", "receipts-n$readers", "receipt", VALUES, readers) { count ->
-            val channel = BroadcastChannel<Long>(64)
-            val subscriptions = List(readers) { channel.openSubscription() }
-            var sum = 0L
-            val time = timed {
-                for (value in 0 until count) {
-                    channel.offer(value)
-                    for (subscription in subscriptions) sum += subscription.poll()!!
-                }
-            }
-            Figures.check(sum == Figures.sumBelow(count) * readers, "kotlin: a value was lost")
-            time
+            received(readers, 1, count)
         }
     }
+}
+
+@ExperimentalCoroutinesApi
+private fun receiptsOfBlocks() {
+    for (readers in listOf(1, 4, 8)) {
+        cost("kotlin-broadcast-by1", "receipts-by16-n$readers", "receipt", VALUES, readers) { count ->
+            received(readers, 16, count)
+        }
+    }
+}
+
+/** So many values are emitted before each reader takes them. */
+@ExperimentalCoroutinesApi
+private fun received(readers: Int, atOnce: Int, count: Long): Long {
+    val channel = BroadcastChannel<Long>(64)
+    val subscriptions = List(readers) { channel.openSubscription() }
+    var sum = 0L
+    val time = timed {
+        var first = 0L
+        while (first < count) {
+            val end = minOf(count, first + atOnce)
+            for (value in first until end) channel.offer(value)
+            for (subscription in subscriptions) {
+                for (value in first until end) sum += subscription.poll()!!
+            }
+            first = end
+        }
+    }
+    Figures.check(sum == Figures.sumBelow(count) * readers, "kotlin: a value was lost")
+    return time
 }
 
 private fun sending(channel: SendChannel<Long>, count: Long) = job {
@@ -55,7 +75,7 @@ private fun summing(channel: ReceiveChannel<Long>) = job {
 }
 
 @ExperimentalCoroutinesApi
-private fun fanOut() {
+private fun fanOut(peer: String, scenario: String) {
     for (readers in listOf(1, 2, 4)) {
         val once = LongFunction<Long> { count ->
             val channel = BroadcastChannel<Long>(1024)
@@ -64,7 +84,7 @@ private fun fanOut() {
             race.results.drop(1).forEach { checkSum(it, count) }
             race.all
         }
-        Figures.rate("kotlin-broadcast-wait", "fan-out-n$readers", "values", VALUES, once)
+        Figures.rate(peer, scenario + readers, "values", VALUES, once)
     }
 }
 
@@ -172,7 +192,9 @@ private fun element(peer: String, scenario: String, run: (Long) -> Long) =
 fun main(words: Array<String>) {
     val scenarios = mapOf(
         "receipts" to Runnable { receipts() },
-        "fan-out" to Runnable { fanOut() },
+        "receipts-by16" to Runnable { receiptsOfBlocks() },
+        "fan-out" to Runnable { fanOut("kotlin-broadcast-wait", "fan-out-n") },
+        "fan-out-by64" to Runnable { fanOut("kotlin-broadcast-wait-by1", "fan-out-by64-n") },
         "state" to Runnable { state() },
         "split" to Runnable { split() },
         "cold" to Runnable { cold() }

@@ -16,7 +16,10 @@ import java.util.stream.IntStream;
 /** The Disruptor: one sequencer and a cursor for each reader. */
 final class DisruptorPeer {
     private static final long VALUES = 2_000_000;
+    private static final long VALUES_BY_BLOCK = 10_000_000;
     private static final int CAPACITY = 1024;
+    private static final int RECEIPTS_BLOCK = 16;
+    private static final int FAN_OUT_BLOCK = 64;
 
     private DisruptorPeer() {}
 
@@ -54,31 +57,47 @@ final class DisruptorPeer {
                 words,
                 Map.of(
                         "receipts", DisruptorPeer::receipts,
+                        "receipts-by16", DisruptorPeer::receiptsByBlock,
                         "fan-out", DisruptorPeer::fanOut,
+                        "fan-out-by64", DisruptorPeer::fanOutByBlock,
                         "split", DisruptorPeer::split));
     }
 
     private static void receipts() {
         for (int readers : new int[] {1, 4, 8}) {
             String scenario = "receipts-n" + readers;
-            Figures.cost("disruptor", scenario, "receipt", VALUES, readers, count -> polled(readers, count));
+            Figures.cost("disruptor", scenario, "receipt", VALUES, readers, count -> polled(readers, 1, count));
         }
     }
 
-    private static long polled(int readers, long count) {
+    private static void receiptsByBlock() {
+        for (int readers : new int[] {1, 4, 8}) {
+            String scenario = "receipts-by16-n" + readers;
+            Figures.cost("disruptor", scenario, "receipt", VALUES, readers, count ->
+                    polled(readers, RECEIPTS_BLOCK, count));
+        }
+    }
+
+    /** A poll takes one value, or the whole block. */
+    private static long polled(int readers, int block, long count) {
         RingBuffer<Cell> ring = RingBuffer.createSingleProducer(Cell::new, 64);
         List<EventPoller<Cell>> pollers = new ArrayList<>();
         IntStream.range(0, readers).forEach(which -> pollers.add(ring.newPoller()));
         pollers.forEach(poller -> ring.addGatingSequences(poller.getSequence()));
         long[] sum = new long[1];
-        EventPoller.Handler<Cell> handler = (cell, number, endOfBatch) -> {
+        EventPoller.Handler<Cell> one = (cell, number, endOfBatch) -> {
             sum[0] += cell.value;
             return false;
         };
+        EventPoller.Handler<Cell> all = (cell, number, endOfBatch) -> {
+            sum[0] += cell.value;
+            return true;
+        };
+        EventPoller.Handler<Cell> handler = block == 1 ? one : all;
         long start = System.nanoTime();
         try {
-            for (long value = 0; value < count; value++) {
-                publish(ring, value);
+            for (long value = 0; value < count; value += block) {
+                publish(ring, value, block, count);
                 for (EventPoller<Cell> poller : pollers) {
                     poller.poll(handler);
                 }
@@ -91,6 +110,24 @@ final class DisruptorPeer {
         return time;
     }
 
+    /** One value, or a block from this one up, all below the count. */
+    private static void publish(RingBuffer<Cell> ring, long value, int block, long count) {
+        if (block == 1) {
+            publish(ring, value);
+        } else {
+            publishAll(ring, value, (int) Math.min(block, count - value));
+        }
+    }
+
+    private static void publishAll(RingBuffer<Cell> ring, long value, int size) {
+        long last = ring.next(size);
+        long first = last - size + 1;
+        for (long number = first; number <= last; number++) {
+            ring.get(number).value = value + number - first;
+        }
+        ring.publish(first, last);
+    }
+
     private static void publish(RingBuffer<Cell> ring, long value) {
         long number = ring.next();
         ring.get(number).value = value;
@@ -101,9 +138,19 @@ final class DisruptorPeer {
         for (int readers : new int[] {1, 2, 4}) {
             String scenario = "fan-out-n" + readers;
             Figures.rate("disruptor", scenario, "values", VALUES, count ->
-                    handled(new YieldingWaitStrategy(), CAPACITY, readers, count));
+                    handled(new YieldingWaitStrategy(), CAPACITY, readers, 1, count));
             Figures.rate("disruptor-wait", scenario, "values", VALUES, count ->
-                    handled(new BlockingWaitStrategy(), CAPACITY, readers, count));
+                    handled(new BlockingWaitStrategy(), CAPACITY, readers, 1, count));
+        }
+    }
+
+    private static void fanOutByBlock() {
+        for (int readers : new int[] {1, 2, 4}) {
+            String scenario = "fan-out-by64-n" + readers;
+            Figures.rate("disruptor", scenario, "values", VALUES_BY_BLOCK, count ->
+                    handled(new YieldingWaitStrategy(), CAPACITY, readers, FAN_OUT_BLOCK, count));
+            Figures.rate("disruptor-wait", scenario, "values", VALUES_BY_BLOCK, count ->
+                    handled(new BlockingWaitStrategy(), CAPACITY, readers, FAN_OUT_BLOCK, count));
         }
     }
 
@@ -112,11 +159,11 @@ final class DisruptorPeer {
         for (int capacity : new int[] {64, 1024}) {
             String scenario = "split-k" + capacity;
             Figures.cost("disruptor", scenario, "value", 5_000_000, 1, count ->
-                    handled(new YieldingWaitStrategy(), capacity, 1, count));
+                    handled(new YieldingWaitStrategy(), capacity, 1, 1, count));
         }
     }
 
-    private static long handled(WaitStrategy waits, int capacity, int readers, long count) {
+    private static long handled(WaitStrategy waits, int capacity, int readers, int block, long count) {
         ThreadFactory threads = Thread::new;
         Disruptor<Cell> disruptor = new Disruptor<>(Cell::new, capacity, threads, ProducerType.SINGLE, waits);
         CountDownLatch left = new CountDownLatch(readers);
@@ -127,8 +174,8 @@ final class DisruptorPeer {
         disruptor.handleEventsWith(adders);
         RingBuffer<Cell> ring = disruptor.start();
         long start = System.nanoTime();
-        for (long value = 0; value < count; value++) {
-            publish(ring, value);
+        for (long value = 0; value < count; value += block) {
+            publish(ring, value, block, count);
         }
         Race.await(left);
         long time = System.nanoTime() - start;

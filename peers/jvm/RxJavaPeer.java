@@ -53,7 +53,8 @@ final class RxJavaPeer {
                 words,
                 Map.of(
                         "receipts", RxJavaPeer::receipts,
-                        "fan-out", RxJavaPeer::fanOut,
+                        "fan-out", () -> fanOut("rxjava-observeOn", "fan-out-n"),
+                        "fan-out-by64", () -> fanOut("rxjava-observeOn-by1", "fan-out-by64-n"),
                         "lossy", RxJavaPeer::lossy,
                         "state", RxJavaPeer::state,
                         "split", RxJavaPeer::split,
@@ -93,10 +94,9 @@ final class RxJavaPeer {
         });
     }
 
-    private static void fanOut() {
+    private static void fanOut(String peer, String scenario) {
         for (int readers : new int[] {1, 2, 4}) {
-            String scenario = "fan-out-n" + readers;
-            Figures.rate("rxjava-observeOn", scenario, "values", VALUES, count -> observed(readers, count));
+            Figures.rate(peer, scenario + readers, "values", VALUES, count -> observed(readers, count));
         }
     }
 

@@ -1,6 +1,7 @@
 //! Ours, as a Rust program has it: a lane of the crate native/rust, over the proved static library.
 
 use crate::blocked::Blocked;
+use crate::blocks::{self, sum_of_values, Blocks};
 use crate::polled::{self, Polled};
 use hillgauze::{Config, Reader, Sequencer, Tried};
 
@@ -35,6 +36,18 @@ impl Polled for RustLane {
     }
 }
 
+impl Blocks for RustLane {
+    #[inline]
+    fn try_emit_all(sequencer: &mut Sequencer<u64>, values: &[u64]) -> usize {
+        sequencer.try_emit_all(0, values).unwrap() as usize
+    }
+
+    #[inline]
+    fn try_next_all(reader: &mut Reader<u64>, values: &mut Vec<u64>, most: usize) {
+        reader.try_next_all(values, most);
+    }
+}
+
 /// A sequencer, and the places of its lane.
 pub struct Emitter {
     sequencer: Sequencer<u64>,
@@ -65,6 +78,35 @@ impl Blocked for RustLane {
         let mut sum = 0u64;
         for _ in 0..count {
             sum = sum.wrapping_add(reader.recv().unwrap());
+        }
+        sum
+    }
+}
+
+/// The same by blocks of so many values.
+pub struct RustLaneBy<const BLOCK: usize>;
+
+impl<const BLOCK: usize> Blocked for RustLaneBy<BLOCK> {
+    type Emitter = Emitter;
+    type Reader = Reader<u64>;
+
+    const NAME: &'static str = <RustLane as Blocked>::NAME;
+
+    fn open(capacity: usize, readers: usize) -> (Emitter, Vec<Reader<u64>>) {
+        <RustLane as Blocked>::open(capacity, readers)
+    }
+
+    fn emit_all(mut emitter: Emitter, count: u64) {
+        blocks::emit_all::<RustLane>(&mut emitter.sequencer, emitter.capacity, count, BLOCK);
+    }
+
+    fn sum_of(mut reader: Reader<u64>, count: u64) -> u64 {
+        let mut values = Vec::with_capacity(BLOCK);
+        let (mut taken, mut sum) = (0, 0u64);
+        while taken < count {
+            values.clear();
+            taken += reader.recv_many(&mut values, BLOCK) as u64;
+            sum = sum.wrapping_add(sum_of_values(&values));
         }
         sum
     }

@@ -1,7 +1,11 @@
 //! The bare steps of a lane, all sequentially consistent: an emission is a store of the cell and one of the tail, a
 //! receipt a compare_exchange of the reader's cursor, a drop a compare_exchange of a slow reader's. The emitter looks
 //! at the cursors only where the ring seems full. No reader comes or goes, and there are no receipts of emissions.
+//!
+//! By the block: a look at the cursors, a store of each cell and one of the tail, and a compare_exchange for all that a
+//! reader found.
 
+use crate::blocks::Blocks;
 use crate::padded::Padded;
 use crate::polled::Polled;
 use std::sync::atomic::AtomicU64;
@@ -61,6 +65,22 @@ impl Sequencer {
     fn accept(&mut self, value: u64) {
         self.words.cells[(self.tail & self.words.mask) as usize].store(value, SeqCst);
         self.tail += 1;
+        self.words.tail.0.store(self.tail, SeqCst);
+    }
+
+    /// How many of so many values there seems to be room for.
+    #[inline]
+    fn room(&self, most: usize) -> usize {
+        let free = self.words.cells.len() as u64 - (self.tail - self.least);
+        most.min(free as usize)
+    }
+
+    #[inline]
+    fn accept_all(&mut self, values: &[u64]) {
+        for value in values {
+            self.words.cells[(self.tail & self.words.mask) as usize].store(*value, SeqCst);
+            self.tail += 1;
+        }
         self.words.tail.0.store(self.tail, SeqCst);
     }
 
@@ -135,6 +155,34 @@ impl Polled for Lane {
     #[inline]
     fn try_next(reader: &mut Reader) -> Option<u64> {
         reader.try_next()
+    }
+}
+
+impl Blocks for Lane {
+    #[inline]
+    fn try_emit_all(sequencer: &mut Sequencer, values: &[u64]) -> usize {
+        sequencer.look();
+        let room = sequencer.room(values.len());
+        if room > 0 {
+            sequencer.accept_all(&values[..room]);
+        }
+        room
+    }
+
+    #[inline]
+    fn try_next_all(reader: &mut Reader, values: &mut Vec<u64>, most: usize) {
+        let words = &*reader.words;
+        let tail = words.tail.0.load(SeqCst);
+        let end = tail.min(reader.cursor + most as u64);
+        if reader.cursor == end {
+            return;
+        }
+        let numbers = reader.cursor..end;
+        values.extend(numbers.map(|at| words.cells[(at & words.mask) as usize].load(SeqCst)));
+        let cursor = &words.cursors[reader.which].0;
+        let moved = cursor.compare_exchange(reader.cursor, end, SeqCst, SeqCst);
+        assert!(moved.is_ok(), "who loses nothing is moved by nobody else");
+        reader.cursor = end;
     }
 }
 

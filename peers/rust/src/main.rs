@@ -2,6 +2,7 @@
 
 mod async_broadcasts;
 mod blocked;
+mod blocks;
 mod cold;
 mod crossbeams;
 mod fan_out;
@@ -26,9 +27,11 @@ mod state;
 mod states;
 mod tokio_broadcast;
 
-const SCENARIOS: [(&str, fn()); 7] = [
+const SCENARIOS: [(&str, fn()); 9] = [
     ("receipts", receipts::measure),
+    ("receipts-by16", receipts::measure_by_block),
     ("fan-out", fan_out::measure),
+    ("fan-out-by64", fan_out::measure_by_block),
     ("lossy", lossy::measure),
     ("state", state::measure),
     ("split", split::measure),

@@ -1,6 +1,7 @@
 //! The shared flow that one would write first: a queue, and each reader's place in it, under one lock.
 
 use crate::blocked::Blocked;
+use crate::blocks::Blocks;
 use crate::polled::Polled;
 use std::collections::VecDeque;
 use std::sync::{Arc, Condvar, Mutex};
@@ -95,6 +96,23 @@ impl Polled for MutexQueue {
 
     fn try_next(reader: &mut Reader) -> Option<u64> {
         try_next(reader)
+    }
+}
+
+/// Each block under the lock at once.
+impl Blocks for MutexQueue {
+    fn try_emit_all(emitter: &mut Emitter, values: &[u64]) -> usize {
+        let mut places = emitter.0.places.lock().unwrap();
+        let room = places.capacity - places.queue.len();
+        let accepted = values.len().min(room);
+        places.queue.extend(&values[..accepted]);
+        accepted
+    }
+
+    fn try_next_all(reader: &mut Reader, values: &mut Vec<u64>, most: usize) {
+        let mut places = reader.0.places.lock().unwrap();
+        let taken = std::iter::from_fn(|| places.take(reader.1));
+        values.extend(taken.take(most).map(|(value, _)| value));
     }
 }
 
