@@ -44,7 +44,7 @@ impl Blocks for RustLane {
 
     #[inline]
     fn try_next_all(reader: &mut Reader<u64>, values: &mut Vec<u64>, most: usize) {
-        reader.try_next_all(values, most);
+        let _ = reader.try_next_all(values, most);
     }
 }
 
