@@ -1,12 +1,14 @@
 -- Several inner sources at once.
-use Rattle.std.specs.Prelude.{◌≡◌, ℕ, ◌<◌, Bool, List, [], ◌∷◌, ◌++◌, Option, Some, None, length, slice_get, slice_set}
+use Rattle.std.specs.Prelude.{◌≡◌, ℕ, ◌+◌, ◌<◌, ◌≤◌, Bool, List, [], ◌∷◌, ◌++◌, Option, Some, None, ⊤, length, slice_get, slice_set}
 use Rattle.std.specs.List.{AllZip, remove}
 use Rattle.cold_flow.specs.declared.cause.Cause.{Cause}
 use Rattle.cold_flow.specs.declared.cause.Cause.TheVariants.{Finished}
 use Rattle.futures.specs.declared.task.Poll.{Poll}
 use Rattle.futures.specs.declared.task.Poll.TheVariants.{Ready, Pending}
 use Rattle.cold_flow.specs.Trace.{Trace, so_far, ended_by, led_by}
-use Rattle.cold_flow.specs.Poll.{Traces, Within, Unless, OrRefused}
+use Rattle.cold_flow.specs.Poll.{Traces, Within, Narrows, Unless, OrRefused}
+use Rattle.flow_merge.specs.declared.flows.inner_answer.InnerAnswer.{InnerAnswer}
+use Rattle.flow_merge.specs.declared.flows.inner_answer.InnerAnswer.TheVariants.{Gave, Left, Followed, OuterWaits, Waits}
 use Rattle.flow_merge.specs.Combine.{OrFinished}
 
 -- What may come of the inner traces that stand and of the rest of the outer, where at most limit stand:
@@ -51,3 +53,27 @@ abbrev pub AsksOuter : {A E : Type 0} → Traces A E → Poll (Option (Cause E))
 AsksOuter old (Ready None) new = Within old new
 AsksOuter old (Ready (Some k)) new = old (ended_by [] k)
 AsksOuter old Pending new = Within old new
+
+-- what a question to an inner run says of the whole
+abbrev pub AsksInner : {B E : Type 0} → Traces B E → InnerAnswer B E → Traces B E → Type 0
+AsksInner old (Gave event) new = Narrows old (Ready event) new
+AsksInner old Left new = Within old new
+AsksInner old Followed new = Within old new
+AsksInner old OuterWaits new = Within old new
+AsksInner old Waits new = Within old new
+
+-- after a question to one that stands, those of old still stand, or at most one of them left
+abbrev pub StandAfter : {B E : Type 0} → InnerAnswer B E → ℕ → ℕ → Type 0
+StandAfter (Gave event) old new = ⊤
+StandAfter Left old new = old ≤ new + 1
+StandAfter Followed old new = old ≤ new + 1
+StandAfter OuterWaits old new = old ≤ new + 1
+StandAfter Waits old new = new ≡ old
+
+-- P, where somebody who was asked has nothing yet
+abbrev pub OnWaits : {B E : Type 0} → InnerAnswer B E → Type 0 → Type 0
+OnWaits (Gave event) P = ⊤
+OnWaits Left P = ⊤
+OnWaits Followed P = ⊤
+OnWaits OuterWaits P = P
+OnWaits Waits P = P

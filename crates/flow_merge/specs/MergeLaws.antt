@@ -1,16 +1,19 @@
 -- Laws of a merge.
-use Rattle.std.specs.Prelude.{◌≡◌, ℕ, ◌<◌, List, [], ◌∷◌, ◌++◌, Bool, true, false, Option, Some, ⊤, refl, length, slice_get, slice_set}
+use Rattle.std.specs.Prelude.{◌≡◌, ℕ, ◌<◌, List, [], ◌∷◌, ◌++◌, Bool, true, false, Option, Some, None, ⊤, refl, length, slice_get, slice_set}
 use Rattle.std.proofs.Common.{zero, suc, sym, ◌∙◌, ap, subst, inl, inr, arith}
 use Rattle.std.specs.List.{AllZip, insert, remove}
 use Rattle.std.proofs.lemmas.Slice.Zip.{AllZip-long}
 use Rattle.cold_flow.specs.declared.cause.Cause.{Cause}
 use Rattle.cold_flow.specs.declared.cause.Cause.TheVariants.{Finished, Refused, Cancelled}
 use Rattle.flow_terms.specs.declared.refusal.Refusal.TheVariants.{NoMemory}
+use Rattle.cold_flow.specs.declared.event.Event.TheVariants.{Value, End}
+use Rattle.flow_merge.specs.declared.flows.inner_answer.InnerAnswer.{InnerAnswer}
+use Rattle.flow_merge.specs.declared.flows.inner_answer.InnerAnswer.TheVariants.{Gave as GaveEvent, Left, Followed, OuterWaits, Waits}
 use Rattle.cold_flow.specs.Trace.{Trace, so_far, ended_by, led_by}
-use Rattle.cold_flow.specs.Poll.{Traces, After, Within, OrRefused}
+use Rattle.cold_flow.specs.Poll.{Traces, After, Within, Unless, OrRefused}
 use Rattle.flow_merge.specs.Standing.{Gave, Ended, StandsBefore}
 use Rattle.flow_merge.specs.StandingLaws.{insert-last}
-use Rattle.flow_merge.specs.Merge.{Merges, MayMerge}
+use Rattle.flow_merge.specs.Merge.{Merges, MayMerge, AsksInner}
 use Rattle.flow_merge.specs.Merge.Merges.{stops, gives, leaves, begins, finishes, outer_ends, inner_ends}
 use Rattle.flow_merge.specs.Combine.{OrFinished}
 use Rattle.flow_merge.specs.PlaceLaws.{Placed, itself, among, whose, placed_none, placed_longer, placed-append, placed_last}
@@ -201,6 +204,22 @@ module _ {A B E R : Type 0} (limit : ℕ) (inner : A → Traces B E) (may : R �
             begins x (ended_by [] (Refused NoMemory)) (subst (λ (n : ℕ). n < limit) (sym (AllZip-long may runs all.0 all.1)) room) (inr refl)
             (inner_ends (length all.0) (Refused NoMemory) (at_end all.0 (ended_by [] (Refused NoMemory))) (λ e. absurd (cc)));
       }
+
+-- until the run has ended, a part of what could come is a part
+pub unless-within : {A E : Type 0} (ended : Option (Cause E)) (old new : Traces A E) → ended ≡ None → Within old new
+    → Within (Unless ended old) (Unless ended new)
+unless-within None old new is within = λ t h. within t h
+unless-within (Some k) old new is within = absurd (cc)
+
+-- what a question to an inner run says, where a part of what could come is known
+pub asks-within : {B E : Type 0} (old mid new : Traces B E) (answer : InnerAnswer B E) → AsksInner mid answer new → Within old mid
+    → AsksInner old answer new
+asks-within old mid new (GaveEvent (Value v)) asked within = λ t h. within (led_by v t) (asked t h)
+asks-within old mid new (GaveEvent (End k)) asked within = within (ended_by [] k) asked
+asks-within old mid new Left asked within = λ t h. within t (asked t h)
+asks-within old mid new Followed asked within = λ t h. within t (asked t h)
+asks-within old mid new OuterWaits asked within = λ t h. within t (asked t h)
+asks-within old mid new Waits asked within = λ t h. within t (asked t h)
 
 -- ---- it ends by `Cancelled` only where a source does
 

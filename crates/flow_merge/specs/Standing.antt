@@ -1,5 +1,5 @@
 -- Runs that stand side by side, one of which is asked.
-use Rattle.std.specs.Prelude.{◌≡◌, ◌⊎◌, ℕ, ◌+◌, ◌-◌, Bool, true, ◌&&◌, List, [], ◌∷◌, ◌++◌, length, Option, Some, None, ⊤, slice_get, slice_set}
+use Rattle.std.specs.Prelude.{◌≡◌, ◌⊎◌, ℕ, ◌+◌, Bool, true, ◌&&◌, List, [], ◌∷◌, ◌++◌, length, Some, slice_get, slice_set}
 use Rattle.std.specs.List.{AllZip, insert, remove}
 use Rattle.futures.specs.declared.task.Poll.{Poll}
 use Rattle.futures.specs.declared.task.Poll.TheVariants.{Ready, Pending}
@@ -24,10 +24,10 @@ pub record Ended {B E R : Type 0} (may : R → Traces B E) (runs : List R) (at :
   pub first : slice_get before at ≡ Some (ended_by [] k)
   pub left : remove before at ≡ traces
 
--- what an answer of the run at a place says of them all
+-- what an answer of the run at a place says of them all; where it has ended, of the others
 abbrev pub Answered : {B E R : Type 0} → (R → Traces B E) → List R → ℕ → Poll (Event B E) → List R → Type 0
 Answered {B} {E} may old at (Ready (Value v)) new = (traces : List (Trace B E)) → AllZip may new traces → Gave may old at v traces
-Answered {B} {E} may old at (Ready (End k)) new = (traces : List (Trace B E)) → AllZip may new traces → Ended may old at k traces
+Answered {B} {E} may old at (Ready (End k)) new = (traces : List (Trace B E)) → AllZip may (remove new at) traces → Ended may old at k traces
 Answered {B} {E} may old at Pending new = (traces : List (Trace B E)) → AllZip may new traces → AllZip may old traces
 
 -- whether none of the runs asks a source any more
@@ -40,15 +40,3 @@ all_stopped stopped (r ∷ runs) = stopped r && all_stopped stopped runs
 abbrev pub StandsBefore : {R : Type 0} → List R → ℕ → R → List R → ℕ → Type 0
 StandsBefore old turn r new next = ((new ≡ insert old turn r) × (next ≡ turn + 1))
     ⊎ (((turn ≡ 0) ⊎ (turn ≡ length old)) × (new ≡ old ++ r ∷ []) × (next ≡ 0))
-
--- how many stand after an answer, of so many
-abbrev pub left_after : {B E : Type 0} → Poll (Event B E) → ℕ → ℕ
-left_after (Ready (Value v)) count = count
-left_after (Ready (End k)) count = count - 1
-left_after Pending count = count
-
--- after a question to one that stands, those of old still stand, or one of them left
-abbrev pub StandAfter : {B E : Type 0} → Poll (Option (Event B E)) → ℕ → ℕ → Type 0
-StandAfter (Ready None) old new = new + 1 ≡ old
-StandAfter (Ready (Some event)) old new = ⊤
-StandAfter Pending old new = new ≡ old

@@ -1,11 +1,15 @@
 -- Laws of runs that stand side by side.
-use Rattle.std.specs.Prelude.{◌≡◌, ℕ, List, [], ◌∷◌, ◌++◌, length, Some, refl, slice_get, slice_set}
-use Rattle.std.proofs.Common.{zero, suc, ap, subst}
+use Rattle.std.specs.Prelude.{◌≡◌, ℕ, ◌<◌, List, [], ◌∷◌, ◌++◌, length, Some, refl, slice_get, slice_set}
+use Rattle.std.proofs.Common.{zero, suc, ap, subst, arith}
 use Rattle.std.specs.List.{AllZip, insert, remove}
 use Rattle.cold_flow.specs.declared.cause.Cause.{Cause}
 use Rattle.cold_flow.specs.Trace.{Trace, ended_by, led_by}
-use Rattle.cold_flow.specs.Poll.{Traces, After, Within}
-use Rattle.flow_merge.specs.Standing.{Gave, Ended}
+use Rattle.cold_flow.specs.Poll.{Traces, After, Within, Narrows}
+use Rattle.futures.specs.declared.task.Poll.{Poll}
+use Rattle.futures.specs.declared.task.Poll.TheVariants.{Ready, Pending}
+use Rattle.cold_flow.specs.declared.event.Event.{Event}
+use Rattle.cold_flow.specs.declared.event.Event.TheVariants.{Value, End}
+use Rattle.flow_merge.specs.Standing.{Gave, Ended, Answered}
 
 module _ {B E R : Type 0} (may : R → Traces B E) where
   pub stand_gave : (at : ℕ) (runs : List R) (r s : R) (v : B) → slice_get runs at ≡ Some r → After (may r) v (may s)
@@ -73,3 +77,17 @@ module _ {R : Type 0} where
   pub insert-last : (runs : List R) (r : R) → insert runs (length runs) r ≡ runs ++ r ∷ []
   insert-last [] r = refl
   insert-last (x ∷ runs) r = ap (λ (rs : List R). x ∷ rs) (insert-last runs r)
+
+  -- one more, in place of one that left
+  pub set-inserts : (runs : List R) (at : ℕ) (r : R) → at < length runs → slice_set runs at r ≡ insert (remove runs at) at r
+  set-inserts [] at r h = absurd (omega arith)
+  set-inserts (x ∷ runs) zero r h = refl
+  set-inserts (x ∷ runs) (suc at) r h = ap (λ (rs : List R). x ∷ rs) (set-inserts runs at r (omega arith))
+
+module _ {B E R : Type 0} (may : R → Traces B E) where
+  -- what the answer of the run at a place says of them all
+  pub stand_answered : (at : ℕ) (runs : List R) (r s : R) (answer : Poll (Event B E)) → slice_get runs at ≡ Some r
+      → Narrows (may r) answer (may s) → Answered may runs at answer (slice_set runs at s)
+  stand_answered at runs r s (Ready (Value v)) is narrows = stand_gave may at runs r s v is narrows
+  stand_answered at runs r s (Ready (End k)) is narrows = rw (remove-set runs at s) (stand_ended may at runs r k is narrows)
+  stand_answered at runs r s Pending is narrows = stand_waits may at runs r s is narrows

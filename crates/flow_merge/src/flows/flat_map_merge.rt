@@ -6,11 +6,12 @@ ghost use Rattle.futures.specs.Poll.{OnPending};
 ghost use Rattle.futures.specs.Task.{IsArmed, Keeps};
 ghost use Rattle.flow_terms.specs.declared.refusal.Refusal.TheVariants.{NotPositive, TooManyWorkers};
 ghost use Rattle.cold_flow.specs.Poll.{Narrows};
-ghost use Rattle.flow_merge.specs.Asking.{Asks};
-ghost use Rattle.flow_merge.specs.Standing.{all_stopped, StandAfter};
-ghost use Rattle.flow_merge.specs.Merge.{MayMerge, MakesMerge, MayStillMerge, AsksOuter};
+ghost use Rattle.std.specs.List.{remove};
+ghost use Rattle.flow_merge.specs.Standing.{all_stopped};
+ghost use Rattle.flow_merge.specs.Merge.{MayMerge, MakesMerge, MayStillMerge, AsksOuter, AsksInner, StandAfter, OnWaits};
 
-use crate::flows::standing::{ask_at, cancel_all, stand_before};
+use crate::flows::inner_answer::InnerAnswer;
+use crate::flows::standing::{ask_at, cancel_all, leave, stand_before, stand_in_place};
 use cold_flow::{Apply, BUDGET, Cause, Event, Flow, Refusal, Run};
 use futures::task::{Context, Poll};
 use std::alloc::Global;
@@ -236,13 +237,16 @@ impl<
                     Poll::Pending => outer_waits = true,
                 }
             } else if asked < self.runs.len() {
-                match self.ask_next(asked, cx) {
-                    Poll::Ready(None) => unanswered += 1,
-                    Poll::Ready(Some(Event::Value(value))) => return Poll::Ready(Event::Value(
-                        value,
-                    )),
-                    Poll::Ready(Some(Event::End(cause))) => return Poll::Ready(Event::End(cause)),
-                    Poll::Pending => asked += 1,
+                let follows = self.is_followed(unanswered, asked, outer_waits);
+                match self.ask_next(asked, follows, cx) {
+                    InnerAnswer::Gave(event) => return Poll::Ready(event),
+                    InnerAnswer::Left => unanswered += 1,
+                    InnerAnswer::Followed => unanswered += 2,
+                    InnerAnswer::OuterWaits => {
+                        unanswered += 1;
+                        outer_waits = true;
+                    }
+                    InnerAnswer::Waits => asked += 1,
                 }
             } else if asked > 0 {
                 return Poll::Pending;
@@ -286,42 +290,91 @@ impl<
         index - self.runs.len()
     }
 
-    // Asks the inner run whose turn it is, once `asked` of them were asked in this poll. One that has finished leaves.
-    fn ask_next(&mut self, asked: usize, cx: &mut Context<'_>) -> Poll<Option<Event<B, E>>>
+    // Whether the outer is asked at once where the run whose turn it is has finished, so that the next one stands in its place.
+    fn is_followed(&self, unanswered: u32, asked: usize, outer_waits: bool) -> bool
+        ensures unfinished { IsTrue result → self.now.outer_finished ≡ false }
+        ensures first { IsTrue result → asked ≡ 0 }
+        ensures silent { IsTrue result → outer_waits ≡ false }
+        ensures counted { IsTrue result → unanswered + 1 < 64 }
+    {
+        if self.outer_finished {
+            return false;
+        }
+        if outer_waits {
+            return false;
+        }
+        if asked > 0 {
+            return false;
+        }
+        unanswered < BUDGET - 1
+    }
+
+    // Asks the inner run whose turn it is, once `asked` of them were asked in this poll. One that has finished leaves or is followed.
+    fn ask_next(&mut self, asked: usize, follows: bool, cx: &mut Context<'_>) -> InnerAnswer<B, E>
         requires going { self.old.ended ≡ None }
         requires stands { asked < vec_len self.old.runs }
-        ensures asked { Asks (⟦<MergedRun<O, F, G, E> as Run>⟧.may self.old) result (⟦<MergedRun<O, F, G, E> as Run>⟧.may self.new) }
+        requires unfinished { IsTrue follows → self.old.outer_finished ≡ false }
+        ensures asked { AsksInner (⟦<MergedRun<O, F, G, E> as Run>⟧.may self.old) result (⟦<MergedRun<O, F, G, E> as Run>⟧.may self.new) }
         ensures going { self.new.ended ≡ None }
         ensures limit { self.new.limit ≡ self.old.limit }
         ensures standing { StandAfter result (vec_len self.old.runs) (vec_len self.new.runs) }
-        ensures armed { OnPending result (IsArmed cx.new) }
+        ensures armed { OnWaits result (IsArmed cx.new) }
         ensures kept { Keeps cx.old cx.new }
     {
         let index = self.index_after(asked);
         match ask_at(&mut self.runs, index, cx) {
             Poll::Ready(Event::Value(value)) => {
                 self.turn = index + 1;
-                Poll::Ready(Some(Event::Value(value)))
+                InnerAnswer::Gave(Event::Value(value))
             }
             Poll::Ready(Event::End(cause)) => {
-                self.turn = turn_without(self.turn, index);
                 if let Cause::Finished = cause {
-                    return Poll::Ready(None);
+                    if follows {
+                        return self.ask_follower(index, cx);
+                    }
+                    self.turn = leave(&mut self.runs, self.turn, index);
+                    return InnerAnswer::Left;
                 }
-                Poll::Ready(Some(Event::End(cause)))
+                InnerAnswer::Gave(Event::End(cause))
             }
-            Poll::Pending => Poll::Pending,
+            Poll::Pending => InnerAnswer::Waits,
         }
     }
-}
 
-// Where the turn is, once the run at `index` left.
-fn turn_without(turn: usize, index: usize) -> usize
-    ensures moves_up { index < turn → result + 1 ≡ turn }
-    ensures stays { turn ≤ index → result ≡ turn }
-{
-    if index < turn {
-        return turn - 1;
+    // Asks the outer for a run in place of the one at `index`, which has finished: so none moves. Where none comes, that one leaves.
+    fn ask_follower(&mut self, index: usize, cx: &mut Context<'_>) -> InnerAnswer<B, E>
+        requires going { self.old.ended ≡ None }
+        requires unfinished { self.old.outer_finished ≡ false }
+        requires stands { index < vec_len self.old.runs }
+        ensures asked { AsksInner (MayStillMerge self.old.ended self.old.limit (λ x. F.may (G.gives self.old.function x)) F.Running.may
+            (remove self.old.runs.items index) self.old.outer_finished (O.may self.old.outer)) result
+            (⟦<MergedRun<O, F, G, E> as Run>⟧.may self.new) }
+        ensures going { self.new.ended ≡ None }
+        ensures limit { self.new.limit ≡ self.old.limit }
+        ensures standing { StandAfter result (vec_len self.old.runs) (vec_len self.new.runs) }
+        ensures armed { OnWaits result (IsArmed cx.new) }
+        ensures kept { Keeps cx.old cx.new }
+    {
+        match self.outer.poll_next(cx) {
+            Poll::Ready(Event::Value(value)) => match self.function.apply(value).start() {
+                Ok(run) => {
+                    self.turn = stand_in_place(&mut self.runs, index, run);
+                    InnerAnswer::Followed
+                }
+                Err(refusal) => InnerAnswer::Gave(Event::End(Cause::Refused(refusal))),
+            },
+            Poll::Ready(Event::End(cause)) => {
+                if let Cause::Finished = cause {
+                    self.outer_finished = true;
+                    self.turn = leave(&mut self.runs, self.turn, index);
+                    return InnerAnswer::Followed;
+                }
+                InnerAnswer::Gave(Event::End(cause))
+            }
+            Poll::Pending => {
+                self.turn = leave(&mut self.runs, self.turn, index);
+                InnerAnswer::OuterWaits
+            }
+        }
     }
-    turn
 }

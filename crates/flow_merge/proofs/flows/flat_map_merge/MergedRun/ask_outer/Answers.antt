@@ -1,4 +1,4 @@
-use Rattle.std.proofs.Common.{rules, ◌≡◌, ◌<◌, true, is_ok, length, arith}
+use Rattle.std.proofs.Common.{rules, ◌<◌, length, arith}
 use Rattle.flow_merge.specs.MergeLaws.{merge_begins_before, merge_refused, merge_outer_fails}
 use Rattle.flow_merge.proofs.flows.flat_map_merge.MergedRun.ask_outer.Goals as goal
 
