@@ -1,3 +1,4 @@
 pub mod Receiving
 pub mod Noting
+pub mod Telling
 pub mod Placing

@@ -156,7 +156,7 @@ row_numbered names all name has = all_places names all name (row_of names name) 
 
 -- ---- one step of a list
 
-drop_step : {X : Type 0} (xs : List X) (i : ℕ) (d : X) → i < length xs → drop i xs ≡ get_or xs i d ∷ drop (i + 1) xs
+pub drop_step : {X : Type 0} (xs : List X) (i : ℕ) (d : X) → i < length xs → drop i xs ≡ get_or xs i d ∷ drop (i + 1) xs
 drop_step xs i d within = drop-cons xs i d within ∙ ap (λ k. get_or xs i d ∷ drop k xs) (sym (add-one i))
 
 one_more : {X Y : Type 0} (f : X → List Y) (x : X) (rest : List X) (before after whole : List Y) → after ≡ before ++ f x → before ++ flat_map f (x ∷ rest) ≡ whole → after ++ flat_map f rest ≡ whole

@@ -1,5 +1,5 @@
 -- The marks of lines show each value that was received, and none besides.
-use Rattle.std.proofs.Common.{◌≡◌, ◌+◌, ◌++◌, ◌∙◌, sym, ℕ, Bool, true, false, if◌then◌else◌, List, [], ◌∷◌, Option, Some, None, refl, ap, map}
+use Rattle.std.proofs.Common.{◌≡◌, ◌+◌, ◌==◌, ◌++◌, ◌∙◌, sym, ℕ, Bool, true, false, if◌then◌else◌, List, [], ◌∷◌, Option, Some, None, refl, ap, map}
 use Rattle.std.specs.Option.{option_map, option_to_list}
 use Rattle.std.specs.List.{filter_map, flat_map, cons_option, slice_get}
 use Rattle.std.proofs.lemmas.List.{append-nil}
@@ -21,12 +21,39 @@ use Rattle.marble_marks.specs.Losses.{host_met, guest_met, value_met, lost_mark,
 use Rattle.marble_marks.specs.Replies.{reply_of}
 use Rattle.marble_marks.specs.Turns.{Asked}
 use Rattle.marble_marks.specs.Happenings.{Event, event, if_made, emits, joins, asks, said, next_kind, ticket_kind, value_kind, try_kind, cancel_kind, set_kind, compare_kind, tick_kind}
-use Rattle.marble_marks.specs.Marks.{Seen, seen, marks_at, marks_of, row_marks, line_kind, shown, shown_by, names_in, row_of}
+use Rattle.marble_marks.specs.Homes.{name_by, home_after}
+use Rattle.marble_marks.specs.Preludes.{kind_by, left_after}
+use Rattle.marble_marks.specs.Marks.{Seen, seen, marks_at, marks_from, marks_of, row_marks, label_marks, line_kind, shown, shown_by, names_in, row_of}
 use Rattle.marble_marks.specs.Receipts.{Receipt, receipt, receipt_in, receipts_in, receipt_at, receipt_by, receipts_of, value_said}
 
--- the receipts among the marks of what is shown
+-- the marks of what is shown by a line alone: on the row of its name, a value of a prelude as any other
+abbrev plain_marks : List (List ℕ) → ℕ → List ℕ → Option Event → List Seen
+plain_marks names column answer None = []
+plain_marks names column answer (Some event) =
+    seen column (row_of names event.name) event.kind answer ∷ label_marks (row_of names event.name) event.name event.kind
+
+-- the receipts among these
 abbrev received : List (List ℕ) → ℕ → List ℕ → Option Event → List Receipt
-received names column answer shown = receipts_in (row_marks names column answer shown)
+received names column answer shown = receipts_in (plain_marks names column answer shown)
+
+-- a value of a prelude is a receipt as any other
+any_counted : (is_past : Bool) (column row value : ℕ) (answer : List ℕ) →
+    receipts_in (seen column row (if is_past then kinds.Received value else kinds.FromPrelude value) answer ∷ []) ≡ receipt column row value answer ∷ []
+any_counted true column row value answer = refl
+any_counted false column row value answer = refl
+
+kind_counted : (names : List (List ℕ)) (home : Option (List ℕ)) (left column : ℕ) (answer name : List ℕ) (kind : Kind) →
+    receipts_in (seen column (row_of names (name_by home name kind)) (kind_by left kind) answer ∷ label_marks (row_of names (name_by home name kind)) name kind)
+    ≡ received names column answer (Some (event name kind))
+kind_counted names home left column answer name (kinds.Received value) = any_counted (left == 0) column (row_of names name) value answer
+kind_counted names home left column answer name kinds.Gone = refl
+kind_counted names home left column answer name _ = refl
+
+-- what was told before changes no receipt
+shown_counted : (names : List (List ℕ)) (home : List ℕ → Option (List ℕ)) (left : List ℕ → ℕ) (column : ℕ) (answer : List ℕ) (shown : Option Event) →
+    receipts_in (row_marks names home left column answer shown) ≡ received names column answer shown
+shown_counted names home left column answer None = refl
+shown_counted names home left column answer (Some event) = kind_counted names (home event.name) (left event.name) column answer event.name event.kind
 
 abbrev wanted : List (List ℕ) → ℕ → List ℕ → Option Order → Reply → List Receipt
 wanted names column answer order reply = option_to_list (receipt_by names column answer order reply)
@@ -66,6 +93,7 @@ none_ticket names column answer name replies.Waiting = refl
 none_ticket names column answer name replies.Done = refl
 none_ticket names column answer name replies.Removed = refl
 none_ticket names column answer name replies.Left = refl
+none_ticket names column answer name replies.Gone = refl
 none_ticket names column answer name _ = refl
 
 none_held : (names : List (List ℕ)) (column : ℕ) (answer name : List ℕ) (reply : Reply) → counted names column answer name (value_kind reply) ≡ []
@@ -129,26 +157,31 @@ no_line : (column number : ℕ) (line : List ℕ) (reply : Reply) (rest : List S
 no_line column number line (replies.Bad reason) rest = refl
 no_line column number line _ rest = refl
 
-line_counted : (names : List (List ℕ)) (asked : Asked) → receipts_in (marks_at names asked) ≡ option_to_list (receipt_at names asked)
-line_counted names asked =
-    no_line asked.column asked.number asked.line (reply_of asked.answer) (row_marks names asked.column asked.text (shown asked))
+line_counted : (names : List (List ℕ)) (home : List ℕ → Option (List ℕ)) (left : List ℕ → ℕ) (asked : Asked) →
+    receipts_in (marks_at names home left asked) ≡ option_to_list (receipt_at names asked)
+line_counted names home left asked =
+    no_line asked.column asked.number asked.line (reply_of asked.answer) (row_marks names home left asked.column asked.text (shown asked))
+    ∙ shown_counted names home left asked.column asked.text (shown asked)
     ∙ order_counted names asked.column asked.text asked.order (reply_of asked.answer)
 
 onto : {Y : Type 0} (found : Option Y) (ys : List Y) → cons_option found ys ≡ option_to_list found ++ ys
 onto None ys = refl
 onto (Some y) ys = refl
 
-lines_counted : (names : List (List ℕ)) (asked : List Asked) → receipts_in (flat_map (marks_at names) asked) ≡ filter_map (receipt_at names) asked
-lines_counted names [] = refl
-lines_counted names (one ∷ rest) =
-    filter_map-append receipt_in (marks_at names one) (flat_map (marks_at names) rest)
-    ∙ ap (λ front. front ++ receipts_in (flat_map (marks_at names) rest)) (line_counted names one)
-    ∙ ap (λ back. option_to_list (receipt_at names one) ++ back) (lines_counted names rest)
+lines_counted : (names : List (List ℕ)) (home : List ℕ → Option (List ℕ)) (left : List ℕ → ℕ) (asked : List Asked) →
+    receipts_in (marks_from names home left asked) ≡ filter_map (receipt_at names) asked
+lines_counted names home left [] = refl
+lines_counted names home left (one ∷ rest) =
+    let home_then : List ℕ → Option (List ℕ) = λ name. home_after (home name) name one in
+    let left_then : List ℕ → ℕ = λ name. left_after (left name) name (shown one) one in
+    filter_map-append receipt_in (marks_at names home left one) (marks_from names home_then left_then rest)
+    ∙ ap (λ front. front ++ receipts_in (marks_from names home_then left_then rest)) (line_counted names home left one)
+    ∙ ap (λ back. option_to_list (receipt_at names one) ++ back) (lines_counted names home_then left_then rest)
     ∙ sym (onto (receipt_at names one) (filter_map (receipt_at names) rest))
 
 -- WHAT THE MARKS SHOW AS RECEIVED is what was received
 pub marks_counted : (asked : List Asked) → receipts_in (marks_of asked) ≡ receipts_of asked
-marks_counted asked = lines_counted (names_in asked) asked
+marks_counted asked = lines_counted (names_in asked) (λ name. None) (λ name. 0) asked
 
 -- ---- what is told besides
 

@@ -62,6 +62,7 @@ ticket_kind replies.Waiting = Some kinds.Waiting
 ticket_kind replies.Done = Some kinds.Done
 ticket_kind replies.Removed = Some kinds.Removed
 ticket_kind replies.Left = Some kinds.Left
+ticket_kind replies.Gone = Some kinds.Gone
 ticket_kind _ = None
 
 abbrev pub value_kind : Reply → Option Kind

@@ -1,6 +1,8 @@
 pub mod Replies
 pub mod Turns
 pub mod Happenings
+pub mod Homes
+pub mod Preludes
 pub mod Marks
 pub mod Firsts
 pub mod Deeds

@@ -1,6 +1,6 @@
 -- Which marks a picture has.
-use Rattle.std.specs.Prelude.{ℕ, ◌+◌, List, [], ◌∷◌, Option, Some, None, bytes_eq, if◌then◌else◌}
-use Rattle.std.specs.List.{filter_map, flat_map}
+use Rattle.std.specs.Prelude.{ℕ, ◌+◌, List, [], ◌∷◌, ◌++◌, Option, Some, None, bytes_eq, if◌then◌else◌}
+use Rattle.std.specs.List.{filter_map}
 use Rattle.script_commands.specs.Commands.{Order}
 use Rattle.marble_marks.specs.declared.mark.Kind.{Kind}
 use Rattle.marble_marks.specs.declared.mark.Kind.TheVariants as kinds
@@ -10,6 +10,8 @@ use Rattle.marble_marks.specs.declared.reply.Reply.TheVariants as replies
 use Rattle.marble_marks.specs.Replies.{reply_of}
 use Rattle.marble_marks.specs.Turns.{Asked}
 use Rattle.marble_marks.specs.Happenings.{Event, happening_of}
+use Rattle.marble_marks.specs.Homes.{name_by, home_after}
+use Rattle.marble_marks.specs.Preludes.{kind_by, left_after}
 
 -- ---- rows
 
@@ -73,15 +75,26 @@ abbrev pub label_marks : ℕ → List ℕ → Kind → List Seen
 label_marks row name (kinds.Begun begun) = seen 0 row (kinds.Named begun) name ∷ []
 label_marks row name _ = []
 
-abbrev pub row_marks : List (List ℕ) → ℕ → List ℕ → Option Event → List Seen
-row_marks names column answer None = []
-row_marks names column answer (Some event) =
-    seen column (row_of names event.name) event.kind answer ∷ label_marks (row_of names event.name) event.name event.kind
+-- the marks on rows of what is shown of a name, where it was an emission on this flow that was finished at once, or has so many values of
+-- its prelude still to take
+abbrev pub row_marks : List (List ℕ) → (List ℕ → Option (List ℕ)) → (List ℕ → ℕ) → ℕ → List ℕ → Option Event → List Seen
+row_marks names home left column answer None = []
+row_marks names home left column answer (Some event) =
+    let row = row_of names (name_by (home event.name) event.name event.kind) in
+    seen column row (kind_by (left event.name) event.kind) answer ∷ label_marks row event.name event.kind
 
 -- the marks of a line, where these names have rows
-abbrev pub marks_at : List (List ℕ) → Asked → List Seen
-marks_at names asked = line_mark asked ∷ row_marks names asked.column asked.text (shown asked)
+abbrev pub marks_at : List (List ℕ) → (List ℕ → Option (List ℕ)) → (List ℕ → ℕ) → Asked → List Seen
+marks_at names home left asked = line_mark asked ∷ row_marks names home left asked.column asked.text (shown asked)
+
+-- the marks of these lines, where earlier ones told of each name the flow on which it was finished at once, if it was, and what is left of
+-- its prelude
+abbrev pub marks_from : List (List ℕ) → (List ℕ → Option (List ℕ)) → (List ℕ → ℕ) → List Asked → List Seen
+marks_from names home left [] = []
+marks_from names home left (it ∷ rest) =
+    marks_at names home left it
+    ++ marks_from names (λ name. home_after (home name) name it) (λ name. left_after (left name) name (shown it) it) rest
 
 -- THE MARKS of these lines
 abbrev pub marks_of : List Asked → List Seen
-marks_of asked = flat_map (marks_at (names_in asked)) asked
+marks_of asked = marks_from (names_in asked) (λ name. None) (λ name. 0) asked

@@ -50,11 +50,12 @@ receipts_of asked = filter_map (receipt_at (names_in asked)) asked
 
 abbrev pub receipt_shown : ℕ → ℕ → Kind → List ℕ → Option Receipt
 receipt_shown column row (kinds.Received value) text = Some (receipt column row value text)
+receipt_shown column row (kinds.FromPrelude value) text = Some (receipt column row value text)
 receipt_shown column row _ text = None
 
 abbrev pub receipt_in : Seen → Option Receipt
 receipt_in seen = receipt_shown seen.column seen.row seen.kind seen.text
 
--- what these marks show as received
+-- what these marks show as received, of a prelude or not
 abbrev pub receipts_in : List Seen → List Receipt
 receipts_in marks = filter_map receipt_in marks

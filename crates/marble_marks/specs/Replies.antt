@@ -16,6 +16,7 @@ reply_of answers.Waiting = replies.Waiting
 reply_of answers.Done = replies.Done
 reply_of answers.Removed = replies.Removed
 reply_of answers.Left = replies.Left
+reply_of answers.Gone = replies.Gone
 reply_of answers.Pending = replies.Pending
 reply_of (answers.Value value) = replies.Value value
 reply_of answers.On = replies.On

@@ -90,7 +90,7 @@ fn next_kind(reply: Reply) -> Option<Kind>
     }
 }
 
-/// What a `poll` or a `withdraw` shows. An emission that is gone, and had no row, shows nothing.
+/// What a `poll` or a `withdraw` shows.
 fn ticket_kind(reply: Reply) -> Option<Kind>
     ensures { result ≡ ticket_kind reply }
 {
@@ -99,6 +99,7 @@ fn ticket_kind(reply: Reply) -> Option<Kind>
         Reply::Done => Some(Kind::Done),
         Reply::Removed => Some(Kind::Removed),
         Reply::Left => Some(Kind::Left),
+        Reply::Gone => Some(Kind::Gone),
         _ => None,
     }
 }

@@ -48,6 +48,8 @@ pub enum Kind {
     Holds(u64),
     /// This value was received.
     Received(u64),
+    /// This value was received, of the prelude of its subscription.
+    FromPrelude(u64),
     /// There was nothing to receive.
     Nothing,
     /// An emission waits still.
@@ -58,6 +60,8 @@ pub enum Kind {
     Removed,
     /// An emission was left with its subscribers.
     Left,
+    /// An emission had been finished before. One that was finished at once has no row, so this is shown on its flow's.
+    Gone,
     /// A subscription or a collector ends.
     Cancelled,
     /// A tick at which a flow or a state takes what its upstream gives, if anything.

@@ -1,21 +1,24 @@
 //! Makes the marks of a picture.
 
-ghost use Rattle.std.specs.Prelude.{◌≡◌, ◌≤◌, ◌++◌, Option, length, map, IfOk, OnOk};
+ghost use Rattle.std.specs.Prelude.{◌≡◌, ◌≤◌, ◌++◌, ℕ, List, Option, None, length, map, IfOk, OnOk};
 ghost use Rattle.std.specs.Option.{option_map};
-ghost use Rattle.std.specs.List.{flat_map};
 ghost use Rattle.marble_marks.specs.Turns.{asked_in, asked_of, saying_in};
 ghost use Rattle.marble_marks.specs.Happenings.{happening_in};
-ghost use Rattle.marble_marks.specs.Marks.{shown, name_of, names_in, mark_in, line_mark, marks_at, marks_of};
+ghost use Rattle.marble_marks.specs.Marks.{shown, name_of, names_in, mark_in, line_mark, marks_at, marks_from, marks_of};
+ghost use Rattle.marble_marks.specs.Homes.{home_of};
+ghost use Rattle.marble_marks.specs.Preludes.{left_of, left_shown};
 ghost use Rattle.marble_marks.specs.Receipts.{receipts_in, receipts_of};
 ghost use Rattle.marble_marks.specs.Showing.{Shows};
 
 use crate::deed::acts;
 use crate::guests::Guests;
 use crate::happening::{Happening, happening_of};
+use crate::homes::Homes;
 use crate::ledger::losses_in;
 use crate::loss::add_losses;
 use crate::mark::{Kind, Mark};
 use crate::numbers::add_numbers;
+use crate::preludes::Preludes;
 use crate::reply::Reply;
 use crate::rows::Rows;
 use crate::said::Said;
@@ -76,19 +79,22 @@ fn line_mark<'a>(turn: &Turn<'a>) -> Mark<'a>
 fn add_marks<'a>(
     marks: &mut Vec<Mark<'a>>,
     rows: &Rows<'_, 'a>,
+    homes: &Homes<'a>,
+    preludes: &mut Preludes<'a>,
     turn: &Turn<'a>,
 ) -> Result<(), AllocError>
-    ensures { OnOk result (map mark_in marks.new.items ≡ map mark_in marks.old.items ++ marks_at (map (λ known. known.now) rows.now.names.now) (asked_in turn.now)) }
+    ensures added { OnOk result (map mark_in marks.new.items ≡ map mark_in marks.old.items ++ marks_at (map (λ known. known.now) rows.now.names.now) (home_of homes.now) (left_of preludes.old) (asked_in turn.now)) }
+    ensures left { OnOk result ((name : List ℕ) → left_of preludes.new name ≡ left_shown (left_of preludes.old name) name (shown (asked_in turn.now))) }
 {
     marks.push(line_mark(turn))?;
     let Some(Happening { name, kind }) = shown(turn) else {
         return Ok(());
     };
-    let row = rows.row(name);
+    let row = rows.row(homes.name(name, kind));
     marks.push(Mark {
         column: turn.column,
         row,
-        kind,
+        kind: preludes.take(name, kind)?,
         text: turn.text,
     })?;
     if let Kind::Begun(begun) = kind {
@@ -105,14 +111,19 @@ fn add_marks<'a>(
 /// The marks of these lines, where these names have rows.
 fn marks_in<'a>(
     alloc: Global,
+    hash: NameHash,
     rows: &Rows<'_, 'a>,
     turns: &[Turn<'a>],
 ) -> Result<Vec<Mark<'a>>, AllocError>
-    ensures { IfOk result (λ marks. map mark_in marks.items ≡ flat_map (marks_at (map (λ known. known.now) rows.now.names.now)) (map asked_in turns.now)) }
+    ensures { IfOk result (λ marks. map mark_in marks.items ≡ marks_from (map (λ known. known.now) rows.now.names.now) (λ name. None) (λ name. 0) (map asked_in turns.now)) }
 {
     let mut marks = Vec::new(alloc);
+    let mut homes = Homes::new(alloc, hash);
+    let mut preludes = Preludes::new(alloc, hash);
     for turn in turns {
-        add_marks(&mut marks, rows, turn)?;
+        add_marks(&mut marks, rows, &homes, &mut preludes, turn)?;
+        homes.note(turn)?;
+        preludes.greet(turn)?;
     }
     Ok(marks)
 }
@@ -138,7 +149,7 @@ pub fn marks<'a>(
     let rows = Rows::of(alloc, hash, &names)?;
     let tickets = Tickets::of(alloc, hash, &acts)?;
     let guests = Guests::of(alloc, &rows, &acts)?;
-    let mut marks = marks_in(alloc, &rows, &turns)?;
+    let mut marks = marks_in(alloc, hash, &rows, &turns)?;
     add_numbers(alloc, &mut marks, &rows, &tickets)?;
     add_losses(&mut marks, &guests, &losses)?;
     Ok(marks)

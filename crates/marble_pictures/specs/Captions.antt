@@ -31,6 +31,7 @@ sign (kinds.AcceptedBefore value) = codes "<"
 sign kinds.Nothing = codes "."
 sign kinds.Cancelled = codes "|"
 sign kinds.Ticked = codes ">"
+sign (kinds.FromPrelude value) = codes "+"
 sign _ = []
 
 -- what a row is for
@@ -62,11 +63,13 @@ words_of (kinds.Full value) text = decimal value
 words_of (kinds.Set value) text = decimal value
 words_of (kinds.Holds value) text = decimal value
 words_of (kinds.Received value) text = decimal value
+words_of (kinds.FromPrelude value) text = decimal value
 words_of kinds.Nothing text = []
 words_of kinds.Waiting text = []
 words_of kinds.Done text = plain_answer text
 words_of kinds.Removed text = plain_answer text
 words_of kinds.Left text = plain_answer text
+words_of kinds.Gone text = plain_answer text
 words_of kinds.Cancelled text = []
 words_of kinds.Ticked text = plain_answer text
 words_of kinds.Said text = plain_answer text

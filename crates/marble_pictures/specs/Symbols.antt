@@ -129,6 +129,8 @@ abbrev pub look_of : Kind → Option Look
 look_of (kinds.Accepted value) = Some (look (codes "accepted") 11 strikes.None)
 look_of (kinds.AcceptedBefore value) = Some (look (codes "accepted before") 11 strikes.None)
 look_of (kinds.Received value) = Some (look (codes "received") 11 strikes.None)
+-- square corners: no flow gave it
+look_of (kinds.FromPrelude value) = Some (look (codes "received prelude") 2 strikes.None)
 -- a value that is lost, one that is dropped and one that found no room differ in shape: a cross, one line, two walls
 look_of (kinds.Lost value) = Some (look (codes "lost") 11 strikes.Cross)
 look_of (kinds.Dropped value) = Some (look (codes "dropped") 11 strikes.Stroke)
@@ -137,6 +139,7 @@ look_of (kinds.Begun row) = begun_look row
 look_of kinds.Done = Some (look (codes "said") 2 strikes.None)
 look_of kinds.Removed = Some (look (codes "said") 2 strikes.None)
 look_of kinds.Left = Some (look (codes "said") 2 strikes.None)
+look_of kinds.Gone = Some (look (codes "said") 2 strikes.None)
 look_of kinds.Said = Some (look (codes "said") 2 strikes.None)
 look_of _ = None
 

@@ -113,6 +113,7 @@ pub(crate) fn sign(kind: Kind) -> &'static str
         Kind::Nothing => ".",
         Kind::Cancelled => "|",
         Kind::Ticked => ">",
+        Kind::FromPrelude(_) => "+",
         _ => "",
     }
 }
@@ -155,7 +156,8 @@ pub(crate) fn push_words(text: &mut String, mark: &Mark<'_>) -> Result<(), Alloc
         | Kind::Full(value)
         | Kind::Set(value)
         | Kind::Holds(value)
-        | Kind::Received(value) => push_number(text, value),
+        | Kind::Received(value)
+        | Kind::FromPrelude(value) => push_number(text, value),
         Kind::Number(number) => {
             text.push_str("#")?;
             push_number(text, number)
@@ -164,7 +166,7 @@ pub(crate) fn push_words(text: &mut String, mark: &Mark<'_>) -> Result<(), Alloc
             text.push_str(role(row))?;
             push_plain(text, mark.text)
         }
-        Kind::Done | Kind::Removed | Kind::Left | Kind::Ticked | Kind::Said => {
+        Kind::Done | Kind::Removed | Kind::Left | Kind::Gone | Kind::Ticked | Kind::Said => {
             push_answer(text, mark.text)
         }
         Kind::Begun(row) => push_begun(text, row),
@@ -207,10 +209,11 @@ pub(crate) fn words_len(mark: &Mark<'_>) -> usize
         | Kind::Full(value)
         | Kind::Set(value)
         | Kind::Holds(value)
-        | Kind::Received(value) => digits(value),
+        | Kind::Received(value)
+        | Kind::FromPrelude(value) => digits(value),
         Kind::Number(number) => digits(number) + 1,
         Kind::Named(row) => role(row).len() + mark.text.len(),
-        Kind::Done | Kind::Removed | Kind::Left | Kind::Ticked | Kind::Said => {
+        Kind::Done | Kind::Removed | Kind::Left | Kind::Gone | Kind::Ticked | Kind::Said => {
             answer_len(mark.text)
         }
         Kind::Begun(row) => begun_len(row),

@@ -1,6 +1,9 @@
-//! Tests of marks and pictures: they are, byte for byte, what their first form gave, which is kept here.
+//! Tests of marks and pictures: they are, byte for byte, what their first form gives, which is kept here; and some are as they were
+//! laid out by hand.
 #![tactic(auto)]
 
+#[cfg(test)]
+mod drawn;
 #[cfg(test)]
 mod made;
 #[cfg(test)]

@@ -63,6 +63,7 @@ fn numbered(code: usize, number: u64) -> Kind {
         9 => Kind::Full(number),
         10 => Kind::Set(number),
         11 => Kind::Holds(number),
+        12 => Kind::FromPrelude(number),
         _ => Kind::Received(number),
     }
 }
@@ -77,6 +78,7 @@ fn plain(code: usize) -> Kind {
         17 => Kind::Left,
         18 => Kind::Cancelled,
         19 => Kind::Ticked,
+        20 => Kind::Gone,
         _ => Kind::Said,
     }
 }
@@ -123,10 +125,10 @@ impl Dice {
 
     /// What a mark shows that isn't a name.
     fn shown(&mut self) -> Kind {
-        match self.below(21) {
+        match self.below(23) {
             1 => Kind::Bad(self.number(), reason(self.below(6))),
             2 | 3 => Kind::Begun(self.row()),
-            code if code < 13 => numbered(code, self.number()),
+            code if code < 13 || code == 22 => numbered(code, self.number()),
             code => plain(code),
         }
     }

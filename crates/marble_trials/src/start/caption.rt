@@ -69,6 +69,7 @@ pub(crate) fn sign(kind: Kind) -> &'static str {
         Kind::Nothing => ".",
         Kind::Cancelled => "|",
         Kind::Ticked => ">",
+        Kind::FromPrelude(_) => "+",
         _ => "",
     }
 }
@@ -105,13 +106,14 @@ fn push_words(text: &mut String, mark: &Mark<'_>) -> Result<(), AllocError> {
         | Kind::Full(value)
         | Kind::Set(value)
         | Kind::Holds(value)
-        | Kind::Received(value) => write!(text, "{value}"),
+        | Kind::Received(value)
+        | Kind::FromPrelude(value) => write!(text, "{value}"),
         Kind::Number(number) => write!(text, "#{number}"),
         Kind::Named(row) => {
             text.push_str(role(row))?;
             push_plain(text, mark.text)
         }
-        Kind::Done | Kind::Removed | Kind::Left | Kind::Ticked | Kind::Said => {
+        Kind::Done | Kind::Removed | Kind::Left | Kind::Gone | Kind::Ticked | Kind::Said => {
             push_answer(text, mark.text)
         }
         Kind::Begun(row) => push_begun(text, row),

@@ -77,13 +77,14 @@ fn next_kind(reply: Reply) -> Option<Kind> {
     }
 }
 
-/// What a `poll` or a `withdraw` shows. An emission that is gone, and had no row, shows nothing.
+/// What a `poll` or a `withdraw` shows.
 fn ticket_kind(reply: Reply) -> Option<Kind> {
     match reply {
         Reply::Waiting => Some(Kind::Waiting),
         Reply::Done => Some(Kind::Done),
         Reply::Removed => Some(Kind::Removed),
         Reply::Left => Some(Kind::Left),
+        Reply::Gone => Some(Kind::Gone),
         _ => None,
     }
 }

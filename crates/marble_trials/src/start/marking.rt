@@ -11,6 +11,7 @@ use crate::start::reply::Reply;
 use crate::start::said::Said;
 use crate::start::turn::{Turn, turns};
 use marble_marks::{Kind, Mark};
+use script_commands::{Command, Party, Request};
 use std::alloc::{AllocError, Global};
 
 /// What a line shows on a row.
@@ -65,21 +66,92 @@ fn line_mark<'a>(turn: &Turn<'a>) -> Mark<'a> {
     }
 }
 
-/// Adds the marks of a line.
+/// The flow on which this line finishes an emission of this name at once, if it does.
+fn home_in<'a>(turn: &Turn<'a>, ticket: &[u8]) -> Option<&'a [u8]> {
+    match (turn.command, Reply::of(turn.answer)) {
+        (
+            Some(
+                Command::Join {
+                    host,
+                    name,
+                    party: Party::Emission(_),
+                },
+            ),
+            Reply::Accepted | Reply::Dropped,
+        ) if name == ticket => Some(host),
+        _ => None,
+    }
+}
+
+/// The name on whose row something of a name is shown, after these lines.
+fn name_shown<'a>(before: &[Turn<'a>], name: &'a [u8], kind: Kind) -> &'a [u8] {
+    let mut home = name;
+    if let Kind::Gone = kind {
+        for turn in before {
+            home = home_in(turn, name).unwrap_or(home);
+        }
+    }
+    home
+}
+
+/// How many values of its prelude a subscription of this name has still to take after this line, where it had so many before.
+fn left_after(turn: &Turn<'_>, name: &[u8], left: usize) -> usize {
+    match (turn.command, Reply::of(turn.answer)) {
+        (
+            Some(
+                Command::Join {
+                    name: guest,
+                    party: Party::Subscription(prelude),
+                    ..
+                },
+            ),
+            Reply::Ok,
+        ) if guest == name && prelude.count() > 0 => prelude.count(),
+        (
+            Some(
+                Command::Ask {
+                    name: asked,
+                    request: Request::Next,
+                },
+            ),
+            Reply::Value(_),
+        ) if asked == name => left.saturating_sub(1),
+        _ => left,
+    }
+}
+
+/// What is shown of a name that shows this by its answer alone, after these lines.
+fn kind_shown(before: &[Turn<'_>], name: &[u8], kind: Kind) -> Kind {
+    let Kind::Received(value) = kind else {
+        return kind;
+    };
+    let mut left = 0;
+    for turn in before {
+        left = left_after(turn, name, left);
+    }
+    if left > 0 {
+        Kind::FromPrelude(value)
+    } else {
+        kind
+    }
+}
+
+/// Adds the marks of a line after these.
 fn add_marks<'a>(
     marks: &mut Vec<Mark<'a>>,
     names: &[&'a [u8]],
+    before: &[Turn<'a>],
     turn: &Turn<'a>,
 ) -> Result<(), AllocError> {
     marks.push(line_mark(turn))?;
     let Some(Happening { name, kind }) = shown(turn) else {
         return Ok(());
     };
-    let row = row_of(names, name);
+    let row = row_of(names, name_shown(before, name, kind));
     marks.push(Mark {
         column: turn.column,
         row,
-        kind,
+        kind: kind_shown(before, name, kind),
         text: turn.text,
     })?;
     if let Kind::Begun(begun) = kind {
@@ -100,8 +172,9 @@ fn marks_in<'a>(
     turns: &[Turn<'a>],
 ) -> Result<Vec<Mark<'a>>, AllocError> {
     let mut marks = Vec::new(alloc);
-    for turn in turns {
-        add_marks(&mut marks, names, turn)?;
+    for (index, turn) in turns.iter().enumerate() {
+        let (before, _) = turns.split_at(index);
+        add_marks(&mut marks, names, before, turn)?;
     }
     Ok(marks)
 }

@@ -17,6 +17,8 @@ pub(crate) enum Reply {
     Done,
     Removed,
     Left,
+    /// An emission had been finished before.
+    Gone,
     Pending,
     Value(u64),
     /// A source is being collected.
@@ -42,6 +44,7 @@ impl Reply {
             Answer::Done => Reply::Done,
             Answer::Removed => Reply::Removed,
             Answer::Left => Reply::Left,
+            Answer::Gone => Reply::Gone,
             Answer::Pending => Reply::Pending,
             Answer::Value(value) => Reply::Value(*value),
             Answer::On => Reply::On,

@@ -277,6 +277,11 @@ fn frame_of(kind: Kind) -> Option<Frame> {
             round: 11,
             strike: Strike::None,
         }),
+        Kind::FromPrelude(_) => Some(Frame {
+            class: "received prelude",
+            round: 2,
+            strike: Strike::None,
+        }),
         Kind::Lost(_) => Some(Frame {
             class: "lost",
             round: 11,
@@ -293,7 +298,7 @@ fn frame_of(kind: Kind) -> Option<Frame> {
             strike: Strike::Walls,
         }),
         Kind::Begun(row) => begun_frame(row),
-        Kind::Done | Kind::Removed | Kind::Left | Kind::Said => Some(Frame {
+        Kind::Done | Kind::Removed | Kind::Left | Kind::Gone | Kind::Said => Some(Frame {
             class: "said",
             round: 2,
             strike: Strike::None,

@@ -1,0 +1,39 @@
+-- Marks are made line by line, by what earlier lines told of names.
+use Rattle.std.proofs.Common.{◌≡◌, ◌<◌, ◌+◌, ◌++◌, ◌∷◌, ◌∙◌, if◌then◌else◌, ℕ, Bool, true, false, List, [], map, drop, length, get_or, Option, Some, None, refl, sym, ap, ap₂, append_assoc, absurd, omega, arith}
+use Rattle.std.specs.Prelude.{unwrap_or}
+use Rattle.std.specs.Option.{option_map}
+use denote.Ref.{Bor}
+use Rattle.marble_marks.specs.declared.turn.Turn.{Turn}
+use Rattle.marble_marks.specs.Turns.{asked_in}
+use Rattle.marble_marks.specs.Homes.{home_after}
+use Rattle.marble_marks.specs.Preludes.{left_after}
+use Rattle.marble_marks.specs.Marks.{Seen, shown, marks_at, marks_from}
+use Rattle.marble_marks.proofs.Placing.{drop_step}
+
+-- the flow that is noted of an emission is its own from then on
+pub home_noted : (is_its : Bool) (before after : Option (Bor (List ℕ))) (host : Bor (List ℕ)) → after ≡ (if is_its then Some host else before)
+    → option_map (λ (h : Bor (List ℕ)). h.now) after ≡ (if is_its then Some host.now else option_map (λ (h : Bor (List ℕ)). h.now) before)
+home_noted true before after host given = ap (option_map (λ (h : Bor (List ℕ)). h.now)) given
+home_noted false before after host given = ap (option_map (λ (h : Bor (List ℕ)). h.now)) given
+
+-- what is noted as left to a subscription is left to it
+pub left_noted : (is_its : Bool) (before after : Option ℕ) (count : ℕ) → after ≡ (if is_its then Some count else before)
+    → unwrap_or after 0 ≡ (if is_its then count else unwrap_or before 0)
+left_noted true before after count given = ap (λ left. unwrap_or left 0) given
+left_noted false before after count given = ap (λ left. unwrap_or left 0) given
+
+-- THE MARKS OF ONE MORE LINE, and those of the lines after it
+pub marks_more : (names : List (List ℕ)) (home home_then : List ℕ → Option (List ℕ)) (left left_then : List ℕ → ℕ) (turns : List Turn) (i : ℕ) (d : Turn) (before after whole : List Seen) → i < length turns
+    → ((name : List ℕ) → home_then name ≡ home_after (home name) name (asked_in (get_or turns i d)))
+    → ((name : List ℕ) → left_then name ≡ left_after (left name) name (shown (asked_in (get_or turns i d))) (asked_in (get_or turns i d)))
+    → after ≡ before ++ marks_at names home left (asked_in (get_or turns i d))
+    → before ++ marks_from names home left (map asked_in (drop i turns)) ≡ whole
+    → after ++ marks_from names home_then left_then (map asked_in (drop (i + 1) turns)) ≡ whole
+marks_more names home home_then left left_then turns i d before after whole within homes lefts made was =
+    let it = asked_in (get_or turns i d) in
+    let rest = map asked_in (drop (i + 1) turns) in
+    ap (λ ys. ys ++ marks_from names home_then left_then rest) made
+    ∙ append_assoc before (marks_at names home left it) (marks_from names home_then left_then rest)
+    ∙ ap₂ (λ h l. before ++ (marks_at names home left it ++ marks_from names h l rest)) (λ k name. homes name k) (λ k name. lefts name k)
+    ∙ ap (λ lines. before ++ marks_from names home left (map asked_in lines)) (sym (drop_step turns i d within))
+    ∙ was
