@@ -63,6 +63,7 @@ function sentenceOn(cell) {
   if (looks.includes("value")) return stateSentence(cell, value);
   if (looks.includes("accepted before")) return `accepted ${value} here or before${number}`;
   if (looks.includes("accepted")) return `accepted ${value}${number}`;
+  if (looks.includes("received prelude")) return `received ${value} of its prelude`;
   if (looks.includes("received")) return `${role === "buffer" ? "gave" : "received"} ${value}${number}`;
   if (looks.includes("lost")) return `lost ${value}${number}`;
   if (looks.includes("dropped")) return `dropped ${value}`;
