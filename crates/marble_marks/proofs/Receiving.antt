@@ -23,7 +23,7 @@ use Rattle.marble_marks.specs.Turns.{Asked}
 use Rattle.marble_marks.specs.Happenings.{Event, event, if_made, emits, joins, asks, said, next_kind, ticket_kind, value_kind, try_kind, cancel_kind, set_kind, compare_kind, tick_kind}
 use Rattle.marble_marks.specs.Homes.{name_by, home_after}
 use Rattle.marble_marks.specs.Preludes.{kind_by, left_after}
-use Rattle.marble_marks.specs.Marks.{Seen, seen, marks_at, marks_from, marks_of, row_marks, label_marks, line_kind, shown, shown_by, names_in, row_of}
+use Rattle.marble_marks.specs.Marks.{Seen, seen, marks_at, marks_from, marks_on, marks_of, row_marks, label_marks, line_kind, shown, shown_by, names_in, row_of}
 use Rattle.marble_marks.specs.Receipts.{Receipt, receipt, receipt_in, receipts_in, receipt_at, receipt_by, receipts_of, value_said}
 
 -- the marks of what is shown by a line alone: on the row of its name, a value of a prelude as any other
@@ -181,6 +181,7 @@ lines_counted names home left (one ∷ rest) =
 
 -- WHAT THE MARKS SHOW AS RECEIVED is what was received
 pub marks_counted : (asked : List Asked) → receipts_in (marks_of asked) ≡ receipts_of asked
+unfolding marks_on
 marks_counted asked = lines_counted (names_in asked) (λ name. None) (λ name. 0) asked
 
 -- ---- what is told besides

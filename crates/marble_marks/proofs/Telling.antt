@@ -1,13 +1,18 @@
 -- Marks are made line by line, by what earlier lines told of names.
-use Rattle.std.proofs.Common.{◌≡◌, ◌<◌, ◌+◌, ◌++◌, ◌∷◌, ◌∙◌, if◌then◌else◌, ℕ, Bool, true, false, List, [], map, drop, length, get_or, Option, Some, None, refl, sym, ap, ap₂, append_assoc, absurd, omega, arith}
+use Rattle.std.proofs.Common.{◌≡◌, ◌<◌, ◌+◌, ◌++◌, ◌∷◌, ◌∙◌, if◌then◌else◌, ℕ, Bool, true, false, List, [], map, drop, length, get_or, Option, Some, None, refl, sym, ap, ap₂, append_assoc}
 use Rattle.std.specs.Prelude.{unwrap_or}
 use Rattle.std.specs.Option.{option_map}
 use denote.Ref.{Bor}
 use Rattle.marble_marks.specs.declared.turn.Turn.{Turn}
-use Rattle.marble_marks.specs.Turns.{asked_in}
+use Rattle.std.specs.List.{filter_map}
+use Rattle.marble_marks.specs.declared.loss.Loss.{Loss}
+use Rattle.marble_marks.specs.Turns.{Asked, asked_in}
+use Rattle.marble_marks.specs.Deeds.{Done, done_by}
+use Rattle.marble_marks.specs.Numbers.{numbered_in, numbers_of}
+use Rattle.marble_marks.specs.Losses.{loss_mark, losses_of}
 use Rattle.marble_marks.specs.Homes.{home_after}
 use Rattle.marble_marks.specs.Preludes.{left_after}
-use Rattle.marble_marks.specs.Marks.{Seen, shown, marks_at, marks_from}
+use Rattle.marble_marks.specs.Marks.{Seen, shown, names_in, marks_at, marks_from, marks_on, marks_of}
 use Rattle.marble_marks.proofs.Placing.{drop_step}
 
 -- the flow that is noted of an emission is its own from then on
@@ -23,17 +28,30 @@ left_noted true before after count given = ap (λ left. unwrap_or left 0) given
 left_noted false before after count given = ap (λ left. unwrap_or left 0) given
 
 -- THE MARKS OF ONE MORE LINE, and those of the lines after it
-pub marks_more : (names : List (List ℕ)) (home home_then : List ℕ → Option (List ℕ)) (left left_then : List ℕ → ℕ) (turns : List Turn) (i : ℕ) (d : Turn) (before after whole : List Seen) → i < length turns
-    → ((name : List ℕ) → home_then name ≡ home_after (home name) name (asked_in (get_or turns i d)))
-    → ((name : List ℕ) → left_then name ≡ left_after (left name) name (shown (asked_in (get_or turns i d))) (asked_in (get_or turns i d)))
-    → after ≡ before ++ marks_at names home left (asked_in (get_or turns i d))
+pub marks_more : (names : List (List ℕ)) (home home_then : List ℕ → Option (List ℕ)) (left left_then : List ℕ → ℕ) (turns : List Turn) (i : ℕ) (turn : Turn) (before after whole : List Seen) → i < length turns
+    → turn ≡ get_or turns i turn
+    → ((name : List ℕ) → home_then name ≡ home_after (home name) name (asked_in turn))
+    → ((name : List ℕ) → left_then name ≡ left_after (left name) name (shown (asked_in turn)) (asked_in turn))
+    → after ≡ before ++ marks_at names home left (asked_in turn)
     → before ++ marks_from names home left (map asked_in (drop i turns)) ≡ whole
     → after ++ marks_from names home_then left_then (map asked_in (drop (i + 1) turns)) ≡ whole
-marks_more names home home_then left left_then turns i d before after whole within homes lefts made was =
-    let it = asked_in (get_or turns i d) in
+marks_more names home home_then left left_then turns i turn before after whole within is homes lefts made was =
+    let it = asked_in turn in
     let rest = map asked_in (drop (i + 1) turns) in
+    let next : drop i turns ≡ turn ∷ drop (i + 1) turns = drop_step turns i turn within ∙ ap (λ t. t ∷ drop (i + 1) turns) (sym is) in
     ap (λ ys. ys ++ marks_from names home_then left_then rest) made
     ∙ append_assoc before (marks_at names home left it) (marks_from names home_then left_then rest)
     ∙ ap₂ (λ h l. before ++ (marks_at names home left it ++ marks_from names h l rest)) (λ k name. homes name k) (λ k name. lefts name k)
-    ∙ ap (λ lines. before ++ marks_from names home left (map asked_in lines)) (sym (drop_step turns i d within))
+    ∙ ap (λ lines. before ++ marks_from names home left (map asked_in lines)) (sym next)
     ∙ was
+
+-- ALL MARKS, as they are added one list after another
+pub all_shown : (asked lines : List Asked) (names guest_names : List (List ℕ)) (acts guest_acts : List Done) (losses : List Loss) (first second third : List Seen)
+    → lines ≡ asked → names ≡ names_in asked → guest_names ≡ names_in asked → acts ≡ map done_by asked → guest_acts ≡ map done_by asked
+    → first ≡ marks_on names lines → second ≡ first ++ numbered_in names acts → third ≡ second ++ filter_map (loss_mark guest_names guest_acts) losses
+    → third ≡ (marks_of asked ++ numbers_of asked) ++ losses_of asked losses
+all_shown asked lines names guest_names acts guest_acts losses first second third read named guests told brought made numbered lost =
+    lost
+    ∙ ap (λ marks. marks ++ filter_map (loss_mark guest_names guest_acts) losses)
+    (numbered ∙ ap₂ (λ xs ys. xs ++ ys) (made ∙ ap₂ marks_on named read) (ap₂ numbered_in named told))
+    ∙ ap₂ (λ known done. (marks_of asked ++ numbers_of asked) ++ filter_map (loss_mark known done) losses) guests brought

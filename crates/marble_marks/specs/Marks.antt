@@ -95,6 +95,10 @@ marks_from names home left (it ∷ rest) =
     marks_at names home left it
     ++ marks_from names (λ name. home_after (home name) name it) (λ name. left_after (left name) name (shown it) it) rest
 
+-- the marks of these lines, where none came before
+unfoldable pub marks_on : List (List ℕ) → List Asked → List Seen
+marks_on names asked = marks_from names (λ name. None) (λ name. 0) asked
+
 -- THE MARKS of these lines
 abbrev pub marks_of : List Asked → List Seen
-marks_of asked = marks_from (names_in asked) (λ name. None) (λ name. 0) asked
+marks_of asked = marks_on (names_in asked) asked

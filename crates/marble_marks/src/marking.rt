@@ -1,10 +1,10 @@
 //! Makes the marks of a picture.
 
-ghost use Rattle.std.specs.Prelude.{◌≡◌, ◌≤◌, ◌++◌, ℕ, List, Option, None, length, map, IfOk, OnOk};
+ghost use Rattle.std.specs.Prelude.{◌≡◌, ◌≤◌, ◌++◌, ℕ, List, Option, length, map, IfOk, OnOk};
 ghost use Rattle.std.specs.Option.{option_map};
 ghost use Rattle.marble_marks.specs.Turns.{asked_in, asked_of, saying_in};
 ghost use Rattle.marble_marks.specs.Happenings.{happening_in};
-ghost use Rattle.marble_marks.specs.Marks.{shown, name_of, names_in, mark_in, line_mark, marks_at, marks_from, marks_of};
+ghost use Rattle.marble_marks.specs.Marks.{shown, name_of, names_in, mark_in, line_mark, marks_at, marks_on, marks_of};
 ghost use Rattle.marble_marks.specs.Homes.{home_of};
 ghost use Rattle.marble_marks.specs.Preludes.{left_of, left_shown};
 ghost use Rattle.marble_marks.specs.Receipts.{receipts_in, receipts_of};
@@ -115,7 +115,7 @@ fn marks_in<'a>(
     rows: &Rows<'_, 'a>,
     turns: &[Turn<'a>],
 ) -> Result<Vec<Mark<'a>>, AllocError>
-    ensures { IfOk result (λ marks. map mark_in marks.items ≡ marks_from (map (λ known. known.now) rows.now.names.now) (λ name. None) (λ name. 0) (map asked_in turns.now)) }
+    ensures { IfOk result (λ marks. map mark_in marks.items ≡ marks_on (map (λ known. known.now) rows.now.names.now) (map asked_in turns.now)) }
 {
     let mut marks = Vec::new(alloc);
     let mut homes = Homes::new(alloc, hash);
@@ -131,7 +131,6 @@ fn marks_in<'a>(
 /// The marks of a script with these answers, each to the line with its number, in their order. First come the
 /// marks of what each answer shows by itself, in the order of the lines; then those of the emissions' numbers, and of the
 /// values that made way. Names are hashed so.
-#[tactic(auto, using(crate::proofs::Receiving::all_counted))]
 pub fn marks<'a>(
     alloc: Global,
     hash: NameHash,
