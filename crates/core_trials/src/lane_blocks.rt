@@ -1,11 +1,11 @@
 //! A lane by the block: many words are emitted by one call, and many are taken by one.
 
-ghost use Rattle.std.specs.Prelude.{IfOk};
 ghost use Rattle.shared_lane.specs.Readers.{IsReaderOf};
 ghost use Rattle.shared_lane.specs.Sequencers.{IsSequencerOf};
 
+use crate::lane_body::{Listening, Sending, lane_of};
 use crate::tools::assert_same;
-use cold_flow::{Policy, Refusal};
+use cold_flow::Policy;
 use shared_core::Config;
 use shared_lane::{Lane, Reader, Sequencer, Taken};
 use std::alloc::{AllocGlobal, Global};
@@ -147,13 +147,6 @@ fn answered(
     count
 }
 
-// A lane, and its sequencer.
-fn lane_of(alloc: Global, config: Config) -> Result<(Lane<Global>, Sequencer<Global>), u8>
-    ensures { IfOk result (λ made. IsSequencerOf made.0 made.1) }
-{
-    Lane::new(alloc, config).map_err(|refusal| refusal.number())
-}
-
 #[test]
 fn blocks_of_one_reader(rt: HostRuntime) -> Result<(), Fail> {
     for life in LIVES {
@@ -172,65 +165,12 @@ fn blocks_of_one_reader(rt: HostRuntime) -> Result<(), Fail> {
     Ok(())
 }
 
-/// Where nobody is there all are accepted, more than there are cells too, and the last are in the replay cache.
-#[test]
-fn blocks_for_nobody(rt: HostRuntime) -> Result<(), Fail> {
-    for policy in [Policy::Suspend, Policy::DropOldest, Policy::DropLatest] {
-        let config = Config {
-            replay: 2,
-            ..flow(policy, 1)
-        };
-        let (lane, mut sequencer) = lane_of(rt.alloc(), config)?;
-        let accepted = sequencer.try_emit_all(&lane, EMITTER, &[1, 2, 3, 4, 5, 6, 7, 8]);
-        assert_same(&rt, "accepted", accepted, Ok(8));
-        let mut reader = sequencer.admit(&lane).expect(&rt, "a reader");
-        let cached = takes(rt.alloc(), &lane, &mut reader, 9, Taken::Value(2), &[7, 8]);
-        reader.close(&lane);
-        assert_same(&rt, "the cache is taken", cached, true);
-    }
-    Ok(())
-}
-
-/// The last numbers are given, and no more.
-#[test]
-fn blocks_to_the_last_number(rt: HostRuntime) -> Result<(), Fail> {
-    let config = Config {
-        first: (1 << 62) - 3,
-        ..flow(Policy::Suspend, 8)
-    };
-    let (lane, mut sequencer) = lane_of(rt.alloc(), config)?;
-    let words = [1, 2, 3, 4, 5];
-    let first = sequencer.try_emit_all(&lane, EMITTER, &words);
-    assert_same(&rt, "the last three", first, Ok(3));
-    let none = sequencer.try_emit_all(&lane, EMITTER, &words);
-    assert_same(&rt, "no number left", none, Err(Refusal::Spent));
-    let empty = sequencer.try_emit_all(&lane, EMITTER, &[]);
-    assert_same(&rt, "nothing to emit", empty, Ok(0));
-    Ok(())
-}
-
 /// How many words a block has, and how many there are.
 const BLOCK: usize = 16;
 
 const WORDS: u64 = 20_000;
 
-/// A sequencer with its lane.
-#[derive(Drop)]
-struct Stage<'a> {
-    lane: &'a Lane<Global>,
-    sequencer: Sequencer<Global>,
-    ghost fits: { IsSequencerOf lane.now sequencer },
-}
-
-impl<'a> Stage<'a> {
-    fn admit<R: Abort>(&mut self, rt: &R) -> Listening<'a> {
-        let reader = self.sequencer.admit(self.lane).expect(rt, "a reader");
-        Listening {
-            lane: self.lane,
-            reader,
-        }
-    }
-
+impl Sending<'_> {
     // Emits a block of numbers from this one on, and says how many were accepted.
     fn emit_from(&mut self, first: u64) -> Option<u64> {
         let mut block = [0; BLOCK];
@@ -256,13 +196,6 @@ impl<'a> Stage<'a> {
         over.store(true, Ordering::SeqCst);
         next
     }
-}
-
-/// A reader with its lane.
-struct Listening<'a> {
-    lane: &'a Lane<Global>,
-    reader: Reader,
-    ghost fits: { IsReaderOf lane.now reader },
 }
 
 /// What a reader came to.
@@ -307,14 +240,6 @@ impl Listening<'_> {
         }
         heard
     }
-
-    // Ends the reader, and says how many words it received or lost.
-    fn leave(self) -> u64 {
-        let Listening { lane, reader } = self;
-        let counted = reader.received().saturating_add(reader.dropped());
-        reader.close(lane);
-        counted
-    }
 }
 
 // Blocks are emitted in one thread, and taken in another.
@@ -327,17 +252,17 @@ where
         ..flow(policy, 64)
     };
     let (lane, sequencer) = Lane::new(rt.alloc(), config).expect(rt, "a lane");
-    let mut stage = Stage {
+    let mut sending = Sending {
         lane: &lane,
         sequencer,
     };
     let mut out = Vec::with_capacity(rt.alloc(), 32).expect(rt, "room");
-    let mut listening = stage.admit(rt);
+    let mut listening = sending.admit().expect(rt, "a reader");
     let over = AtomicBool::new(false);
     let (heard, fed) = join_mut(
         rt,
         &mut || listening.drain(&mut out, &over),
-        &mut || stage.feed(&over),
+        &mut || sending.feed(&over),
     );
     let counted = listening.leave();
     assert_same(rt, "received or dropped", counted, fed);

@@ -11,6 +11,8 @@ mod core_rows;
 #[cfg(test)]
 mod lane_blocks;
 #[cfg(test)]
+mod lane_body;
+#[cfg(test)]
 mod lane_rows;
 #[cfg(test)]
 mod lane_threads;

@@ -129,6 +129,19 @@ impl ListBody {
         })
     }
 
+    /// Tries these values, one after another, up to the first that isn't accepted. Answers how many were.
+    pub(crate) fn try_each(&mut self, values: &[u64]) -> Result<u64, Refusal> {
+        let mut accepted: u64 = 0;
+        for value in values {
+            match self.try_emit(*value) {
+                Ok(Tried::Accepted(_)) => accepted = accepted.saturating_add(1),
+                Err(refusal) if accepted == 0 => return Err(refusal),
+                _ => return Ok(accepted),
+            }
+        }
+        Ok(accepted)
+    }
+
     pub(crate) fn start_emit(
         &mut self,
         value: u64,

@@ -18,12 +18,6 @@ impl Place {
             None => Next::Nothing,
         }
     }
-
-    /// How many values it has pending, what is left of its prelude counted in.
-    fn left(&self) -> u64 {
-        let prelude = self.prelude.len().saturating_sub(self.given);
-        u64::from(prelude).saturating_add(self.pending.len() as u64)
-    }
 }
 
 impl ListBody {
@@ -58,21 +52,30 @@ impl ListBody {
         Ok(next)
     }
 
+    /// Receives one value after another, at most so many, and adds them to `out`. Answers how many, and as `next` where none came.
+    pub(crate) fn next_each(
+        &mut self,
+        number: u64,
+        most: usize,
+        out: &mut Vec<u64>,
+    ) -> Result<Next<u64>, AllocError> {
+        let mut taken: u64 = 0;
+        for _ in 0..most {
+            match self.next(number)? {
+                Next::Value(value) => out.push(value)?,
+                none if taken == 0 => return Ok(none),
+                _ => break,
+            }
+            taken = taken.saturating_add(1);
+        }
+        Ok(Next::Value(taken))
+    }
+
     pub(crate) fn cancel(&mut self, number: u64) -> Result<bool, AllocError> {
         let before = self.live.len();
         self.live.retain(|place| place.number != number);
         self.settle()?;
         Ok(self.live.len() < before)
-    }
-
-    /// How many values the subscription has pending, and 0 where it isn't live.
-    pub(crate) fn pending(&self, number: u64) -> u64 {
-        for place in &self.live {
-            if place.number == number {
-                return place.left();
-            }
-        }
-        0
     }
 }
 
