@@ -3,6 +3,8 @@
 #![tactic(auto)]
 
 #[cfg(test)]
+mod block_rows;
+#[cfg(test)]
 mod ledger;
 #[cfg(test)]
 mod meeting;
