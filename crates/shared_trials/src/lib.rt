@@ -5,6 +5,8 @@
 #[cfg(test)]
 mod block_rows;
 #[cfg(test)]
+mod block_threads;
+#[cfg(test)]
 mod ledger;
 #[cfg(test)]
 mod meeting;
