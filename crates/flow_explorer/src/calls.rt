@@ -9,10 +9,18 @@ pub enum Party {
     B,
 }
 
+/// How many values a block of tries has at most.
+const TRIES: usize = 3;
+
+/// How many values a block of receipts has room for.
+pub const ROOM: usize = 2;
+
 /// A call of an emitter, or of a subscription.
 #[derive(Clone, Copy, Debug, PartialEq, Eq)]
 pub enum Call {
     Try(u64),
+    /// Tries of so many values from this one on.
+    TryAll(u64, u64),
     Emit(u64),
     Ask,
     TakeBack,
@@ -20,13 +28,15 @@ pub enum Call {
     Next,
     /// A receipt that lets nothing in and registers nothing, where the flow has such a call.
     Take,
+    /// As many such receipts as there is room for.
+    TakeAll,
     Cancel,
 }
 
 impl Call {
     /// It begins an emission.
     pub(crate) fn begins(self) -> bool {
-        matches!(self, Call::Try(_) | Call::Emit(_))
+        matches!(self, Call::Try(_) | Call::TryAll(_, _) | Call::Emit(_))
     }
 
     /// After it the emission may be in flight.
@@ -39,7 +49,7 @@ impl Call {
     }
 
     pub(crate) fn receives(self) -> bool {
-        self == Call::Next || self == Call::Take
+        matches!(self, Call::Next | Call::Take | Call::TakeAll)
     }
 }
 
@@ -50,6 +60,8 @@ pub enum Answer {
     Told(u64),
     /// The emission is in flight.
     Waiting,
+    /// So many emissions of a block were accepted.
+    Accepted(u64),
     /// There was no room for the emission.
     Refused,
     /// The emission was taken back before it was accepted.
@@ -57,10 +69,32 @@ pub enum Answer {
     /// A subscription began, at the value with this number, where it says so.
     Began(Option<u64>),
     Value(u64),
+    Values(Block),
     Nothing,
     Ended,
     /// Anything else.
     Other,
+}
+
+/// The values of a block of receipts.
+#[derive(Clone, Copy, Debug, PartialEq, Eq)]
+pub struct Block {
+    pub values: [Option<u64>; ROOM],
+}
+
+impl Block {
+    pub(crate) fn of(values: &[u64]) -> Block {
+        let mut block = [None; ROOM];
+        for (place, value) in block.iter_mut().zip(values.iter()) {
+            *place = Some(*value);
+        }
+        Block { values: block }
+    }
+}
+
+/// The values that follow on this one, of which a block of tries has the first.
+pub(crate) fn values_from(first: u64) -> [u64; TRIES] {
+    [first, first.wrapping_add(1), first.wrapping_add(2)]
 }
 
 /// A flow with two emitters, and two subscriptions that aren't there at first.

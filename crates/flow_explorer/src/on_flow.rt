@@ -1,6 +1,6 @@
 //! The parties on the flow for threads.
 
-use crate::calls::{Answer, Call, Party, Stage};
+use crate::calls::{Answer, Block, Call, Party, ROOM, Stage, values_from};
 use crate::schedules::{Engine, Schedule, play_on};
 use crate::story::{Story, Wrong};
 use futures::task::Poll;
@@ -37,6 +37,20 @@ fn attempt(rt: &impl Wait, id: u32, emitter: &mut Emitter<u64>, value: u64) -> A
     }
 }
 
+fn attempt_all(rt: &impl Wait, emitter: &mut Emitter<u64>, first: u64, size: u64) -> Answer {
+    let values = values_from(first);
+    let Some(block) = values.get(..size as usize) else {
+        return Answer::Other;
+    };
+    if emitter.in_flight() {
+        return Answer::Other;
+    }
+    match emitter.try_emit_all(rt, block) {
+        Ok(accepted) => Answer::Accepted(accepted),
+        Err(_) => Answer::Other,
+    }
+}
+
 fn emit(rt: &impl Wait, id: u32, emitter: &mut Emitter<u64>, value: u64) -> Answer {
     if emitter.in_flight() {
         return Answer::Other;
@@ -60,6 +74,15 @@ fn take_back(rt: &impl Wait, id: u32, emitter: &mut Emitter<u64>) -> Answer {
 fn take(subscription: &mut Subscription<u64>) -> Answer {
     match subscription.try_next() {
         Taken::Value(value) => Answer::Value(value),
+        Taken::Nothing => Answer::Nothing,
+        Taken::Overtaken => Answer::Other,
+    }
+}
+
+fn take_all(subscription: &mut Subscription<u64>, out: &mut Vec<u64>) -> Answer {
+    out.clear();
+    match subscription.try_next_all(out) {
+        Taken::Value(_) => Answer::Values(Block::of(out)),
         Taken::Nothing => Answer::Nothing,
         Taken::Overtaken => Answer::Other,
     }
@@ -93,6 +116,7 @@ impl<R: Wait> Flows<'_, R> {
     fn send(&self, id: u32, emitter: &mut Emitter<u64>, call: Call) -> Answer {
         match call {
             Call::Try(value) => attempt(self.rt, id, emitter, value),
+            Call::TryAll(first, size) => attempt_all(self.rt, emitter, first, size),
             Call::Emit(value) => emit(self.rt, id, emitter, value),
             Call::Ask => self.ask(id, emitter),
             Call::TakeBack => take_back(self.rt, id, emitter),
@@ -101,9 +125,17 @@ impl<R: Wait> Flows<'_, R> {
     }
 
     // By a poll, or without the lock.
-    fn receive(&self, subscription: &mut Subscription<u64>, call: Call) -> Answer {
+    fn receive(
+        &self,
+        subscription: &mut Subscription<u64>,
+        out: &mut Vec<u64>,
+        call: Call,
+    ) -> Answer {
         if call == Call::Take {
             return take(subscription);
+        }
+        if call == Call::TakeAll {
+            return take_all(subscription, out);
         }
         match self.task.enter(|cx| subscription.poll_next(self.rt, cx)) {
             Poll::Ready(value) => Answer::Value(value),
@@ -133,13 +165,14 @@ impl<R: Wait> Flows<'_, R> {
         &self,
         flow: &mut SharedFlow<u64>,
         place: &mut Option<Subscription<u64>>,
+        out: &mut Vec<u64>,
         call: Call,
     ) -> Answer {
         match call {
             Call::Subscribe => self.subscribe(flow, place),
             Call::Cancel => leave(self.rt, place.take()),
             _ => match place {
-                Some(subscription) => self.receive(subscription, call),
+                Some(subscription) => self.receive(subscription, out, call),
                 None => Answer::Other,
             },
         }
@@ -153,6 +186,8 @@ struct OnFlow<'a, R> {
     second: Emitter<u64>,
     a: Option<Subscription<u64>>,
     b: Option<Subscription<u64>>,
+    /// Room for a block of receipts.
+    out: Vec<u64>,
 }
 
 impl<R: Wait> Stage for OnFlow<'_, R> {
@@ -160,8 +195,12 @@ impl<R: Wait> Stage for OnFlow<'_, R> {
         match party {
             Party::First => self.flows.send(1, &mut self.first, call),
             Party::Second => self.flows.send(2, &mut self.second, call),
-            Party::A => self.flows.hear(&mut self.flow, &mut self.a, call),
-            Party::B => self.flows.hear(&mut self.flow, &mut self.b, call),
+            Party::A => self
+                .flows
+                .hear(&mut self.flow, &mut self.a, &mut self.out, call),
+            Party::B => self
+                .flows
+                .hear(&mut self.flow, &mut self.b, &mut self.out, call),
         }
     }
 }
@@ -176,6 +215,7 @@ impl<R: Wait> OnFlow<'_, R> {
             second,
             a,
             b,
+            out: _,
         } = self;
         leave(flows.rt, a);
         leave(flows.rt, b);
@@ -188,6 +228,9 @@ impl<R: Wait + AllocGlobal> Engine for Flows<'_, R> {
     fn play(&self, schedule: &Schedule) -> Result<(), Wrong> {
         let Ok(mut flow) = SharedFlow::new(self.rt.alloc(), schedule.config) else {
             return Err(Wrong::NotMade);
+        };
+        let Ok(out) = Vec::with_capacity(self.rt.alloc(), ROOM) else {
+            return Err(Wrong::NoMemory);
         };
         let Ok(first) = flow.emitter(self.rt, 1) else {
             return Err(Wrong::NotMade);
@@ -203,6 +246,7 @@ impl<R: Wait + AllocGlobal> Engine for Flows<'_, R> {
             second,
             a: None,
             b: None,
+            out,
         };
         let mut story = Story::new(self.rt.alloc(), schedule.config);
         let played = play_on(&mut stage, &mut story, schedule);

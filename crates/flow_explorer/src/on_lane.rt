@@ -3,7 +3,7 @@
 ghost use Rattle.shared_lane.specs.Readers.{IsReaderOf};
 ghost use Rattle.shared_lane.specs.Sequencers.{IsSequencerOf};
 
-use crate::calls::{Answer, Call, Party, Stage};
+use crate::calls::{Answer, Block, Call, Party, ROOM, Stage, values_from};
 use crate::schedules::{Engine, Schedule, play_on};
 use crate::story::{Story, Wrong};
 use shared_core::{Begun, Emit, Ticket, Tried, Withdrawn};
@@ -32,6 +32,15 @@ impl Reading<'_> {
         }
     }
 
+    fn take_all(&mut self, out: &mut Vec<u64>) -> Answer {
+        out.clear();
+        match self.reader.try_next_all(self.lane, out) {
+            Taken::Value(_) => Answer::Values(Block::of(out)),
+            Taken::Nothing => Answer::Nothing,
+            Taken::Overtaken => Answer::Other,
+        }
+    }
+
     fn leave(self) {
         let Reading { lane, reader } = self;
         reader.close(lane);
@@ -51,6 +60,17 @@ impl<'a> Sending<'a> {
         match self.sequencer.try_emit(self.lane, id, value) {
             Ok(Tried::Accepted(number)) => Answer::Told(number),
             Ok(_) => Answer::Refused,
+            Err(_) => Answer::Other,
+        }
+    }
+
+    fn attempt_all(&mut self, id: u32, first: u64, size: u64) -> Answer {
+        let values = values_from(first);
+        let Some(block) = values.get(..size as usize) else {
+            return Answer::Other;
+        };
+        match self.sequencer.try_emit_all(self.lane, id, block) {
+            Ok(accepted) => Answer::Accepted(accepted),
             Err(_) => Answer::Other,
         }
     }
@@ -88,6 +108,7 @@ impl<'a> Sending<'a> {
     fn send(&mut self, id: u32, out: &mut Option<Ticket>, call: Call) -> Answer {
         match (call, *out) {
             (Call::Try(value), _) => self.attempt(id, value),
+            (Call::TryAll(first, size), _) => self.attempt_all(id, first, size),
             (Call::Emit(value), _) => self.emit(id, out, value),
             (Call::Ask, Some(ticket)) => self.ask(ticket),
             (Call::TakeBack, Some(ticket)) => self.take_back(ticket),
@@ -113,11 +134,12 @@ impl<'a> Sending<'a> {
         }
     }
 
-    fn hear(&mut self, place: &mut Option<Reading<'a>>, call: Call) -> Answer {
+    fn hear(&mut self, out: &mut Vec<u64>, place: &mut Option<Reading<'a>>, call: Call) -> Answer {
         match call {
             Call::Subscribe => self.admit(place),
             Call::Cancel => leave(place.take()),
             _ => match place {
+                Some(reading) if call == Call::TakeAll => reading.take_all(out),
                 Some(reading) => reading.take(),
                 None => Answer::Other,
             },
@@ -141,6 +163,8 @@ struct OnLane<'a> {
     second: Option<Ticket>,
     a: Option<Reading<'a>>,
     b: Option<Reading<'a>>,
+    /// Room for a block of receipts.
+    out: Vec<u64>,
 }
 
 impl Stage for OnLane<'_> {
@@ -148,8 +172,8 @@ impl Stage for OnLane<'_> {
         match party {
             Party::First => self.sending.send(1, &mut self.first, call),
             Party::Second => self.sending.send(2, &mut self.second, call),
-            Party::A => self.sending.hear(&mut self.a, call),
-            Party::B => self.sending.hear(&mut self.b, call),
+            Party::A => self.sending.hear(&mut self.out, &mut self.a, call),
+            Party::B => self.sending.hear(&mut self.out, &mut self.b, call),
         }
     }
 }
@@ -158,6 +182,9 @@ impl Engine for Lanes {
     fn play(&self, schedule: &Schedule) -> Result<(), Wrong> {
         let Ok((lane, sequencer)) = Lane::new(self.alloc, schedule.config) else {
             return Err(Wrong::NotMade);
+        };
+        let Ok(out) = Vec::with_capacity(self.alloc, ROOM) else {
+            return Err(Wrong::NoMemory);
         };
         let mut stage = OnLane {
             sending: Sending {
@@ -168,6 +195,7 @@ impl Engine for Lanes {
             second: None,
             a: None,
             b: None,
+            out,
         };
         let mut story = Story::new(self.alloc, schedule.config);
         let played = play_on(&mut stage, &mut story, schedule);
@@ -177,6 +205,7 @@ impl Engine for Lanes {
             second: _,
             a,
             b,
+            out: _,
         } = stage;
         leave(a);
         leave(b);

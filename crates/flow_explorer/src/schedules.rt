@@ -1,6 +1,6 @@
 //! Scenes of three parties with four calls each, and every order of the twelve calls.
 
-use crate::calls::Call::{Cancel, Emit, Next, Subscribe, Take, TakeBack, Try};
+use crate::calls::Call::{Cancel, Emit, Next, Subscribe, Take, TakeAll, TakeBack, Try, TryAll};
 use crate::calls::Party::{A, B, First, Second};
 use crate::calls::{Call, Party, Stage};
 use crate::on_core::Cores;
@@ -24,7 +24,7 @@ const PENDING: u32 = 3;
 /// The calls of a party.
 pub type Script = (Party, [Call; 4]);
 
-/// Two emitters and a subscription; then an emitter and two subscriptions, one of which leaves, and one comes again.
+/// Two emitters and a subscription; then an emitter with blocks and two subscriptions, one of which leaves, and one comes again.
 const SCENES: [[Script; 3]; 2] = [
     [
         (First, [Emit(11), Try(12), Emit(13), TakeBack]),
@@ -32,9 +32,9 @@ const SCENES: [[Script; 3]; 2] = [
         (A, [Subscribe, Next, Take, Next]),
     ],
     [
-        (First, [Emit(11), Try(12), Emit(13), Emit(14)]),
-        (A, [Subscribe, Next, Take, Cancel]),
-        (B, [Subscribe, Next, Cancel, Subscribe]),
+        (First, [Emit(11), TryAll(12, 2), Emit(14), TryAll(15, 3)]),
+        (A, [Subscribe, Next, TakeAll, Cancel]),
+        (B, [Subscribe, TakeAll, Cancel, Subscribe]),
     ],
 ];
 

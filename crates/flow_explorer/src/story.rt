@@ -3,7 +3,7 @@
 //! An emission that waits is accepted at some call of somebody, and its number is told later, to who asks for it. So until then how
 //! many are accepted lies between `reached` and `reached` with all that are in flight. At the end each of them was told.
 
-use crate::calls::{Answer, Call, Party};
+use crate::calls::{Answer, Block, Call, Party};
 use shared_core::{Config, Policy};
 use std::alloc::Global;
 
@@ -131,7 +131,7 @@ impl Story {
         let has_life = self.has_life(party);
         let sending = self.sending(party);
         match call {
-            Call::Try(value) | Call::Emit(value) => {
+            Call::Try(value) | Call::TryAll(value, _) | Call::Emit(value) => {
                 if sending.is_in_flight {
                     return Some(Call::Ask);
                 }
@@ -140,7 +140,7 @@ impl Story {
             }
             Call::Ask | Call::TakeBack => sending.is_in_flight.then_some(call),
             Call::Subscribe => (!has_life).then_some(call),
-            Call::Next | Call::Take | Call::Cancel => has_life.then_some(call),
+            Call::Next | Call::Take | Call::TakeAll | Call::Cancel => has_life.then_some(call),
         }
     }
 
@@ -179,6 +179,20 @@ impl Story {
         Ok(())
     }
 
+    // So many of a block of so many were accepted, and the next one wasn't. Nobody else's emission may be in flight.
+    fn told_all(&mut self, party: Party, accepted: u64, size: u64) -> Result<(), Wrong> {
+        let first = self.sending(party).value;
+        for later in 0..accepted {
+            let number = self.reached;
+            self.sending(party).value = first.saturating_add(later);
+            self.told(party, number)?;
+        }
+        if accepted < size {
+            return self.refused();
+        }
+        Ok(())
+    }
+
     fn drop_oldest(&mut self) {
         let oldest = self.reached.saturating_sub(self.capacity());
         for life in &mut self.lives {
@@ -190,6 +204,9 @@ impl Story {
 
     // An emission had no room: some subscription may have as many values pending as may be.
     fn refused(&self) -> Result<(), Wrong> {
+        if self.config.policy == Policy::DropOldest {
+            return Err(Wrong::Refused);
+        }
         let (most, capacity) = (self.most(), self.capacity());
         for life in &self.lives {
             if life.is_open && most.saturating_sub(life.at) >= capacity {
@@ -246,6 +263,17 @@ impl Story {
         Ok(())
     }
 
+    // A block of receipts, one after another. Where there was room for one more, there was nothing for it.
+    fn heard_all(&mut self, party: Party, block: Block) -> Result<(), Wrong> {
+        for value in block.values {
+            match value {
+                Some(value) => self.heard(party, Answer::Value(value))?,
+                None => return self.heard(party, Answer::Nothing),
+            }
+        }
+        Ok(())
+    }
+
     // An emitter's emission isn't finished: it is in flight, or was taken back.
     fn set_in_flight(&mut self, party: Party, is_in_flight: bool) -> Result<(), Wrong> {
         self.sending(party).is_in_flight = is_in_flight;
@@ -257,13 +285,18 @@ impl Story {
         let policy = self.config.policy;
         match answer {
             Answer::Told(number) if call.is_emitters() => self.told(party, number),
-            Answer::Refused if call.begins() && policy != Policy::DropOldest => self.refused(),
+            Answer::Accepted(accepted) => match call {
+                Call::TryAll(_, size) if accepted <= size => self.told_all(party, accepted, size),
+                _ => Err(Wrong::Answer(call, answer)),
+            },
+            Answer::Refused if call.begins() => self.refused(),
             Answer::Waiting if call.may_wait() && policy == Policy::Suspend => {
                 self.set_in_flight(party, true)
             }
             Answer::Removed if call == Call::TakeBack => self.set_in_flight(party, false),
             Answer::Began(start) if call == Call::Subscribe => self.begin(party, start),
             Answer::Value(_) if call.receives() => self.heard(party, answer),
+            Answer::Values(block) if call == Call::TakeAll => self.heard_all(party, block),
             Answer::Nothing if call.receives() => self.heard(party, answer),
             Answer::Ended if call == Call::Cancel => self.heard(party, answer),
             _ => Err(Wrong::Answer(call, answer)),
