@@ -7,7 +7,9 @@ use crate::worker::Record;
 pub(crate) struct Counts {
     pub(crate) rounds: u64,
     pub(crate) accepted: u64,
+    pub(crate) accepted_in_blocks: u64,
     pub(crate) received: u64,
+    pub(crate) received_in_blocks: u64,
     pub(crate) dropped: u64,
     pub(crate) subscriptions: u64,
     pub(crate) sets: u64,
@@ -20,7 +22,9 @@ impl Counts {
         Counts {
             rounds: 0,
             accepted: 0,
+            accepted_in_blocks: 0,
             received: 0,
+            received_in_blocks: 0,
             dropped: 0,
             subscriptions: 0,
             sets: 0,
@@ -40,7 +44,13 @@ impl Counts {
         let accepted = record.told.len() as u64;
         let received = record.received.len() as u64;
         self.accepted = self.accepted.saturating_add(accepted);
+        self.accepted_in_blocks = self
+            .accepted_in_blocks
+            .saturating_add(record.told_in_blocks);
         self.received = self.received.saturating_add(received);
+        self.received_in_blocks = self
+            .received_in_blocks
+            .saturating_add(record.received_in_blocks);
         self.dropped = self.dropped.saturating_add(record.dropped);
         self.subscriptions = self.subscriptions.saturating_add(record.subscriptions);
         self.sets = self.sets.saturating_add(record.sets);

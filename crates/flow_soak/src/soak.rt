@@ -42,7 +42,15 @@ where
     check_places(rt.alloc(), &records)?;
     counts.add_round(&records);
     println!(rt; "threads\t{}", records.len())?;
+    println!(rt;
+        "accepted in blocks\t{}",
+        some_or_none(counts.accepted_in_blocks)
+    )?;
     println!(rt; "values received\t{}", some_or_none(counts.received))?;
+    println!(rt;
+        "received in blocks\t{}",
+        some_or_none(counts.received_in_blocks)
+    )?;
     println!(rt;
         "values collected of the state\t{}",
         some_or_none(counts.given)
@@ -58,8 +66,10 @@ fn some_or_none(count: u64) -> &'static str {
 fn write_counts(rt: &impl Print, counts: Counts) -> Result<(), Fault> {
     println!(rt; "rounds\t{}", counts.rounds)?;
     println!(rt; "emissions accepted\t{}", counts.accepted)?;
+    println!(rt; "accepted in blocks\t{}", counts.accepted_in_blocks)?;
     println!(rt; "subscriptions\t{}", counts.subscriptions)?;
     println!(rt; "values received\t{}", counts.received)?;
+    println!(rt; "received in blocks\t{}", counts.received_in_blocks)?;
     println!(rt; "values dropped by the policy\t{}", counts.dropped)?;
     println!(rt; "sets of the state\t{}", counts.sets)?;
     println!(rt; "values collected of the state\t{}", counts.given)?;
