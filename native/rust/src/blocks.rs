@@ -2,17 +2,44 @@
 
 use crate::refusal::Refusal;
 use crate::word::Word;
+use std::mem::MaybeUninit;
 
 /// How many words a block has: as many as a reader takes at once.
 pub(crate) const BLOCK: usize = 64;
 
-/// Writes the words of these values, of which there are no more than a block has, and gives those.
-fn words_of<'a, T: Word>(values: &[T], block: &'a mut [u64; BLOCK]) -> &'a [u64] {
-    let words = &mut block[..values.len()];
-    for (word, value) in words.iter_mut().zip(values) {
-        *word = value.to_word();
+/// Room for the words of a block. None is set before it is needed: that would cost as much as to pass on some values.
+pub(crate) struct Words([MaybeUninit<u64>; BLOCK]);
+
+impl Words {
+    pub(crate) fn room() -> Words {
+        Words([MaybeUninit::uninit(); BLOCK])
     }
-    words
+
+    /// Where the library puts words.
+    pub(crate) fn as_mut_ptr(&mut self) -> *mut u64 {
+        self.0.as_mut_ptr().cast()
+    }
+
+    /// Writes the words of these values, of which there are no more than a block has, and gives those.
+    fn of<T: Word>(&mut self, values: &[T]) -> &[u64] {
+        let words = &mut self.0[..values.len()];
+        for (word, value) in words.iter_mut().zip(values) {
+            word.write(value.to_word());
+        }
+        let words: *const [MaybeUninit<u64>] = words;
+        // SAFETY: each of these words was written just now, and such a word lies there as a u64 does.
+        unsafe { &*(words as *const [u64]) }
+    }
+
+    /// Adds the values of so many words, from the first on.
+    ///
+    /// # Safety
+    /// The library has written these words.
+    pub(crate) unsafe fn add_to<T: Word>(&self, values: &mut Vec<T>, count: u64) {
+        let words = &self.0[..count as usize];
+        // SAFETY: as this function asks.
+        values.extend(words.iter().map(|word| T::from_word(unsafe { word.assume_init() })));
+    }
 }
 
 /// Emits the values block by block, up to the first that isn't accepted, and says how many were; `emit` does so for the
@@ -21,12 +48,12 @@ pub(crate) fn emit_all<T: Word>(
     values: &[T],
     mut emit: impl FnMut(&[u64]) -> Result<u64, Refusal>,
 ) -> Result<u64, Refusal> {
-    let mut block = [0; BLOCK];
+    let mut block = Words::room();
     let mut accepted = 0;
     let mut rest = values;
     loop {
         let (first, later) = rest.split_at(rest.len().min(BLOCK));
-        match emit(words_of(first, &mut block)) {
+        match emit(block.of(first)) {
             Ok(count) => accepted += count,
             Err(refusal) if accepted == 0 => return Err(refusal),
             Err(_) => return Ok(accepted),
@@ -36,10 +63,4 @@ pub(crate) fn emit_all<T: Word>(
             return Ok(accepted);
         }
     }
-}
-
-/// Adds the values of so many words of a block, from the first on.
-pub(crate) fn add<T: Word>(values: &mut Vec<T>, block: &[u64; BLOCK], count: u64) {
-    let words = block.iter().take(count as usize);
-    values.extend(words.map(|word| T::from_word(*word)));
 }

@@ -1,7 +1,7 @@
 //! One subscriber's end of a lane.
 
 use crate::answers::{Closed, Taken};
-use crate::blocks::{add, BLOCK};
+use crate::blocks::{Words, BLOCK};
 use crate::raw::{self, Handle};
 use crate::sleepers::Sleepers;
 use crate::waiting::{Berth, Receive, RecvTimeoutError};
@@ -72,14 +72,15 @@ impl<T: Word> Reader<T> {
     /// # Ok::<(), hillgauze::Refusal>(())
     /// ```
     pub fn try_next_all(&mut self, values: &mut Vec<T>, most: usize) -> Taken<u64> {
-        let mut block = [0; BLOCK];
+        let mut block = Words::room();
         let words = block.as_mut_ptr();
         let room = most.min(BLOCK);
         // SAFETY: the handle is live, no other call has it, and there is room for `room` words.
         let reply = unsafe { raw::hillgauze_reader_try_next_all(self.handle.at(), words, room) };
         let taken = reply.taken_at_once();
         if let Taken::Value(count) = taken {
-            add(values, &block, count);
+            // SAFETY: the library has put so many words there.
+            unsafe { block.add_to(values, count) };
         }
         taken
     }

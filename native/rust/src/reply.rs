@@ -28,6 +28,20 @@ pub(crate) struct Reply {
     word: u64,
 }
 
+// Both are functions apart that are handed numbers, since a text that shows the reply needs it in memory: each call would
+// write it there, and the next exchange of a cursor would wait for that.
+#[cold]
+#[inline(never)]
+fn refused_for_no_reason(refusal: u32) -> ! {
+    panic!("the library refused a call that can't be: by {refusal}")
+}
+
+#[cold]
+#[inline(never)]
+fn unforeseen(kind: u32, word: u64) -> ! {
+    panic!("the library answered what its header doesn't say: {kind} with {word}")
+}
+
 impl Reply {
     /// The reply, where the call wasn't refused.
     pub(crate) fn granted(self) -> Result<Reply, Refusal> {
@@ -38,17 +52,18 @@ impl Reply {
     }
 
     // The kind of the reply of a call that can't be refused on a handle with an object of its kind.
+    #[inline]
     fn certain(self) -> u32 {
-        assert!(
-            self.refusal == 0,
-            "the library refused a call that can't be: {self:?}"
-        );
+        if self.refusal != 0 {
+            refused_for_no_reason(self.refusal);
+        }
         self.kind
     }
 
     // An answer that the header doesn't give the call.
+    #[inline]
     fn unforeseen(self) -> ! {
-        panic!("the library answered what its header doesn't say: {self:?}")
+        unforeseen(self.kind, self.word)
     }
 
     pub(crate) fn done(self) {

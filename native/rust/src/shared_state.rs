@@ -1,7 +1,7 @@
 //! A shared flow on one thread.
 
 use crate::answers::{Begun, Emit, Next, SubId, Ticket, Tried, Withdrawn};
-use crate::blocks::{add, emit_all, BLOCK};
+use crate::blocks::{emit_all, Words, BLOCK};
 use crate::config::Config;
 use crate::raw::{self, Handle, RawConfig};
 use crate::refusal::Refusal;
@@ -164,7 +164,7 @@ impl<T: Word> SharedState<T> {
         values: &mut Vec<T>,
         most: usize,
     ) -> Next<u64> {
-        let mut block = [0; BLOCK];
+        let mut block = Words::room();
         let mut left = most;
         loop {
             let room = left.min(BLOCK);
@@ -175,7 +175,8 @@ impl<T: Word> SharedState<T> {
             };
             match reply.received() {
                 Next::Value(count) => {
-                    add(values, &block, count);
+                    // SAFETY: the library has put so many words there.
+                    unsafe { block.add_to(values, count) };
                     left -= count as usize;
                     if left == 0 || count < room as u64 {
                         return Next::Value((most - left) as u64);

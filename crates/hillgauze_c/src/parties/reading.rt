@@ -29,15 +29,16 @@ pub(super) fn reserved(alloc: Global) -> Result<Vec<u64>, AllocError>
     Vec::with_capacity(alloc, BLOCK)
 }
 
-/// Leaves room for so many values.
+/// Leaves room for so many values, behind what came before, as far as there is any: it isn't looked at again.
 fn leave_room(block: &mut Vec<u64>, room: usize)
     requires capacity { vec_capacity block.old ≡ 64 }
     requires within { room ≤ 64 }
     ensures capacity { vec_capacity block.new ≡ 64 }
     ensures room { length block.new.items + room ≡ 64 }
 {
-    block.clear();
-    for _spare in room..BLOCK {
+    let filled = BLOCK - room;
+    block.truncate(filled);
+    for _place in block.len()..filled {
         block.push_reserved(0);
     }
 }
