@@ -1,6 +1,12 @@
 /* The parties of waiting.pml, which takes this file in at its end: who does what in each scene, and what is asserted once
    nobody can go on. */
 
+#ifdef STOPS
+#define IS_STOPPED(p) is_stopped[p]
+#else
+#define IS_STOPPED(p) 0
+#endif
+
 #define OWN \
     byte before, result, word_read, mine, woken; bit behind, got, may_wait, is_set; \
     byte came, seen; bit found, rings, has, early, lower, was_up
@@ -140,6 +146,48 @@ proctype answerer(byte p, e, s, left) {
 }
 #endif
 
+#ifdef STOPS
+/* Emits so many values, each until it is let go, and ends then with none in flight. */
+proctype stoppable_emitter(byte p, e, left) {
+    OWN;
+    bit is_let_go;
+    do
+    :: left == 0 -> break
+    :: else ->
+        emit_or_stop(p, e);
+        assert(standing[e] == 0 && (waiting_count == 0 || waiting[0] != e) && (waiting_count < 2 || waiting[1] != e));
+        if :: result == STOPPED -> break :: else -> left-- fi;
+        result = 0
+    od;
+    end(p)
+}
+
+/* Receives values until it is let go, and asks no more then, or cancels. */
+proctype stoppable_subscriber(byte p, s) {
+    OWN;
+    bit is_let_go;
+    do
+    ::  next_or_stop(p, s);
+        got = 0;
+        if :: result == STOPPED -> break :: else -> skip fi
+    od;
+    asks[s] = 0;
+    if
+    :: true -> skip
+    :: true -> cancel(p, s)
+    fi;
+    end(p)
+}
+
+/* Stops a party, at any moment, and once more, or never. */
+proctype stopper(byte p) {
+    do
+    :: true -> stop(p)
+    :: true -> break
+    od
+}
+#endif
+
 #define EVER 0, 0, 1
 #define TAKES(n) n, 0, 0
 #define TAKES_AND_STAYS(n) n, 1, 0
@@ -183,6 +231,13 @@ init {
 #elif SCENE == 11
         /* One that emits, one that gives its emission up, one that takes by try_next or next, and stays. */
         run emitter(0, 0, VALUES); run chooser(1, 1, 2); run taker(SUBSCRIBER(0), 0, VALUES, 1); parties = 7;
+#elif SCENE == 12
+        /* One that emits, one that receives until it is let go, and who stops that. */
+        run emitter(0, 0, VALUES); run stoppable_subscriber(SUBSCRIBER(0), 0); run stopper(SUBSCRIBER(0)); parties = 3;
+#elif SCENE == 13
+        /* One that emits until it is let go, one that receives too few for the last emission and stays, and who stops the first. */
+        run stoppable_emitter(0, 0, VALUES); run subscriber(SUBSCRIBER(0), 0, TAKES_AND_STAYS(VALUES - PLACES - 1));
+        run stopper(0); parties = 3;
 #endif
         skip
     };
@@ -191,7 +246,9 @@ init {
     assert(IS_FREE);
     do
     :: parties == 0 -> break
-    :: else -> if :: parties & 1 -> assert((ended & (1 << i)) || turn_of[i] == IDLE) :: else -> skip fi; i++; parties = parties >> 1
+    :: else ->
+        if :: parties & 1 -> assert((ended & (1 << i)) || (turn_of[i] == IDLE && !IS_STOPPED(i))) :: else -> skip fi;
+        i++; parties = parties >> 1
     od;
     assert(bare || waiting_count == 0 || ANY_BEHIND(CELLS));
     i = 0;

@@ -11,9 +11,10 @@
    -DLOCK_WORD        the lock by its word, as in lock.pml; without it, a lock that is taken or not
    -DBELL             what a thread sleeps by in steps: the run queue and the bell of the toolchain's futures; without it,
                       a thread goes on once its turn is queued
+   -DSTOPS            parties may be let go: stops.pml
    -DRULES            states more than that nobody is forgotten: what holds each time the lock is given back
 
-   A planted mistake is one of the names WRONG_.. here and in parkers.pml, each beside what it changes. */
+   A planted mistake is one of the names WRONG_.. here, in parkers.pml and in stops.pml, each beside what it changes. */
 #ifndef EMITTERS
 #define EMITTERS 1
 #endif
@@ -708,4 +709,7 @@ inline cancel(p, s) {
 /* Any other call that takes the lock, as SharedFlow::subscription_count. */
 inline look_in(p) { enter(p); scan(); leave(p) }
 
+#ifdef STOPS
+#include "stops.pml"
+#endif
 #include "scenes.pml"

@@ -1,8 +1,10 @@
-//! A shared flow between two threads: one emits, the other receives, and sleeps while nothing is there.
+//! A shared flow between two threads: one emits, the other receives, and sleeps while nothing is there. Who emits lets the other one
+//! go where it gives up.
 #![tactic(auto)]
 
 ghost use Rattle.std.specs.Prelude.{◌≡◌, None};
 
+use flow_stopping::{Received, StoppableParker, Stopper};
 use shared_core::{Config, Policy, Refusal};
 use shared_flow::{Emitter, Parker, SharedFlow, Subscription};
 use std::alloc::AllocGlobal;
@@ -23,7 +25,7 @@ const NEWS: Config = Config {
 };
 
 /// Emits two values. There is room for them, so it doesn't wait.
-fn send(rt: &impl Wait, emitter: &mut Emitter<u64>, parker: &mut Parker) -> Result<(), Refusal>
+fn emit_both(rt: &impl Wait, emitter: &mut Emitter<u64>, parker: &mut Parker) -> Result<(), Refusal>
     requires { emitter.old.ticket ≡ None }
 {
     emitter.emit(rt, parker, 10)?;
@@ -31,32 +33,55 @@ fn send(rt: &impl Wait, emitter: &mut Emitter<u64>, parker: &mut Parker) -> Resu
     Ok(())
 }
 
-/// Receives two values. The thread sleeps until each is there.
+/// One thread: it emits, or gives up and lets the other go, which sleeps until the values are there.
+fn send(
+    rt: &impl Wait,
+    emitter: &mut Emitter<u64>,
+    parker: &mut Parker,
+    other: &Stopper,
+) -> Result<(), Refusal>
+    requires { emitter.old.ticket ≡ None }
+{
+    let sent = emit_both(rt, emitter, parker);
+    if sent.is_err() {
+        other.stop();
+    }
+    sent
+}
+
+/// The other thread: it receives two values, and sleeps until each is there. Nothing where it was let go.
 fn receive(
     rt: &impl Wait,
     reader: &mut Subscription<u64>,
-    parker: &mut Parker,
-) -> Result<(u64, u64), Refusal> {
-    let first = reader.next(rt, parker)?;
-    let second = reader.next(rt, parker)?;
-    Ok((first, second))
+    parker: &mut StoppableParker,
+) -> Result<Option<(u64, u64)>, Refusal> {
+    let Received::Value(first) = parker.next(rt, reader)? else {
+        return Ok(None);
+    };
+    let Received::Value(second) = parker.next(rt, reader)? else {
+        return Ok(None);
+    };
+    Ok(Some((first, second)))
 }
 
-/// Both threads. What was made is ended on each path: an emitter and a subscription have no `Drop`.
-fn run<R>(rt: &R) -> Result<(u64, u64), Refusal>
+/// Both threads. Where no second one can be had, `join` calls the second closure first, so the one that doesn't wait stands there. What
+/// was made is ended on each path: an emitter and a subscription have no `Drop`.
+fn run<R>(rt: &R) -> Result<Option<(u64, u64)>, Refusal>
 where
     R: Wait + Threads + RandomSource + AllocGlobal + Sync,
 {
-    let mut one = Parker::new(rt)?;
-    let mut other = Parker::new(rt)?;
+    let mut sending = Parker::new(rt)?;
+    let (mut receiving, stopper) = StoppableParker::new(rt)?;
     let mut flow = SharedFlow::new(rt.alloc(), NEWS)?;
     let mut reader = flow.subscribe(rt)?;
     let received = match flow.emitter(rt, 1) {
         Ok(mut emitter) => {
-            let (sent, received) = thread::join(
+            let (received, sent) = thread::join(
                 rt,
-                || send(rt, &mut emitter, &mut one),
-                || receive(rt, &mut reader, &mut other),
+                || receive(rt, &mut reader, &mut receiving),
+                ||
+                    requires { emitter.ticket ≡ None }
+                { send(rt, &mut emitter, &mut sending, &stopper) },
             );
             emitter.close(rt);
             sent.and(received)
@@ -69,9 +94,13 @@ where
 
 fn main(rt: HostRuntime) -> io::Result<ExitCode> {
     match run(&rt) {
-        Ok((first, second)) => {
+        Ok(Some((first, second))) => {
             println!(rt; "received: {first}, {second}")?;
             Ok(ExitCode::SUCCESS)
+        }
+        Ok(None) => {
+            eprintln!(rt; "let go")?;
+            Ok(ExitCode::FAILURE)
         }
         Err(refusal) => {
             eprintln!(rt; "refused: {refusal}")?;

@@ -1,0 +1,18 @@
+-- An emission that is waited for, and may be let go.
+use Rattle.std.proofs.Common.{Result, Ok, Err, inr}
+use Rattle.flow_terms.specs.declared.refusal.Refusal.{Refusal}
+use Rattle.flow_terms.specs.declared.answers.Begun.TheVariants as begun
+use Rattle.shared_flow.specs.declared.round.Emission.{Emission}
+use Rattle.shared_flow.specs.Parties.{Emitting}
+use Rattle.shared_flow.specs.Emitters.{WasStarted}
+use Rattle.flow_stopping.specs.declared.answers.Emitted.{Emitted}
+use Rattle.flow_stopping.specs.declared.answers.Emitted.TheVariants as emitted
+use Rattle.flow_stopping.specs.Waits.{Emits, EndsAs}
+
+-- it began to wait, and so it ended
+pub waited_for : (e m f : Emitting) (emission : Emission) (answer : Result Emitted Refusal) → WasStarted e emission (Ok (begun.Waiting tt)) m
+    → EndsAs m answer f → Emits e emission answer f
+waited_for e m f emission (Ok (emitted.Accepted receipt)) started ends = inr (m, started, ends)
+waited_for e m f emission (Ok emitted.Dropped) started ends = absurd ends
+waited_for e m f emission (Ok emitted.Stopped) started ends = inr (m, started, ends)
+waited_for e m f emission (Err refusal) started ends = inr (m, started, ends)

@@ -1,0 +1,2 @@
+pub mod Emissions
+pub mod Looking

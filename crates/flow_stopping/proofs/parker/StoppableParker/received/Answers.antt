@@ -1,0 +1,28 @@
+use Rattle.std.proofs.Common.{subst, ◌∙◌}
+use Rattle.futures.specs.Poll.{IfReady, OnPending}
+use Rattle.shared_flow.specs.declared.round.Round.TheVariants as round
+use Rattle.shared_flow.specs.Entering.{Made}
+use Rattle.shared_flow.specs.Looks.{GaveIn, MissedTwice}
+use Rattle.shared_flow.specs.Preludes.{IsPast, GreetedOr}
+use Rattle.flow_stopping.proofs.Looking.{looked_on, received_since, rounds_since, since}
+use Rattle.flow_stopping.proofs.parker.StoppableParker.received.Goals as goal
+
+pub returns-in-Ready : goal.returns-in-Ready
+returns-in-Ready g c =
+    let before = c.args.subscription.now in
+    let turn = c.loop.subscription in
+    let after = c.poll_next-polled.new.self in
+    let read_as = g.T.Word.read_as in
+    let gave = subst (λ p. IfReady p (λ v. GreetedOr turn v after (GaveIn read_as turn.reader v after.reader))) c.in-Ready.is c.poll_next-polled.ensures.ready in (
+      c.poll_next-polled.ensures.same ∙ (since before turn c.loop.invariant).0,
+      rounds_since before turn after c.loop.invariant c.poll_next-polled.ensures.rounds,
+      received_since read_as before turn after c.in-Ready.value c.loop.invariant gave,
+    )
+
+pub loop-preserved : goal.loop-preserved
+loop-preserved g c =
+    let turn = c.loop.subscription in
+    let after = c.poll_next-polled.new.self in
+    let made = subst (λ p. OnPending p (Made round.Next turn.party after.party)) c.in_default-polled.is c.poll_next-polled.ensures.round in
+    let missed = subst (λ p. OnPending p (IsPast turn after × MissedTwice turn.reader after.reader)) c.in_default-polled.is c.poll_next-polled.ensures.pending in
+    looked_on c.args.subscription.now turn after c.loop.invariant c.poll_next-polled.ensures.same made missed.0 missed.1

@@ -1,0 +1,49 @@
+-- What a wait comes to that can be let go.
+use Rattle.std.specs.Prelude.{◌≡◌, ◌⊎◌, ℕ, Result, Ok, Err}
+use Rattle.flow_terms.specs.declared.refusal.Refusal.{Refusal}
+use Rattle.flow_terms.specs.declared.refusal.Refusal.TheVariants.{NoMemory}
+use Rattle.flow_terms.specs.declared.answers.Begun.TheVariants as begun
+use Rattle.shared_flow.specs.declared.round.Emission.{Emission}
+use Rattle.shared_flow.specs.Parties.{Emitting, Subscribed}
+use Rattle.shared_flow.specs.Emitters.{WasStarted, WasFinished, WasLeft, WasWithdrawn}
+use Rattle.shared_flow.specs.Emitters as emitters
+use Rattle.shared_flow.specs.Looks.{MissedOn, OnlyNext, Waited}
+use Rattle.shared_flow.specs.Preludes.{IsPast, GreetedOr}
+use Rattle.flow_stopping.specs.declared.answers.Received.{Received}
+use Rattle.flow_stopping.specs.declared.answers.Received.TheVariants as received
+use Rattle.flow_stopping.specs.declared.answers.Emitted.{Emitted}
+use Rattle.flow_stopping.specs.declared.answers.Emitted.TheVariants as emitted
+
+-- the subscription made rounds of looks alone, if any, and received nothing: it did nothing at all; or nothing was left of its
+-- prelude, and its looks took nothing
+abbrev pub LookedOn : {T : Type 0} → Subscribed T → Subscribed T → Type 0
+LookedOn s t = (t ≡ s) ⊎ ((t.number ≡ s.number) × OnlyNext s.party t.party × IsPast s t × MissedOn s.reader t.reader)
+
+-- what a wait for the next value comes to
+abbrev pub Receives : {T : Type 0} → (ℕ → T) → Subscribed T → Result (Received T) Refusal → Subscribed T → Type 0
+Receives read_as s (Ok (received.Value v)) t =
+    (t.number ≡ s.number) × OnlyNext s.party t.party × GreetedOr s v t (Waited read_as s.reader v t.reader)
+Receives read_as s (Ok received.Stopped) t = LookedOn s t
+Receives read_as s (Err refusal) t = (refusal ≡ NoMemory) × (t ≡ s)
+
+-- What an emission in flight comes to that is waited for: polls find it finished, or it is given up, which had been accepted; or
+-- the parker is stopped, or finds no memory to wait by, and it is withdrawn
+abbrev pub EndsAs : Emitting → Result Emitted Refusal → Emitting → Type 0
+EndsAs e (Ok (emitted.Accepted receipt)) f =
+    (m : Emitting) × emitters.Waited e m × (WasFinished m receipt f ⊎ WasLeft m receipt f)
+EndsAs e (Ok emitted.Dropped) f = ⊥
+EndsAs e (Ok emitted.Stopped) f = (m : Emitting) × emitters.Waited e m × WasWithdrawn m f
+EndsAs e (Err refusal) f = (refusal ≡ NoMemory) × WasWithdrawn e f
+
+-- the emission began to wait, and was waited for
+abbrev pub WaitedFor : Emitting → Emission → Result Emitted Refusal → Emitting → Type 0
+WaitedFor e emission answer f = (m : Emitting) × WasStarted e emission (Ok (begun.Waiting tt)) m × EndsAs m answer f
+
+-- what an emission comes to that is made, and waited for: it ended at its start, or had to wait; or nothing was done, since the
+-- parker was stopped before
+abbrev pub Emits : Emitting → Emission → Result Emitted Refusal → Emitting → Type 0
+Emits e emission (Ok (emitted.Accepted receipt)) f =
+    WasStarted e emission (Ok (begun.Accepted receipt)) f ⊎ WaitedFor e emission (Ok (emitted.Accepted receipt)) f
+Emits e emission (Ok emitted.Dropped) f = WasStarted e emission (Ok begun.Dropped) f
+Emits e emission (Ok emitted.Stopped) f = (f ≡ e) ⊎ WaitedFor e emission (Ok emitted.Stopped) f
+Emits e emission (Err refusal) f = WasStarted e emission (Err refusal) f ⊎ WaitedFor e emission (Err refusal) f

@@ -1,0 +1,58 @@
+//! A subscription's next value, unless the thread is let go.
+ghost use Rattle.std.specs.Prelude.{◌≡◌, IfErr};
+ghost use Rattle.flow_terms.specs.declared.refusal.Refusal.TheVariants.{NoMemory};
+ghost use Rattle.flow_stopping.specs.Waits.{LookedOn, Receives};
+
+use crate::answers::Received;
+use crate::parker::{StoppableParker, Turn};
+use flow_terms::{Refusal, Word};
+use futures::task::Poll;
+use shared_flow::Subscription;
+use std::sync::Wait;
+
+impl StoppableParker {
+    /// Receives the oldest value that is pending, and waits for one where there is none, as
+    /// [`Subscription::next`](shared_flow::Subscription::next) does, unless it is stopped: one turn of Kotlin's `collect`, in a
+    /// coroutine that may be cancelled.
+    ///
+    /// Where the parker is stopped, nothing is received: what is pending stays so. Refused as `NoMemory` where the parker finds no
+    /// memory to wait by, and then nothing was done.
+    pub fn next<T: Word>(
+        &mut self,
+        rt: &impl Wait,
+        subscription: &mut Subscription<T>,
+    ) -> Result<Received<T>, Refusal>
+        ensures { Receives T.read_as subscription.old result subscription.new }
+    {
+        if self.is_stopped() {
+            return Ok(Received::Stopped);
+        }
+        self.begin()?;
+        Ok(self.received(rt, subscription))
+    }
+
+    // Waits for the next value.
+    fn received<T: Word>(
+        &mut self,
+        rt: &impl Wait,
+        subscription: &mut Subscription<T>,
+    ) -> Received<T>
+        ensures { Receives T.read_as subscription.old (Ok result) subscription.new }
+    {
+        for _ in rt.forever() {
+            let Some(Turn { mut cx, is_stopped }) = self.turn(rt) else {
+                continue;
+            };
+            if is_stopped {
+                cx.cancel();
+                return Received::Stopped;
+            }
+            let polled = subscription.poll_next(rt, &mut cx);
+            cx.end(&polled);
+            if let Poll::Ready(value) = polled {
+                return Received::Value(value);
+            }
+        }
+        unreachable!()
+    }
+}

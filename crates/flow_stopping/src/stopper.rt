@@ -1,0 +1,36 @@
+//! Who lets a thread go.
+
+use futures::future::AbortHandle;
+use std::alloc::AllocError;
+
+/// Lets go whoever waits by its parker: Kotlin's `Job.cancel`. Any number of them may be had, on any thread.
+#[derive(Drop)]
+pub struct Stopper {
+    handle: AbortHandle,
+}
+
+impl Stopper {
+    pub(crate) fn of(handle: AbortHandle) -> Stopper {
+        Stopper { handle }
+    }
+
+    /// From now on, waits by the parker are stopped: one that is on is let go, and a later one ends at once. To stop it once more
+    /// does nothing. It takes no memory, and a lock for some steps. That the wake arrives isn't claimed.
+    pub fn stop(&self) {
+        self.handle.abort();
+    }
+
+    /// Whether the parker was stopped.
+    pub fn is_stopped(&self) -> bool {
+        self.handle.is_aborted()
+    }
+}
+
+impl Clone for Stopper {
+    /// Another stopper of the same parker. It takes no memory, and fails only where there are as many as a counter can tell apart.
+    fn clone(&self) -> Result<Stopper, AllocError> {
+        Ok(Stopper {
+            handle: self.handle.clone()?,
+        })
+    }
+}
