@@ -13,9 +13,9 @@ use std::sync::Wait;
 /// A flow, or who emits to it, by the block.
 #[derive(Drop)]
 pub(crate) struct ByBlock<F> {
-    flow: F,
+    pub(crate) flow: F,
     /// What one call emits.
-    block: Vec<u64>,
+    pub(crate) block: Vec<u64>,
 }
 
 /// A reader that takes values by the block.

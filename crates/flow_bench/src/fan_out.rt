@@ -6,7 +6,7 @@ use crate::fault::Fault;
 use crate::pause::Pause;
 use crate::report::report;
 use crate::sides::Feeds;
-use crate::{lane_fan_out, shared_fan_out};
+use crate::{lane_fan_out, shared_blocks, shared_fan_out};
 use bench_figures::{Figure, Part, Size, Unit};
 use cold_flow::Policy;
 use shared_core::Config;
@@ -64,13 +64,14 @@ enum Engine {
     Lane,
     Shared,
     LaneByBlock,
+    SharedByBlock,
 }
 
 impl Engine {
     fn part(self) -> Part {
         match self {
             Engine::Lane | Engine::LaneByBlock => Part::Lane,
-            Engine::Shared => Part::Shared,
+            Engine::Shared | Engine::SharedByBlock => Part::Shared,
         }
     }
 
@@ -79,7 +80,7 @@ impl Engine {
         match self {
             Engine::Lane => 5_000_000,
             Engine::Shared => 2_000_000,
-            Engine::LaneByBlock => 10_000_000,
+            Engine::LaneByBlock | Engine::SharedByBlock => 10_000_000,
         }
     }
 
@@ -87,7 +88,7 @@ impl Engine {
     fn scenarios(self) -> [(&'static str, u32); 3] {
         match self {
             Engine::Lane | Engine::Shared => SCENARIOS,
-            Engine::LaneByBlock => BY_BLOCK,
+            Engine::LaneByBlock | Engine::SharedByBlock => BY_BLOCK,
         }
     }
 
@@ -100,6 +101,7 @@ impl Engine {
             Engine::Lane => lane_fan_out::fanned_out(rt, config, values),
             Engine::Shared => shared_fan_out::fanned_out(rt, config, values),
             Engine::LaneByBlock => lane_fan_out::fanned_out_by_block(rt, config, values),
+            Engine::SharedByBlock => shared_blocks::fanned_out(rt, config, values),
         }
     }
 }
@@ -118,7 +120,8 @@ pub(crate) fn measure_by_block<R>(rt: &R, size: Size) -> Result<(), Fault>
 where
     R: Clock + Print + AllocGlobal + RandomSource + Threads + Wait + Sync,
 {
-    measure_by(rt, Engine::LaneByBlock, size)
+    measure_by(rt, Engine::LaneByBlock, size)?;
+    measure_by(rt, Engine::SharedByBlock, size)
 }
 
 /// Makes it with 1, 2 and 4 readers.

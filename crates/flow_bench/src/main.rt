@@ -22,6 +22,7 @@ mod receipts;
 mod report;
 mod scenario;
 mod script_lines;
+mod shared_blocks;
 mod shared_ends;
 mod shared_fan_out;
 mod shared_receipts;

@@ -6,7 +6,7 @@ use crate::fault::Fault;
 use crate::report::report;
 use crate::sides::{Admits, Emits, EmitsBlocks, Ends, admit_all, end_all};
 use crate::sums::sum_to;
-use crate::{core_receipts, lane_receipts, shared_receipts};
+use crate::{core_receipts, lane_receipts, shared_blocks, shared_receipts};
 use bench_figures::{Figure, Part, Size, Unit};
 use cold_flow::Policy;
 use shared_core::Config;
@@ -99,6 +99,7 @@ enum Engine {
     Shared,
     Lane,
     CoreByBlock,
+    SharedByBlock,
     LaneByBlock,
 }
 
@@ -117,6 +118,7 @@ impl Engine {
                 config,
                 values / BLOCK as u64,
             ),
+            Engine::SharedByBlock => shared_blocks::receipts(rt, config, values / BLOCK as u64),
             Engine::LaneByBlock => lane_receipts::receipts_by_block(
                 rt,
                 config,
@@ -128,7 +130,7 @@ impl Engine {
     fn part(self) -> Part {
         match self {
             Engine::Core | Engine::CoreByBlock => Part::Core,
-            Engine::Shared => Part::Shared,
+            Engine::Shared | Engine::SharedByBlock => Part::Shared,
             Engine::Lane | Engine::LaneByBlock => Part::Lane,
         }
     }
@@ -137,7 +139,7 @@ impl Engine {
     fn scenarios(self) -> [(&'static str, u32); 3] {
         match self {
             Engine::Core | Engine::Shared | Engine::Lane => SCENARIOS,
-            Engine::CoreByBlock | Engine::LaneByBlock => BY_BLOCK,
+            Engine::CoreByBlock | Engine::SharedByBlock | Engine::LaneByBlock => BY_BLOCK,
         }
     }
 }
@@ -158,6 +160,7 @@ where
     R: Clock + Print + AllocGlobal + RandomSource + Wait,
 {
     measure_by(rt, Engine::CoreByBlock, size)?;
+    measure_by(rt, Engine::SharedByBlock, size)?;
     measure_by(rt, Engine::LaneByBlock, size)
 }
 

@@ -3,7 +3,7 @@
 ghost use Rattle.std.specs.Prelude.{◌≡◌, None};
 
 use crate::fault::Fault;
-use crate::sides::{Emits, Ends, Feeds};
+use crate::sides::{Emits, EmitsBlocks, Ends, Feeds};
 use shared_core::Tried;
 use shared_flow::{Emitter, SharedFlow, Subscription};
 use std::sync::Wait;
@@ -30,6 +30,13 @@ impl Emits for IdleEmitter {
     #[inline]
     fn emit<R: Wait>(&mut self, rt: &R, value: u64) -> bool {
         matches!(self.emitter.try_emit(rt, value), Ok(Tried::Accepted(_)))
+    }
+}
+
+impl EmitsBlocks for IdleEmitter {
+    #[inline]
+    fn emit_block<R: Wait>(&mut self, rt: &R, block: &[u64]) -> u64 {
+        self.emitter.try_emit_all(rt, block).unwrap_or(0)
     }
 }
 
