@@ -1,12 +1,17 @@
-//! The ring, and a lane, beside the lists that the ring replaced: call by call, and by blocks, which the lists take one by one.
+//! The ring, a lane, and a shared flow for threads, beside the lists that the ring replaced: call by call, and by blocks, which the
+//! lists take one by one.
 
 use crate::core_rows::caches;
+use crate::flow_body::FlowBody;
 use crate::lane_body::{LaneBody, lane_of};
 use crate::list_body::ListBody;
 use cold_flow::{Policy, Refusal};
+use futures::test::MockTask;
 use shared_core::{Call, Config, Next, Prelude, Reply, SharedState, SubId, Ticket};
 use std::alloc::{AllocError, AllocGlobal, Global};
 use std::process::Abort;
+use std::random::RandomSource;
+use std::sync::Wait;
 use std::test::Fail;
 
 /// How many lists of calls are made on each body, and how many calls each has.
@@ -35,7 +40,7 @@ pub(crate) trait Body {
     fn next_all(&mut self, id: SubId, out: &mut Vec<u64>) -> Next<u64>;
 
     /// Are these the values of the replay cache?
-    fn caches(&self, values: &[u64]) -> bool;
+    fn caches(&mut self, values: &[u64]) -> bool;
 }
 
 /// The ring, and room for its replies.
@@ -60,7 +65,7 @@ impl Body for RingBody {
         self.flow.try_next_all(id, out)
     }
 
-    fn caches(&self, values: &[u64]) -> bool {
+    fn caches(&mut self, values: &[u64]) -> bool {
         caches(&self.flow, values)
     }
 }
@@ -70,6 +75,7 @@ impl Body for RingBody {
 enum Kind {
     Ring,
     Lane,
+    Flow,
 }
 
 /// Numbers that look random, the same in each run.
@@ -271,8 +277,22 @@ fn lane_agrees(alloc: Global, random: &mut Random) -> Result<bool, Fail> {
     Ok(agrees?)
 }
 
+/// A shared flow for threads, and the lists.
+fn flow_agrees<R: AllocGlobal + Wait>(
+    rt: &R,
+    task: &MockTask,
+    random: &mut Random,
+) -> Result<bool, Fail> {
+    let config = random.config();
+    let mut lists = ListBody::new(rt.alloc(), config);
+    let mut body = FlowBody::new(rt, task, config)?;
+    let agrees = replies_agree(rt.alloc(), random, &mut lists, &mut body);
+    body.end();
+    Ok(agrees?)
+}
+
 /// Makes so many lists of calls on flows with so many seats at most.
-fn replies_are_the_same<R: AllocGlobal + Abort>(
+fn replies_are_the_same<R: AllocGlobal + RandomSource + Wait + Abort>(
     rt: &R,
     kind: Kind,
     seats: u64,
@@ -283,10 +303,12 @@ fn replies_are_the_same<R: AllocGlobal + Abort>(
         kind,
         seats,
     };
+    let task = MockTask::new(rt)?;
     for list in 0..lists {
         let agrees = match kind {
             Kind::Ring => ring_agrees(rt.alloc(), &mut random)?,
             Kind::Lane => lane_agrees(rt.alloc(), &mut random)?,
+            Kind::Flow => flow_agrees(rt, &task, &mut random)?,
         };
         assert!(rt; agrees, "list {list}");
     }
@@ -307,4 +329,9 @@ fn ring_replies_as_the_lists_did_among_many(rt: HostRuntime) -> Result<(), Fail>
 #[test]
 fn a_lane_replies_as_the_lists_did(rt: HostRuntime) -> Result<(), Fail> {
     replies_are_the_same(&rt, Kind::Lane, 4, LISTS)
+}
+
+#[test]
+fn a_shared_flow_replies_as_the_lists_did(rt: HostRuntime) -> Result<(), Fail> {
+    replies_are_the_same(&rt, Kind::Flow, 4, LISTS)
 }

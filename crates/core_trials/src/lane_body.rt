@@ -236,7 +236,7 @@ impl Body for LaneBody<'_> {
         Next::Value(taken)
     }
 
-    fn caches(&self, values: &[u64]) -> bool {
+    fn caches(&mut self, values: &[u64]) -> bool {
         self.sending.caches(values)
     }
 }

@@ -9,6 +9,8 @@ mod core_limits;
 #[cfg(test)]
 mod core_rows;
 #[cfg(test)]
+mod flow_body;
+#[cfg(test)]
 mod lane_blocks;
 #[cfg(test)]
 mod lane_body;
