@@ -174,10 +174,12 @@ fn who_was_stopped_does_nothing(rt: HostRuntime) -> Result<(), Fail> {
     let (mut pair, stoppers) = paired(&rt);
     let first = sent(&rt, &mut pair.emitter, &mut pair.sending, 5);
     let other = stoppers.hearing.clone().expect(&rt, "another stopper");
+    let was_stopped = other.is_stopped() || pair.hearing.is_stopped();
     other.stop();
-    stoppers.hearing.stop();
+    let is_heard = stoppers.hearing.is_stopped() && pair.hearing.is_stopped();
+    other.stop();
     stoppers.sending.stop();
-    let are_stopped = other.is_stopped() && pair.sending.is_stopped();
+    let are_stopped = is_heard && pair.sending.is_stopped();
     let second = sent(&rt, &mut pair.emitter, &mut pair.sending, 6);
     let none = heard(&rt, &mut pair.subscription, &mut pair.hearing);
     let found = [first, second, none, pair.end(&rt)];
@@ -186,7 +188,10 @@ fn who_was_stopped_does_nothing(rt: HostRuntime) -> Result<(), Fail> {
         [ACCEPTED, STOPPED, STOPPED, 5],
         "what the calls came to"
     );
-    assert!(rt; are_stopped, "both are stopped");
+    assert!(rt;
+        are_stopped && !was_stopped,
+        "both are stopped then, and were not before"
+    );
     Ok(())
 }
 
