@@ -1,0 +1,30 @@
+-- Asks of a wait, one after another.
+use Rattle.std.specs.Prelude.{Option, Some, None}
+use Rattle.state_flow.specs.declared.view.View.{View}
+use Rattle.state_waiting.specs.declared.collected.Collected.{Collected}
+use Rattle.state_waiting.specs.declared.collected.Collected.TheVariants as collected
+use Rattle.state_waiting.specs.declared.collected.Turn.TheVariants as turn
+use Rattle.state_waiting.specs.Waits.{AskedOn, Awaits, AwaitsWithin, Comes, MissedOn, not_once, once_more}
+
+module _ {T : Type 0} where
+  -- after asks that gave nothing come more that gave nothing
+  pub missed_on : (v m w : View T) → MissedOn v m → MissedOn m w → MissedOn v w
+  missed_on v m w before (not_once x) = before
+  missed_on v m w before (once_more x n y more last) = once_more v n w (missed_on v m n before more) last
+
+  pub asked_on : (v m w : View T) (given : Option T) → MissedOn v m → AskedOn m given w → AskedOn v given w
+  asked_on v m w given before asked = (asked.0, missed_on v m asked.0 before asked.1, asked.2)
+
+  -- asks that gave nothing come before a wait
+  pub awaits : (v m w : View T) (c : Collected T) → MissedOn v m → Awaits m c w → Awaits v c w
+  awaits v m w (collected.Value x) before waited = asked_on v m w (Some x) before waited
+  awaits v m w collected.Stopped before waited = asked_on v m w None before waited
+
+  pub awaits_within : (v m w : View T) (c : Option (Collected T)) → MissedOn v m → AwaitsWithin m c w → AwaitsWithin v c w
+  awaits_within v m w (Some c) before waited = awaits v m w c before waited
+  awaits_within v m w None before waited = asked_on v m w None before waited
+
+  -- asks that gave nothing, and the turn that ends the wait
+  pub is_over : (v m w : View T) (c : Collected T) → MissedOn v m → Comes m (turn.Over c) w → Awaits v c w
+  is_over v m w (collected.Value x) before came = (m, before, came)
+  is_over v m w collected.Stopped before came = (m, before, came)

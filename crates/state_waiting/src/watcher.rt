@@ -1,0 +1,165 @@
+//! A collector of a state that sleeps until the state changes.
+ghost use Rattle.std.specs.Prelude.{◌≡◌, Some, IfSome, IfNone};
+ghost use Rattle.state_flow.specs.Calls.{Collects, Ends};
+ghost use Rattle.state_waiting.specs.Waits.{AskedOn, Awaits, AwaitsWithin, Comes, MissedOn};
+
+use crate::bell::{Bell, pause};
+use crate::collected::{Collected, Turn};
+use crate::limit::Limit;
+use crate::seat::WatchedSeat;
+use flow_terms::Word;
+use state_flow::Collector;
+use std::marker::Model;
+use std::sync::{Arc, Wait};
+use std::time::{Clock, Duration};
+
+/// How often a watcher asks before it sleeps. With the pauses in between that takes some microseconds at most; to sleep and to be
+/// woken takes more, of itself and of who wakes it.
+const LOOKS: u32 = 4;
+
+/// A watcher of a state: what runs inside Kotlin's `collect`, where it suspends. What it is given, over all its asks, is a
+/// subsequence of the value history without equal neighbours.
+///
+/// It must be spent, by [`cancel`](Watcher::cancel). Contracts see which flow it is, and its [`View`](state_flow::View).
+pub struct Watcher<T: Word> {
+    collector: Collector<T>,
+    bell: Arc<Bell>,
+}
+
+impl<T: Word> Model for Watcher<T> {
+    ghost use Rattle.state_flow.specs.Views.{SeatSeen};
+
+    ghost Value = { SeatSeen T };
+
+    ghost view = { λ w. w.collector };
+}
+
+impl<T: Word> Watcher<T> {
+    pub(crate) fn over(collector: Collector<T>, bell: Arc<Bell>) -> Watcher<T>
+        ensures { result ≡ collector }
+    {
+        Watcher { collector, bell }
+    }
+
+    /// The value where it differs from the last one that this watcher was given, else nothing; by one load. The first ask gives the
+    /// value. Kotlin has no such call: there `collect` suspends where this answers `None`.
+    pub fn try_next(&mut self) -> Option<T>
+        ensures same_flow { self.new.flow ≡ self.old.flow }
+        ensures received { Collects self.old.view result self.new.view }
+    {
+        self.collector.try_next()
+    }
+
+    /// The value once it differs from the last one that this watcher was given, for which the thread sleeps: one turn of Kotlin's
+    /// `collect`. `Stopped` where all were let go, by [`WatchedSeat::stop`], and there is nothing new: what was set before the stop
+    /// is given first.
+    ///
+    /// A value that is there costs what [`try_next`](Watcher::try_next) costs. It takes no lock and no memory. That a wake arrives,
+    /// by any time, isn't claimed.
+    pub fn next(&mut self, rt: &impl Wait) -> Collected<T>
+        ensures same_flow { self.new.flow ≡ self.old.flow }
+        ensures collected { Awaits self.old.view result self.new.view }
+    {
+        if let Some(value) = self.look_on() {
+            return Collected::Value(value);
+        }
+        self.bell.lie_down();
+        let collected = self.wait(rt);
+        self.bell.rise();
+        collected
+    }
+
+    /// The same, for no longer than `limit`, and then nothing: Kotlin's `withTimeoutOrNull(limit) { .. }` around that turn. The
+    /// time begins to run once the watcher has found nothing a few times; where the clock can't be read it counts as up. That it
+    /// ends then isn't claimed.
+    pub fn next_within<R: Wait + Clock>(&mut self, rt: &R, limit: Duration) -> Option<Collected<T>>
+        ensures same_flow { self.new.flow ≡ self.old.flow }
+        ensures collected { AwaitsWithin self.old.view result self.new.view }
+    {
+        if let Some(value) = self.look_on() {
+            return Some(Collected::Value(value));
+        }
+        let limit = Limit::from_now(rt, limit);
+        self.bell.lie_down();
+        let collected = self.wait_within(rt, &limit);
+        self.bell.rise();
+        collected
+    }
+
+    // Asks a few times, until there is a value.
+    fn look_on(&mut self) -> Option<T>
+        ensures same_flow { self.new.flow ≡ self.old.flow }
+        ensures given { IfSome result (λ x. AskedOn self.old.view (Some x) self.new.view) }
+        ensures missed { IfNone result (MissedOn self.old.view self.new.view) }
+    {
+        for _ in 0..LOOKS {
+            if let Some(value) = self.collector.try_next() {
+                return Some(value);
+            }
+            pause();
+        }
+        None
+    }
+
+    // Sleeps until there is a value, or all were let go. The watcher has to be counted as a sleeper.
+    fn wait(&mut self, rt: &impl Wait) -> Collected<T>
+        ensures same_flow { self.new.flow ≡ self.old.flow }
+        ensures collected { Awaits self.old.view result self.new.view }
+    {
+        for _ in rt.forever() {
+            match self.turn() {
+                Turn::Over(collected) => return collected,
+                Turn::Asleep(turn) => self.bell.sleep(rt, turn),
+            }
+        }
+        unreachable!()
+    }
+
+    // Sleeps so too, for no longer than the time that is left.
+    fn wait_within<R: Wait + Clock>(&mut self, rt: &R, limit: &Limit) -> Option<Collected<T>>
+        ensures same_flow { self.new.flow ≡ self.old.flow }
+        ensures collected { AwaitsWithin self.old.view result self.new.view }
+    {
+        for _ in rt.forever() {
+            let left = limit.left(rt);
+            match self.turn() {
+                Turn::Over(collected) => return Some(collected),
+                Turn::Asleep(_) if left.is_zero() => return None,
+                Turn::Asleep(turn) => self.bell.sleep_for(rt, turn, left),
+            }
+        }
+        unreachable!()
+    }
+
+    // One turn of a wait: asks, and says on which turn to sleep where there is nothing.
+    fn turn(&mut self) -> Turn<T>
+        ensures same_flow { self.new.flow ≡ self.old.flow }
+        ensures came { Comes self.old.view result self.new.view }
+    {
+        // Both are loaded before the value: a ring after that is seen by the turn, and what was set before the stop is given first.
+        let turn = self.bell.turn();
+        let is_let_go = self.bell.is_let_go();
+        if let Some(value) = self.collector.try_next() {
+            return Turn::Over(Collected::Value(value));
+        }
+        if is_let_go {
+            return Turn::Over(Collected::Stopped);
+        }
+        Turn::Asleep(turn)
+    }
+
+    /// Whether who waits on this state is let go.
+    pub fn is_stopped(&self) -> bool {
+        self.bell.is_let_go()
+    }
+
+    /// Ends the watching, and gives the seat back: what Kotlin does where the coroutine that collects is cancelled. The number of
+    /// watchers goes down by one.
+    pub fn cancel(self) -> WatchedSeat<T>
+        ensures same_flow { result.flow ≡ self.flow }
+        ensures ends { Ends self.view result.view }
+    {
+        let Watcher { collector, bell } = self;
+        WatchedSeat::over(collector.cancel(), bell)
+    }
+}
