@@ -1,5 +1,5 @@
 //! Sequencer and reader compare what they know.
-ghost use Rattle.std.specs.Prelude.{◌≡◌, ◌+◌};
+ghost use Rattle.std.specs.Prelude.{◌≡◌, ◌+◌, ◌≤◌};
 ghost use Rattle.lane_steps.specs.Law.{lost};
 ghost use Rattle.shared_lane.specs.Readers.{IsReaderOf, IsSameReader, WentTo, at, received_count, lost_count};
 ghost use Rattle.shared_lane.specs.Sequencers.{IsSequencerOf, OnlyLoaded, seen, next};
@@ -35,6 +35,7 @@ pub fn meet<A: Allocator, B: Allocator>(
     ensures seen { reader.new.seen ≡ seen sequencer.new }
     ensures lost { lost reader.new.start reader.new.story ≡ lost_by sequencer.new reader.new.place }
     ensures accepted { reader.new.start + result.accepted ≡ next sequencer.new }
+    ensures within { at reader.new ≤ next sequencer.new }
     ensures counts { (result.received ≡ received_count reader.new) × (result.dropped ≡ lost_count reader.new) }
 {
     let words = lane.words();

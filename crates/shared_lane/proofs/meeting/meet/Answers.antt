@@ -85,3 +85,12 @@ returns-clause-reader g c = rw (← c.reader.view_is) (let s = c.reader.inside i
         ap (λ (x : Reading). x.story) e ∙ ap (λ (z : ℕ). r.story ++ replicate (z - position r) false) (sym there),
       ),
     ))
+
+pub returns-clause-within : goal.returns-clause-within
+returns-clause-within g c = let s = c.reader.inside in let r : Reading = s.seat.me.0.reading in let n : ℕ = c.meet_cursor-at.result in let part = ap (λ m. m.0.reading) c.split_reading-part.ensures.reader.1 in
+    let join = ap (λ (v : View). v.reading) c.join_reading.ensures.1 ∙ part in let met = c.meet_cursor-at.ensures.view in let le : position r ≤ n = subst (λ (z : Reading). position z ≤ n) join met.4 in
+    let e : c.split_reading.result.me.0.reading ≡ found_at n r = ap (λ m. m.0.reading) c.split_reading.ensures.reader.1 ∙ (ap (λ (v : View). v.reading) met.0 ∙ ap (found_at n) join) in
+    let there : position c.split_reading.result.me.0.reading ≡ n = ap position e ∙ position_found n r le in
+    let same : next_number c.split_reading.new.seat.me.0 ≡ next_number c.sequencer.inside.seat.me.0 = ap next_number c.split_reading.ensures.seat.1 ∙ (ap next_number met.0 ∙ ap next_number c.join_reading.ensures.1) in
+    let below : n ≤ next_number c.join_reading.new.seat.me.0 = met.5 in let same' : next_number c.join_reading.new.seat.me.0 ≡ next_number c.sequencer.inside.seat.me.0 = ap next_number c.join_reading.ensures.1 in
+    omega arith
