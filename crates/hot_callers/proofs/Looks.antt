@@ -8,7 +8,7 @@ use Rattle.shared_lane.proofs.Lives.{took_went}
 use Rattle.shared_flow.specs.Lives.{Turn, greeted, looked, LivesOn, received_in}
 use Rattle.shared_flow.specs.Looks.{Gave, GaveIn, Missed, MissedTwice, MissedOn, not_once, once_more, Waited}
 use Rattle.shared_flow.specs.Parties.{Subscribed}
-use Rattle.shared_flow.specs.Preludes.{IsGreeted, IsPast, GreetedOr}
+use Rattle.shared_flow.specs.Preludes.{IsGreeted, IsPast, GreetedOr, TookFirst}
 use Rattle.shared_flow.proofs.Lives.{lives_more, received_more}
 use Rattle.hot_callers.specs.SharedCalls.{HasTaken}
 
@@ -81,3 +81,18 @@ pub took_none : (answer : Result ℕ Refusal) (s t : Subscribed ℕ) → IfErr a
     → IfErr answer (λ refusal. (refusal ≡ NoMemory) × HasTaken s [] t)
 took_none (Ok v) s t missed = tt
 took_none (Err refusal) s t missed = (missed.0, by_reader s t [] missed.1 (missed_one [] s.reader t.reader missed.2))
+
+-- a call that doesn't wait
+pub tried_one : (s t : Subscribed ℕ) (v : ℕ) → TookFirst (λ word. word) s (Value v) t → HasTaken s (v ∷ []) t
+tried_one s t v gives = greeted_or s t v (Gave (λ word. word) s.reader v t.reader) (gave_one s.reader t.reader v) gives
+
+pub tried_none : (s t : Subscribed ℕ) → IsPast s t × Missed s.reader t.reader → HasTaken s [] t
+tried_none s t missed = by_reader s t [] missed.0 (missed_one [] s.reader t.reader missed.1)
+
+-- what was taken, and then more
+pub taken_on : (s m t : Subscribed ℕ) (values more : List ℕ) → HasTaken s values m → HasTaken m more t → HasTaken s (values ++ more) t
+taken_on s m t values more was now = (
+  was.0 ++ now.0,
+  lives_more s.rest s.reader was.0 m.rest m.reader now.0 t.rest t.reader was.1 now.1,
+  received_more (λ word. word) was.0 now.0 ∙ (λ i. was.2 i ++ now.2 i),
+)

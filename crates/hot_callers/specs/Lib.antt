@@ -1,3 +1,4 @@
 pub mod Lights
 pub mod LightLaws
 pub mod SharedCalls
+pub mod Exchanges

@@ -8,7 +8,7 @@ use Rattle.flow_terms.specs.declared.answers.Next.{Next}
 use Rattle.flow_terms.specs.declared.answers.Next.TheVariants.{Value, Nothing, Closed}
 use Rattle.shared_flow.specs.declared.round.Round.TheVariants as round
 use Rattle.shared_flow.specs.Entering.{Made}
-use Rattle.shared_flow.specs.Looks.{WasLetInto, GaveIn, MissedTwice}
+use Rattle.shared_flow.specs.Looks.{WasLetInBy, GaveIn, MissedTwice}
 use Rattle.shared_flow.specs.Owners.{Owning, at_rest, IsLeftOut}
 use Rattle.shared_flow.specs.Parties.{Subscribed, with_round, newcomer_of}
 use Rattle.shared_flow.specs.Preludes.{GreetedOr, IsPast}
@@ -28,7 +28,7 @@ subscribing_of it = record { flow = it.flow; places = it.places.items }
 -- it out, or there was no memory for one and nobody made a call, and before both, these values are too many
 abbrev pub Subscribes : Subscribing → List ℕ → Result SubId Refusal → Subscribing → Type 0
 Subscribes old prelude (Ok id) new = (length prelude ≤ 16) × (id.0 ≡ length old.places) × ((s : Subscribed ℕ) × (s.rest ≡ prelude)
-    × (s.party ≡ newcomer_of s.party.pass old.flow.party) × WasLetInto old.flow.party.flow s.number s.reader
+    × (s.party ≡ newcomer_of s.party.pass old.flow.party) × WasLetInBy s.number s.reader old.flow.party new.flow.party
     × (new ≡ record { flow = at_rest (with_round (round.Subscribe (Ok s.number)) new.flow.party.seen old.flow.party); places = old.places ++ Some s ∷ [] }))
 Subscribes old prelude (Err refusal) new = ((16 < length prelude) × (refusal ≡ PreludeTooLong) × (new ≡ old))
     ⊎ ((length prelude ≤ 16) × IsLeftOut old.flow refusal new.flow × (new.places ≡ old.places))

@@ -7,14 +7,14 @@ use Rattle.lane_steps.specs.Law.{Begins}
 use Rattle.shared_lane.specs.Headline.{Lived, Went, WasLetIn, given, ReceivesCacheThenLater}
 use Rattle.shared_lane.specs.Readers.{at, IsSameReader}
 use Rattle.shared_lane.specs.Sequencers.{seen}
-use Rattle.shared_lane.specs.Views.{ReaderSeen}
+use Rattle.shared_lane.specs.Views.{ReaderSeen, SequencerSeen}
 use Rattle.shared_lane.proofs.Lives.{receives, lived_more, given_one}
 use Rattle.shared_flow.specs.declared.round.Round.{Round}
 use Rattle.shared_flow.specs.Names.{SharedSeen, IsNew}
 use Rattle.shared_flow.specs.Queue.{progress_of}
 use Rattle.shared_flow.specs.Entering.{IsLeftBy}
 use Rattle.shared_flow.specs.Reach.{Rounds, rounds_in}
-use Rattle.shared_flow.specs.Rounds.{Does}
+use Rattle.shared_flow.specs.Rounds.{Does, WasAdmitted}
 use Rattle.shared_flow.specs.Laws.{IsOneFlow, IsRuled, HasOneList, EachSubscriptionLaw, knowing}
 use Rattle.shared_flow.proofs.Lives.{looks, reader_lived, with_prelude}
 use Rattle.shared_flow.proofs.Boxes.{in_begins, same_own, unboxed}
@@ -54,10 +54,17 @@ each_reader now cache start reader calls begun lived far begins =
     let longer : at reader ≤ reader.shape.first + length (seen now.sequencer) = let more = ap length begins.1 ∙ length-append reader.seen begins.0 in omega (arith, far, more) in
     subst (ReceivesCacheThenLater cache start (knowing now reader)) none (receives cache start (knowing now reader) (calls ++ None ∷ []) begun told longer)
 
+-- who was let in by a round starts at the replay cache that this round left
+let_in_at : (found let_in : SharedSeen) (start : ReaderSeen) → WasAdmitted found start let_in → WasLetIn let_in.sequencer.cache start
+let_in_at found let_in start was =
+    let same : let_in.sequencer.cache ≡ was.0.cache = ap (λ (q : SequencerSeen). q.cache) was.5.2.0 ∙ ap (λ (q : SequencerSeen). q.cache) was.5.1.counted in
+    subst (λ (cache : List ℕ). WasLetIn cache start) (sym same) was.5.1.begins
+
 pub each_subscription : {T : Type 0} (read_as : ℕ → T) → EachSubscriptionLaw read_as
-each_subscription read_as = λ made now log prelude left cache start reader turns was begun lives far begins.
-    let lived = reader_lived prelude start turns left reader lives in (
-      one_flow made now log was,
-      with_prelude read_as prelude left cache start reader (knowing now reader) turns lives
-          (each_reader now cache start reader (looks turns) begun lived far begins),
+each_subscription read_as = λ made now log life it.
+    let began = subst (λ (cache : List ℕ). WasLetIn cache life.start) (sym it.began.cache_is) (let_in_at it.began.found it.began.let_in life.start it.began.admitted) in
+    let lived = reader_lived life.prelude life.start life.turns life.left life.reader it.lived in (
+      one_flow made now log it.left_by,
+      with_prelude read_as life (knowing now life.reader) it.lived
+          (each_reader now life.cache life.start life.reader (looks life.turns) began lived it.has_seen_so_far it.has_seen_this),
     )

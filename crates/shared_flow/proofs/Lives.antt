@@ -3,7 +3,7 @@ use Rattle.std.proofs.Common.{◌≡◌, ◌⊎◌, inl, inr, ⊎_elim, ℕ, Lis
 use Rattle.std.proofs.lemmas.List.{append-nil, map-append}
 use Rattle.shared_lane.specs.Headline.{Lived, given, ReceivesCacheThenLater, pending}
 use Rattle.shared_lane.specs.Views.{ReaderSeen}
-use Rattle.shared_flow.specs.Lives.{Turn, greeted, looked, LivesOn, received_in, ReceivesPreludeCacheThenLater}
+use Rattle.shared_flow.specs.Lives.{Turn, greeted, looked, LivesOn, Life, received_in, ReceivesPreludeCacheThenLater}
 
 module _ {T : Type 0} where
   -- what the looks gave
@@ -56,20 +56,20 @@ module _ {T : Type 0} where
   received_in_order read_as rest r (looked None ∷ turns) left t lives = received_in_order read_as rest lives.0 turns left t lives.4
 
   -- what holds of the reader, and of the subscription by that
-  pub with_prelude : (read_as : ℕ → T) (prelude left : List T) (cache : List ℕ) (start reader now : ReaderSeen) (turns : List (Turn T)) → LivesOn prelude start turns left reader
-      → ReceivesCacheThenLater cache start now (given (looks turns)) → ReceivesPreludeCacheThenLater read_as prelude left cache start now (received_in read_as turns)
-  with_prelude read_as prelude left cache start reader now turns lives receives =
-      let received = received_in read_as turns in
-      let words = given (looks turns) in
+  pub with_prelude : (read_as : ℕ → T) (life : Life T) (now : ReaderSeen) → LivesOn life.prelude life.start life.turns life.left life.reader
+      → ReceivesCacheThenLater life.cache life.start now (given (looks life.turns)) → ReceivesPreludeCacheThenLater read_as life now
+  with_prelude read_as life now lives receives =
+      let received = received_in read_as life.turns in
+      let words = given (looks life.turns) in
       let later = pending now in record {
         kept = receives.kept;
         dropped = receives.dropped;
         received_then_pending_is_prelude_cache_then_later =
-            sym (append_assoc received left (map read_as later))
-            ∙ ap (λ l. l ++ map read_as later) (received_in_order read_as prelude start turns left reader lives)
-            ∙ append_assoc prelude (map read_as words) (map read_as later)
-            ∙ ap (λ l. prelude ++ l) (sym (map-append read_as words later) ∙ ap (map read_as) receives.received_then_pending_is_cache_then_later);
-        prelude_comes_first = comes_first read_as prelude start turns left reader lives;
+            sym (append_assoc received life.left (map read_as later))
+            ∙ ap (λ l. l ++ map read_as later) (received_in_order read_as life.prelude life.start life.turns life.left life.reader lives)
+            ∙ append_assoc life.prelude (map read_as words) (map read_as later)
+            ∙ ap (λ l. life.prelude ++ l) (sym (map-append read_as words later) ∙ ap (map read_as) receives.received_then_pending_is_cache_then_later);
+        prelude_comes_first = comes_first read_as life.prelude life.start life.turns life.left life.reader lives;
         in_order_and_once = receives.in_order_and_once;
         in_order_of_acceptance = receives.in_order_of_acceptance;
         dropped_are_lost = receives.dropped_are_lost;

@@ -1,15 +1,23 @@
 -- A party's round, put together from what it found and how it left.
-use Rattle.std.proofs.Common.{◌≡◌, ◌++◌, ◌∷◌, [], Some, sym, ap, ◌∙◌, subst}
+use Rattle.std.proofs.Common.{◌≡◌, ◌++◌, ◌∷◌, [], ℕ, Ok, Some, refl, sym, ap, ◌∙◌, subst}
+use Rattle.round_lock.specs.History.{Begins, own_of}
 use Rattle.std.proofs.lemmas.List.{append-nil}
 use Rattle.std.proofs.lemmas.Option.{same_Some}
+use Rattle.shared_lane.specs.declared.meeting.Met.{Met}
+use Rattle.shared_lane.specs.Views.{ReaderSeen}
 use Rattle.shared_flow.specs.declared.round.Round.{Round}
-use Rattle.shared_flow.specs.Entering.{Found, Left, Made}
+use Rattle.shared_flow.specs.declared.round.Round.TheVariants as round
+use Rattle.shared_flow.specs.Entering.{Found, Left, Made, MadeOf}
+use Rattle.shared_flow.specs.Looks.{WasLetInBy}
 use Rattle.shared_flow.specs.Names.{SharedSeen}
-use Rattle.shared_flow.specs.Parties.{with_round}
+use Rattle.shared_flow.specs.Meeting.{HasMet}
+use Rattle.shared_flow.specs.Owners.{HasHeard, Keeping, Meets}
+use Rattle.shared_flow.specs.Parties.{Subscribed, with_round}
 use Rattle.shared_flow.specs.Reach.{Party, Reach, Rounds, party_of}
+use Rattle.shared_flow.specs.Rounds.{IsLetIn, WasAdmitted}
 
 -- the owner took the lock, and gave it back with a round
-pub made : (r : Round) (p q t : Reach) (found : SharedSeen) → q ≡ record p { held = Some found; seen = q.seen } → Found (party_of p) found q.seen → Left r q t → Made r (party_of p) (party_of t)
+pub made : {called : SharedSeen} (r : Round) (p q t : Reach) (found : SharedSeen) → q ≡ record p { held = Some found; seen = q.seen } → Found (party_of p) found q.seen → Left r called q t → Made r (party_of p) (party_of t)
 made r p q t found taken saw went = record {
   found = went.found;
   left = went.left;
@@ -19,15 +27,63 @@ made r p q t found taken saw went = record {
   after = ap party_of went.after ∙ ap (λ (x : Reach). with_round r (q.seen ++ (x.pass, r, went.left) ∷ []) (party_of x)) taken;
 }
 
+-- so it did, and let a reader in
+pub was_let_in : (number : ℕ) (p q t : Reach) (found called : SharedSeen) (reader : ReaderSeen) → q ≡ record p { held = Some found; seen = q.seen }
+    → Found (party_of p) found q.seen → p.flow ≡ Some found.name → Left (round.Subscribe (Ok number)) called q t → IsLetIn found number reader called
+    → WasLetInBy number reader (party_of p) (party_of t)
+unfolding made
+was_let_in number p q t found called reader taken saw named went let_in =
+    let same : found ≡ went.found = same_Some _ _ (sym (ap (λ (x : Reach). x.held) taken) ∙ went.held) in record {
+      made = made (round.Subscribe (Ok number)) p q t found taken saw went;
+      flow_is = named ∙ ap (λ (s : SharedSeen). Some s.name) same;
+      admitted = subst (λ (s : SharedSeen). WasAdmitted s reader went.left) same (let_in.0, let_in.1, let_in.2, let_in.3, let_in.4, (called.sequencer, let_in.5.1, went.only));
+    }
+
 -- the owner that kept the lock gave it back with a round
-pub made_on : (r : Round) (p t : Reach) (found : SharedSeen) → p.held ≡ Some found → Found (party_of p) found p.seen → Left r p t → Made r (party_of p) (party_of t)
-made_on r p t found held saw went = record {
-  found = went.found;
-  left = went.left;
-  before = p.seen;
-  saw = subst (λ (s : SharedSeen). Found (party_of p) s p.seen) (same_Some _ _ (sym held ∙ went.held)) saw;
-  does = went.does;
-  after = ap party_of went.after;
+pub made_of : {called : SharedSeen} (r : Round) (p t : Reach) (found : SharedSeen) → p.held ≡ Some found → Found (party_of p) found p.seen → Left r called p t
+    → MadeOf called r (party_of p) (party_of t)
+made_of r p t found held saw went = record {
+  made = record {
+    found = went.found;
+    left = went.left;
+    before = p.seen;
+    saw = subst (λ (s : SharedSeen). Found (party_of p) s p.seen) (same_Some _ _ (sym held ∙ went.held)) saw;
+    does = went.does;
+    after = ap party_of went.after;
+  };
+  before_is = refl;
+  only = went.only;
+}
+
+-- what a party made that had the lock, it made of what it was before it had taken that
+abbrev pub made_since : {called : SharedSeen} (r : Round) (p q t : Party) → q ≡ record p { seen = q.seen } → Begins q.seen p.seen → MadeOf called r q t → Made r p t
+made_since r p q t same on it = record {
+  found = it.made.found;
+  left = it.made.left;
+  before = it.made.before;
+  saw = record {
+    made = it.made.saw.made;
+    flow_is = sym (ap (λ (x : Party). x.flow) same) ∙ it.made.saw.flow_is;
+    after = it.made.saw.after;
+    rounds_are = sym (ap (λ (x : Party). x.rounds) same) ∙ it.made.saw.rounds_are ∙ ap (λ pass. own_of pass it.made.before) (ap (λ (x : Party). x.pass) same);
+    seen_on = subst (λ (l : Rounds). Begins l p.seen) (sym it.before_is) on;
+  };
+  does = it.made.does;
+  after = it.made.after ∙ ap (λ (x : Party). with_round r (it.made.before ++ (x.pass, r, it.made.left) ∷ []) x) same;
+}
+
+-- An owner told a subscription of all rounds while it kept the lock, and met it, before it made its round.
+abbrev pub meets : {T : Type 0} (p q r : Party) (s m t : Subscribed T) (met : Met) (kept : Keeping) → q ≡ record p { seen = q.seen } → Begins q.seen p.seen
+    → HasHeard q.seen s.party m.party → m ≡ record s { party = m.party } → (t.party ≡ m.party) × (t.number ≡ m.number) → t.rest ≡ m.rest
+    → HasMet kept.shared.sequencer m.reader t.reader met → MadeOf kept.shared (round.Hold kept.count) q r → Meets p r s t met
+meets {T} p q r s m t met kept owner on told only same rest has_met it = record {
+  count = kept.count;
+  made = made_since (round.Hold kept.count) p q r owner on it;
+  heard = subst (λ (x : Party). HasHeard it.made.before s.party x) (sym same.0) (subst (λ (l : Rounds). HasHeard l s.party m.party) (sym it.before_is) told);
+  same = (same.1 ∙ ap (λ (x : Subscribed T). x.number) only, rest ∙ ap (λ (x : Subscribed T). x.rest) only);
+  kept = kept.shared;
+  only = it.only;
+  has_met = subst (λ (x : ReaderSeen). HasMet kept.shared.sequencer x t.reader met) (ap (λ (x : Subscribed T). x.reader) only) has_met;
 }
 
 -- who has taken the lock, and has seen all of the list, found it so

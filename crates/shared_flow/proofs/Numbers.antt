@@ -136,7 +136,7 @@ makes_next lane q round.Reset t same on = unnumbered q t (subst (λ z. next q �
 makes_next lane q (round.Cache (Ok words)) t same on = unnumbered q t (same_state q t on.0)
 makes_next lane q (round.Cache (Err refusal)) t same on = unnumbered q t (same_state q t on.0)
 makes_next lane q (round.Count count) t same on = unnumbered q t (loaded_next q t on.0)
-makes_next lane q (round.Hold count) t same on = unnumbered q t (let one = loaded_next q on.0 on.1 in let two = loaded_next on.0 t on.3 in omega (arith, one, two))
+makes_next lane q (round.Hold count) t same on = unnumbered q t (loaded_next q t on.0)
 
 rests_shape : (q t : SequencerSeen) → Rests q t → t.view.shape ≡ q.view.shape
 rests_shape q t rests = rests.2.1 ∙ ⊎_elim (λ is. ap (λ (z : SequencerSeen). z.view.shape) is) (λ (scan : Scanned q rests.0). ap (λ (z : SequencerSeen). z.view.shape) scan.5 ∙ scan.2.1) rests.1

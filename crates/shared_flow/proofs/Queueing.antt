@@ -105,7 +105,7 @@ goes lane q round.Reset t on = same q t (ap (λ (z : SequencerSeen). z.waiting) 
 goes lane q (round.Cache (Ok words)) t on = state_is q t on.0
 goes lane q (round.Cache (Err refusal)) t on = state_is q t on.0
 goes lane q (round.Count count) t on = loaded_is q t on.0
-goes lane q (round.Hold count) t on = loaded_is on.0 t on.3 ∙ loaded_is q on.0 on.1
+goes lane q (round.Hold count) t on = loaded_is q t on.0
 
 pub proceeds : (s : SharedSeen) (r : Round) (t : SharedSeen) → Does s r t → Proceeds r (progress_of s.sequencer) (progress_of t.sequencer)
 proceeds s r t does =

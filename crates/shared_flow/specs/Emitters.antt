@@ -16,7 +16,7 @@ use Rattle.shared_flow.specs.declared.round.Round.TheVariants as round
 use Rattle.shared_flow.specs.Entering.{Made}
 use Rattle.shared_flow.specs.Reach.{Rounds}
 use Rattle.shared_flow.specs.Rounds.{numbers_tried, numbers_begun, poll_round, withdraw_round}
-use Rattle.shared_flow.specs.Parties.{Emitting, with_round, without_ticket, ticket_of, last_of_try, last_of_start, UnlessLeft, without_receipt}
+use Rattle.shared_flow.specs.Parties.{Emitting, with_round, without_ticket, ticket_of, last_of_try, last_of_start, IfLeft, UnlessLeft, without_receipt}
 
 -- the emission of this word by an emitter
 abbrev pub emission_by : Emitting → ℕ → Emission
@@ -71,6 +71,10 @@ WasGivenUp e answer f = (ticket : Ticket) → e.ticket ≡ Some ticket
       party = with_round (withdraw_round ticket e.id e.last w None) f.party.seen e.party;
       ticket = None;
     }) × Made (withdraw_round ticket e.id e.last w None) e.party f.party)
+
+-- an emitter was ended: what was in flight was given up, and had been accepted, or there was no receipt for it
+abbrev pub EndedWith : Emitting → Withdrawn ReceiptSeen → Type 0
+EndedWith e answer = (f : Emitting) × IfLeft answer (λ receipt. WasLeft e receipt f) × WasGivenUp e answer f
 
 -- by polls, one after another, there was no receipt for the emission in flight
 pub data Waited : Emitting → Emitting → Type 0 where

@@ -1,6 +1,7 @@
 -- What an owner finds as it takes the lock, and the round that it makes of that.
 use Rattle.std.specs.Prelude.{◌≡◌, ◌++◌, [], ◌∷◌, Some, None}
 use Rattle.round_lock.specs.History.{After, Begins, own_of}
+use Rattle.shared_lane.specs.Sequencers.{OnlyLoaded}
 use Rattle.shared_flow.specs.declared.round.Round.{Round}
 use Rattle.shared_flow.specs.Names.{SharedSeen, IsNew}
 use Rattle.shared_flow.specs.Reach.{Party, Reach, Rounds}
@@ -24,12 +25,14 @@ pub record Found (p : Party) (found : SharedSeen) (seen : Rounds) : Type 0 where
 abbrev pub left_with : Round → SharedSeen → Reach → Reach
 left_with round left r = record r { held = None; rounds = r.rounds ++ round ∷ []; seen = r.seen ++ (r.pass, round, left) ∷ [] }
 
--- the owner had this under its hand, made a round of it, and gave the lock back
-pub record Left (round : Round) (r s : Reach) : Type 0 where
+-- the owner had taken the lock, made a round of what it found, and gave the lock back, with what the call had come to but for looks at
+-- the cursors
+pub record Left (round : Round) (called : SharedSeen) (r s : Reach) : Type 0 where
   pub found : SharedSeen
   pub left : SharedSeen
   pub held : r.held ≡ Some found
   pub does : Does found round left
+  pub only : OnlyLoaded called.sequencer left.sequencer
   pub after : s ≡ left_with round left r
 
 -- A party made a round. The list of rounds before it left what it found, and has the party's own rounds as its part; the round left
@@ -41,3 +44,9 @@ pub record Made (round : Round) (p q : Party) : Type 0 where
   pub saw : Found p found before
   pub does : Does found round left
   pub after : q ≡ with_round round (before ++ (p.pass, round, left) ∷ []) p
+
+-- A party that had the lock, and so had seen all rounds before, made one, which left what the call had come to but for looks at the cursors.
+pub record MadeOf (called : SharedSeen) (round : Round) (p q : Party) : Type 0 where
+  pub made : Made round p q
+  pub before_is : made.before ≡ p.seen
+  pub only : OnlyLoaded called.sequencer made.left.sequencer

@@ -1,5 +1,5 @@
 -- What holds of a shared flow for every order of calls by any of its owners, emitters and subscriptions on threads.
-use Rattle.std.specs.Prelude.{◌≡◌, ℕ, ◌+◌, ◌≤◌, List, [], ◌∷◌, length, Option, Some}
+use Rattle.std.specs.Prelude.{◌≡◌, ℕ, List, [], ◌∷◌, Option, Some}
 use mathlib.Core.Option.{some}
 use lib.ListN.{get_elem?}
 use Rattle.std.specs.Global.{Box}
@@ -8,8 +8,6 @@ use Rattle.round_lock.specs.History.{OneHistory, own_of}
 use Rattle.round_lock.specs.Law.{Lies, OneLock}
 use Rattle.atomic_table.specs.Table.{State}
 use Rattle.lane_steps.specs.Law.{Begins}
-use Rattle.shared_lane.specs.Headline.{WasLetIn}
-use Rattle.shared_lane.specs.Readers.{at}
 use Rattle.shared_lane.specs.Sequencers.{seen}
 use Rattle.shared_lane.specs.Views.{ReaderSeen}
 use Rattle.shared_lane.specs.declared.reader.Taken.{Taken}
@@ -18,7 +16,7 @@ use Rattle.shared_flow.specs.Names.{SharedSeen, IsNew}
 use Rattle.shared_flow.specs.Blocks.{TookAllFirst}
 use Rattle.shared_flow.specs.Entering.{IsLeftBy}
 use Rattle.shared_flow.specs.Reach.{Rounds, rounds_in}
-use Rattle.shared_flow.specs.Lives.{Turn, LivesOn, received_in, ReceivesPreludeCacheThenLater}
+use Rattle.shared_flow.specs.Lives.{Turn, LivesOn, Life, IsSubscriptionOf, ReceivesPreludeCacheThenLater, received_in}
 use Rattle.shared_flow.specs.Queue.{progress_of, ComesTo, EachInItsOwnOrder}
 use Rattle.shared_flow.specs.Parties.{Subscribed}
 use Rattle.shared_flow.specs.Rounds.{Does}
@@ -66,15 +64,11 @@ OneListLaw = (items : List (Box SharedSeen)) (views : List (Log (Box SharedSeen)
 abbrev pub knowing : SharedSeen → ReaderSeen → ReaderSeen
 knowing now r = record r { seen = seen now.sequencer }
 
--- What a subscription received, then what is pending for it, is its prelude, the replay cache at its start and the emissions that
--- were accepted later in the one list of rounds, in order and once, less just those that its policy dropped. So it is at each moment
--- when the subscription has seen as far as its position, and what it has seen is the beginning of what was accepted.
+-- What a subscription received, then what is left of its prelude and what is pending for it, is its prelude, the replay cache at its start
+-- and the emissions that were accepted later in the one list of rounds, in order and once, less just those that its policy dropped.
 abbrev pub EachSubscriptionLaw : {T : Type 0} → (ℕ → T) → Type 0
-EachSubscriptionLaw {T} read_as =
-    (made now : SharedSeen) (log : Rounds) (prelude left : List T) (cache : List ℕ) (start reader : ReaderSeen) (turns : List (Turn T))
-    → IsLeftBy made log now → WasLetIn cache start → LivesOn prelude start turns left reader
-    → at reader ≤ reader.shape.first + length reader.seen → Begins (seen now.sequencer) reader.seen
-    → IsOneFlow made log now × ReceivesPreludeCacheThenLater read_as prelude left cache start (knowing now reader) (received_in read_as turns)
+EachSubscriptionLaw {T} read_as = (made now : SharedSeen) (log : Rounds) (life : Life T) → IsSubscriptionOf made log now life
+    → IsOneFlow made log now × ReceivesPreludeCacheThenLater read_as life (knowing now life.reader)
 
 -- what a subscription takes at once it takes by so many turns
 abbrev pub TakingAllIsTakingEach : {T : Type 0} → (ℕ → T) → Type 0

@@ -1,13 +1,19 @@
 -- What a subscription receives over its life: its prelude, and then what its reader takes.
-use Rattle.std.specs.Prelude.{◌≡◌, ◌⊎◌, ⊤, ℕ, ◌+◌, false, List, [], ◌∷◌, ◌++◌, length, map, Option, None, Some}
+use Rattle.std.specs.Prelude.{◌≡◌, ◌⊎◌, ⊤, ℕ, ◌+◌, ◌≤◌, false, List, [], ◌∷◌, ◌++◌, length, map, Option, None, Some, Ok}
 use Rattle.std.specs.List.{range_with_len}
-use Rattle.lane_steps.specs.Law.{lost}
+use Rattle.lane_steps.specs.Law.{Begins, lost}
 use Rattle.shared_core.specs.Flow.{values_at}
 use Rattle.shared_core.specs.Story.{Interleaves}
 use Rattle.shared_core.specs.Headline.{EndsWith}
 use Rattle.shared_lane.specs.Headline.{Went, words_seen, cache_then_later, pending}
-use Rattle.shared_lane.specs.Readers.{IsSameReader}
+use Rattle.shared_lane.specs.Readers.{IsSameReader, at}
+use Rattle.shared_lane.specs.Sequencers.{seen}
 use Rattle.shared_lane.specs.Views.{ReaderSeen}
+use Rattle.shared_flow.specs.declared.round.Round.TheVariants as round
+use Rattle.shared_flow.specs.Names.{SharedSeen}
+use Rattle.shared_flow.specs.Reach.{Rounds}
+use Rattle.shared_flow.specs.Rounds.{WasAdmitted}
+use Rattle.shared_flow.specs.Entering.{IsLeftBy}
 
 -- A call of the subscription, or one of its looks: it was given the next value of its prelude, or its reader gave a word or none.
 pub data Turn (T : Type 0) : Type 0 where
@@ -32,19 +38,53 @@ received_in read_as (greeted v ∷ turns) = v ∷ received_in read_as turns
 received_in read_as (looked (Some w) ∷ turns) = read_as w ∷ received_in read_as turns
 received_in read_as (looked None ∷ turns) = received_in read_as turns
 
+-- The life of a subscription so far: its prelude; the replay cache at its start, and the reader that it began with; its turns; and what
+-- they have left of the prelude, and made of the reader.
+pub record Life (T : Type 0) : Type 0 where
+  pub prelude : List T
+  pub cache : List ℕ
+  pub start : ReaderSeen
+  pub turns : List (Turn T)
+  pub left : List T
+  pub reader : ReaderSeen
+
+-- Some round of this list let the reader in. The rounds before it had left what was found then, and the replay cache is the one that it
+-- left.
+pub record BeganIn (log : Rounds) (cache : List ℕ) (start : ReaderSeen) : Type 0 where
+  pub before : Rounds
+  pub later : Rounds
+  pub pass : ℕ
+  pub number : ℕ
+  pub let_in : SharedSeen
+  pub log_is : log ≡ (before ++ (pass, round.Subscribe (Ok number), let_in) ∷ []) ++ later
+  pub made : SharedSeen
+  pub found : SharedSeen
+  pub found_is : IsLeftBy made before found
+  pub admitted : WasAdmitted found start let_in
+  pub cache_is : cache ≡ let_in.sequencer.cache
+
+-- The list of rounds has left the flow as it is now, and the subscription is one of this flow: it began in one of the rounds, and its turns
+-- made of it what it is. It knows where it stands: it has seen as far as its position, and that is the beginning of what was accepted.
+pub record IsSubscriptionOf {T : Type 0} (made : SharedSeen) (log : Rounds) (now : SharedSeen) (life : Life T) : Type 0 where
+  pub left_by : IsLeftBy made log now
+  pub began : BeganIn log life.cache life.start
+  pub lived : LivesOn life.prelude life.start life.turns life.left life.reader
+  pub has_seen_so_far : at life.reader ≤ life.reader.shape.first + length life.reader.seen
+  pub has_seen_this : Begins (seen now.sequencer) life.reader.seen
+
 -- What a subscription received, then what is left of its prelude and what is pending for it, is its prelude, the replay cache at its
 -- start and all later accepted words, less those that it lost. `kept` and `dropped` are indexes of the list of the latter two; of the
 -- prelude none is lost.
-pub record ReceivesPreludeCacheThenLater {T : Type 0} (read_as : ℕ → T) (prelude left : List T) (cache : List ℕ) (start now : ReaderSeen) (received : List T) : Type 0 where
+pub record ReceivesPreludeCacheThenLater {T : Type 0} (read_as : ℕ → T) (life : Life T) (now : ReaderSeen) : Type 0 where
   pub kept : List ℕ
   pub dropped : List ℕ
-  pub received_then_pending_is_prelude_cache_then_later : received ++ (left ++ map read_as (pending now))
-      ≡ prelude ++ map read_as (values_at (cache_then_later cache start now) kept)
+  pub received_then_pending_is_prelude_cache_then_later : received_in read_as life.turns ++ (life.left ++ map read_as (pending now))
+      ≡ life.prelude ++ map read_as (values_at (cache_then_later life.cache life.start now) kept)
   -- while some of the prelude is left, nothing else was received
-  pub prelude_comes_first : (left ≡ []) ⊎ (received ++ left ≡ prelude)
+  pub prelude_comes_first : (life.left ≡ []) ⊎ (received_in read_as life.turns ++ life.left ≡ life.prelude)
   -- both rise, and together they are all indexes, each once
-  pub in_order_and_once : Interleaves kept dropped (range_with_len 0 (length (cache_then_later cache start now)))
-  pub in_order_of_acceptance : EndsWith (cache_then_later cache start now) (words_seen now)
+  pub in_order_and_once : Interleaves kept dropped (range_with_len 0 (length (cache_then_later life.cache life.start now)))
+  pub in_order_of_acceptance : EndsWith (cache_then_later life.cache life.start now) (words_seen now)
   -- those dropped are those that the sequencer moved its cursor past
   pub dropped_are_lost : map (λ index. now.start + index) dropped ≡ lost now.start now.story
-  pub only_drop_oldest_drops : start.shape.drops ≡ false → dropped ≡ []
+  pub only_drop_oldest_drops : life.start.shape.drops ≡ false → dropped ≡ []

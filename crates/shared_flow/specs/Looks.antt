@@ -1,18 +1,20 @@
 -- What a subscription was let in by, and what its looks at the lane came to.
-use Rattle.std.specs.Prelude.{◌≡◌, ◌⊎◌, ℕ, Option, Some, Ok}
+use Rattle.std.specs.Prelude.{◌≡◌, ◌⊎◌, ℕ, Some, Ok}
 use Rattle.shared_lane.specs.declared.reader.Taken.{Taken}
 use Rattle.shared_lane.specs.declared.reader.Taken.TheVariants.{Value, Nothing, Overtaken}
 use Rattle.shared_lane.specs.Views.{ReaderSeen}
 use Rattle.shared_lane.specs.Readers.{IsSameReader, TookNext}
 use Rattle.shared_flow.specs.declared.round.Round.TheVariants as round
-use Rattle.shared_flow.specs.Names.{FlowName, SharedSeen}
 use Rattle.shared_flow.specs.Reach.{Party}
 use Rattle.shared_flow.specs.Entering.{Made}
-use Rattle.shared_flow.specs.Rounds.{Does, WasAdmitted}
+use Rattle.shared_flow.specs.Rounds.{WasAdmitted}
 
--- the reader was let in to this flow, by the round that answered with this number
-abbrev pub WasLetInto : Option FlowName → ℕ → ReaderSeen → Type 0
-WasLetInto known number r = (old new : SharedSeen) × (known ≡ Some old.name) × Does old (round.Subscribe (Ok number)) new × WasAdmitted old r new
+-- The reader was let in by a round of this party, which answered with this number: by what that round found, which the list of rounds
+-- before it had left, and what it left of that.
+pub record WasLetInBy (number : ℕ) (r : ReaderSeen) (p q : Party) : Type 0 where
+  pub made : Made (round.Subscribe (Ok number)) p q
+  pub flow_is : p.flow ≡ Some made.found.name
+  pub admitted : WasAdmitted made.found r made.left
 
 -- a look at the lane: it is the same reader, which took the next value, or why it took none
 abbrev pub Looked : ReaderSeen → Taken ℕ → ReaderSeen → Type 0

@@ -2,14 +2,17 @@
 use Rattle.std.specs.Prelude.{◌≡◌, ◌⊎◌, ◌++◌, ℕ, List, Option, Some, None, Ok, Err, map}
 use Rattle.flow_terms.specs.declared.refusal.Refusal.{Refusal}
 use Rattle.flow_terms.specs.declared.refusal.Refusal.TheVariants.{NoMemory}
+use Rattle.round_lock.specs.History.{own_of}
 use Rattle.shared_lane.specs.Sequencers.{OnlyLoaded}
 use Rattle.shared_lane.specs.Places.{LosesNothing}
+use Rattle.shared_lane.specs.declared.meeting.Met.{Met}
 use Rattle.shared_flow.specs.declared.round.Round.TheVariants as round
 use Rattle.shared_flow.specs.Names.{SharedSeen}
-use Rattle.shared_flow.specs.Reach.{Party}
+use Rattle.shared_flow.specs.Reach.{Party, Rounds}
 use Rattle.shared_flow.specs.Rounds.{Does, IsAtLimit}
-use Rattle.shared_flow.specs.Parties.{with_round}
+use Rattle.shared_flow.specs.Parties.{Subscribed, with_round}
 use Rattle.shared_flow.specs.Entering.{Found, Made}
+use Rattle.shared_flow.specs.Meeting.{HasMet}
 
 -- an owner: its flow and its rounds, and what it found under the lock, while the lock is kept
 pub record Owning : Type 0 where
@@ -47,3 +50,19 @@ IsLeftOut o refusal p = ((refusal ≡ NoMemory) × (p ≡ o))
 abbrev pub AddsCache : {T : Type 0} → (ℕ → T) → Owning → List T → Owning → List T → Type 0
 AddsCache read_as o old p new = (words : List ℕ) × (new ≡ old ++ map read_as words)
     × (p ≡ at_rest (with_round (round.Cache (Ok words)) p.party.seen o.party)) × Made (round.Cache (Ok words)) o.party p.party
+
+-- A party has heard of all rounds of this list, and its own are its part of that.
+pub record HasHeard (list : Rounds) (p q : Party) : Type 0 where
+  pub part : p.rounds ≡ own_of p.pass list
+  pub same : q ≡ record p { seen = list }
+
+-- An owner met a subscription, in a round. The subscription has heard of all rounds before that; and what its reader has seen, and the
+-- counts, are those of what that round left, but for looks at the cursors.
+pub record Meets {T : Type 0} (p q : Party) (s t : Subscribed T) (met : Met) : Type 0 where
+  pub count : ℕ
+  pub made : Made (round.Hold count) p q
+  pub heard : HasHeard made.before s.party t.party
+  pub same : (t.number ≡ s.number) × (t.rest ≡ s.rest)
+  pub kept : SharedSeen
+  pub only : OnlyLoaded kept.sequencer made.left.sequencer
+  pub has_met : HasMet kept.sequencer s.reader t.reader met

@@ -68,7 +68,7 @@ Makes lane q round.Reset t = t ≡ record q { cache = [] }
 Makes lane q (round.Cache (Ok words)) t = (t ≡ q) × (words ≡ q.cache)
 Makes lane q (round.Cache (Err refusal)) t = (t ≡ q) × (refusal ≡ NoMemory)
 Makes lane q (round.Count count) t = OnlyLoaded q t × Counted q count t
-Makes lane q (round.Hold count) t = (m : SequencerSeen) × OnlyLoaded q m × Counted q count m × OnlyLoaded m t
+Makes lane q (round.Hold count) t = OnlyLoaded q t × Counted q count t
 
 -- what waited was let in, as far as there was room
 abbrev pub Scanned : SequencerSeen → SequencerSeen → Type 0

@@ -1,5 +1,6 @@
 //! What every owner of a shared flow holds.
-ghost use Rattle.std.specs.Prelude.{◌≡◌, ◌++◌, [], ◌∷◌, Ok, Some, None, map, IfOk, IsOkUnless};
+ghost use Rattle.std.specs.Prelude.{◌≡◌, ◌≢◌, ◌++◌, [], ◌∷◌, Ok, Some, None, map, IfOk, IsOkUnless};
+ghost use Rattle.round_lock.specs.History.{own_of};
 ghost use Rattle.shared_lane.specs.Sequencers.{IsSameSequencer, OnlyLoaded, next};
 ghost use Rattle.shared_flow.specs.declared.round.Round.TheVariants as round;
 ghost use Rattle.shared_flow.specs.Names.{IsNew, SharedSeen, KnowsLane};
@@ -129,11 +130,22 @@ impl Access {
     /// Helps those whom the round that was made has helped, gives the lock back with that round, and then wakes them.
     pub fn leave(&mut self, rt: &impl Wait, inside: Inside, round: Round)
         requires round { (old : SharedSeen) × (self.old.held ≡ Some old) × Does old round inside.guarded.state.value }
-        ensures left { Left round self.old self.new }
+        ensures left { Left round inside.guarded.state.value self.old self.new }
     {
         let guarded = helped(&mut self.wakes, inside);
         self.lock.put(rt, guarded, round);
         self.wakes.fire();
+    }
+
+    /// Who has the lock meets another owner of it: both have seen the same rounds then, and the other's own are its part of them.
+    pub fn meet(&mut self, other: &mut Access)
+        requires held { self.old.held ≢ None }
+        requires lock { other.old.lock ≡ self.old.lock }
+        ensures same { self.new ≡ self.old }
+        ensures met { other.new ≡ record other.old { seen = self.old.seen } }
+        ensures part { other.old.rounds ≡ own_of other.old.pass self.old.seen }
+    {
+        self.lock.meet(&mut other.lock);
     }
 
     /// Leaves as `leave` does, after an emitter tried these values: the round has their words, of which the program makes no list.
@@ -147,7 +159,7 @@ impl Access {
     )
         requires picked { M.entry ≡ Some (round.TryAll emitter (map T.word values.now) answer) }
         requires round { (old : SharedSeen) × (self.old.held ≡ Some old) × Does old (round.TryAll emitter (map T.word values.now) answer) inside.guarded.state.value }
-        ensures left { Left (round.TryAll emitter (map T.word values.now) answer) self.old self.new }
+        ensures left { Left (round.TryAll emitter (map T.word values.now) answer) inside.guarded.state.value self.old self.new }
     {
         let guarded = helped(&mut self.wakes, inside);
         self.lock.put_as::<M>(rt, guarded);
@@ -157,7 +169,7 @@ impl Access {
     /// Leaves as `leave` does, after the replay cache was read: the round has the words that it had.
     pub fn leave_cache(&mut self, rt: &impl Wait, inside: Inside)
         requires round { (old : SharedSeen) × (self.old.held ≡ Some old) × Does old (round.Cache (Ok inside.guarded.state.value.sequencer.cache)) inside.guarded.state.value }
-        ensures left { Left (round.Cache (Ok inside.guarded.state.value.sequencer.cache)) self.old self.new }
+        ensures left { Left (round.Cache (Ok inside.guarded.state.value.sequencer.cache)) inside.guarded.state.value self.old self.new }
     {
         let guarded = helped(&mut self.wakes, inside);
         self.lock.put_as::<Brand>(rt, guarded);

@@ -10,8 +10,9 @@ ghost use Rattle.shared_flow.specs.Reach.{party_of};
 ghost use Rattle.shared_flow.specs.Entering.{Made};
 ghost use Rattle.shared_flow.specs.Rounds.{IsAfter, numbers_begun, numbers_tried, poll_round, withdraw_round};
 ghost use Rattle.shared_flow.specs.Emitters.{emission_by, after_try, after_start, WasStarted, WasFinished, Waits, WasLeft, WasGivenUp};
-ghost use Rattle.shared_flow.specs.Emitters.{Emits, EndsAs, IfEmitted, Waited, begun_with};
+ghost use Rattle.shared_flow.specs.Emitters.{Emits, EndsAs, EndedWith, IfEmitted, Waited, begun_with};
 ghost use Rattle.shared_flow.specs.Parties.{IsSameEmitter, Emitting, IsItsReceipt, IsOwnReceipt, IfTried, IfBegun};
+ghost use Rattle.shared_flow.specs.Owners.{HasHeard};
 ghost use Rattle.shared_flow.specs.Parties.{TriedUnder, BegunUnder, OfFlow, ticket_of, IfLeft, without_receipt};
 
 use crate::access::Access;
@@ -126,7 +127,7 @@ impl<T: Word> Emitter<T> {
         }
     }
 
-    // The same, with the ticket.
+    // Begins an emission, and keeps the ticket of one that waits.
     fn begin(&mut self, rt: &impl Wait, value: T) -> Result<Begun<Receipt, Ticket>, Refusal>
         requires idle { self.old.ticket ≡ None }
         ensures round { self.new ≡ after_start self.old (emission_by self.old (T.word value)) result self.new.party.seen }
@@ -281,9 +282,21 @@ impl<T: Word> Emitter<T> {
         Withdrawn::Left(receipt)
     }
 
+    /// Hears of all rounds so far, from one who has the lock.
+    pub(crate) fn hear(&mut self, owner: &mut Access)
+        requires held { owner.old.held ≢ None }
+        requires lock { self.old.party.lock ≡ owner.old.lock }
+        ensures owner { owner.new ≡ owner.old }
+        ensures heard { HasHeard owner.old.seen self.old.party self.new.party }
+        ensures same { self.new ≡ record self.old { party = self.new.party } }
+    {
+        owner.meet(&mut self.access);
+    }
+
     /// Ends the emitter, and gives the emission in flight up as `cancel_emit` does: in Kotlin, the end of the coroutine.
     pub fn close(self, rt: &impl Wait) -> Withdrawn<Receipt>
         ensures idle { self.ticket ≡ None → result ≡ withdrawn.Gone }
+        ensures ended { EndedWith self result }
         ensures receipt { IfLeft result (IsOwnReceipt self.party self.id) }
         ensures rises { IfLeft result (λ receipt. IsAfter self.last receipt.number) }
     {

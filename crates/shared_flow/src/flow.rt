@@ -6,8 +6,8 @@ ghost use Rattle.shared_flow.specs.declared.round.Round.TheVariants as round;
 ghost use Rattle.shared_flow.specs.Names.{IsMadeWith};
 ghost use Rattle.shared_flow.specs.Entering.{Made};
 ghost use Rattle.shared_flow.specs.Parties.{with_round, newcomer_of};
-ghost use Rattle.shared_flow.specs.Owners.{at_rest, IsLeftOut, AddsCache};
-ghost use Rattle.shared_flow.specs.Looks.{WasLetInto};
+ghost use Rattle.shared_flow.specs.Owners.{at_rest, IsLeftOut, AddsCache, Meets};
+ghost use Rattle.shared_flow.specs.Looks.{WasLetInBy};
 ghost use Rattle.shared_flow.specs.Rounds.{IsAtLimit};
 ghost use Rattle.shared_core.specs.Preludes.{prelude_values};
 
@@ -18,6 +18,7 @@ use crate::shared::{Admitted, Shared};
 use crate::subscription::Subscription;
 use flow_terms::{Refusal, Word};
 use shared_core::{Config, Prelude};
+use shared_lane::Met;
 use std::alloc::Global;
 use std::marker::{Model, PhantomData};
 use std::sync::Wait;
@@ -102,9 +103,8 @@ impl<T: Word> SharedFlow<T> {
     pub fn subscribe(&mut self, rt: &impl Wait) -> Result<Subscription<T>, Refusal>
         ensures flow { IfOk result (λ subscription. subscription.party ≡ newcomer_of subscription.party.pass self.old.party) }
         ensures round { IfOk result (λ subscription. self.new ≡ at_rest (with_round (round.Subscribe (Ok subscription.number)) self.new.party.seen self.old.party)) }
-        ensures made { IfOk result (λ subscription. Made (round.Subscribe (Ok subscription.number)) self.old.party self.new.party) }
         ensures prelude { IfOk result (λ subscription. subscription.rest ≡ []) }
-        ensures begins { IfOk result (λ subscription. WasLetInto self.old.party.flow subscription.number subscription.reader) }
+        ensures begins { IfOk result (λ subscription. WasLetInBy subscription.number subscription.reader self.old.party self.new.party) }
         ensures refused { IfErr result (λ refusal. (refusal ≡ NoMemory) ⊎ IsAtLimit refusal) }
         ensures kept { IfErr result (λ refusal. IsLeftOut self.old refusal self.new) }
     {
@@ -121,8 +121,7 @@ impl<T: Word> SharedFlow<T> {
         ensures prelude { IfOk result (λ subscription. subscription.rest ≡ prelude_values prelude) }
         ensures flow { IfOk result (λ subscription. subscription.party ≡ newcomer_of subscription.party.pass self.old.party) }
         ensures round { IfOk result (λ subscription. self.new ≡ at_rest (with_round (round.Subscribe (Ok subscription.number)) self.new.party.seen self.old.party)) }
-        ensures made { IfOk result (λ subscription. Made (round.Subscribe (Ok subscription.number)) self.old.party self.new.party) }
-        ensures begins { IfOk result (λ subscription. WasLetInto self.old.party.flow subscription.number subscription.reader) }
+        ensures begins { IfOk result (λ subscription. WasLetInBy subscription.number subscription.reader self.old.party self.new.party) }
         ensures refused { IfErr result (λ refusal. (refusal ≡ NoMemory) ⊎ IsAtLimit refusal) }
         ensures kept { IfErr result (λ refusal. IsLeftOut self.old refusal self.new) }
     {
@@ -173,6 +172,22 @@ impl<T: Word> SharedFlow<T> {
                 Err(refusal)
             }
         }
+    }
+
+    /// Takes the lock, tells a subscription of this flow all that was accepted and all that was dropped for it, and counts it
+    /// exactly: `accepted - received - dropped` values were pending then. Those of its prelude aren't counted. It has heard of all
+    /// rounds so far. Kotlin has no such call.
+    pub fn meet(&mut self, rt: &impl Wait, subscription: &mut Subscription<T>) -> Met
+        requires lock { subscription.old.party.lock ≡ self.old.party.lock }
+        requires flow { subscription.old.party.flow ≡ self.old.party.flow }
+        ensures meets { Meets self.old.party self.new.party subscription.old subscription.new result }
+        ensures owner { self.new ≡ at_rest self.new.party }
+    {
+        let mut held = self.hold(rt);
+        held.tell_subscription(subscription);
+        let met = held.meet(subscription);
+        held.release(rt);
+        met
     }
 
     /// How many subscriptions were live while the lock was held: Kotlin's `subscriptionCount`, as a plain number.

@@ -1,11 +1,11 @@
 //! One that receives the values of a shared flow.
-ghost use Rattle.std.specs.Prelude.{◌≡◌, ◌⊎◌, ◌+◌, None, Some, IfOk, IfErr, IfSome, IfNone};
+ghost use Rattle.std.specs.Prelude.{◌≡◌, ◌≢◌, ◌⊎◌, ◌+◌, None, Some, IfOk, IfErr, IfSome, IfNone};
 ghost use Rattle.futures.specs.Poll.{IfReady, OnPending};
 ghost use Rattle.futures.specs.Task.{IsArmed, Keeps};
 ghost use Rattle.lane_steps.specs.Law.{Begins};
 ghost use Rattle.shared_lane.specs.Readers.{IsReaderOf, IsReceiptOf, IsSameReader, at, received_count, lost_count};
 ghost use Rattle.shared_flow.specs.declared.round.Round.TheVariants as round;
-ghost use Rattle.shared_flow.specs.Reach.{party_of};
+ghost use Rattle.shared_flow.specs.Reach.{Party, party_of};
 ghost use Rattle.shared_flow.specs.Entering.{Made};
 ghost use Rattle.shared_flow.specs.Parties.{Subscribed, OfFlow};
 ghost use Rattle.shared_flow.specs.Looks.{Took, Gave, GaveIn, Missed, MissedTwice, MissedOn, OnlyNext, Waited};
@@ -13,7 +13,7 @@ ghost use Rattle.shared_core.specs.Preludes.{prelude_values};
 ghost use Rattle.shared_flow.specs.Preludes.{IsGreeted, IsPast, GreetedOr, TookFirst};
 ghost use Rattle.flow_terms.specs.declared.refusal.Refusal.TheVariants.{NoMemory};
 ghost use Rattle.shared_flow.specs.Meeting.{HasMet};
-ghost use Rattle.shared_flow.specs.Owners.{OnlyMet};
+ghost use Rattle.shared_flow.specs.Owners.{HasHeard, OnlyMet};
 
 use crate::access::Access;
 use crate::parker::{LOOKS, Parker, pause};
@@ -185,7 +185,7 @@ impl<T: Word> Subscription<T> {
         }
     }
 
-    // The same, where a look found nothing. It looks on for a little while before the thread sleeps.
+    // Waits for it where a look found nothing. It looks on for a little while before the thread sleeps.
     #[inline(never)]
     fn wait_for_next(&mut self, rt: &impl Wait, parker: &mut Parker) -> Result<T, Refusal>
         ensures same { (self.new.number ≡ self.old.number) × (self.new.rest ≡ self.old.rest) }
@@ -334,9 +334,22 @@ impl<T: Word> Subscription<T> {
         shared.meet(&mut self.reader)
     }
 
+    /// Hears of all rounds so far, from one who has the lock.
+    pub(crate) fn hear(&mut self, owner: &mut Access)
+        requires held { owner.old.held ≢ None }
+        requires lock { self.old.party.lock ≡ owner.old.lock }
+        ensures owner { owner.new ≡ owner.old }
+        ensures heard { HasHeard owner.old.seen self.old.party self.new.party }
+        ensures same { self.new ≡ record self.old { party = self.new.party } }
+    {
+        owner.meet(&mut self.access);
+    }
+
     /// Ends the subscription, and gives up what it has pending, of its prelude too: Kotlin's `collect`, cancelled. Emissions that
     /// wait are then accepted while there is room.
-    pub fn cancel(self, rt: &impl Wait) {
+    pub fn cancel(self, rt: &impl Wait)
+        ensures ended { (left : Party) × Made (round.Cancel self.number) self.party left }
+    {
         let Subscription {
             mut access,
             rest: _,

@@ -7,6 +7,8 @@ mod block_rows;
 #[cfg(test)]
 mod block_threads;
 #[cfg(test)]
+mod exchange_rows;
+#[cfg(test)]
 mod ledger;
 #[cfg(test)]
 mod meeting;

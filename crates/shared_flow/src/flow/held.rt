@@ -4,13 +4,14 @@ ghost use Rattle.shared_lane.specs.Caches.{IsLastOf};
 ghost use Rattle.shared_lane.specs.Sequencers.{seen};
 ghost use Rattle.shared_flow.specs.declared.round.Round.TheVariants as round;
 ghost use Rattle.lane_steps.specs.Law.{Begins};
-ghost use Rattle.shared_flow.specs.Entering.{Made};
+ghost use Rattle.shared_flow.specs.Entering.{MadeOf};
 ghost use Rattle.shared_flow.specs.Parties.{with_round};
-ghost use Rattle.shared_flow.specs.Owners.{KeepsLock, IsKept, at_rest};
+ghost use Rattle.shared_flow.specs.Owners.{HasHeard, KeepsLock, IsKept, at_rest};
 ghost use Rattle.shared_flow.specs.Meeting.{HasMet};
 
 use super::SharedFlow;
 use crate::access::Inside;
+use crate::emitter::Emitter;
 use crate::round::Round;
 use crate::subscription::Subscription;
 use flow_terms::Word;
@@ -51,7 +52,7 @@ impl<T: Word> SharedFlow<T> {
         ensures held { KeepsLock result.flow.now result.kept }
     {
         let mut inside = self.access.enter(rt);
-        let count = inside.guarded.state.hold();
+        let count = inside.guarded.state.subscription_count();
         Held {
             flow: self,
             kept: Kept { inside, count },
@@ -99,11 +100,40 @@ impl<T: Word> Held<'_, T> {
         subscription.meet(&mut *self.kept.inside.guarded.state)
     }
 
+    /// Tells an emitter of this flow all rounds so far: its own are its part of the list that the owner has seen. No round is made
+    /// for that, and no step on the lane.
+    pub fn tell_emitter(&mut self, emitter: &mut Emitter<T>)
+        requires held { KeepsLock self.old.flow.now self.old.kept }
+        requires lock { emitter.old.party.lock ≡ self.old.flow.now.party.lock }
+        ensures same_reference { self.new.flow.ghost_name ≡ self.old.flow.ghost_name }
+        ensures owner { self.new.flow.now ≡ self.old.flow.now }
+        ensures kept { self.new.kept ≡ self.old.kept }
+        ensures heard { HasHeard self.old.flow.now.party.seen emitter.old.party emitter.new.party }
+        ensures emitter { emitter.new ≡ record emitter.old { party = emitter.new.party } }
+    {
+        let flow = &mut *self.flow;
+        emitter.hear(&mut flow.access);
+    }
+
+    /// Tells a subscription of this flow all rounds so far, as `tell_emitter` tells an emitter.
+    pub fn tell_subscription(&mut self, subscription: &mut Subscription<T>)
+        requires held { KeepsLock self.old.flow.now self.old.kept }
+        requires lock { subscription.old.party.lock ≡ self.old.flow.now.party.lock }
+        ensures same_reference { self.new.flow.ghost_name ≡ self.old.flow.ghost_name }
+        ensures owner { self.new.flow.now ≡ self.old.flow.now }
+        ensures kept { self.new.kept ≡ self.old.kept }
+        ensures heard { HasHeard self.old.flow.now.party.seen subscription.old.party subscription.new.party }
+        ensures subscription { subscription.new ≡ record subscription.old { party = subscription.new.party } }
+    {
+        let flow = &mut *self.flow;
+        subscription.hear(&mut flow.access);
+    }
+
     /// Gives the lock back, and then wakes those that were helped when it was taken.
     pub fn release(self, rt: &impl Wait)
         requires held { KeepsLock self.flow.now self.kept }
         ensures round { self.exit.0.now ≡ at_rest (with_round (round.Hold self.entry.kept.count) self.exit.0.now.party.seen self.entry.flow.now.party) }
-        ensures made { Made (round.Hold self.entry.kept.count) self.entry.flow.now.party self.exit.0.now.party }
+        ensures made { MadeOf self.entry.kept.shared (round.Hold self.entry.kept.count) self.entry.flow.now.party self.exit.0.now.party }
     {
         let Held { flow, kept } = self;
         let Kept { inside, count } = kept;

@@ -129,14 +129,6 @@ impl Shared {
         self.sequencer.live(self.track.lane())
     }
 
-    /// Lets in what waits, and counts the live subscriptions, for one who keeps the lock.
-    pub(crate) fn hold(&mut self) -> u32
-        ensures { Does self.old (round.Hold result) self.new }
-    {
-        self.sequencer.scan(self.track.lane());
-        self.sequencer.live(self.track.lane())
-    }
-
     /// How many values the replay cache has.
     pub(crate) fn replay_len(&self) -> u64
         ensures length { result ≡ length self.now.sequencer.cache }

@@ -19,6 +19,7 @@ returns g c =
         left = helped;
         held = asked.1;
         does = does_on asked.0 came helped c.args.round asked.2 c.helped-guarded.ensures.same.0 c.helped-guarded.ensures.same.1 c.helped-guarded.ensures.only;
+        only = c.helped-guarded.ensures.only;
         after = gave_back (λ s. s.value) c.self.inside.lock c.put.new.self c.args.round _ c.put.ensures.given ∙ ap (left_with c.args.round helped) c.self.view_is;
       };
     }

@@ -23,6 +23,7 @@ returns g c =
         left = helped;
         held = asked.1;
         does = does_on asked.0 came helped tried asked.2 c.helped-guarded.ensures.same.0 c.helped-guarded.ensures.same.1 c.helped-guarded.ensures.only;
+        only = c.helped-guarded.ensures.only;
         after = gave_back (λ s. s.value) c.self.inside.lock c.put_as.new.self tried _ given ∙ ap (left_with tried helped) c.self.view_is;
       };
     }

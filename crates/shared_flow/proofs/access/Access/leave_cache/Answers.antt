@@ -22,6 +22,7 @@ returns g c =
         left = helped;
         held = asked.1;
         does = does_on asked.0 came helped (round.Cache (Ok came.sequencer.cache)) asked.2 c.helped-guarded.ensures.same.0 c.helped-guarded.ensures.same.1 c.helped-guarded.ensures.only;
+        only = c.helped-guarded.ensures.only;
         after = gave_back (λ s. s.value) c.self.inside.lock c.put_as.new.self (round.Cache (Ok helped.sequencer.cache)) _ c.put_as.ensures.given
             ∙ ap (λ ws. left_with (round.Cache (Ok ws)) helped (reach_of (λ s. s.value) c.self.inside.lock)) words ∙ ap (left_with (round.Cache (Ok came.sequencer.cache)) helped) c.self.view_is;
       };

@@ -1,30 +1,22 @@
-use Rattle.std.proofs.Common.{rules, refl, Ok, IfOk, inr, sym, ap, subst, ◌∙◌, Err, IfErr}
+use Rattle.std.proofs.Common.{rules, Ok, IfOk, inr, ap, subst, Err, IfErr}
 use Rattle.shared_flow.specs.declared.round.Round.TheVariants as round
 use Rattle.shared_flow.specs.Names.{SharedSeen}
 use Rattle.shared_flow.specs.Reach.{Reach}
 use Rattle.shared_flow.specs.Rounds.{Does, IsLetIn, IsAtLimit}
-use Rattle.shared_flow.specs.Parties.{Subscribed}
-use Rattle.shared_flow.specs.Owners.{Owning}
-use Rattle.shared_flow.specs.Looks.{WasLetInto}
-use Rattle.shared_flow.proofs.Making.{made}
+use Rattle.shared_flow.proofs.Making.{made, was_let_in}
 use Rattle.shared_flow.proofs.flow.SharedFlow.subscribe_with.Goals as goal
 
+-- the owner that took the lock is the one that another was made of
 pub returns-in-Ok-clause-begins : goal.returns-in-Ok-clause-begins
 returns-in-Ok-clause-begins g c =
-    let found : SharedSeen = c.enter-inside.result.guarded.state.value in
+    let owner : Reach = c.another.new.self in
     let after : SharedSeen = c.subscribe-number.new.self in
     let number = c.subscribe-number.result.number in
     let did = subst (λ (s : SharedSeen). IfOk c.subscribe-number.result.reader (λ reader. Does s (round.Subscribe (Ok number)) after × IsLetIn s number reader after)) c.deref_mut.ensures.value c.subscribe-number.ensures.ok in
-    let let_in = subst (λ r. IfOk r (λ reader. Does found (round.Subscribe (Ok number)) after × IsLetIn found number reader after)) c.in-Ok.is did in
-    let known = sym (ap (λ (o : Owning). o.party.flow) c.self.view_is) ∙ ap (λ (r : Reach). r.flow) (sym c.in_ok-access.ensures.same) ∙ c.enter-inside.ensures.named in
-    let p = let_in.1 in
-    subst (λ (s : Subscribed _). WasLetInto c.args.self.now.party.flow s.number s.reader) (sym c.new.ensures) (
-      found,
-      after,
-      known,
-      let_in.0,
-      (p.0, p.1, p.2, p.3, p.4, (after.sequencer, p.5.1, (refl, refl, refl, λ _. refl))),
-    )
+    let let_in = subst (λ r. IfOk r (λ reader. Does c.enter-inside.result.guarded.state.value (round.Subscribe (Ok number)) after × IsLetIn c.enter-inside.result.guarded.state.value number reader after)) c.in-Ok.is did in
+    rw (← c.self.view_is, ← c.in_ok-access.ensures.same, c.new.ensures)
+    (was_let_in number owner c.enter-inside.new.self c.leave.new.self c.enter-inside.result.guarded.state.value after c.in-Ok.reader
+    c.enter-inside.ensures.taken c.enter-inside.ensures.found c.enter-inside.ensures.named c.leave.ensures.left let_in.1)
 
 pub leave-requires : goal.leave-requires
 leave-requires g c =
@@ -42,14 +34,6 @@ leave-requires-in-Err g c =
     let did = subst (λ (s : SharedSeen). IfErr c.subscribe-number.result.reader (λ refusal. Does s (round.Subscribe (Err refusal)) after × IsAtLimit refusal)) c.deref_mut.ensures.value c.subscribe-number.ensures.err in
     let left_out = subst (λ r. IfErr r (λ refusal. Does found (round.Subscribe (Err refusal)) after × IsAtLimit refusal)) c.in-Err.is did in
     record { round = (found, ap (λ (r : Reach). r.held) c.enter-inside.ensures.taken, left_out.0) }
-
--- the owner that took the lock is the one that another was made of
-pub returns-in-Ok-clause-made : goal.returns-in-Ok-clause-made
-returns-in-Ok-clause-made g c =
-    let number = c.subscribe-number.result.number in
-    let owner : Reach = c.another.new.self in
-    rw (← c.self.view_is, ← c.in_ok-access.ensures.same, c.new.ensures)
-    (made (round.Subscribe (Ok number)) owner c.enter-inside.new.self c.leave.new.self c.enter-inside.result.guarded.state.value c.enter-inside.ensures.taken c.enter-inside.ensures.found c.leave.ensures.left)
 
 pub returns-in-Err-clause-kept : goal.returns-in-Err-clause-kept
 returns-in-Err-clause-kept g c =

@@ -1,0 +1,5 @@
+use Rattle.hot_callers.specs.Exchanges.{TakesEach}
+use Rattle.hot_callers.proofs.exchange_calling.take_each.Given as goal
+
+abbrev pub invariant-loop : goal.invariant-loop
+invariant-loop l = TakesEach l.fn.received.items l.fn.subscription l.received.items l.subscription

@@ -1,0 +1,85 @@
+//! What two threads pass on, by the callers that have the sentence in their contracts: those say which values may come, and these
+//! rows which do.
+
+use crate::shared_stage::config;
+use cold_flow::Policy;
+use hot_callers::{emit_and_receive, emit_and_receive_between};
+use shared_core::Prelude;
+use std::test::Fail;
+
+/// How often a subscription looks: by far oftener than it has values.
+const TURNS: usize = 100_000;
+
+/// Room for all values, so that none is dropped.
+const PLACES: u64 = 64;
+
+// Whether the values rise, each of them below the bound.
+fn rise_below(values: &[u64], bound: u64) -> bool {
+    let mut least = 0;
+    for value in values {
+        if *value <= least || bound <= *value {
+            return false;
+        }
+        least = *value;
+    }
+    true
+}
+
+// Whether these come first.
+fn begins_with(values: &[u64], first: &[u64]) -> bool {
+    let mut rest = values.iter();
+    for value in first {
+        if rest.next() != Some(value) {
+            return false;
+        }
+    }
+    true
+}
+
+/// A subscription that never looks receives nothing. One that looks receives its prelude, and then what is emitted meanwhile, in order.
+#[test]
+fn what_is_emitted_meanwhile_comes_in_order(rt: HostRuntime) -> Result<(), Fail> {
+    let values = [11, 12, 13, 14, 15, 16, 17, 18];
+    for policy in [Policy::Suspend, Policy::DropOldest] {
+        let prelude = Prelude::of(&[7, 8])?;
+        let config = config(0, PLACES, policy);
+        let none = emit_and_receive(&rt, config, Prelude::empty(), &values, 0)?;
+        let some = emit_and_receive(&rt, config, prelude, &values, TURNS)?;
+        let found = (
+            none.len(),
+            begins_with(&some, &[7, 8]),
+            rise_below(&some, 19),
+        );
+        assert_eq!(rt; found, (0, true, true), "what came");
+    }
+    Ok(())
+}
+
+/// A subscription that begins after some emissions receives its prelude, the replay cache as it was then, and what two emit meanwhile. It
+/// receives nothing of what is emitted after its end.
+#[test]
+fn who_begins_late_has_the_cache_and_ends_in_time(rt: HostRuntime) -> Result<(), Fail> {
+    let early = [11, 12, 13];
+    let late = [99];
+    for policy in [Policy::Suspend, Policy::DropOldest] {
+        let prelude = Prelude::of(&[7, 8])?;
+        let config = config(2, PLACES, policy);
+        let some = emit_and_receive_between(
+            &rt,
+            config,
+            prelude,
+            &early,
+            &[21, 22, 23],
+            &[31, 32, 33],
+            &late,
+            TURNS,
+        )?;
+        let mut is_late = false;
+        for value in &some {
+            is_late = is_late || *value == 99;
+        }
+        let found = (begins_with(&some, &[7, 8, 12, 13]), is_late);
+        assert_eq!(rt; found, (true, false), "what came");
+    }
+    Ok(())
+}
