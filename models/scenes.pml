@@ -188,6 +188,41 @@ proctype stopper(byte p) {
 }
 #endif
 
+#ifdef BLOCKS
+/* Emits so many values at once. */
+proctype block_emitter(byte p, e, count) {
+    OWN;
+    BLOCK_OWN;
+    left = count;
+    emit_all(p, e);
+    end(p)
+}
+
+/* Receives by `next_all` until it has so many values of the first emitter, or without end, and cancels then. */
+proctype block_subscriber(byte p, s, count; bit ever) {
+    OWN;
+    BLOCK_OWN;
+    do
+    :: !ever && latest[s * EMITTERS] == count -> break
+    :: else -> next_all(p, s); got = 0
+    od;
+    cancel(p, s);
+    end(p)
+}
+
+/* Takes by `try_next_all`, asking as often as it likes, and by `next_all`, until it has so many, and stays. */
+proctype block_taker(byte p, s, count) {
+    OWN;
+    BLOCK_OWN;
+    do
+    :: latest[s * EMITTERS] >= count -> break
+    :: latest[s * EMITTERS] < count -> take_all(s); d_step { bare = bare || got; got = 0 }
+    :: latest[s * EMITTERS] < count -> next_all(p, s); got = 0
+    od;
+    end(p)
+}
+#endif
+
 #define EVER 0, 0, 1
 #define TAKES(n) n, 0, 0
 #define TAKES_AND_STAYS(n) n, 1, 0
@@ -238,6 +273,18 @@ init {
         /* One that emits until it is let go, one that receives too few for the last emission and stays, and who stops the first. */
         run stoppable_emitter(0, 0, VALUES); run subscriber(SUBSCRIBER(0), 0, TAKES_AND_STAYS(VALUES - PLACES - 1));
         run stopper(0); parties = 3;
+#elif SCENE == 14
+        /* One that emits a list, and one that receives all by what is there, and cancels. */
+        run block_emitter(0, 0, VALUES); run block_subscriber(SUBSCRIBER(0), 0, VALUES, 0); parties = 3;
+#elif SCENE == 15
+        /* One that emits a list, one that emits one by one, one that receives by what is there, without end. */
+        run block_emitter(0, 0, VALUES); run emitter(1, 1, 2); run block_subscriber(SUBSCRIBER(0), 0, VALUES, 1); parties = 7;
+#elif SCENE == 16
+        /* One that emits a list, one that receives by what is there, without end, one that receives one by one. */
+        run block_emitter(0, 0, VALUES); run block_subscriber(SUBSCRIBER(0), 0, VALUES, 1); run subscriber(SUBSCRIBER(1), 1, EVER); parties = 7;
+#elif SCENE == 17
+        /* One that emits a list, and one that takes all but the last by what is there, and stays. */
+        run block_emitter(0, 0, VALUES); run block_taker(SUBSCRIBER(0), 0, VALUES - PLACES); parties = 3;
 #endif
         skip
     };

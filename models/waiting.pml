@@ -12,9 +12,11 @@
    -DBELL             what a thread sleeps by in steps: the run queue and the bell of the toolchain's futures; without it,
                       a thread goes on once its turn is queued
    -DSTOPS            parties may be let go: stops.pml
+   -DBLOCKS           parties emit and take several values at once: blocks.pml
    -DRULES            states more than that nobody is forgotten: what holds each time the lock is given back
 
-   A planted mistake is one of the names WRONG_.. here, in parkers.pml and in stops.pml, each beside what it changes. */
+   A planted mistake is one of the names WRONG_.. here, in parkers.pml, in stops.pml and in blocks.pml, each beside what it
+   changes. */
 #ifndef EMITTERS
 #define EMITTERS 1
 #endif
@@ -711,5 +713,8 @@ inline look_in(p) { enter(p); scan(); leave(p) }
 
 #ifdef STOPS
 #include "stops.pml"
+#endif
+#ifdef BLOCKS
+#include "blocks.pml"
 #endif
 #include "scenes.pml"
