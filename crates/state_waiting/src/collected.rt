@@ -5,7 +5,7 @@
 pub enum Collected<T> {
     /// The value, which differs from the last one that the watcher was given.
     Value(T),
-    /// All who wait on the state were let go, and there was nothing new.
+    /// All who wait on the state were let go, or this watcher alone, and there was nothing new.
     Stopped,
 }
 

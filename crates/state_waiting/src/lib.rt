@@ -26,6 +26,7 @@ mod bell;
 mod collected;
 mod limit;
 mod seat;
+mod stopper;
 #[cfg(test)]
 mod tests;
 mod watcher;
@@ -33,4 +34,5 @@ mod watcher;
 pub use collected::Collected;
 pub use flow_terms::{Refusal, Word};
 pub use seat::WatchedSeat;
+pub use stopper::Stopper;
 pub use watcher::Watcher;

@@ -5,6 +5,7 @@ ghost use Rattle.state_flow.specs.Calls.{Reads, Sets, Compares, TakesBack, Count
 ghost use Rattle.flow_terms.specs.declared.refusal.Refusal.TheVariants.{BadLimit, SubscribersFull, NoMemory};
 
 use crate::bell::Bell;
+use crate::stopper::Stopper;
 use crate::watcher::Watcher;
 use flow_terms::{Refusal, Word};
 use state_flow::{StateFlow, StateSeat};
@@ -21,6 +22,8 @@ use std::sync::Arc;
 pub struct WatchedSeat<T: Word> {
     seat: StateSeat<T>,
     bell: Arc<Bell>,
+    // Who lets go the watcher that this seat makes, where anybody asked for that.
+    stopper: Option<Stopper>,
 }
 
 impl<T: Word> Model for WatchedSeat<T> {
@@ -44,13 +47,17 @@ impl<T: Word> WatchedSeat<T> {
     {
         let seat = StateFlow::new(alloc, value, seats)?;
         let bell = Bell::new(alloc)?;
-        Ok(WatchedSeat { seat, bell })
+        Ok(WatchedSeat::over(seat, bell))
     }
 
     pub(crate) fn over(seat: StateSeat<T>, bell: Arc<Bell>) -> WatchedSeat<T>
         ensures { result ≡ seat }
     {
-        WatchedSeat { seat, bell }
+        WatchedSeat {
+            seat,
+            bell,
+            stopper: None,
+        }
     }
 
     /// The value, by one load: Kotlin's `value`.
@@ -116,7 +123,7 @@ impl<T: Word> WatchedSeat<T> {
     {
         let bell = Arc::try_clone(&self.bell)?;
         let seat = self.seat.take_seat(share)?;
-        Ok(WatchedSeat { seat, bell })
+        Ok(WatchedSeat::over(seat, bell))
     }
 
     /// Takes back another seat of the same state, with all its share, and makes one load: from then on this seat has seen what both
@@ -126,8 +133,30 @@ impl<T: Word> WatchedSeat<T> {
         ensures same_flow { self.new.flow ≡ self.old.flow }
         ensures joined { TakesBack self.old.view other.view self.new.view }
     {
-        let WatchedSeat { seat, bell: _ } = other;
+        let WatchedSeat {
+            seat,
+            bell: _,
+            stopper: _,
+        } = other;
         self.seat.give_back(seat);
+    }
+
+    /// Who lets go the watcher that this seat's next `collect` makes, and none beside it, from any thread: Kotlin's `Job` of a
+    /// coroutine that collects. Each one that the seat is asked for until then does the same, and so does each clone.
+    ///
+    /// Refused with 4, and then the seat is as it was. The first takes memory; a further one is refused only where it can't be
+    /// counted.
+    pub fn watcher_stopper(&mut self, alloc: Global) -> Result<Stopper, Refusal>
+        ensures same_flow { self.new.flow ≡ self.old.flow }
+        ensures unchanged { self.new.view ≡ self.old.view }
+        ensures refusals { IfErr result (λ refusal. refusal ≡ NoMemory) }
+    {
+        if let Some(stopper) = &self.stopper {
+            return Ok(stopper.clone()?);
+        }
+        let stopper = Stopper::new(alloc, &self.bell)?;
+        self.stopper = Some(stopper.clone()?);
+        Ok(stopper)
     }
 
     /// Begins to watch: Kotlin's `collect`. The number of watchers goes up by one, and this one was given nothing yet.
@@ -135,13 +164,17 @@ impl<T: Word> WatchedSeat<T> {
         ensures same_flow { result.flow ≡ self.flow }
         ensures begins { Begins self.view result.view }
     {
-        let WatchedSeat { seat, bell } = self;
-        Watcher::over(seat.collect(), bell)
+        let WatchedSeat {
+            seat,
+            bell,
+            stopper,
+        } = self;
+        Watcher::over(seat.collect(), bell, stopper)
     }
 
     /// From now on who waits on this state is let go, and who will: each watcher of it is answered `Stopped` once it was given what
     /// was set before. In Kotlin the scope of the coroutines that collect is cancelled. It is for good; values can be set and
-    /// read as ever, and to stop once more does nothing.
+    /// read as ever, and to stop once more does nothing. One watcher alone is let go by a [`Stopper`].
     ///
     /// It takes no lock and no memory. That a wake arrives isn't claimed.
     pub fn stop(&self) {

@@ -1,6 +1,6 @@
 //! Threads that watch a state: what they are given, that they wake, and that they are let go at any moment.
 
-use crate::{Collected, WatchedSeat, Watcher};
+use crate::{Collected, Stopper, WatchedSeat, Watcher};
 use std::alloc::AllocGlobal;
 use std::hint::spin_loop;
 use std::process::Abort;
@@ -353,6 +353,117 @@ fn who_is_stopped_is_given_what_is_there(rt: HostRuntime) -> Result<(), Fail> {
     assert!(rt;
         is_stopped && !was_stopped,
         "all are let go then, and were not before"
+    );
+    Ok(())
+}
+
+/// Pauses, and lets the watcher go that the stopper is of.
+fn let_go_later(stopper: &Stopper, turns: u64) {
+    spin(turns);
+    stopper.stop();
+}
+
+/// Sets so many numbers, pauses, and lets the watcher go that the stopper is of.
+fn set_and_let_go(seat: &mut WatchedSeat<u64>, stopper: &Stopper, last: u64, turns: u64) {
+    set_numbers(seat, last, 0);
+    let_go_later(stopper, turns);
+}
+
+/// A thread that sleeps is let go alone, at whatever moment, and was given all that was set before.
+#[test]
+fn one_is_let_go_at_any_moment(rt: HostRuntime) -> Result<(), Fail> {
+    for round in 0..ROUNDS {
+        let last = round % 5;
+        let turns = round.wrapping_mul(round) % 20_000;
+        let mut seat = WatchedSeat::new(rt.alloc(), 0, 2)?;
+        let mut watching = seat.take_seat(0)?;
+        let stopper = watching.watcher_stopper(rt.alloc())?;
+        let mut watcher = watching.collect();
+        let (latest, ()) = thread::join(
+            &rt,
+            || watch_to(&rt, &mut watcher, MOST),
+            || set_and_let_go(&mut seat, &stopper, last, turns),
+        );
+        assert_eq!(rt;
+            [latest, left_of(watcher)],
+            [last, NOTHING],
+            "round {round}"
+        );
+    }
+    Ok(())
+}
+
+/// Waits until it is let go, and sets 3 some time after that. The last value that it was given.
+fn watch_and_set(rt: &impl Wait, watcher: &mut Watcher<u64>, seat: &mut WatchedSeat<u64>) -> u64 {
+    let latest = watch_to(rt, watcher, MOST);
+    spin(20_000);
+    seat.set(3);
+    latest
+}
+
+/// Of two that sleep one is let go, and the other sleeps on until the next value: it comes only after that.
+#[test]
+fn the_other_sleeps_on(rt: HostRuntime) -> Result<(), Fail> {
+    for round in 0..20 {
+        let turns = round * 5_000;
+        let mut seat = WatchedSeat::new(rt.alloc(), 0, 3)?;
+        let mut watching = seat.take_seat(0)?;
+        let sleeping = seat.take_seat(0)?;
+        let stopper = watching.watcher_stopper(rt.alloc())?;
+        let mut one = watching.collect();
+        let mut other = sleeping.collect();
+        let ((first, second), ()) = thread::join(
+            &rt,
+            || {
+                thread::join(
+                    &rt,
+                    || watch_to(&rt, &mut other, 3),
+                    || watch_and_set(&rt, &mut one, &mut seat),
+                )
+            },
+            || let_go_later(&stopper, turns),
+        );
+        let is_alone = one.is_stopped() && !other.is_stopped();
+        let found = [first, second, left_of(other), left_of(one)];
+        assert_eq!(rt; found, [3, 0, NOTHING, 3], "round {round}");
+        assert!(rt; is_alone, "the other was let go in round {round}");
+    }
+    Ok(())
+}
+
+/// Who alone is let go before it waits, or between two waits, is given what is there, and waits no more. To stop again changes
+/// nothing, nor does what it was let go by for who watches at its seat later.
+#[test]
+fn who_alone_is_stopped_is_given_what_is_there(rt: HostRuntime) -> Result<(), Fail> {
+    let mut seat = WatchedSeat::new(rt.alloc(), 0, 2)?;
+    let mut watching = seat.take_seat(0)?;
+    let stopper = watching.watcher_stopper(rt.alloc())?;
+    let second = watching.watcher_stopper(rt.alloc())?;
+    let third = stopper.clone()?;
+    let mut watcher = watching.collect();
+    let was_stopped = watcher.is_stopped() || stopper.is_stopped();
+    third.stop();
+    let is_stopped = watcher.is_stopped() && stopper.is_stopped() && second.is_stopped();
+    let first = heard(&rt, &mut watcher);
+    let before = heard(&rt, &mut watcher);
+    second.stop();
+    let within = heard_within(&rt, &mut watcher, 10_000);
+    seat.set(5);
+    let between = [heard(&rt, &mut watcher), heard(&rt, &mut watcher)];
+    let mut later = watcher.cancel().collect();
+    let anew = [heard(&rt, &mut later), heard_within(&rt, &mut later, 1)];
+    let is_alone = !seat.is_stopped() && !later.is_stopped();
+    let left = left_of(later);
+    assert_eq!(rt;
+        [
+            first, before, within, between[0], between[1], anew[0], anew[1], left
+        ],
+        [0, STOPPED, STOPPED, 5, STOPPED, 5, NOTHING, NOTHING],
+        "what the waits came to"
+    );
+    assert!(rt;
+        is_stopped && !was_stopped && is_alone,
+        "it is let go then, was not before, and nobody else is"
     );
     Ok(())
 }

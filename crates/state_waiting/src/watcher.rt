@@ -7,6 +7,7 @@ use crate::bell::{Bell, pause};
 use crate::collected::{Collected, Turn};
 use crate::limit::Limit;
 use crate::seat::WatchedSeat;
+use crate::stopper::Stopper;
 use flow_terms::Word;
 use state_flow::Collector;
 use std::marker::Model;
@@ -24,6 +25,8 @@ const LOOKS: u32 = 4;
 pub struct Watcher<T: Word> {
     collector: Collector<T>,
     bell: Arc<Bell>,
+    // Who lets go this watcher alone, where its seat was asked for that.
+    stopper: Option<Stopper>,
 }
 
 impl<T: Word> Model for Watcher<T> {
@@ -35,10 +38,18 @@ impl<T: Word> Model for Watcher<T> {
 }
 
 impl<T: Word> Watcher<T> {
-    pub(crate) fn over(collector: Collector<T>, bell: Arc<Bell>) -> Watcher<T>
+    pub(crate) fn over(
+        collector: Collector<T>,
+        bell: Arc<Bell>,
+        stopper: Option<Stopper>,
+    ) -> Watcher<T>
         ensures { result ≡ collector }
     {
-        Watcher { collector, bell }
+        Watcher {
+            collector,
+            bell,
+            stopper,
+        }
     }
 
     /// The value where it differs from the last one that this watcher was given, else nothing; by one load. The first ask gives the
@@ -51,8 +62,8 @@ impl<T: Word> Watcher<T> {
     }
 
     /// The value once it differs from the last one that this watcher was given, for which the thread sleeps: one turn of Kotlin's
-    /// `collect`. `Stopped` where all were let go, by [`WatchedSeat::stop`], and there is nothing new: what was set before the stop
-    /// is given first.
+    /// `collect`. `Stopped` where all were let go, by [`WatchedSeat::stop`], or it alone, by a [`Stopper`], and there is nothing new:
+    /// what was set before the stop is given first.
     ///
     /// A value that is there costs what [`try_next`](Watcher::try_next) costs. It takes no lock and no memory. That a wake arrives,
     /// by any time, isn't claimed.
@@ -101,7 +112,7 @@ impl<T: Word> Watcher<T> {
         None
     }
 
-    // Sleeps until there is a value, or all were let go. The watcher has to be counted as a sleeper.
+    // Sleeps until there is a value, or it was let go. The watcher has to be counted as a sleeper.
     fn wait(&mut self, rt: &impl Wait) -> Collected<T>
         ensures same_flow { self.new.flow ≡ self.old.flow }
         ensures collected { Awaits self.old.view result self.new.view }
@@ -138,28 +149,40 @@ impl<T: Word> Watcher<T> {
     {
         // Both are loaded before the value: a ring after that is seen by the turn, and what was set before the stop is given first.
         let turn = self.bell.turn();
-        let is_let_go = self.bell.is_let_go();
+        let is_stopped = self.is_stopped();
         if let Some(value) = self.collector.try_next() {
             return Turn::Over(Collected::Value(value));
         }
-        if is_let_go {
+        if is_stopped {
             return Turn::Over(Collected::Stopped);
         }
         Turn::Asleep(turn)
     }
 
-    /// Whether who waits on this state is let go.
+    /// Whether this watcher is let go: by a stop of all, or alone.
     pub fn is_stopped(&self) -> bool {
-        self.bell.is_let_go()
+        self.bell.is_let_go() || self.is_stopped_alone()
+    }
+
+    // Whether a stopper of its own was used.
+    fn is_stopped_alone(&self) -> bool {
+        match &self.stopper {
+            Some(stopper) => stopper.is_stopped(),
+            None => false,
+        }
     }
 
     /// Ends the watching, and gives the seat back: what Kotlin does where the coroutine that collects is cancelled. The number of
-    /// watchers goes down by one.
+    /// watchers goes down by one. The stoppers of this one let go none that the seat makes later.
     pub fn cancel(self) -> WatchedSeat<T>
         ensures same_flow { result.flow ≡ self.flow }
         ensures ends { Ends self.view result.view }
     {
-        let Watcher { collector, bell } = self;
+        let Watcher {
+            collector,
+            bell,
+            stopper: _,
+        } = self;
         WatchedSeat::over(collector.cancel(), bell)
     }
 }

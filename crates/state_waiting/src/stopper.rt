@@ -1,0 +1,62 @@
+//! Who lets go one watcher alone.
+ghost use Rattle.std.specs.Prelude.{◌≡◌, IfErr};
+ghost use Rattle.flow_terms.specs.declared.refusal.Refusal.TheVariants.{NoMemory};
+
+use crate::bell::Bell;
+use flow_terms::Refusal;
+use std::alloc::{AllocError, Global};
+use std::sync::Arc;
+use std::sync::atomic::{AtomicBool, Ordering};
+
+/// Lets go one [`Watcher`](crate::Watcher), and none beside it: Kotlin's `Job.cancel` of a coroutine that collects. It is made by
+/// [`WatchedSeat::watcher_stopper`](crate::WatchedSeat::watcher_stopper), before the watching begins. Any number of them may be had,
+/// on any thread.
+#[derive(Drop)]
+pub struct Stopper {
+    mark: Arc<Mark>,
+}
+
+/// What a watcher shares with its stoppers. No contract speaks of it.
+#[derive(Drop)]
+struct Mark {
+    is_stopped: AtomicBool,
+    bell: Arc<Bell>,
+}
+
+impl Stopper {
+    pub(crate) fn new(alloc: Global, bell: &Arc<Bell>) -> Result<Stopper, Refusal>
+        ensures { IfErr result (λ refusal. refusal ≡ NoMemory) }
+    {
+        let mark = Mark {
+            is_stopped: AtomicBool::new(false),
+            bell: Arc::try_clone(bell)?,
+        };
+        Ok(Stopper {
+            mark: Arc::new(alloc, mark)?,
+        })
+    }
+
+    /// From now on the watcher is let go: each of its waits, one that is on and each later one, is answered `Stopped` once it was
+    /// given what was set before. Others that sleep on the state wake, find nothing new, and sleep on. It is for good; to stop once
+    /// more does nothing, nor does it after the watcher's [`cancel`](crate::Watcher::cancel).
+    ///
+    /// It takes no lock and no memory. That a wake arrives isn't claimed.
+    pub fn stop(&self) {
+        self.mark.is_stopped.store(true, Ordering::SeqCst);
+        self.mark.bell.ring();
+    }
+
+    /// Whether this watcher alone was let go. What [`WatchedSeat::stop`](crate::WatchedSeat::stop) lets go isn't asked.
+    pub fn is_stopped(&self) -> bool {
+        self.mark.is_stopped.load(Ordering::SeqCst)
+    }
+}
+
+impl Clone for Stopper {
+    /// Another stopper of the same watcher. It takes no memory, and fails only where there are as many as a counter can tell apart.
+    fn clone(&self) -> Result<Stopper, AllocError> {
+        Ok(Stopper {
+            mark: Arc::try_clone(&self.mark)?,
+        })
+    }
+}
