@@ -1,7 +1,7 @@
-//! A state flow between two threads: one sets it, the other watches it.
+//! A state flow between two threads: one sets it, the other sleeps until it changes.
 #![tactic(auto)]
 
-use state_flow::{Refusal, StateFlow, StateSeat};
+use state_waiting::{Collected, Refusal, WatchedSeat};
 use std::alloc::AllocGlobal;
 use std::process::ExitCode;
 use std::rt::Clock;
@@ -21,50 +21,49 @@ struct Watched {
     rose: bool,
 }
 
-/// Sets the values from 1 to 100, with a short rest after each tenth of them.
-fn work<R: Clock>(rt: &R, mut seat: StateSeat<u64>) {
+/// Sets the values from 1 to 100, with a short rest after each tenth of them. After the last one it stops who watches.
+fn work<R: Clock>(rt: &R, mut seat: WatchedSeat<u64>) {
     for percent in 1..=DONE {
         seat.set(percent);
         if percent % 10 == 0 {
             thread::sleep(rt, Duration::from_millis(5));
         }
     }
+    seat.stop();
 }
 
-/// Collects until the last value came. It may miss values between: a collector is given the latest one.
-///
-/// A collector doesn't sleep. An ask that finds nothing new answers at once, so this thread rests before the next one.
-fn watch<R: Clock + Wait>(rt: &R, seat: StateSeat<u64>) -> Watched {
-    let mut collector = seat.collect();
+/// Collects until it is stopped, and sleeps while nothing is new. It may miss values between: a watcher is given the latest one,
+/// and the last one before it is told of the stop.
+fn watch<R: Wait>(rt: &R, seat: WatchedSeat<u64>) -> Watched {
+    let mut watcher = seat.collect();
     let mut watched = Watched {
         last: None,
         rose: true,
     };
     for _ in rt.forever() {
-        match collector.try_next() {
-            Some(percent) => {
+        match watcher.next(rt) {
+            Collected::Value(percent) => {
                 let is_above = watched.last.is_none_or(|before| before < percent);
                 watched = Watched {
                     last: Some(percent),
                     rose: watched.rose && is_above,
                 };
             }
-            None if watched.last == Some(DONE) => break,
-            None => thread::sleep(rt, Duration::from_millis(1)),
+            Collected::Stopped => break,
         }
     }
-    let _seat = collector.cancel();
+    let _seat = watcher.cancel();
     watched
 }
 
-/// Both threads, each with a seat of the state.
+/// Both threads, each with a seat of the state. Who waits for the other stands first: without a second thread it is called last.
 fn run<R>(rt: &R) -> Result<Watched, Refusal>
 where
     R: Clock + Wait + Threads + AllocGlobal + Sync,
 {
-    let mut worker = StateFlow::new(rt.alloc(), 0u64, 2)?;
-    let watcher = worker.take_seat(0)?;
-    let ((), watched) = thread::join(rt, move || work(rt, worker), move || watch(rt, watcher));
+    let mut worker = WatchedSeat::new(rt.alloc(), 0u64, 2)?;
+    let watching = worker.take_seat(0)?;
+    let (watched, ()) = thread::join(rt, move || watch(rt, watching), move || work(rt, worker));
     Ok(watched)
 }
 
