@@ -17,12 +17,12 @@ use Rattle.flow_stopping.specs.declared.answers.Emitted.TheVariants as emitted
 -- the subscription made rounds of looks alone, if any, and received nothing: it did nothing at all; or nothing was left of its
 -- prelude, and its looks took nothing
 abbrev pub LookedOn : {T : Type 0} → Subscribed T → Subscribed T → Type 0
-LookedOn s t = (t ≡ s) ⊎ ((t.number ≡ s.number) × OnlyNext s.party t.party × IsPast s t × MissedOn s.reader t.reader)
+LookedOn s t = (t ≡ s) ⊎ ((t.number ≡ s.number) × OnlyNext s.number s.party t.party × IsPast s t × MissedOn s.reader t.reader)
 
 -- what a wait for the next value comes to
 abbrev pub Receives : {T : Type 0} → (ℕ → T) → Subscribed T → Result (Received T) Refusal → Subscribed T → Type 0
 Receives read_as s (Ok (received.Value v)) t =
-    (t.number ≡ s.number) × OnlyNext s.party t.party × GreetedOr s v t (Waited read_as s.reader v t.reader)
+    (t.number ≡ s.number) × OnlyNext s.number s.party t.party × GreetedOr s v t (Waited read_as s.reader v t.reader)
 Receives read_as s (Ok received.Stopped) t = LookedOn s t
 Receives read_as s (Err refusal) t = (refusal ≡ NoMemory) × (t ≡ s)
 

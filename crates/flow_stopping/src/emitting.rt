@@ -79,13 +79,15 @@ impl StoppableParker {
         }
     }
 
-    // Waits until the emission in flight is finished. Nothing where the parker was stopped before that.
+    // Waits until the emission in flight is finished. Nothing where the parker was stopped before that. It looks on for a little
+    // while before the thread sleeps.
     fn finished<T: Word>(&mut self, rt: &impl Wait, emitter: &mut Emitter<T>) -> Option<Receipt>
         requires in_flight { emitter.old.ticket ≢ None }
         ensures same { IsSameEmitter emitter.old emitter.new }
         ensures finished { IfSome result (λ receipt. (m : Emitting) × Waited emitter.old m × WasFinished m receipt emitter.new) }
         ensures waits { IfNone result ((emitter.new.ticket ≢ None) × Waited emitter.old emitter.new) }
     {
+        emitter.look_on();
         for _ in rt.forever() {
             let Some(Turn { mut cx, is_stopped }) = self.turn(rt) else {
                 continue;

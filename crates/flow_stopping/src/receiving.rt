@@ -15,8 +15,8 @@ impl StoppableParker {
     /// [`Subscription::next`](shared_flow::Subscription::next) does, unless it is stopped: one turn of Kotlin's `collect`, in a
     /// coroutine that may be cancelled.
     ///
-    /// Where the parker is stopped, nothing is received: what is pending stays so. Refused as `NoMemory` where the parker finds no
-    /// memory to wait by, and then nothing was done.
+    /// A value that is there comes at once, by one look. Where the parker is stopped, nothing is received: what is pending stays so.
+    /// Refused as `NoMemory` where the parker finds no memory to wait by, and then nothing was done.
     pub fn next<T: Word>(
         &mut self,
         rt: &impl Wait,
@@ -28,10 +28,14 @@ impl StoppableParker {
             return Ok(Received::Stopped);
         }
         self.begin()?;
+        if let Some(value) = subscription.next_now(rt) {
+            return Ok(Received::Value(value));
+        }
         Ok(self.received(rt, subscription))
     }
 
-    // Waits for the next value.
+    // Waits for the next value where a look found none. It looks on for a little while before the thread sleeps.
+    #[inline(never)]
     fn received<T: Word>(
         &mut self,
         rt: &impl Wait,
@@ -39,6 +43,9 @@ impl StoppableParker {
     ) -> Received<T>
         ensures { Receives T.read_as subscription.old (Ok result) subscription.new }
     {
+        if let Some(value) = subscription.next_soon(rt) {
+            return Received::Value(value);
+        }
         for _ in rt.forever() {
             let Some(Turn { mut cx, is_stopped }) = self.turn(rt) else {
                 continue;

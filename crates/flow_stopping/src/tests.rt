@@ -56,10 +56,21 @@ struct Stoppers {
     hearing: Stopper,
 }
 
+fn new_flow<R: AllocGlobal + Abort>(rt: &R) -> SharedFlow<u64> {
+    SharedFlow::new(rt.alloc(), CONFIG).expect(rt, "a flow")
+}
+
 fn paired<R: AllocGlobal + RandomSource + Abort + Wait>(rt: &R) -> (Pair, Stoppers) {
+    let mut flow = new_flow(rt);
+    paired_on(rt, &mut flow)
+}
+
+fn paired_on<R>(rt: &R, flow: &mut SharedFlow<u64>) -> (Pair, Stoppers)
+where
+    R: AllocGlobal + RandomSource + Abort + Wait,
+{
     let (sending, stops_sending) = StoppableParker::new(rt).expect(rt, "a parker");
     let (hearing, stops_hearing) = StoppableParker::new(rt).expect(rt, "a parker");
-    let mut flow = SharedFlow::new(rt.alloc(), CONFIG).expect(rt, "a flow");
     let subscription = flow.subscribe(rt).expect(rt, "a subscription");
     let emitter = flow.emitter(rt, 1).expect(rt, "an emitter");
     let pair = Pair {
@@ -204,6 +215,29 @@ fn a_stop_between_two_waits(rt: HostRuntime) -> Result<(), Fail> {
     stoppers.hearing.stop();
     let sent_second = sent(&rt, &mut pair.emitter, &mut pair.sending, 6);
     let second = heard(&rt, &mut pair.subscription, &mut pair.hearing);
+    let found = [sent_first, first, sent_second, second, pair.end(&rt)];
+    assert_eq!(rt;
+        found,
+        [ACCEPTED, 5, ACCEPTED, STOPPED, 6],
+        "what the calls came to"
+    );
+    Ok(())
+}
+
+/// A value that is there comes at once, though another keeps the lock. Who was stopped is told so, though a value is there.
+#[test]
+fn a_value_that_is_there_passes_a_held_lock(rt: HostRuntime) -> Result<(), Fail> {
+    let mut flow = new_flow(&rt);
+    let (mut pair, stoppers) = paired_on(&rt, &mut flow);
+    let sent_first = sent(&rt, &mut pair.emitter, &mut pair.sending, 5);
+    let held = flow.hold(&rt);
+    let first = heard(&rt, &mut pair.subscription, &mut pair.hearing);
+    held.release(&rt);
+    let sent_second = sent(&rt, &mut pair.emitter, &mut pair.sending, 6);
+    stoppers.hearing.stop();
+    let held = flow.hold(&rt);
+    let second = heard(&rt, &mut pair.subscription, &mut pair.hearing);
+    held.release(&rt);
     let found = [sent_first, first, sent_second, second, pair.end(&rt)];
     assert_eq!(rt;
         found,

@@ -6,7 +6,7 @@ use Rattle.shared_flow.specs.Lives.{Turn, LivesOn, received_in}
 use Rattle.shared_flow.specs.Names.{FlowName, SharedSeen}
 use Rattle.shared_flow.specs.Parties.{Emitting, Subscribed, named}
 use Rattle.shared_flow.specs.Reach.{Party}
-use Rattle.shared_flow.specs.Rounds.{Does}
+use Rattle.shared_flow.specs.Rounds.{Comes}
 
 -- it is the same subscription, at the same flow
 abbrev pub IsSameSubscription : Subscribed ℕ → Subscribed ℕ → Type 0
@@ -22,4 +22,4 @@ AreOfOneFlow e s = (name : FlowName) × (e.party.flow ≡ Some name) × (s.party
 
 -- at one moment, with the lock taken once, so many subscribed to the party's flow, and these were the words of its replay cache
 abbrev pub WereAtOnce : Party → ℕ → List ℕ → Type 0
-WereAtOnce p count words = (before now : SharedSeen) × (p.flow ≡ Some now.name) × Does before (round.Hold count) now × (now.sequencer.cache ≡ words)
+WereAtOnce p count words = (before now : SharedSeen) × (p.flow ≡ Some now.name) × Comes before (round.Hold count) now × (now.sequencer.cache ≡ words)

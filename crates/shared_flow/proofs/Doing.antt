@@ -1,14 +1,25 @@
--- A round, put together from its parts.
-use Rattle.std.proofs.Common.{rules, ◌≡◌, ◌⊎◌, Result, Ok, Err, IfOk, IfErr, OnOk, OnErr, refl, ◌∙◌, inl}
+-- A call, and its round, put together from their parts.
+use Rattle.std.proofs.Common.{rules, ◌≡◌, ◌≢◌, ◌⊎◌, ◌<◌, ◌≤◌, Result, Ok, Err, IfOk, IfErr, OnOk, OnErr, refl, sym, subst, ◌∙◌, inl, ap, ℕ, Option, Some, None}
+use Rattle.flow_terms.specs.declared.answers.Emit.{Emit}
+use Rattle.flow_terms.specs.declared.answers.Emit.TheVariants as emit
+use Rattle.flow_terms.specs.declared.answers.Withdrawn.{Withdrawn}
+use Rattle.flow_terms.specs.declared.answers.Withdrawn.TheVariants as withdrawn
+use Rattle.flow_terms.specs.declared.ids.Ticket.{Ticket}
 use Rattle.flow_terms.specs.declared.refusal.Refusal.{Refusal}
 use Rattle.flow_terms.specs.declared.refusal.Refusal.TheVariants.{Spent, SubscribersFull}
-use Rattle.shared_lane.specs.Views.{SequencerSeen}
-use Rattle.shared_lane.specs.Sequencers.{IsSameSequencer, OnlyLoaded, AfterScan}
+use Rattle.shared_lane.specs.Views.{ReceiptSeen, SequencerSeen}
+use Rattle.shared_lane.specs.Sequencers.{IsSameSequencer, OnlyLoaded, AfterScan, next}
 use Rattle.shared_lane.specs.Places.{NotLetIn}
 use Rattle.shared_lane.proofs.Sameness.{loaded_twice}
 use Rattle.shared_flow.specs.declared.round.Round.{Round}
+use Rattle.shared_flow.specs.declared.round.Round.TheVariants as round
+use Rattle.shared_flow.specs.Entering.{IsCalled}
 use Rattle.shared_flow.specs.Names.{SharedSeen}
-use Rattle.shared_flow.specs.Rounds.{Makes, Scanned, Does}
+use Rattle.shared_flow.proofs.Numbers.{same_log}
+use Rattle.shared_flow.specs.Reach.{Reach}
+use Rattle.shared_flow.specs.Rounds.{Makes, Scanned, Comes, Does, Frees, poll_round, withdraw_round}
+use Rattle.shared_flow.specs.Sleeping.{LiesDown, NobodySleeps, OnlyThese}
+use Rattle.shared_flow.specs.Waking.{Helps, Lies, SleepOn, IsTied, IsUnfinished, WakesEmissions, ended_by}
 
 module _ {A E : Type 0} where
   pub if_ok : (result : Result A E) (P Q : A → Type 0) → ((a : A) → P a → Q a) → IfOk result P → IfOk result Q
@@ -32,27 +43,117 @@ pub same_through : (q m t : SequencerSeen) → IsSameSequencer q m → IsSameSeq
 same_through q m t a b = (b.0 ∙ a.0, b.1 ∙ a.1, b.2 ∙ a.2, b.3 ∙ a.3, b.4 ∙ a.4, b.5 ∙ a.5)
 
 -- a call that was made after what waited was let in
-pub does : (s t : SharedSeen) (r : Round) → t.name ≡ s.name → IsSameSequencer s.sequencer t.sequencer → AfterScan s.sequencer (λ x. Makes s.name.lane x r t.sequencer) → Does s r t
-does s t r named same made = (named, same, (made.0, made.1, made.2, made.3, made.4, (t.sequencer, made.5, (t.sequencer, inl refl, (refl, refl, refl, λ _. refl)))))
+pub comes : (s t : SharedSeen) (r : Round) → t.name ≡ s.name → IsSameSequencer s.sequencer t.sequencer → AfterScan s.sequencer (λ x. Makes s.name.lane x r t.sequencer) → Frees (ended_by r) t.sequencer t.sequencer → Comes s r t
+comes s t r named same made frees = (named, same, (made.0, made.1, made.2, made.3, made.4, (t.sequencer, made.5, (t.sequencer, inl refl, (refl, refl, refl, λ _. refl)), frees)))
 
 -- the same, where what waits may have been let in once more
-pub does_again : (s m t : SharedSeen) (r : Round) → m.name ≡ s.name → IsSameSequencer s.sequencer m.sequencer → AfterScan s.sequencer (λ x. Makes s.name.lane x r m.sequencer)
-    → t.name ≡ m.name → IsSameSequencer m.sequencer t.sequencer → (t.sequencer ≡ m.sequencer) ⊎ Scanned m.sequencer t.sequencer → Does s r t
-does_again s m t r named same made still kept again = (
+pub comes_again : (s m t : SharedSeen) (r : Round) → m.name ≡ s.name → IsSameSequencer s.sequencer m.sequencer → AfterScan s.sequencer (λ x. Makes s.name.lane x r m.sequencer)
+    → t.name ≡ m.name → IsSameSequencer m.sequencer t.sequencer → (t.sequencer ≡ m.sequencer) ⊎ Scanned m.sequencer t.sequencer → Frees (ended_by r) m.sequencer t.sequencer → Comes s r t
+comes_again s m t r named same made still kept again frees = (
   still ∙ named,
   same_through s.sequencer m.sequencer t.sequencer same kept,
-  (made.0, made.1, made.2, made.3, made.4, (m.sequencer, made.5, (t.sequencer, again, (refl, refl, refl, λ _. refl)))),
+  (made.0, made.1, made.2, made.3, made.4, (m.sequencer, made.5, (t.sequencer, again, (refl, refl, refl, λ _. refl)), frees)),
 )
 
--- who has made a round may look at the cursors, and it is that round
-pub does_on : (s x t : SharedSeen) (r : Round) → Does s r x → t.name ≡ x.name → IsSameSequencer x.sequencer t.sequencer → OnlyLoaded x.sequencer t.sequencer → Does s r t
-does_on s x t r did still last only =
-    let made = did.2 in
+-- looks at the cursors after what was let in at the end of a subscription
+frees_on : (ended : Option ℕ) (q m t : SequencerSeen) → Frees ended q m → OnlyLoaded m t → Frees ended q t
+frees_on None q m t frees only = tt
+frees_on (Some number) q m t frees only = (frees.0, frees.1, loaded_twice frees.0 m t frees.2 only)
+
+-- neither a poll nor a withdrawal ends a subscription
+pub polled_frees : (ticket : Ticket) (id : ℕ) (last : Option ℕ) (answer : Emit) (receipt : Option ReceiptSeen) (q t : SequencerSeen) → Frees (ended_by (poll_round ticket id last answer receipt)) q t
+polled_frees ticket id last (emit.Done n) (Some r) q t = tt
+polled_frees ticket id last (emit.Done n) None q t = tt
+polled_frees ticket id last emit.Waiting receipt q t = tt
+polled_frees ticket id last emit.Gone receipt q t = tt
+
+pub withdrawn_frees : (ticket : Ticket) (id : ℕ) (last : Option ℕ) (answer : Withdrawn ℕ) (receipt : Option ReceiptSeen) (q t : SequencerSeen) → Frees (ended_by (withdraw_round ticket id last answer receipt)) q t
+withdrawn_frees ticket id last (withdrawn.Left n) (Some r) q t = tt
+withdrawn_frees ticket id last (withdrawn.Left n) None q t = tt
+withdrawn_frees ticket id last withdrawn.Removed receipt q t = tt
+withdrawn_frees ticket id last withdrawn.Gone receipt q t = tt
+
+-- who has made a call helps others, and may look at the cursors for that: then it is a round
+pub does_on : (s x t : SharedSeen) (r : Round) → Comes s r x → Lies s r x → Helps (next s.sequencer) (ended_by r) x t → Does s r t
+does_on s x t r came lies helps =
+    let made = came.2 in
     let rests = made.5.2 in (
-      still ∙ did.0,
-      same_through s.sequencer x.sequencer t.sequencer did.1 last,
-      (made.0, made.1, made.2, made.3, made.4, (made.5.0, made.5.1, (rests.0, rests.1, loaded_twice rests.0 x.sequencer t.sequencer rests.2 only))),
+      helps.named ∙ came.0,
+      same_through s.sequencer x.sequencer t.sequencer came.1 helps.same,
+      (made.0, made.1, made.2, made.3, made.4, (made.5.0, made.5.1, (rests.0, rests.1, loaded_twice rests.0 x.sequencer t.sequencer rests.2 helps.only), frees_on (ended_by r) made.5.0 x.sequencer t.sequencer made.5.3 helps.only)),
+      record { called = x; lies = lies; helps = helps },
     )
+
+-- the flag stays tied where nothing but views of the cursors changed
+pub still_tied : (a b : SharedSeen) → IsTied a → OnlyLoaded a.sequencer b.sequencer → b.flag ≡ a.flag → IsTied b
+still_tied a b tied only flag = λ unfinished. flag ∙ tied (subst IsUnfinished only.0 unfinished)
+
+-- the subscriptions were woken, and then the emissions
+pub helped_on : (before : ℕ) (ended : Option ℕ) (s a b : SharedSeen) → a ≡ record s { subscriptions = a.subscriptions; flag = a.flag } → (before < next s.sequencer → NobodySleeps a.subscriptions)
+    → (next s.sequencer ≤ before → OnlyThese (λ n. ended ≢ Some n) s.subscriptions a.subscriptions) → b.name ≡ a.name → IsSameSequencer a.sequencer b.sequencer
+    → OnlyLoaded a.sequencer b.sequencer → b.subscriptions ≡ a.subscriptions → WakesEmissions a b → IsTied b → Helps before ended s b
+helped_on before ended s a b is accepted none named same only subs woken tied =
+    let there : a.sequencer ≡ s.sequencer = ap (λ (z : SharedSeen). z.sequencer) is in
+    let loaded = subst (λ (q : SequencerSeen). OnlyLoaded q b.sequencer) there only in
+    let number : next b.sequencer ≡ next s.sequencer = same_log s.sequencer b.sequencer loaded.1 loaded.2 in
+    record {
+      named = named ∙ ap (λ (z : SharedSeen). z.name) is;
+      same = subst (λ (q : SequencerSeen). IsSameSequencer q b.sequencer) there same;
+      only = loaded;
+      subscriptions = record {
+        accepted = λ more. subst NobodySleeps (sym subs) (accepted (subst (λ n. before < n) number more));
+        none_accepted = λ few. subst (OnlyThese (λ n. ended ≢ Some n) s.subscriptions) (sym subs) (none (subst (λ n. n ≤ before) number few));
+      };
+      emissions = subst (λ (z : SharedSeen). WakesEmissions z b) is woken;
+      tied = tied;
+    }
+
+-- those were helped whom a round helps
+pub helped_by : (before : ℕ) (s x t : SharedSeen) (r : Round) (ended : Option ℕ) → before ≡ next s.sequencer → ended ≡ ended_by r → Helps before ended x t → Helps (next s.sequencer) (ended_by r) x t
+helped_by before s x t r ended since is helps = subst (λ e. Helps (next s.sequencer) e x t) is (subst (λ n. Helps n ended x t) since helps)
+
+-- a look of a subscription where nobody lay down
+pub none_lies : (s t : SharedSeen) (number : ℕ) → SleepOn s t → Lies s (round.Next number) t
+none_lies s t number same = (subst (LiesDown number s.subscriptions) (sym same.0) (λ key. inl refl), same.1)
+
+-- a subscription that took nothing lay down
+pub lay_down : (s x t : SharedSeen) (number : ℕ) → Comes s (round.Next number) x → SleepOn s x → t ≡ record x { subscriptions = t.subscriptions }
+    → LiesDown number x.subscriptions t.subscriptions → Comes s (round.Next number) t × Lies s (round.Next number) t
+lay_down s x t number came asleep same lies = (
+  subst (Comes s (round.Next number)) (sym same) came,
+  (subst (λ l. LiesDown number l t.subscriptions) asleep.0 lies, ap (λ (z : SharedSeen). z.emissions) same ∙ asleep.1),
+)
+
+-- an emission lay down that waits, and no other
+pub lay_down_for : (s x t : SharedSeen) (ticket : Ticket) (id : ℕ) (last : Option ℕ) (answer : Emit) → Comes s (poll_round ticket id last answer None) x → SleepOn s x
+    → t ≡ record x { emissions = t.emissions } → (answer ≡ emit.Waiting → LiesDown ticket.0 x.emissions t.emissions) → (answer ≢ emit.Waiting → t ≡ x)
+    → Comes s (poll_round ticket id last answer None) t × Lies s (poll_round ticket id last answer None) t
+lay_down_for s x t ticket id last (emit.Done n) came asleep same lies others =
+    let is = sym (others (λ e. cc)) in (subst (Comes s (round.StrayPoll ticket id last n)) is came, subst (SleepOn s) is asleep)
+lay_down_for s x t ticket id last emit.Gone came asleep same lies others =
+    let is = sym (others (λ e. cc)) in (subst (Comes s (round.Poll ticket emit.Gone)) is came, subst (SleepOn s) is asleep)
+lay_down_for s x t ticket id last emit.Waiting came asleep same lies others = (
+  subst (Comes s (round.Poll ticket emit.Waiting)) (sym same) came,
+  (ap (λ (z : SharedSeen). z.subscriptions) same ∙ asleep.0, subst (λ l. LiesDown ticket.0 l t.emissions) asleep.1 (lies refl)),
+)
+
+-- a withdrawal, where nobody lay down
+pub withdrawn_lies : (s t : SharedSeen) (ticket : Ticket) (id : ℕ) (last : Option ℕ) (answer : Withdrawn ℕ) (receipt : Option ReceiptSeen) → SleepOn s t → Lies s (withdraw_round ticket id last answer receipt) t
+withdrawn_lies s t ticket id last (withdrawn.Left n) (Some r) same = same
+withdrawn_lies s t ticket id last (withdrawn.Left n) None same = same
+withdrawn_lies s t ticket id last withdrawn.Removed r same = same
+withdrawn_lies s t ticket id last withdrawn.Gone r same = same
+
+-- an owner that has the lock has made a call
+pub is_called : (q : Reach) (found s called : SharedSeen) (before : ℕ) (r : Round) → q.held ≡ Some found → before ≡ next found.sequencer → s ≡ found
+    → Comes s r called → Lies s r called → IsCalled q before r called
+is_called q found s called before r held number same came lies = (
+  found,
+  held,
+  subst (λ (x : SharedSeen). Comes x r called) same came,
+  subst (λ (x : SharedSeen). Lies x r called) same lies,
+  number,
+)
 
 -- why a reader is not let in
 pub only_refusals : (q : SequencerSeen) (e : Refusal) (t : SequencerSeen) → NotLetIn q e t → (e ≡ Spent) ⊎ (e ≡ SubscribersFull)

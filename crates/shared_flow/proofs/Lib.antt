@@ -1,3 +1,4 @@
+pub mod Flags
 pub mod Rises
 pub mod Receipts
 pub mod Refusals

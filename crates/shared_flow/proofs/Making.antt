@@ -5,16 +5,17 @@ use Rattle.std.proofs.lemmas.List.{append-nil}
 use Rattle.std.proofs.lemmas.Option.{same_Some}
 use Rattle.shared_lane.specs.declared.meeting.Met.{Met}
 use Rattle.shared_lane.specs.Views.{ReaderSeen}
+use Rattle.shared_lane.proofs.Sameness.{loaded_twice}
 use Rattle.shared_flow.specs.declared.round.Round.{Round}
 use Rattle.shared_flow.specs.declared.round.Round.TheVariants as round
 use Rattle.shared_flow.specs.Entering.{Found, Left, Made, MadeOf}
-use Rattle.shared_flow.specs.Looks.{WasLetInBy}
+use Rattle.shared_flow.specs.Looks.{WasEnded, WasLetInBy}
 use Rattle.shared_flow.specs.Names.{SharedSeen}
 use Rattle.shared_flow.specs.Meeting.{HasMet}
 use Rattle.shared_flow.specs.Owners.{HasHeard, Keeping, Meets}
 use Rattle.shared_flow.specs.Parties.{Subscribed, with_round}
 use Rattle.shared_flow.specs.Reach.{Party, Reach, Rounds, party_of}
-use Rattle.shared_flow.specs.Rounds.{IsLetIn, WasAdmitted}
+use Rattle.shared_flow.specs.Rounds.{HasClosed, IsLetIn, WasAdmitted}
 
 -- the owner took the lock, and gave it back with a round
 pub made : {called : SharedSeen} (r : Round) (p q t : Reach) (found : SharedSeen) → q ≡ record p { held = Some found; seen = q.seen } → Found (party_of p) found q.seen → Left r called q t → Made r (party_of p) (party_of t)
@@ -37,6 +38,19 @@ was_let_in number p q t found called reader taken saw named went let_in =
       made = made (round.Subscribe (Ok number)) p q t found taken saw went;
       flow_is = named ∙ ap (λ (s : SharedSeen). Some s.name) same;
       admitted = subst (λ (s : SharedSeen). WasAdmitted s reader went.left) same (let_in.0, let_in.1, let_in.2, let_in.3, let_in.4, (called.sequencer, let_in.5.1, went.only));
+    }
+
+-- so it did, and ended a reader
+pub was_ended : (number : ℕ) (p q t : Reach) (found called : SharedSeen) (reader : ReaderSeen) → q ≡ record p { held = Some found; seen = q.seen }
+    → Found (party_of p) found q.seen → p.flow ≡ Some found.name → Left (round.Cancel number) called q t → HasClosed found reader called
+    → WasEnded number reader (party_of p) (party_of t)
+unfolding made
+was_ended number p q t found called reader taken saw named went closed =
+    let same : found ≡ went.found = same_Some _ _ (sym (ap (λ (x : Reach). x.held) taken) ∙ went.held) in record {
+      made = made (round.Cancel number) p q t found taken saw went;
+      flow_is = named ∙ ap (λ (s : SharedSeen). Some s.name) same;
+      closed = subst (λ (s : SharedSeen). HasClosed s reader went.left) same
+          (closed.0, closed.1, closed.2, closed.3, closed.4, (closed.5.0, closed.5.1, loaded_twice closed.5.0 called.sequencer went.left.sequencer closed.5.2 went.only));
     }
 
 -- the owner that kept the lock gave it back with a round

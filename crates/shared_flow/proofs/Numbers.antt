@@ -76,7 +76,7 @@ some_more q es t same is =
     let count = ap length is ∙ length-append (seen q) es in
     omega (arith, first, count)
 
-same_log : (q t : SequencerSeen) → t.view.shape ≡ q.view.shape → seen t ≡ seen q → next t ≡ next q
+pub same_log : (q t : SequencerSeen) → t.view.shape ≡ q.view.shape → seen t ≡ seen q → next t ≡ next q
 same_log q t same is =
     let first : t.view.shape.first ≡ q.view.shape.first = ap (λ z. z.first) same in
     let count = ap length is in
@@ -130,8 +130,8 @@ makes_next lane q (round.Withdraw ticket (withdrawn.Left n)) t same on = (subst 
 makes_next lane q (round.Withdraw ticket withdrawn.Gone) t same on = unnumbered q t (same_state q t on.0)
 makes_next lane q (round.Subscribe (Ok number)) t same on = unnumbered q t (let log = same_log q t same on.1.1.same_log in omega (arith, log))
 makes_next lane q (round.Subscribe (Err refusal)) t same on = unnumbered q t (shut_next q refusal t on)
-makes_next lane q round.Next t same on = unnumbered q t (same_state q t on)
-makes_next lane q (round.Cancel number) t same on = unnumbered q t (same_state q t on)
+makes_next lane q (round.Next number) t same on = unnumbered q t (same_state q t on)
+makes_next lane q (round.Cancel number) t same on = unnumbered q t (subst (λ z. next q ≤ next z) (sym on.2) (omega arith))
 makes_next lane q round.Reset t same on = unnumbered q t (subst (λ z. next q ≤ next z) (sym on) (omega arith))
 makes_next lane q (round.Cache (Ok words)) t same on = unnumbered q t (same_state q t on.0)
 makes_next lane q (round.Cache (Err refusal)) t same on = unnumbered q t (same_state q t on.0)

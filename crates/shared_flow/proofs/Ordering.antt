@@ -148,7 +148,7 @@ module _ (e : ℕ) where
   goes_on_ordered (round.Withdraw ticket withdrawn.Gone) zs p p' goes was = unchanged zs p p' goes was
   goes_on_ordered (round.StrayWithdraw ticket emitter last n) zs p p' goes was = unchanged zs p p' goes was
   goes_on_ordered (round.Subscribe answer) zs p p' goes was = unchanged zs p p' goes was
-  goes_on_ordered round.Next zs p p' goes was = unchanged zs p p' goes was
+  goes_on_ordered (round.Next number) zs p p' goes was = unchanged zs p p' goes was
   goes_on_ordered (round.Cancel number) zs p p' goes was = unchanged zs p p' goes was
   goes_on_ordered round.Reset zs p p' goes was = unchanged zs p p' goes was
   goes_on_ordered (round.Cache answer) zs p p' goes was = unchanged zs p p' goes was

@@ -1,12 +1,15 @@
--- What is left of those that sleep, where some of them were woken.
-use Rattle.std.proofs.Common.{◌≡◌, ◌+◌, ◌↔◌, ℕ, zero, suc, Bool, true, false, not, true≢false, List, [], ◌∷◌, Option, Some, None, refl, sym, ◌∙◌, ap, subst, count_by, is_some, if◌then◌else◌, slice_index_or, IsSome}
+-- Who sleeps, where one lies down and where some are woken.
+use Rattle.std.proofs.Common.{◌≡◌, ◌≢◌, ◌⊎◌, ◌+◌, ◌↔◌, ℕ, zero, suc, Bool, true, false, List, [], ◌∷◌, Option, Some, None, refl, sym, ◌∙◌, ap, subst, inl, inr, if◌then◌else◌, slice_index_or, IsSome, ⊎_elim}
 use Rattle.std.specs.Borrow.{MutBor}
+use Rattle.std.proofs.lemmas.Bool.{cases_eq}
 use Rattle.std.proofs.lemmas.Option.{none-some, same_Some}
 use Rattle.futures.specs.declared.task.waker.Waker.{Waker}
-use Rattle.slab.specs.Slab.{Slab, RetainsFrom, CalledAt, get, with_value}
+use Rattle.slab.specs.Slab.{Slab, RetainsFrom, CalledAt, Updates, get, with_value}
 use Rattle.slab.proofs.SlabLemmas.{Updates-with_value}
+use Rattle.shared_lane.specs.Polls.{IsNotOut, IsOutFor}
+use Rattle.shared_lane.specs.Views.{SequencerSeen}
 use Rattle.shared_flow.specs.declared.sleepers.Sleeper.{Sleeper}
-use Rattle.shared_flow.specs.Sleeping.{SleepsAt, OnlyDoneRise}
+use Rattle.shared_flow.specs.Sleeping.{SleepsAt, HasNumber, OnlyThese, LiesDown}
 
 -- who sleeps in a bed sleeps there still with another waker
 pub sleeps_still : (sleeping : Slab Sleeper) (bed : Option ℕ) (number key : ℕ) (sleeper : Sleeper) (waker : Option Waker)
@@ -18,63 +21,74 @@ sleeps_still sleeping bed number key sleeper waker at is read =
     let after : Sleeper = record { number = sleeper.number; waker = waker } in
     (key, after, is, (Updates-with_value sleeping key after (subst IsSome (sym read) refl)).changed, ap (λ s. s.number) (sym found) ∙ at.4)
 
-module _ {T F : Type 0} (step : F → ℕ → MutBor T → Bool → MutBor T → F → Type 0) (no : (f : F) (key : ℕ) (old : T) (keep : Bool) (new : T) (next : F) → CalledAt step f key old keep new next → keep ≡ false) where
-  -- where each call answers false, nothing is left
-  pub nothing_left : (f : F) (key : ℕ) (slots left : List (Option T)) → RetainsFrom step f key slots left → count_by is_some left ≡ 0
-  nothing_left f key [] left ran = ap (count_by is_some) ran
-  nothing_left f key (None ∷ rest) left ran = ap (count_by is_some) ran.1 ∙ nothing_left f (key + 1) rest ran.0 ran.2
-  nothing_left f key (Some old ∷ rest) left ran =
-      let one = no f key old ran.0 ran.1 ran.2 ran.3 in
-      ap (count_by is_some) (ran.5 ∙ ap (λ keep. (if keep then Some ran.1 else None) ∷ ran.4) one)
-      ∙ nothing_left ran.2 (key + 1) rest ran.4 ran.6
+-- who sleeps in a bed has its number
+pub own_bed : (sleeping : Slab Sleeper) (bed : Option ℕ) (number key : ℕ) (sleeper : Sleeper) → SleepsAt sleeping bed number → bed ≡ Some key → get sleeping key ≡ Some sleeper → sleeper.number ≡ number
+own_bed sleeping bed number key sleeper at is read =
+    let same : at.0 ≡ key = same_Some _ _ (sym at.2 ∙ is) in
+    ap (λ s. s.number) (sym (same_Some _ _ (sym at.3 ∙ ap (get sleeping) same ∙ read))) ∙ at.4
 
--- the slot has one with this number
-abbrev HasNumber : Option Sleeper → ℕ → Type 0
-HasNumber slot number = (sleeper : Sleeper) × (slot ≡ Some sleeper) × (sleeper.number ≡ number)
+-- one lies down in a bed that was free
+pub lies_in : (old new : Slab Sleeper) (bed number : ℕ) (waker : Option Waker) → get old bed ≡ None
+    → Updates old new bed (Some (record { number = number; waker = waker })) → LiesDown number old new
+lies_in old new bed number waker free updates key =
+    elim (cases_eq key bed) [
+      | inl is ↦ inr ((record { number = number; waker = waker }, ap (get new) is ∙ updates.changed, refl), inl (ap (get old) is ∙ free))
+      | inr differs ↦ inl (updates.others key differs)
+    ]
 
-negated : (b : Bool) → true ≡ not b → b ≡ false
-negated true e = absurd (true≢false e)
-negated false e = refl
+-- and is given another waker there
+pub lies_still : (old mid : Slab Sleeper) (number bed : ℕ) (sleeper : Sleeper) (waker : Option Waker) → LiesDown number old mid → get mid bed ≡ Some sleeper → sleeper.number ≡ number
+    → LiesDown number old (with_value mid bed (record { number = sleeper.number; waker = waker }))
+lies_still old mid number bed sleeper waker lies read own key =
+    let after : Sleeper = record { number = sleeper.number; waker = waker } in
+    let updates = Updates-with_value mid bed after (subst IsSome (sym read) refl) in
+    let was : (get old bed ≡ None) ⊎ HasNumber (get old bed) number =
+    ⊎_elim (λ same. inr (sleeper, sym same ∙ read, own)) (λ lay. lay.1) (lies bed) in
+    elim (cases_eq key bed) [
+      | inl is ↦ inr ((after, ap (get (with_value mid bed after)) is ∙ updates.changed, own), subst (λ k. (get old k ≡ None) ⊎ HasNumber (get old k) number) (sym is) was)
+      | inr differs ↦ let others = updates.others key differs in
+          ⊎_elim (λ same. inl (others ∙ same)) (λ lay. inr ((lay.0.0, others ∙ lay.0.1, lay.0.2), lay.1)) (lies key)
+    ]
 
-module _ (done : ℕ → Bool) where
-  by_answer : (keep : Bool) (old new : Sleeper) (number : ℕ) → keep ≡ not (done old.number) → new.number ≡ old.number
-      → HasNumber (if keep then Some new else None) number ↔ (HasNumber (Some old) number × (done number ≡ false))
-  by_answer true old new number kept same =
-      let awake : done old.number ≡ false = negated _ kept in (
-        λ now. let is = same_Some _ _ now.1 in
-            let at : old.number ≡ number = sym same ∙ ap (λ s. s.number) is ∙ now.2 in
-            ((old, refl, at), ap done (sym at) ∙ awake),
-        λ was. let is = same_Some _ _ was.0.1 in (new, refl, same ∙ ap (λ s. s.number) is ∙ was.0.2),
-      )
-  by_answer false old new number kept same = (
-    λ now. absurd (none-some _ now.1),
-    λ was. let is = same_Some _ _ was.0.1 in
-        let at : old.number ≡ number = ap (λ s. s.number) is ∙ was.0.2 in
-        absurd (true≢false (sym (kept ∙ ap not (ap done at ∙ was.1)))),
+-- all sleep on but the one that was ended
+pub ended_only : (ended : Option ℕ) (number : ℕ) (old new : Slab Sleeper) → ended ≡ Some number → OnlyThese (λ n. n ≢ number) old new → OnlyThese (λ n. ended ≢ Some n) old new
+ended_only ended number old new is only key sleeper = (
+  λ now. let was = (only key sleeper).0 now in (was.0, λ same. was.1 (same_Some _ _ (sym same ∙ is))),
+  λ was. (only key sleeper).1 (was.0, λ same. was.1 (is ∙ ap Some (sym same))),
+)
+
+-- a ticket that isn't out is out for nobody
+pub not_out : (q : SequencerSeen) (ticket emitter : ℕ) → IsNotOut q ticket → IsOutFor q ticket emitter → ⊥
+not_out q ticket emitter not (inl waits) = not.0 waits.0 waits.1 waits.2.0 waits.2.1
+not_out q ticket emitter not (inr stands) = not.1 stands.0 stands.1 stands.2.0 stands.2.1
+
+module _ (Keeps : ℕ → Type 0) where
+  by_answer : (keep : Bool) (old new sleeper : Sleeper) → (keep ≡ true → new ≡ old) → (keep ≡ true → Keeps old.number) → (keep ≡ false → Keeps old.number → ⊥)
+      → ((if keep then Some new else None) ≡ Some sleeper) ↔ ((Some old ≡ Some sleeper) × Keeps sleeper.number)
+  by_answer true old new sleeper same stays goes = (
+    λ now. let is : old ≡ sleeper = sym (same refl) ∙ same_Some _ _ now in (ap Some is, subst Keeps (ap (λ s. s.number) is) (stays refl)),
+    λ was. ap Some (same refl ∙ same_Some _ _ was.0),
+  )
+  by_answer false old new sleeper same stays goes = (
+    λ now. absurd (none-some _ now),
+    λ was. absurd (goes refl (subst Keeps (ap (λ s. s.number) (sym (same_Some _ _ was.0))) was.1)),
   )
 
-module _ {F : Type 0} (step : F → ℕ → MutBor Sleeper → Bool → MutBor Sleeper → F → Type 0) (Stays : F → Type 0) (done : ℕ → Bool)
-    (each : (f : F) (key : ℕ) (old : Sleeper) (keep : Bool) (new : Sleeper) (next : F) → Stays f → CalledAt step f key old keep new next → Stays next × (new.number ≡ old.number) × (keep ≡ not (done old.number))) where
-  -- where each call keeps who isn't done, those are left, each in its slot
+module _ {F : Type 0} (step : F → ℕ → MutBor Sleeper → Bool → MutBor Sleeper → F → Type 0) (Stays : F → Type 0) (Keeps : ℕ → Type 0)
+    (each : (f : F) (key : ℕ) (old : Sleeper) (keep : Bool) (new : Sleeper) (next : F) → Stays f → CalledAt step f key old keep new next
+    → Stays next × (keep ≡ true → new ≡ old) × (keep ≡ true → Keeps old.number) × (keep ≡ false → Keeps old.number → ⊥)) where
+  -- where each call keeps those of whom this holds, as they are, they are left, each in its slot
   pub others_left : (f : F) (key : ℕ) (slots left : List (Option Sleeper)) → Stays f → RetainsFrom step f key slots left
-      → (at number : ℕ) → HasNumber (slice_index_or left at None) number ↔ (HasNumber (slice_index_or slots at None) number × (done number ≡ false))
-  others_left f key [] left stays ran at number = rw ran (λ now. absurd (none-some _ now.1), λ was. absurd (none-some _ was.0.1))
-  others_left f key (None ∷ rest) left stays ran zero number = rw ran.1 (λ now. absurd (none-some _ now.1), λ was. absurd (none-some _ was.0.1))
-  others_left f key (None ∷ rest) left stays ran (suc at) number = rw ran.1 (others_left f (key + 1) rest ran.0 stays ran.2 at number)
-  others_left f key (Some old ∷ rest) left stays ran zero number =
+      → (at : ℕ) (sleeper : Sleeper) → (slice_index_or left at None ≡ Some sleeper) ↔ ((slice_index_or slots at None ≡ Some sleeper) × Keeps sleeper.number)
+  others_left f key [] left stays ran at sleeper = rw ran (λ now. absurd (none-some _ now), λ was. absurd (none-some _ was.0))
+  others_left f key (None ∷ rest) left stays ran zero sleeper = rw ran.1 (λ now. absurd (none-some _ now), λ was. absurd (none-some _ was.0))
+  others_left f key (None ∷ rest) left stays ran (suc at) sleeper = rw ran.1 (others_left f (key + 1) rest ran.0 stays ran.2 at sleeper)
+  others_left f key (Some old ∷ rest) left stays ran zero sleeper =
       let one = each f key old ran.0 ran.1 ran.2 stays ran.3 in
-      rw ran.5 (by_answer done ran.0 old ran.1 number one.2 one.1)
-  others_left f key (Some old ∷ rest) left stays ran (suc at) number =
+      rw ran.5 (by_answer Keeps ran.0 old ran.1 sleeper one.1 one.2 one.3)
+  others_left f key (Some old ∷ rest) left stays ran (suc at) sleeper =
       let one = each f key old ran.0 ran.1 ran.2 stays ran.3 in
-      rw ran.5 (others_left ran.2 (key + 1) rest ran.4 one.0 ran.6 at number)
+      rw ran.5 (others_left ran.2 (key + 1) rest ran.4 one.0 ran.6 at sleeper)
 
-  pub only_done_rise : (f : F) (old new : Slab Sleeper) → Stays f → RetainsFrom step f 0 old.slots new.slots → OnlyDoneRise done old new
-  only_done_rise f old new stays ran key number =
-      let others = others_left f 0 old.slots new.slots stays ran key number in (
-        λ now. let is = same_Some _ _ now.2 in
-            let was = others.0 (now.1, ap (get new) is ∙ now.3, now.4) in
-            ((key, was.0.0, refl, was.0.1, was.0.2), was.1),
-        λ was. let is = same_Some _ _ was.0.2 in
-            let now = others.1 ((was.0.1, ap (get old) is ∙ was.0.3, was.0.4), was.1) in
-            (key, now.0, refl, now.1, now.2),
-      )
+  pub only_these : (f : F) (old new : Slab Sleeper) → Stays f → RetainsFrom step f 0 old.slots new.slots → OnlyThese Keeps old new
+  only_these f old new stays ran key sleeper = others_left f 0 old.slots new.slots stays ran key sleeper

@@ -9,9 +9,12 @@ use Rattle.shared_flow.specs.Looks.{OnlyNext, by_none, by_one, Waited}
 use Rattle.shared_flow.specs.Reach.{Party}
 
 -- rounds of looks after rounds of looks
-pub only_next_then : (p q r : Party) → OnlyNext p q → OnlyNext q r → OnlyNext p r
-only_next_then p q r first (by_none s) = first
-only_next_then p q r first (by_one s m t before last) = by_one p m t (only_next_then p s m first before) last
+looks_then : (number : ℕ) (p q r : Party) → OnlyNext number p q → OnlyNext number q r → OnlyNext number p r
+looks_then number p q r first (by_none s) = first
+looks_then number p q r first (by_one s m t before last) = by_one p m t (looks_then number p s m first before) last
+
+pub only_next_then : (number other : ℕ) (p q r : Party) → other ≡ number → OnlyNext number p q → OnlyNext other q r → OnlyNext number p r
+only_next_then number other p q r is first later = looks_then number p q r first (subst (λ n. OnlyNext n q r) is later)
 
 -- a look that gave no value took nothing
 pub missed_all : (r t : ReaderSeen) (room : ℕ) (taken : Taken ℕ) (words : List ℕ) → ((k : ℕ) → taken ≡ Value k → ⊥) → LookedAll r room taken words t → (words ≡ []) × MissedAll r room t

@@ -1,5 +1,5 @@
 -- An emission, and a value, that a thread waits for.
-use Rattle.std.proofs.Common.{◌≡◌, ◌⊎◌, ℕ, Option, Some, None, Result, Ok, Err, IfOk, sym, ap, subst, ◌∙◌, ⊎_elim}
+use Rattle.std.proofs.Common.{◌≡◌, ◌⊎◌, ℕ, Option, Some, None, Result, Ok, Err, IfOk, IfNone, sym, ap, subst, ◌∙◌, ⊎_elim}
 use Rattle.flow_terms.specs.declared.refusal.Refusal.{Refusal}
 use Rattle.shared_lane.specs.Views.{ReaderSeen, ReceiptSeen}
 use Rattle.shared_flow.specs.declared.round.Round.TheVariants as round
@@ -10,12 +10,17 @@ use Rattle.futures.specs.declared.task.Poll.{Poll}
 use Rattle.futures.specs.declared.task.Poll.TheVariants.{Ready, Pending}
 use Rattle.shared_flow.specs.Preludes.{IsPast}
 use Rattle.shared_flow.specs.Looks.{GaveIn, Missed, MissedOn, MissedTwice, not_once, once_more, OnlyNext, by_one, Waited}
+use Rattle.std.proofs.lemmas.Option.{same_Some}
+use Rattle.flow_terms.specs.declared.answers.Begun.{Begun}
+use Rattle.flow_terms.specs.declared.answers.Begun.TheVariants as begun
 use Rattle.flow_terms.specs.declared.answers.Withdrawn.{Withdrawn}
 use Rattle.flow_terms.specs.declared.answers.Withdrawn.TheVariants as withdrawn
 use Rattle.shared_flow.specs.Entering.{Made}
-use Rattle.shared_flow.specs.Parties.{Emitting, IsOwnReceipt, IsSameEmitter, Subscribed, UnlessLeft, named}
+use Rattle.shared_flow.specs.Parties.{Emitting, IfBegun, IsItsReceipt, IsOwnReceipt, IsSameEmitter, Subscribed, UnlessLeft, named}
 use Rattle.shared_flow.specs.Reach.{Party}
-use Rattle.shared_flow.specs.Rounds.{IsReceiptOfOne}
+use Rattle.shared_flow.specs.Rounds.{IsReceiptFor, IsReceiptOfOne}
+use Rattle.shared_flow.specs.declared.round.Emission.{Emission}
+use Rattle.shared_flow.specs.Names.{FlowName}
 
 -- the emission is still in flight
 pub still_waits : (e f g : Emitting) → (f.ticket ≡ None → ⊥) → f.last ≡ e.last → IsSameEmitter e f → emitters.Waited e f → Waits f g
@@ -38,20 +43,36 @@ own_of_same e m r same own = (
   λ name is. subst (λ i. IsReceiptOfOne name.lane i r) same.1 (own.1 name (ap (λ n. n.flow) same.0 ∙ is)),
 )
 
+-- a receipt for an emission, of the flow that the party knows
+pub begun_receipt : {K : Type 0} (answer : Result (Begun ReceiptSeen K) Refusal) (p : Party) (e : Emission) (name : FlowName) → p.flow ≡ Some name
+    → IfBegun answer (IsReceiptFor name.lane e) → IfBegun answer (IsItsReceipt p e)
+begun_receipt (Ok (begun.Accepted r)) p e name is for = (for.1, λ other at. subst (λ (n : FlowName). IsReceiptFor n.lane e r) (same_Some _ _ (sym is ∙ at)) for)
+begun_receipt (Ok begun.Dropped) p e name is for = tt
+begun_receipt (Ok (begun.Waiting k)) p e name is for = tt
+begun_receipt (Err refusal) p e name is for = tt
+
 pub emitted_weaker : (answer : Result (Option ReceiptSeen) Refusal) (P Q : ReceiptSeen → Type 0) → ((r : ReceiptSeen) → P r → Q r) → IfEmitted answer P → IfEmitted answer Q
 emitted_weaker (Ok (Some receipt)) P Q weaker holds = weaker receipt holds
 emitted_weaker (Ok None) P Q weaker holds = tt
 emitted_weaker (Err refusal) P Q weaker holds = tt
 
 -- one round more, or none
-pub only_next : (p q r : Party) → OnlyNext p q → (r ≡ q) ⊎ Made round.Next q r → OnlyNext p r
-only_next p q r rounds more = ⊎_elim (λ same. subst (OnlyNext p) (sym same) rounds) (λ one. by_one p q r rounds one) more
+pub only_next : (number other : ℕ) (p q r : Party) → other ≡ number → OnlyNext number p q → (r ≡ q) ⊎ Made (round.Next other) q r → OnlyNext number p r
+only_next number other p q r is rounds more = ⊎_elim (λ same. subst (OnlyNext number p) (sym same) rounds) (λ one. by_one p q r rounds (subst (λ n. Made (round.Next n) q r) is one)) more
 
 -- a poll that is pending looked twice, where nothing is left of the prelude
 pub past_missed : {T A : Type 0} (polled : Poll A) (s g t : Subscribed T) → IsPast s g → t.rest ≡ g.rest → g.reader ≡ s.reader
     → OnPending polled (MissedTwice g.reader t.reader) → OnPending polled (IsPast s t × MissedTwice s.reader t.reader)
 past_missed (Ready v) s g t past rest same missed = tt
 past_missed Pending s g t past rest same missed = ((past.0, rest ∙ past.1), subst (λ (r : ReaderSeen). MissedTwice r t.reader) same missed)
+
+-- looks took nothing, where nothing is left of the prelude
+pub past_looked : {T A : Type 0} (found : Option A) (missed : ReaderSeen → ReaderSeen → Type 0) (s g t : Subscribed T) → IsPast s g → g.party ≡ s.party
+    → g.reader ≡ s.reader → t.rest ≡ g.rest → IfNone found ((t.party ≡ g.party) × missed g.reader t.reader)
+    → IfNone found ((t.party ≡ s.party) × IsPast s t × missed s.reader t.reader)
+past_looked (Some v) missed s g t past party reader rest looked = tt
+past_looked None missed s g t past party reader rest looked =
+    (looked.0 ∙ party, (past.0, rest ∙ past.1), subst (λ (r : ReaderSeen). missed r t.reader) reader looked.1)
 
 -- a poll gave a value, after looks that gave none
 pub waited_on : {T : Type 0} (read_as : ℕ → T) (r s t : ReaderSeen) (v : T) → MissedOn r s → GaveIn read_as s v t → Waited read_as r v t

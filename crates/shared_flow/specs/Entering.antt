@@ -1,11 +1,12 @@
 -- What an owner finds as it takes the lock, and the round that it makes of that.
-use Rattle.std.specs.Prelude.{◌≡◌, ◌++◌, [], ◌∷◌, Some, None}
+use Rattle.std.specs.Prelude.{◌≡◌, ℕ, ◌++◌, [], ◌∷◌, Some, None}
 use Rattle.round_lock.specs.History.{After, Begins, own_of}
-use Rattle.shared_lane.specs.Sequencers.{OnlyLoaded}
+use Rattle.shared_lane.specs.Sequencers.{OnlyLoaded, next}
 use Rattle.shared_flow.specs.declared.round.Round.{Round}
 use Rattle.shared_flow.specs.Names.{SharedSeen, IsNew}
 use Rattle.shared_flow.specs.Reach.{Party, Reach, Rounds}
-use Rattle.shared_flow.specs.Rounds.{Does}
+use Rattle.shared_flow.specs.Rounds.{Comes, Does}
+use Rattle.shared_flow.specs.Waking.{Lies}
 use Rattle.shared_flow.specs.Parties.{with_round}
 
 -- what some list of rounds left of a new flow
@@ -20,6 +21,10 @@ pub record Found (p : Party) (found : SharedSeen) (seen : Rounds) : Type 0 where
   pub after : IsLeftBy made seen found
   pub rounds_are : p.rounds ≡ own_of p.pass seen
   pub seen_on : Begins seen p.seen
+
+-- the owner has the lock, and a call that it made of what it found has come to this; the next number was `before` as it was found
+abbrev pub IsCalled : Reach → ℕ → Round → SharedSeen → Type 0
+IsCalled r before round called = (found : SharedSeen) × (r.held ≡ Some found) × Comes found round called × Lies found round called × (before ≡ next found.sequencer)
 
 -- the owner has the lock no more: its rounds, and what it has seen, grew by this one, which left this
 abbrev pub left_with : Round → SharedSeen → Reach → Reach
@@ -45,7 +50,8 @@ pub record Made (round : Round) (p q : Party) : Type 0 where
   pub does : Does found round left
   pub after : q ≡ with_round round (before ++ (p.pass, round, left) ∷ []) p
 
--- A party that had the lock, and so had seen all rounds before, made one, which left what the call had come to but for looks at the cursors.
+-- A party that had the lock, and so had seen all rounds before, made one, which left the sequencer that the call had come to, but for
+-- looks at the cursors.
 pub record MadeOf (called : SharedSeen) (round : Round) (p q : Party) : Type 0 where
   pub made : Made round p q
   pub before_is : made.before ≡ p.seen

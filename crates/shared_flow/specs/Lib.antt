@@ -2,7 +2,9 @@ pub mod Names
 pub mod Rounds
 pub mod Queue
 pub mod Reach
+pub mod Flags
 pub mod Sleeping
+pub mod Waking
 pub mod Parties
 pub mod Emitters
 pub mod Entering

@@ -5,9 +5,11 @@ use Rattle.shared_lane.specs.declared.reader.Taken.TheVariants.{Value, Nothing, 
 use Rattle.shared_lane.specs.Views.{ReaderSeen}
 use Rattle.shared_lane.specs.Readers.{IsSameReader, TookNext}
 use Rattle.shared_flow.specs.declared.round.Round.TheVariants as round
+use Rattle.shared_flow.specs.Names.{FoundDown}
+use Rattle.shared_flow.specs.Parties.{Subscribed}
 use Rattle.shared_flow.specs.Reach.{Party}
 use Rattle.shared_flow.specs.Entering.{Made}
-use Rattle.shared_flow.specs.Rounds.{WasAdmitted}
+use Rattle.shared_flow.specs.Rounds.{HasClosed, WasAdmitted}
 
 -- The reader was let in by a round of this party, which answered with this number: by what that round found, which the list of rounds
 -- before it had left, and what it left of that.
@@ -15,6 +17,12 @@ pub record WasLetInBy (number : ℕ) (r : ReaderSeen) (p q : Party) : Type 0 whe
   pub made : Made (round.Subscribe (Ok number)) p q
   pub flow_is : p.flow ≡ Some made.found.name
   pub admitted : WasAdmitted made.found r made.left
+
+-- The reader was closed by a round of this party: after that what waits was let in.
+pub record WasEnded (number : ℕ) (r : ReaderSeen) (p q : Party) : Type 0 where
+  pub made : Made (round.Cancel number) p q
+  pub flow_is : p.flow ≡ Some made.found.name
+  pub closed : HasClosed made.found r made.left
 
 -- a look at the lane: it is the same reader, which took the next value, or why it took none
 abbrev pub Looked : ReaderSeen → Taken ℕ → ReaderSeen → Type 0
@@ -51,7 +59,15 @@ pub data MissedOn : ReaderSeen → ReaderSeen → Type 0 where
 abbrev pub Waited : {T : Type 0} → (ℕ → T) → ReaderSeen → T → ReaderSeen → Type 0
 Waited read_as r v t = (m : ReaderSeen) × MissedOn r m × Gave read_as m v t
 
--- the party's rounds grew by looks alone
-pub data OnlyNext : Party → Party → Type 0 where
-  by_none : (p : Party) → OnlyNext p p
-  by_one : (p q r : Party) → OnlyNext p q → Made round.Next q r → OnlyNext p r
+-- a receipt took no lock: no emission may wait, or one more look found the flag down
+abbrev pub Skips : {T : Type 0} → Subscribed T → Subscribed T → Type 0
+Skips s t = (t.party ≡ s.party) × FoundDown s.party.flow s.looks t.looks
+
+-- a receipt let in what waits, by a round, or no emission could wait for it
+abbrev pub MadeRoom : {T : Type 0} → Subscribed T → Subscribed T → Type 0
+MadeRoom s t = Skips s t ⊎ Made (round.Next s.number) s.party t.party
+
+-- the party's rounds grew by looks alone, of the subscription with this number
+pub data OnlyNext (number : ℕ) : Party → Party → Type 0 where
+  by_none : (p : Party) → OnlyNext number p p
+  by_one : (p q r : Party) → OnlyNext number p q → Made (round.Next number) q r → OnlyNext number p r

@@ -3,13 +3,14 @@ use Rattle.std.specs.Prelude.{◌≡◌, ◌⊎◌, ◌++◌, ℕ, List, Option,
 use Rattle.flow_terms.specs.declared.refusal.Refusal.{Refusal}
 use Rattle.flow_terms.specs.declared.refusal.Refusal.TheVariants.{NoMemory}
 use Rattle.round_lock.specs.History.{own_of}
-use Rattle.shared_lane.specs.Sequencers.{OnlyLoaded}
+use Rattle.shared_lane.specs.Sequencers.{OnlyLoaded, next}
 use Rattle.shared_lane.specs.Places.{LosesNothing}
 use Rattle.shared_lane.specs.declared.meeting.Met.{Met}
 use Rattle.shared_flow.specs.declared.round.Round.TheVariants as round
 use Rattle.shared_flow.specs.Names.{SharedSeen}
 use Rattle.shared_flow.specs.Reach.{Party, Rounds}
-use Rattle.shared_flow.specs.Rounds.{Does, IsAtLimit}
+use Rattle.shared_flow.specs.Rounds.{Comes, IsAtLimit}
+use Rattle.shared_flow.specs.Waking.{SleepOn}
 use Rattle.shared_flow.specs.Parties.{Subscribed, with_round}
 use Rattle.shared_flow.specs.Entering.{Found, Made}
 use Rattle.shared_flow.specs.Meeting.{HasMet}
@@ -23,23 +24,24 @@ pub record Owning : Type 0 where
 abbrev pub at_rest : Party → Owning
 at_rest p = record { party = p; held = None }
 
--- what lies under a lock that is kept, and how many subscriptions were live when it was taken
+-- what lies under a lock that is kept, and what was found as it was taken: how many subscriptions were live, and the next number
 pub record Keeping : Type 0 where
   pub count : ℕ
+  pub before : ℕ
   pub shared : SharedSeen
 
 -- The owner has the lock: what lies under it is its flow's, and is what the round with this count has made of what it found, which the
 -- list of rounds that it has seen had left.
 abbrev pub KeepsLock : Owning → Keeping → Type 0
 KeepsLock o k = (o.party.flow ≡ Some k.shared.name)
-    × ((old : SharedSeen) × (o.held ≡ Some old) × Does old (round.Hold k.count) k.shared × Found o.party old o.party.seen)
+    × ((old : SharedSeen) × (o.held ≡ Some old) × Comes old (round.Hold k.count) k.shared × SleepOn old k.shared × (k.before ≡ next old.sequencer) × Found o.party old o.party.seen)
 
--- nothing has changed but what the sequencer has loaded, and nobody has lost a value
+-- nothing has changed but what the sequencer has loaded, of the flag it says nothing, and nobody has lost a value
 abbrev pub OnlyMet : SharedSeen → SharedSeen → Type 0
-OnlyMet s t = (t.name ≡ s.name) × OnlyLoaded s.sequencer t.sequencer × LosesNothing s.sequencer t.sequencer
+OnlyMet s t = (t.name ≡ s.name) × OnlyLoaded s.sequencer t.sequencer × LosesNothing s.sequencer t.sequencer × SleepOn s t
 
 abbrev pub IsKept : Keeping → Keeping → Type 0
-IsKept k l = (l.count ≡ k.count) × OnlyMet k.shared l.shared
+IsKept k l = (l.count ≡ k.count) × (l.before ≡ k.before) × OnlyMet k.shared l.shared
 
 -- nobody was let in: without memory the owner made no call, else its round was refused
 abbrev pub IsLeftOut : Owning → Refusal → Owning → Type 0

@@ -59,12 +59,13 @@ pub record Emitting : Type 0 where
   pub ticket : Option Ticket
   pub last : Option ℕ
 
--- a subscription: its flow and its rounds, its number, what is left of its prelude, and its reader
+-- a subscription: its flow and its rounds, its number, what is left of its prelude, its reader, and what its looks at the flag found
 pub record Subscribed (T : Type 0) : Type 0 where
   pub party : Party
   pub number : ℕ
   pub rest : List T
   pub reader : ReaderSeen
+  pub looks : List ℕ
 
 -- the party's rounds grew by this one, and it has seen this list
 abbrev pub with_round : Round → Rounds → Party → Party

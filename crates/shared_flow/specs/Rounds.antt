@@ -16,11 +16,13 @@ use Rattle.shared_lane.specs.Views.{LaneSeen, ReaderSeen, ReceiptSeen, Sequencer
 use Rattle.shared_lane.specs.Sequencers.{IsSameSequencer, OnlyLoaded, AfterScan, TriedOn, RefusedTry, BegunOn, RefusedStart}
 use Rattle.shared_lane.specs.Blocks.{TriedAllOn}
 use Rattle.shared_lane.specs.Polls.{PolledOn, WithdrawnFrom, IsOutFor, IsNotOut}
-use Rattle.shared_lane.specs.Places.{LetIn, NotLetIn, Counted}
+use Rattle.shared_lane.specs.Places.{LetIn, NotLetIn, Counted, told_of_end}
+use Rattle.shared_lane.specs.Readers.{IsReaderOf}
 use Rattle.shared_flow.specs.declared.round.Emission.{Emission}
 use Rattle.shared_flow.specs.declared.round.Round.{Round}
 use Rattle.shared_flow.specs.declared.round.Round.TheVariants as round
 use Rattle.shared_flow.specs.Names.{SharedSeen}
+use Rattle.shared_flow.specs.Waking.{Wakes, ended_by}
 
 -- an emission, as the lane keeps it
 abbrev pub entry : Emission → Entry
@@ -62,8 +64,9 @@ Makes lane q (round.Withdraw ticket answer) t = WithdrawnFrom q ticket.0 answer 
 Makes lane q (round.StrayWithdraw ticket emitter last n) t = WithdrawnFrom q ticket.0 (withdrawn.Left n) t × IsStray q ticket.0 emitter last n
 Makes lane q (round.Subscribe (Ok number)) t = (number ≡ q.subscription) × ((r : ReaderSeen) × LetIn lane q r t)
 Makes lane q (round.Subscribe (Err refusal)) t = NotLetIn q refusal t
-Makes lane q round.Next t = t ≡ q
-Makes lane q (round.Cancel number) t = t ≡ q
+Makes lane q (round.Next number) t = t ≡ q
+-- the sequencer knows that a reader has closed its cursor
+Makes lane q (round.Cancel number) t = (r : ReaderSeen) × IsReaderOf lane r × (t ≡ told_of_end r q)
 Makes lane q round.Reset t = t ≡ record q { cache = [] }
 Makes lane q (round.Cache (Ok words)) t = (t ≡ q) × (words ≡ q.cache)
 Makes lane q (round.Cache (Err refusal)) t = (t ≡ q) × (refusal ≡ NoMemory)
@@ -78,10 +81,20 @@ Scanned q t = AfterScan q (λ m. t ≡ m)
 abbrev pub Rests : SequencerSeen → SequencerSeen → Type 0
 Rests q t = (m : SequencerSeen) × ((m ≡ q) ⊎ Scanned q m) × OnlyLoaded m t
 
--- A round: it lets in what waits, makes the call, and rests. The flow stays the same one.
+-- at the end of a subscription what waits is let in once more, as far as that has made room
+abbrev pub Frees : Option ℕ → SequencerSeen → SequencerSeen → Type 0
+Frees None q t = ⊤
+Frees (Some ended) q t = (m : SequencerSeen) × Scanned q m × OnlyLoaded m t
+
+-- What a call comes to, before it helps others: it lets in what waits, is made, and rests. The flow stays the same one.
+abbrev pub Comes : SharedSeen → Round → SharedSeen → Type 0
+Comes s r t = (t.name ≡ s.name) × IsSameSequencer s.sequencer t.sequencer
+    × AfterScan s.sequencer (λ m. (n : SequencerSeen) × Makes s.name.lane m r n × Rests n t.sequencer × Frees (ended_by r) n t.sequencer)
+
+-- A round: the call, and those were woken whom it has helped.
 abbrev pub Does : SharedSeen → Round → SharedSeen → Type 0
 Does s r t = (t.name ≡ s.name) × IsSameSequencer s.sequencer t.sequencer
-    × AfterScan s.sequencer (λ m. (n : SequencerSeen) × Makes s.name.lane m r n × Rests n t.sequencer)
+    × AfterScan s.sequencer (λ m. (n : SequencerSeen) × Makes s.name.lane m r n × Rests n t.sequencer × Frees (ended_by r) n t.sequencer) × Wakes s r t
 
 -- what waited was let in, and the call was made
 abbrev pub MakesAfterScan : SharedSeen → Round → SharedSeen → Type 0
@@ -125,6 +138,10 @@ IsLetIn s number r t = AfterScan s.sequencer (λ m. (number ≡ m.subscription) 
 -- the reader was let in to this flow, by what the sequencer knew when what waited had been let in
 abbrev pub WasAdmitted : SharedSeen → ReaderSeen → SharedSeen → Type 0
 WasAdmitted s r t = AfterScan s.sequencer (λ m. (n : SequencerSeen) × LetIn s.name.lane m r n × OnlyLoaded n t.sequencer)
+
+-- the sequencer heard that the reader has closed its cursor, and then let in what waits
+abbrev pub HasClosed : SharedSeen → ReaderSeen → SharedSeen → Type 0
+HasClosed s r t = AfterScan s.sequencer (λ m. (n : SequencerSeen) × Scanned (told_of_end r m) n × OnlyLoaded n t.sequencer)
 
 -- one more than the number that a round answered with, or 0
 abbrev pub after_number : Round → ℕ

@@ -1,16 +1,19 @@
 //! What every owner of a shared flow holds.
-ghost use Rattle.std.specs.Prelude.{◌≡◌, ◌≢◌, ◌++◌, [], ◌∷◌, Ok, Some, None, map, IfOk, IsOkUnless};
+ghost use Rattle.std.specs.Prelude.{false, ◌≡◌, ◌≢◌, ◌++◌, [], ◌∷◌, Ok, Some, None, map, IfOk, IsOkUnless};
 ghost use Rattle.round_lock.specs.History.{own_of};
-ghost use Rattle.shared_lane.specs.Sequencers.{IsSameSequencer, OnlyLoaded, next};
+ghost use Rattle.shared_lane.specs.Sequencers.{next};
 ghost use Rattle.shared_flow.specs.declared.round.Round.TheVariants as round;
-ghost use Rattle.shared_flow.specs.Names.{IsNew, SharedSeen, KnowsLane};
-ghost use Rattle.shared_flow.specs.Entering.{Found, Left};
+ghost use Rattle.shared_flow.specs.Names.{FoundDown, IsFlagOf, IsNew, SharedSeen, KnowsLane};
+ghost use Rattle.shared_flow.specs.Entering.{Found, IsCalled, Left};
 ghost use Rattle.shared_flow.specs.Reach.{party_of, reach_of};
-ghost use Rattle.shared_flow.specs.Rounds.{Does, Below};
+ghost use Rattle.shared_flow.specs.Rounds.{Below};
+ghost use Rattle.shared_flow.specs.Sleeping.{NobodySleeps};
+ghost use Rattle.shared_flow.specs.Waking.{Helps};
 
+use crate::flag::Looker;
 use crate::parker::{LOOKS, pause};
-use crate::round::Round;
-use crate::shared::{Shared, wakes_of};
+use crate::round::{Round, ended_by};
+use crate::shared::Shared;
 use crate::track::Track;
 use crate::wakes::Wakes;
 use flow_terms::{Refusal, Word};
@@ -21,28 +24,31 @@ use std::alloc::{AllocError, Global};
 use std::marker::{Brand, Model};
 use std::sync::{Arc, Wait};
 
-/// An owner of the lock and of the lane, with room for the wakers of one call. Contracts see which lock it is, the flow, what the
-/// owner holds while it has the lock, its number, its own rounds, and the one list of rounds as far as it has seen it.
+/// An owner of the lock and of the lane, with room for those whom one call wakes. It keeps none of them beyond that call. Contracts
+/// see which lock it is, the flow, what the owner holds while it has the lock, its number, its own rounds, and the one list of rounds
+/// as far as it has seen it.
 #[derive(Drop)]
 pub(crate) struct Access {
     lock: Lock<Box<Shared>, Round>,
     track: Arc<Track, Global>,
     wakes: Wakes,
     alloc: Global,
-    // How many wakers one call has to keep at most.
-    wakes_count: usize,
+    // What the flow was made with.
+    config: Config,
 }
 
 impl Model for Access {
+    ghost use Rattle.std.specs.Prelude.{◌≡◌, []};
     ghost use Rattle.std.specs.Arc.{arc_value};
     ghost use Rattle.shared_flow.specs.Reach.{Reach, reach_of};
     ghost use Rattle.shared_flow.specs.Names.{KnowsFlow};
+    ghost use Rattle.shared_flow.specs.Sleeping.{NobodySleeps};
 
     ghost Value = { Reach };
 
     ghost view = { λ a. reach_of (λ s. s.value) a.lock };
 
-    ghost invariant = { λ a. KnowsFlow a.wakes_count (reach_of (λ s. s.value) a.lock).flow (arc_value a.track) };
+    ghost invariant = { λ a. KnowsFlow a.config (reach_of (λ s. s.value) a.lock).flow (arc_value a.track) × NobodySleeps a.wakes.subscriptions × (a.wakes.wakers.items ≡ []) };
 }
 
 /// What lies under the lock, for one who has taken it, and the number of the next emission as it was then. It has no `Drop`,
@@ -61,15 +67,14 @@ impl Access {
     {
         let state = Box::new(alloc, shared)?;
         let track = state.track()?;
-        let wakes_count = wakes_of(&config);
-        let wakes = Wakes::new(alloc, wakes_count)?;
+        let wakes = Wakes::new(alloc, &config)?;
         let lock = locked(alloc, state)?;
         Ok(Access {
             lock,
             track,
             wakes,
             alloc,
-            wakes_count,
+            config,
         })
     }
 
@@ -79,7 +84,7 @@ impl Access {
         ensures memory { IsOkUnless result Refusal.NoMemory }
         ensures same { self.new ≡ self.old }
     {
-        let wakes = Wakes::new(self.alloc, self.wakes_count)?;
+        let wakes = Wakes::new(self.alloc, &self.config)?;
         let track = Arc::try_clone(&self.track)?;
         let lock = self.lock.dup(rt)?;
         Ok(Access {
@@ -87,13 +92,17 @@ impl Access {
             track,
             wakes,
             alloc: self.alloc,
-            wakes_count: self.wakes_count,
+            config: self.config,
         })
     }
 
     /// Whether who has received has to take the lock, for an emission that may wait for that. Without a lock.
-    pub fn has_unfinished(&self) -> bool {
-        self.track.has_unfinished()
+    pub fn has_unfinished(&self, looker: &mut Looker) -> bool
+        requires { IsFlagOf self.now.flow looker.old.table }
+        ensures table { looker.new.table ≡ looker.old.table }
+        ensures none { result ≡ false → FoundDown self.now.flow looker.old.looks looker.new.looks }
+    {
+        self.track.has_unfinished(looker)
     }
 
     /// Looks some times whether an emission may wait still, up to where none does. Without a lock.
@@ -101,7 +110,7 @@ impl Access {
     pub fn watch_unfinished(&self) {
         for _ in 0..LOOKS {
             pause();
-            if !self.has_unfinished() {
+            if !self.track.may_have_unfinished() {
                 return;
             }
         }
@@ -121,6 +130,7 @@ impl Access {
         ensures found { Found (party_of self.old) result.guarded.state.value self.new.seen }
         ensures named { self.old.flow ≡ Some result.guarded.state.value.name }
         ensures below { Below (next result.guarded.state.value.sequencer) self.old.rounds }
+        ensures before { result.before ≡ next result.guarded.state.value.sequencer }
     {
         let guarded = self.lock.take(rt);
         let before = guarded.state.next_number();
@@ -129,10 +139,10 @@ impl Access {
 
     /// Helps those whom the round that was made has helped, gives the lock back with that round, and then wakes them.
     pub fn leave(&mut self, rt: &impl Wait, inside: Inside, round: Round)
-        requires round { (old : SharedSeen) × (self.old.held ≡ Some old) × Does old round inside.guarded.state.value }
+        requires round { IsCalled self.old inside.before round inside.guarded.state.value }
         ensures left { Left round inside.guarded.state.value self.old self.new }
     {
-        let guarded = helped(&mut self.wakes, inside);
+        let guarded = helped(&mut self.wakes, inside, ended_by(&round));
         self.lock.put(rt, guarded, round);
         self.wakes.fire();
     }
@@ -158,36 +168,35 @@ impl Access {
         answer: Result<u64, Refusal>,
     )
         requires picked { M.entry ≡ Some (round.TryAll emitter (map T.word values.now) answer) }
-        requires round { (old : SharedSeen) × (self.old.held ≡ Some old) × Does old (round.TryAll emitter (map T.word values.now) answer) inside.guarded.state.value }
+        requires round { IsCalled self.old inside.before (round.TryAll emitter (map T.word values.now) answer) inside.guarded.state.value }
         ensures left { Left (round.TryAll emitter (map T.word values.now) answer) inside.guarded.state.value self.old self.new }
     {
-        let guarded = helped(&mut self.wakes, inside);
+        let guarded = helped(&mut self.wakes, inside, None);
         self.lock.put_as::<M>(rt, guarded);
         self.wakes.fire();
     }
 
     /// Leaves as `leave` does, after the replay cache was read: the round has the words that it had.
     pub fn leave_cache(&mut self, rt: &impl Wait, inside: Inside)
-        requires round { (old : SharedSeen) × (self.old.held ≡ Some old) × Does old (round.Cache (Ok inside.guarded.state.value.sequencer.cache)) inside.guarded.state.value }
+        requires round { IsCalled self.old inside.before (round.Cache (Ok inside.guarded.state.value.sequencer.cache)) inside.guarded.state.value }
         ensures left { Left (round.Cache (Ok inside.guarded.state.value.sequencer.cache)) inside.guarded.state.value self.old self.new }
     {
-        let guarded = helped(&mut self.wakes, inside);
+        let guarded = helped(&mut self.wakes, inside, None);
         self.lock.put_as::<Brand>(rt, guarded);
         self.wakes.fire();
     }
 }
 
-// Helps those whom a round has helped, and takes their wakers out from under the lock.
-fn helped(wakes: &mut Wakes, inside: Inside) -> Guarded<Box<Shared>>
-    ensures same { (result.state.value.name ≡ inside.guarded.state.value.name) × IsSameSequencer inside.guarded.state.value.sequencer result.state.value.sequencer }
-    ensures only { OnlyLoaded inside.guarded.state.value.sequencer result.state.value.sequencer }
+// Takes those whom a round has helped, or ended, out from under the lock.
+fn helped(wakes: &mut Wakes, inside: Inside, ended: Option<u64>) -> Guarded<Box<Shared>>
+    requires { NobodySleeps wakes.old.subscriptions }
+    ensures { Helps inside.before ended inside.guarded.state.value result.state.value }
 {
     let Inside {
         mut guarded,
         before,
     } = inside;
-    guarded.state.help(before);
-    guarded.state.change_wakes(wakes);
+    guarded.state.help(before, ended, wakes);
     guarded
 }
 

@@ -166,10 +166,7 @@ impl<T: Word> Emitter<T> {
             unreachable!()
         };
         let mut inside = self.access.enter(rt);
-        let Polled { emit, receipt } = inside
-            .guarded
-            .state
-            .poll_emit(ticket, self.id, self.last, &self.bed);
+        let Polled { emit, receipt } = inside.guarded.state.poll_emit(ticket, self.id, self.last);
         let Some(receipt) = receipt else {
             inside
                 .guarded
@@ -250,6 +247,13 @@ impl<T: Word> Emitter<T> {
         unreachable!()
     }
 
+    /// Looks on for some microseconds, without the lock, up to where no emission may wait any more, as [`emit`](Emitter::emit) does
+    /// before its thread sleeps. It changes nothing. For one who would sleep by means of its own until the emission in flight is
+    /// finished. Kotlin has no such call.
+    pub fn look_on(&self) {
+        self.access.watch_unfinished();
+    }
+
     /// Gives the emission in flight up: Kotlin's `emit`, cancelled while it is suspended.
     ///
     /// `Removed` where it waited: it was never accepted. `Left` where it was accepted: its value stays with its subscriptions.
@@ -269,7 +273,7 @@ impl<T: Word> Emitter<T> {
         let Released { withdrawn, receipt } = inside
             .guarded
             .state
-            .cancel_emit(ticket, self.id, self.last, &self.bed);
+            .cancel_emit(ticket, self.id, self.last);
         self.ticket = None;
         let Some(receipt) = receipt else {
             let round = withdrawn_without_receipt(ticket, self.id, self.last, withdrawn);

@@ -104,6 +104,7 @@ impl<T: Word> SharedFlow<T> {
         ensures flow { IfOk result (λ subscription. subscription.party ≡ newcomer_of subscription.party.pass self.old.party) }
         ensures round { IfOk result (λ subscription. self.new ≡ at_rest (with_round (round.Subscribe (Ok subscription.number)) self.new.party.seen self.old.party)) }
         ensures prelude { IfOk result (λ subscription. subscription.rest ≡ []) }
+        ensures looks { IfOk result (λ subscription. subscription.looks ≡ []) }
         ensures begins { IfOk result (λ subscription. WasLetInBy subscription.number subscription.reader self.old.party self.new.party) }
         ensures refused { IfErr result (λ refusal. (refusal ≡ NoMemory) ⊎ IsAtLimit refusal) }
         ensures kept { IfErr result (λ refusal. IsLeftOut self.old refusal self.new) }
@@ -119,6 +120,7 @@ impl<T: Word> SharedFlow<T> {
         prelude: Prelude<T>,
     ) -> Result<Subscription<T>, Refusal>
         ensures prelude { IfOk result (λ subscription. subscription.rest ≡ prelude_values prelude) }
+        ensures looks { IfOk result (λ subscription. subscription.looks ≡ []) }
         ensures flow { IfOk result (λ subscription. subscription.party ≡ newcomer_of subscription.party.pass self.old.party) }
         ensures round { IfOk result (λ subscription. self.new ≡ at_rest (with_round (round.Subscribe (Ok subscription.number)) self.new.party.seen self.old.party)) }
         ensures begins { IfOk result (λ subscription. WasLetInBy subscription.number subscription.reader self.old.party self.new.party) }
@@ -127,11 +129,15 @@ impl<T: Word> SharedFlow<T> {
     {
         let access = self.access.another(rt)?;
         let mut inside = self.access.enter(rt);
-        let Admitted { number, reader } = inside.guarded.state.subscribe();
+        let Admitted {
+            number,
+            looker,
+            reader,
+        } = inside.guarded.state.subscribe();
         match reader {
             Ok(reader) => {
                 self.access.leave(rt, inside, Round::Subscribe(Ok(number)));
-                Ok(Subscription::new(access, number, prelude, reader))
+                Ok(Subscription::new(access, number, prelude, reader, looker))
             }
             Err(refusal) => {
                 self.access

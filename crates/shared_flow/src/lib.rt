@@ -53,6 +53,7 @@
 
 mod access;
 mod emitter;
+mod flag;
 mod flow;
 mod laws;
 mod parker;

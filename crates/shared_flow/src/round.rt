@@ -2,6 +2,7 @@
 ghost use Rattle.std.specs.Prelude.{◌≡◌};
 ghost use Rattle.shared_flow.specs.Parties.{last_of_try, last_of_start};
 ghost use Rattle.shared_flow.specs.Rounds.{numbers_tried, numbers_begun};
+ghost use Rattle.shared_flow.specs.Waking.{ended_by as the_ended_by};
 
 use flow_terms::Refusal;
 use shared_core::{Begun, Emit, Ticket, Tried, Withdrawn};
@@ -35,8 +36,9 @@ pub enum Round {
     StrayWithdraw(Ticket, u32, Option<u64>, u64),
     /// `SharedFlow::subscribe`, with the number of the subscription.
     Subscribe(Result<u64, Refusal>),
-    /// `Subscription::poll_next`, where it took the lock. What it received is its reader's.
-    Next,
+    /// A call of a `Subscription` that receives, where it took the lock, with the number of the subscription. What it received is its
+    /// reader's.
+    Next(u64),
     /// `Subscription::cancel`, with the number of the subscription.
     Cancel(u64),
     /// `SharedFlow::reset_replay`.
@@ -47,6 +49,16 @@ pub enum Round {
     Count(u32),
     /// `SharedFlow::hold`, up to `Held::release`, with the count of subscriptions.
     Hold(u32),
+}
+
+/// The subscription that a round ends.
+pub(crate) fn ended_by(round: &Round) -> Option<u64>
+    ensures { result ≡ the_ended_by round.now }
+{
+    match round {
+        Round::Cancel(number) => Some(*number),
+        _ => None,
+    }
 }
 
 /// The answer of a try, with the number of its receipt.

@@ -1,23 +1,23 @@
 //! What lies under the lock.
-ghost use Rattle.std.specs.Prelude.{◌≡◌, ◌+◌, ◌≤◌, IfOk, IfSome, IfNone, IsOkUnless};
-ghost use Rattle.futures.specs.Task.{IsArmed, Keeps};
+ghost use Rattle.std.specs.Prelude.{◌≡◌, ◌≤◌, ◌<◌, ◌≢◌, Some, IfOk, IfSome, IfNone, IsOkUnless};
 ghost use Rattle.shared_core.specs.Kept.{making_refusal};
 ghost use Rattle.shared_lane.specs.Sequencers.{IsFresh, IsSameSequencer, IsSequencerOf, OnlyLoaded, next};
-ghost use Rattle.shared_flow.specs.Names.{IsNew};
+ghost use Rattle.shared_flow.specs.Names.{HasRoom, IsNew};
 ghost use Rattle.shared_flow.specs.Rounds.{Does};
+ghost use Rattle.shared_flow.specs.Sleeping.{NobodySleeps, OnlyThese};
+ghost use Rattle.shared_flow.specs.Waking.{Helps, IsTied, WakesEmissions};
 
+use crate::flag::{Flag, Keeper};
 use crate::round::Round;
-use crate::sleepers::{Bed, Sleepers};
+use crate::sleepers::Sleepers;
 use crate::track::Track;
 use crate::wakes::Wakes;
 use flow_terms::{Policy, Refusal};
-use futures::task::Context;
 use round_lock::Called;
 use shared_core::Config;
 use shared_lane::{Lane, Sequencer};
 use std::alloc::{AllocError, Global};
 use std::marker::Model;
-use std::mem;
 use std::sync::Arc;
 
 mod blocks;
@@ -27,30 +27,31 @@ mod subscriptions;
 pub(crate) use emissions::{Polled, Released};
 pub(crate) use subscriptions::Admitted;
 
-/// The sequencer of a flow, an owner of its lane, and those that sleep until something changes. Contracts see which flow it is,
-/// and the sequencer.
+/// The sequencer of a flow, an owner of its lane, and those that sleep until something changes. Contracts see which flow it is, the
+/// sequencer, the flag, and who sleeps.
 #[derive(Drop)]
 pub struct Shared {
     config: Config,
     track: Arc<Track, Global>,
     sequencer: Sequencer<Global>,
+    /// Of the flag that says whether an emission may have to wait.
+    keeper: Keeper,
     /// The subscriptions that sleep.
     subscriptions: Sleepers,
     /// The emissions that sleep, by their tickets.
     emissions: Sleepers,
-    /// Those that the call at hand wakes.
-    wakes: Wakes,
 }
 
 impl Model for Shared {
     ghost use Rattle.std.specs.Arc.{arc_value};
-    ghost use Rattle.shared_flow.specs.Names.{SharedSeen, IsGuarded};
+    ghost use Rattle.std.specs.Prelude.{◌≡◌};
+    ghost use Rattle.shared_flow.specs.Names.{SharedSeen, IsGuarded, MayWait};
 
     ghost Value = { SharedSeen };
 
-    ghost view = { λ s. record { name = record { config = s.config; lane = arc_value s.track }; sequencer = s.sequencer } };
+    ghost view = { λ s. record { name = record { config = s.config; lane = (arc_value s.track).lane; flag = (arc_value s.track).flag }; sequencer = s.sequencer; flag = s.keeper.flag; subscriptions = s.subscriptions.sleeping; emissions = s.emissions.sleeping } };
 
-    ghost invariant = { λ s. IsGuarded s.config (arc_value s.track) s.sequencer };
+    ghost invariant = { λ s. IsGuarded s.config (arc_value s.track).lane s.sequencer × (s.keeper.table ≡ (arc_value s.track).flag) × MayWait s.config (arc_value s.track) };
 }
 
 // It lies under the lock in a box, so that a call moves no more than a pointer.
@@ -65,7 +66,7 @@ impl Shared {
     pub fn new(alloc: Global, config: Config) -> Result<Shared, Refusal>
         ensures refused { IfSome (making_refusal config) (λ refusal. result ≡ Err refusal) }
         ensures made { IfNone (making_refusal config) (IsOkUnless result Refusal.NoMemory) }
-        ensures fresh { IfOk result (λ made. (made.name.config ≡ config) × IsNew made) }
+        ensures fresh { IfOk result (λ made. (made.name.config ≡ config) × IsNew made × HasRoom made) }
     {
         let (lane, sequencer) = Lane::new(alloc, config)?;
         Ok(Shared::on_lane(alloc, config, lane, sequencer)?)
@@ -79,30 +80,21 @@ impl Shared {
         sequencer: Sequencer<Global>,
     ) -> Result<Shared, AllocError>
         requires { IsSequencerOf lane sequencer × IsFresh config sequencer }
-        ensures { IfOk result (λ made. (made.name.config ≡ config) × IsNew made) }
+        ensures { IfOk result (λ made. (made.name.config ≡ config) × IsNew made × HasRoom made) }
     {
         let may_wait = matches!(config.policy, Policy::Suspend);
-        let track = Arc::new(alloc, Track::new(lane, may_wait))?;
-        let Rooms {
-            subscriptions,
-            emissions,
-            wakes,
-        } = Rooms::new(alloc, &config)?;
+        let (flag, keeper) = Flag::new(alloc)?;
+        let track = Arc::new(alloc, Track::new(lane, may_wait, flag))?;
+        let subscriptions = Sleepers::new(alloc, config.subscribers as usize)?;
+        let emissions = Sleepers::new(alloc, config.emits as usize)?;
         Ok(Shared {
             config,
             track,
             sequencer,
+            keeper,
             subscriptions,
             emissions,
-            wakes,
         })
-    }
-
-    /// Hands the wakers of the call that ends to the caller, for its own, of which there are none.
-    pub(crate) fn change_wakes(&mut self, wakes: &mut Wakes)
-        ensures { self.new ≡ self.old }
-    {
-        mem::swap(&mut self.wakes, wakes);
     }
 
     /// The number that the next emission that is accepted has.
@@ -112,76 +104,67 @@ impl Shared {
         self.sequencer.next_number()
     }
 
-    /// Wakes those whom a call helped: the subscriptions that sleep, where something was accepted since the number `before` was
-    /// the next one, and the emissions that are finished by now.
-    pub(crate) fn help(&mut self, before: u64)
-        ensures same { (self.new.name ≡ self.old.name) × IsSameSequencer self.old.sequencer self.new.sequencer }
-        ensures only { OnlyLoaded self.old.sequencer self.new.sequencer }
+    /// Wakes those whom a call helped: the subscriptions that sleep, where something was accepted since the number `before` was the
+    /// next one, or else the one that it ended, and the emissions that have to wait no more. The flag is up where one may have to wait
+    /// on.
+    pub(crate) fn help(&mut self, before: u64, ended: Option<u64>, wakes: &mut Wakes)
+        requires { NobodySleeps wakes.old.subscriptions }
+        ensures { Helps before ended self.old self.new }
     {
-        self.wake_subscriptions(before);
-        self.note_finished();
-        self.wake_emissions();
+        self.wake_subscriptions(before, ended, wakes);
+        self.tie_flag();
+        self.wake_emissions(wakes);
     }
 
-    // Wakes the subscriptions that sleep, where something was accepted since the number `before` was the next one.
-    fn wake_subscriptions(&mut self, before: u64)
-        ensures { self.new ≡ self.old }
+    // Wakes the subscriptions that sleep, where something was accepted since the number `before` was the next one, or else the one
+    // that was ended.
+    fn wake_subscriptions(&mut self, before: u64, ended: Option<u64>, wakes: &mut Wakes)
+        requires { NobodySleeps wakes.old.subscriptions }
+        ensures same { self.new ≡ record self.old { subscriptions = self.new.subscriptions } }
+        ensures accepted { before < next self.old.sequencer → NobodySleeps self.new.subscriptions }
+        ensures none_accepted { next self.old.sequencer ≤ before → OnlyThese (λ number. ended ≢ Some number) self.old.subscriptions self.new.subscriptions }
     {
-        if self.subscriptions.is_empty() || self.sequencer.next_number() <= before {
+        if self.sequencer.next_number() <= before {
+            self.wake_ended(ended, wakes);
             return;
         }
-        self.subscriptions.wake_all(&mut self.wakes);
+        if self.subscriptions.is_empty() {
+            return;
+        }
+        self.subscriptions.wake_all(wakes);
     }
 
-    // Who receives has to take the lock no more, once no emission is unfinished.
-    fn note_finished(&self) {
-        if self.track.has_unfinished() && !self.sequencer.has_unfinished() {
-            self.track.set_unfinished(false);
+    // Wakes the subscription that was ended: its waker can't be thrown away.
+    fn wake_ended(&mut self, ended: Option<u64>, wakes: &mut Wakes)
+        ensures same { self.new ≡ record self.old { subscriptions = self.new.subscriptions } }
+        ensures others { OnlyThese (λ number. ended ≢ Some number) self.old.subscriptions self.new.subscriptions }
+    {
+        if let Some(number) = ended {
+            self.subscriptions.wake(number, wakes);
         }
     }
 
-    // Wakes the emissions that sleep and are finished by now.
-    fn wake_emissions(&mut self)
+    // Sets the flag where an emission is unfinished, and takes it back elsewhere, which the clause doesn't ask for.
+    fn tie_flag(&mut self)
+        ensures same { self.new ≡ record self.old { flag = self.new.flag } }
+        ensures tied { IsTied self.new }
+    {
+        let has = self.sequencer.has_unfinished();
+        self.track.set_unfinished(&mut self.keeper, has);
+    }
+
+    // Wakes the emissions that sleep and have to wait no more.
+    fn wake_emissions(&mut self, wakes: &mut Wakes)
         ensures same { (self.new.name ≡ self.old.name) × IsSameSequencer self.old.sequencer self.new.sequencer }
         ensures only { OnlyLoaded self.old.sequencer self.new.sequencer }
+        ensures flag { self.new.flag ≡ self.old.flag }
+        ensures subscriptions { self.new.subscriptions ≡ self.old.subscriptions }
+        ensures emissions { WakesEmissions self.old self.new }
     {
         if self.emissions.is_empty() {
             return;
         }
         let below = self.sequencer.finished_below(self.track.lane());
-        self.emissions
-            .wake_done(&self.sequencer, below, &mut self.wakes);
+        self.emissions.wake_done(&self.sequencer, below, wakes);
     }
-}
-
-// Where those sleep that wait, and where their wakers are kept.
-#[derive(Drop)]
-struct Rooms {
-    subscriptions: Sleepers,
-    emissions: Sleepers,
-    wakes: Wakes,
-}
-
-impl Rooms {
-    // Nobody sleeps, and as many may as wait at most.
-    fn new(alloc: Global, config: &Config) -> Result<Rooms, AllocError>
-        ensures subscriptions { IfOk result (λ rooms. config.now.subscribers ≤ rooms.subscriptions.sleeping.capacity) }
-        ensures emissions { IfOk result (λ rooms. config.now.emits ≤ rooms.emissions.sleeping.capacity) }
-    {
-        let subscriptions = Sleepers::new(alloc, config.subscribers as usize)?;
-        let emissions = Sleepers::new(alloc, config.emits as usize)?;
-        let wakes = Wakes::new(alloc, wakes_of(config))?;
-        Ok(Rooms {
-            subscriptions,
-            emissions,
-            wakes,
-        })
-    }
-}
-
-/// How many wakers one call has to keep at most.
-pub(crate) fn wakes_of(config: &Config) -> usize
-    ensures { result ≡ config.now.subscribers + config.now.emits }
-{
-    config.subscribers as usize + config.emits as usize
 }

@@ -2,21 +2,21 @@
 
 ghost use Rattle.std.specs.Prelude.{◌≡◌, ◌≢◌, ◌≤◌, ◌<◌, ◌↔◌, true, false, None, IfOk};
 ghost use Rattle.slab.specs.Slab.{slab_len};
-ghost use Rattle.flow_terms.specs.declared.answers.Emit.TheVariants as emit;
 ghost use Rattle.futures.specs.Task.{IsArmed, Keeps};
-ghost use Rattle.shared_lane.specs.Polls.{stands_below};
-ghost use Rattle.shared_flow.specs.Sleeping.{SleepsAt, OnlyDoneRise};
+ghost use Rattle.shared_flow.specs.Sleeping.{SleepsAt, NobodySleeps, OnlyThese, LiesDown};
+ghost use Rattle.shared_flow.specs.Waking.{HasToWait};
 
 use crate::wakes::Wakes;
 use futures::task::{Context, Poll, Source, Waker};
-use shared_core::{Emit, Ticket};
+use shared_core::Ticket;
 use shared_lane::Sequencer;
 use slab::Slab;
 use std::alloc::{AllocError, Global};
+use std::mem;
 
 /// One that sleeps: the number of its subscription or ticket, and the waker of its task.
 #[derive(Drop)]
-pub(crate) struct Sleeper {
+pub struct Sleeper {
     number: u64,
     waker: Option<Waker>,
 }
@@ -46,7 +46,7 @@ pub(crate) struct Sleepers {
 impl Sleepers {
     /// Nobody sleeps, and so many may.
     pub fn new(alloc: Global, count: usize) -> Result<Sleepers, AllocError>
-        ensures nobody { IfOk result (λ sleepers. slab_len sleepers.sleeping ≡ 0) }
+        ensures nobody { IfOk result (λ sleepers. NobodySleeps sleepers.sleeping) }
         ensures room { IfOk result (λ sleepers. count ≤ sleepers.sleeping.capacity) }
     {
         let sleeping = Slab::with_capacity(alloc, count)?;
@@ -60,6 +60,7 @@ impl Sleepers {
     /// the task yields.
     pub fn sleep(&mut self, number: u64, bed: &mut Bed, cx: &mut Context<'_>)
         ensures sleeps { slab_len self.old.sleeping < self.old.sleeping.capacity → SleepsAt self.new.sleeping bed.new.key number }
+        ensures lies { LiesDown number self.old.sleeping self.new.sleeping }
         ensures armed { IsArmed cx.new }
         ensures kept { Keeps cx.old cx.new }
     {
@@ -91,6 +92,7 @@ impl Sleepers {
     fn lie_down(&mut self, number: u64, bed: &mut Bed) -> bool
         ensures lies { result ≡ true → SleepsAt self.new.sleeping bed.new.key number }
         ensures full { result ≡ false → (self.new ≡ self.old) × (self.old.sleeping.capacity ≤ slab_len self.old.sleeping) }
+        ensures others { LiesDown number self.old.sleeping self.new.sleeping }
         ensures room { self.new.sleeping.capacity ≡ self.old.sleeping.capacity }
     {
         if self.sleeping.len() >= self.sleeping.capacity() {
@@ -101,70 +103,57 @@ impl Sleepers {
         true
     }
 
-    /// The one with this number sleeps no more. Its waker can't be thrown away, so its own task is woken.
-    pub fn rise(&mut self, number: u64, bed: &Bed, wakes: &mut Wakes)
-        ensures up { SleepsAt self.new.sleeping bed.now.key number → ⊥ }
-        ensures room { self.new.sleeping.capacity ≡ self.old.sleeping.capacity }
-    {
-        if !self.is_in(number, bed) {
-            return;
-        }
-        let Some(key) = bed.key else {
-            return;
-        };
-        if let Some(sleeper) = self.sleeping.try_remove(key) {
-            wakes.add(sleeper.waker);
-        }
-    }
-
-    /// After a poll of the emission with this ticket, which sleeps no more unless it waits.
-    pub fn rise_unless_waiting(
-        &mut self,
-        ticket: Ticket,
-        answer: Emit,
-        bed: &Bed,
-        wakes: &mut Wakes,
-    )
-        ensures up { answer ≢ emit.Waiting → SleepsAt self.new.sleeping bed.now.key ticket.0 → ⊥ }
-        ensures waits { answer ≡ emit.Waiting → self.new ≡ self.old }
-        ensures room { self.new.sleeping.capacity ≡ self.old.sleeping.capacity }
-    {
-        match answer {
-            Emit::Waiting => {}
-            Emit::Done(_) => self.rise(ticket.0, bed, wakes),
-            Emit::Gone => self.rise(ticket.0, bed, wakes),
-        }
-    }
-
     /// Whether nobody sleeps.
     pub fn is_empty(&self) -> bool
-        ensures { (result ≡ true) ↔ (slab_len self.now.sleeping ≡ 0) }
+        ensures { (result ≡ true) ↔ NobodySleeps self.now.sleeping }
     {
         self.sleeping.is_empty()
     }
 
-    /// Wakes all.
+    /// Wakes all, in the place of those that the call wakes so far, of whom there are none.
     pub fn wake_all(&mut self, wakes: &mut Wakes)
-        ensures nobody { slab_len self.new.sleeping ≡ 0 }
+        ensures nobody { self.new.sleeping ≡ wakes.old.subscriptions }
+        ensures woken { wakes.new ≡ record wakes.old { subscriptions = self.old.sleeping } }
+    {
+        mem::swap(&mut self.sleeping, &mut wakes.subscriptions);
+    }
+
+    /// Wakes the one with this number: it is to sleep no more.
+    pub fn wake(&mut self, number: u64, wakes: &mut Wakes)
+        ensures others { OnlyThese (λ n. n ≢ number) self.old.sleeping self.new.sleeping }
         ensures room { self.new.sleeping.capacity ≡ self.old.sleeping.capacity }
     {
         self.sleeping.retain(|_, sleeper| {
-            wakes.add(sleeper.waker.take());
-            false
+            let is_other = sleeper.number != number;
+            if !is_other {
+                wakes.add(sleeper.waker.take());
+            }
+            is_other
         });
     }
 
-    /// Wakes those whose emission stands below a number.
+    /// Wakes those whose emission doesn't have to wait, where each one below a number is finished.
     pub fn wake_done(&mut self, sequencer: &Sequencer<Global>, below: u64, wakes: &mut Wakes)
-        ensures done { OnlyDoneRise (λ ticket. stands_below sequencer.now.standing ticket below) self.old.sleeping self.new.sleeping }
+        ensures done { OnlyThese (HasToWait sequencer.now below) self.old.sleeping self.new.sleeping }
         ensures room { self.new.sleeping.capacity ≡ self.old.sleeping.capacity }
     {
         self.sleeping.retain(|_, sleeper| {
-            let is_done = sequencer.is_below(Ticket(sleeper.number), below);
-            if is_done {
+            let has_to_wait = has_to_wait(sequencer, Ticket(sleeper.number), below);
+            if !has_to_wait {
                 wakes.add(sleeper.waker.take());
             }
-            !is_done
+            has_to_wait
         });
     }
+}
+
+// Whether the emission with this ticket has to wait: the ticket is out, and doesn't stand below the number.
+fn has_to_wait(sequencer: &Sequencer<Global>, ticket: Ticket, below: u64) -> bool
+    ensures waits { result ≡ true → HasToWait sequencer.now below ticket.0 }
+    ensures done { result ≡ false → HasToWait sequencer.now below ticket.0 → ⊥ }
+{
+    if sequencer.is_below(ticket, below) {
+        return false;
+    }
+    sequencer.emitter_of(ticket).is_some()
 }

@@ -8,14 +8,16 @@ ghost use Rattle.shared_flow.specs.declared.round.Round.TheVariants as round;
 ghost use Rattle.shared_flow.specs.Reach.{Party, party_of};
 ghost use Rattle.shared_flow.specs.Entering.{Made};
 ghost use Rattle.shared_flow.specs.Parties.{Subscribed, OfFlow};
-ghost use Rattle.shared_flow.specs.Looks.{Took, Gave, GaveIn, Missed, MissedTwice, MissedOn, OnlyNext, Waited};
+ghost use Rattle.shared_flow.specs.Looks.{Took, Gave, GaveIn, Missed, MissedTwice, MissedOn, OnlyNext, Waited, WasEnded, MadeRoom};
 ghost use Rattle.shared_core.specs.Preludes.{prelude_values};
 ghost use Rattle.shared_flow.specs.Preludes.{IsGreeted, IsPast, GreetedOr, TookFirst};
 ghost use Rattle.flow_terms.specs.declared.refusal.Refusal.TheVariants.{NoMemory};
 ghost use Rattle.shared_flow.specs.Meeting.{HasMet};
+ghost use Rattle.shared_flow.specs.Names.{IsFlagOf};
 ghost use Rattle.shared_flow.specs.Owners.{HasHeard, OnlyMet};
 
 use crate::access::Access;
+use crate::flag::Looker;
 use crate::parker::{LOOKS, Parker, pause};
 use crate::rest::Rest;
 use crate::round::Round;
@@ -34,12 +36,14 @@ mod blocks;
 ///
 /// It has no `Drop` and must be spent, by `cancel`: until then it takes a place, and under `Suspend` it holds up emitters. Lend it
 /// to a thread by `&mut`, and spend it after the join. Contracts see its flow, the rounds that it made under the lock, the one list of
-/// rounds as far as it has seen it, its number, what is left of its prelude, and its reader.
+/// rounds as far as it has seen it, its number, what is left of its prelude, its reader, and what its looks at the flag found.
 pub struct Subscription<T: Word> {
     access: Access,
     // Given first, and by nobody but this subscription: no lock, and no word of the lane.
     rest: Rest<T>,
     reader: Reader,
+    // Looks at the flag, after a receipt.
+    looker: Looker,
     // Under which it sleeps.
     number: u64,
     // Where it slept last.
@@ -51,13 +55,14 @@ impl<T: Word> Model for Subscription<T> {
     ghost use Rattle.std.specs.Prelude.{◌≡◌, None};
     ghost use Rattle.shared_lane.specs.Readers.{IsReaderOf};
     ghost use Rattle.shared_flow.specs.Reach.{party_of};
+    ghost use Rattle.shared_flow.specs.Names.{IsFlagOf};
     ghost use Rattle.shared_flow.specs.Parties.{Subscribed, OfFlow};
 
     ghost Value = { Subscribed T };
 
-    ghost view = { λ s. record { party = party_of s.access; number = s.number; rest = s.rest; reader = s.reader } };
+    ghost view = { λ s. record { party = party_of s.access; number = s.number; rest = s.rest; reader = s.reader; looks = s.looker.looks } };
 
-    ghost invariant = { λ s. (s.access.held ≡ None) × OfFlow (party_of s.access) (λ name. IsReaderOf name.lane s.reader) };
+    ghost invariant = { λ s. (s.access.held ≡ None) × OfFlow (party_of s.access) (λ name. IsReaderOf name.lane s.reader) × IsFlagOf (party_of s.access).flow s.looker.table };
 }
 
 impl<T: Word> Subscription<T> {
@@ -66,14 +71,16 @@ impl<T: Word> Subscription<T> {
         number: u64,
         prelude: Prelude<T>,
         reader: Reader,
+        looker: Looker,
     ) -> Subscription<T>
-        requires { (access.held ≡ None) × OfFlow (party_of access) (λ name. IsReaderOf name.lane reader) }
-        ensures { result ≡ record { party = party_of access; number = number; rest = prelude_values prelude; reader = reader } }
+        requires { (access.held ≡ None) × OfFlow (party_of access) (λ name. IsReaderOf name.lane reader) × IsFlagOf (party_of access).flow looker.table }
+        ensures { result ≡ record { party = party_of access; number = number; rest = prelude_values prelude; reader = reader; looks = looker.looks } }
     {
         Subscription {
             access,
             rest: Rest::of(prelude),
             reader,
+            looker,
             number,
             bed: Bed::new(),
             marker: PhantomData,
@@ -100,7 +107,7 @@ impl<T: Word> Subscription<T> {
 
     // The next value of the prelude, if one is left. It makes no step on the lane, and takes no lock.
     fn greet(&mut self) -> Option<T>
-        ensures same { (self.new.party ≡ self.old.party) × (self.new.number ≡ self.old.number) × (self.new.reader ≡ self.old.reader) }
+        ensures same { (self.new.party ≡ self.old.party) × (self.new.number ≡ self.old.number) × (self.new.reader ≡ self.old.reader) × (self.new.looks ≡ self.old.looks) }
         ensures greeted { IfSome result (λ v. IsGreeted self.old v self.new) }
         ensures past { IfNone result (IsPast self.old self.new) }
     {
@@ -125,10 +132,11 @@ impl<T: Word> Subscription<T> {
     /// It looks twice: first without the lock, and where that gives no value once more with it. A value that is there costs no lock,
     /// unless an emission waits that the receipt may help.
     pub fn poll_next(&mut self, rt: &impl Wait, cx: &mut Context<'_>) -> Poll<T>
-        ensures round { OnPending result (Made round.Next self.old.party self.new.party) }
-        ensures rounds { (self.new.party ≡ self.old.party) ⊎ Made round.Next self.old.party self.new.party }
+        ensures round { OnPending result (Made (round.Next self.old.number) self.old.party self.new.party) }
+        ensures rounds { (self.new.party ≡ self.old.party) ⊎ Made (round.Next self.old.number) self.old.party self.new.party }
         ensures same { self.new.number ≡ self.old.number }
         ensures ready { IfReady result (λ v. GreetedOr self.old v self.new (GaveIn T.read_as self.old.reader v self.new.reader)) }
+        ensures room { IfReady result (λ v. IsGreeted self.old v self.new ⊎ MadeRoom self.old self.new) }
         ensures pending { OnPending result (IsPast self.old self.new × MissedTwice self.old.reader self.new.reader) }
         ensures armed { OnPending result (IsArmed cx.new) }
         ensures kept { Keeps cx.old cx.new }
@@ -141,10 +149,11 @@ impl<T: Word> Subscription<T> {
 
     // A poll for the next value that was accepted.
     fn poll_accepted(&mut self, rt: &impl Wait, cx: &mut Context<'_>) -> Poll<T>
-        ensures round { OnPending result (Made round.Next self.old.party self.new.party) }
-        ensures rounds { (self.new.party ≡ self.old.party) ⊎ Made round.Next self.old.party self.new.party }
+        ensures round { OnPending result (Made (round.Next self.old.number) self.old.party self.new.party) }
+        ensures rounds { (self.new.party ≡ self.old.party) ⊎ Made (round.Next self.old.number) self.old.party self.new.party }
         ensures same { (self.new.number ≡ self.old.number) × (self.new.rest ≡ self.old.rest) }
         ensures ready { IfReady result (λ v. GaveIn T.read_as self.old.reader v self.new.reader) }
+        ensures room { IfReady result (λ v. MadeRoom self.old self.new) }
         ensures pending { OnPending result (MissedTwice self.old.reader self.new.reader) }
         ensures armed { OnPending result (IsArmed cx.new) }
         ensures kept { Keeps cx.old cx.new }
@@ -162,7 +171,7 @@ impl<T: Word> Subscription<T> {
     /// and the parker finds no memory to wait by; nothing is received then.
     pub fn next(&mut self, rt: &impl Wait, parker: &mut Parker) -> Result<T, Refusal>
         ensures same { self.new.number ≡ self.old.number }
-        ensures rounds { OnlyNext self.old.party self.new.party }
+        ensures rounds { OnlyNext self.old.number self.old.party self.new.party }
         ensures value { IfOk result (λ v. GreetedOr self.old v self.new (Waited T.read_as self.old.reader v self.new.reader)) }
         ensures nothing { IfErr result (λ refusal. (refusal ≡ NoMemory) × IsPast self.old self.new × Missed self.old.reader self.new.reader) }
     {
@@ -172,10 +181,45 @@ impl<T: Word> Subscription<T> {
         }
     }
 
+    /// Receives the oldest value that is pending, where one is there: the look that [`next`](Subscription::next) begins with. Those
+    /// of the prelude come first. Kotlin has no such call: there `collect` suspends where this answers nothing.
+    ///
+    /// It never sleeps for a value. It takes the lock where an emission waits that the receipt may help, which is the difference
+    /// from [`try_next`](Subscription::try_next), and only then. Nothing says whether the position rose, as `Overtaken` does there.
+    pub fn next_now(&mut self, rt: &impl Wait) -> Option<T>
+        ensures rounds { (self.new.party ≡ self.old.party) ⊎ Made (round.Next self.old.number) self.old.party self.new.party }
+        ensures same { self.new.number ≡ self.old.number }
+        ensures given { IfSome result (λ v. GreetedOr self.old v self.new (Gave T.read_as self.old.reader v self.new.reader)) }
+        ensures room { IfSome result (λ v. IsGreeted self.old v self.new ⊎ MadeRoom self.old self.new) }
+        ensures missed { IfNone result ((self.new.party ≡ self.old.party) × IsPast self.old self.new × Missed self.old.reader self.new.reader) }
+    {
+        match self.greet() {
+            Some(value) => Some(value),
+            None => self.look(rt),
+        }
+    }
+
+    /// Receives the oldest value that is pending, where one comes within some microseconds: it pauses and looks, a few times, as
+    /// [`next`](Subscription::next) does before its thread sleeps. For one who looked by [`next_now`](Subscription::next_now), and
+    /// would sleep by means of its own. Those of the prelude come first, at once. Kotlin has no such call.
+    ///
+    /// It never sleeps for a value, and takes the lock as `next_now` does.
+    pub fn next_soon(&mut self, rt: &impl Wait) -> Option<T>
+        ensures rounds { (self.new.party ≡ self.old.party) ⊎ Made (round.Next self.old.number) self.old.party self.new.party }
+        ensures same { self.new.number ≡ self.old.number }
+        ensures given { IfSome result (λ v. GreetedOr self.old v self.new (Waited T.read_as self.old.reader v self.new.reader)) }
+        ensures missed { IfNone result ((self.new.party ≡ self.old.party) × IsPast self.old self.new × MissedOn self.old.reader self.new.reader) }
+    {
+        match self.greet() {
+            Some(value) => Some(value),
+            None => self.look_on(rt),
+        }
+    }
+
     // Waits for the next value that is accepted.
     fn next_accepted(&mut self, rt: &impl Wait, parker: &mut Parker) -> Result<T, Refusal>
         ensures same { (self.new.number ≡ self.old.number) × (self.new.rest ≡ self.old.rest) }
-        ensures rounds { OnlyNext self.old.party self.new.party }
+        ensures rounds { OnlyNext self.old.number self.old.party self.new.party }
         ensures value { IfOk result (λ v. Waited T.read_as self.old.reader v self.new.reader) }
         ensures nothing { IfErr result (λ refusal. (refusal ≡ NoMemory) × Missed self.old.reader self.new.reader) }
     {
@@ -189,7 +233,7 @@ impl<T: Word> Subscription<T> {
     #[inline(never)]
     fn wait_for_next(&mut self, rt: &impl Wait, parker: &mut Parker) -> Result<T, Refusal>
         ensures same { (self.new.number ≡ self.old.number) × (self.new.rest ≡ self.old.rest) }
-        ensures rounds { OnlyNext self.old.party self.new.party }
+        ensures rounds { OnlyNext self.old.number self.old.party self.new.party }
         ensures value { IfOk result (λ v. Waited T.read_as self.old.reader v self.new.reader) }
         ensures nothing { IfErr result (λ refusal. (refusal ≡ NoMemory) × (self.new ≡ self.old)) }
     {
@@ -213,7 +257,7 @@ impl<T: Word> Subscription<T> {
     // Looks some times more before the thread sleeps. A value that another thread is about to accept is there sooner than a thread
     // that sleeps has been woken for it.
     fn look_on(&mut self, rt: &impl Wait) -> Option<T>
-        ensures rounds { (self.new.party ≡ self.old.party) ⊎ Made round.Next self.old.party self.new.party }
+        ensures rounds { (self.new.party ≡ self.old.party) ⊎ Made (round.Next self.old.number) self.old.party self.new.party }
         ensures same { (self.new.number ≡ self.old.number) × (self.new.rest ≡ self.old.rest) }
         ensures given { IfSome result (λ v. Waited T.read_as self.old.reader v self.new.reader) }
         ensures missed { IfNone result ((self.new.party ≡ self.old.party) × MissedOn self.old.reader self.new.reader) }
@@ -227,18 +271,19 @@ impl<T: Word> Subscription<T> {
         None
     }
 
-    // Looks for a value without the lock: each look that comes before a subscription sleeps is made here. It takes the lock where
-    // an emission waits that the receipt may help, which nobody else may ever do.
+    // Looks for a value without the lock: each look for one value that comes before a subscription sleeps is made here. It takes
+    // the lock where an emission waits that the receipt may help, which nobody else may ever do.
     fn look(&mut self, rt: &impl Wait) -> Option<T>
-        ensures rounds { (self.new.party ≡ self.old.party) ⊎ Made round.Next self.old.party self.new.party }
+        ensures rounds { (self.new.party ≡ self.old.party) ⊎ Made (round.Next self.old.number) self.old.party self.new.party }
         ensures same { (self.new.number ≡ self.old.number) × (self.new.rest ≡ self.old.rest) }
         ensures given { IfSome result (λ v. Gave T.read_as self.old.reader v self.new.reader) }
+        ensures room { IfSome result (λ v. MadeRoom self.old self.new) }
         ensures missed { IfNone result ((self.new.party ≡ self.old.party) × Missed self.old.reader self.new.reader) }
     {
         let Taken::Value(word) = self.reader.try_next(self.access.lane()) else {
             return None;
         };
-        if self.access.has_unfinished() {
+        if self.access.has_unfinished(&mut self.looker) {
             self.make_room(rt);
         }
         Some(T::from_word(word))
@@ -248,18 +293,18 @@ impl<T: Word> Subscription<T> {
     // receipt that takes no lock then saves no registers for them.
     #[inline(never)]
     fn make_room(&mut self, rt: &impl Wait)
-        ensures made { Made round.Next self.old.party self.new.party }
+        ensures made { Made (round.Next self.old.number) self.old.party self.new.party }
         ensures same { self.new ≡ record self.old { party = self.new.party } }
     {
         let mut inside = self.access.enter(rt);
-        inside.guarded.state.make_room();
-        self.access.leave(rt, inside, Round::Next);
+        inside.guarded.state.make_room(self.number);
+        self.access.leave(rt, inside, Round::Next(self.number));
     }
 
     // Looks for a value with the lock held. Without one the task sleeps.
     #[inline(never)]
     fn look_again(&mut self, rt: &impl Wait, cx: &mut Context<'_>) -> Poll<T>
-        ensures round { Made round.Next self.old.party self.new.party }
+        ensures round { Made (round.Next self.old.number) self.old.party self.new.party }
         ensures same { (self.new.number ≡ self.old.number) × (self.new.rest ≡ self.old.rest) }
         ensures ready { IfReady result (λ v. Gave T.read_as self.old.reader v self.new.reader) }
         ensures pending { OnPending result (Missed self.old.reader self.new.reader) }
@@ -267,9 +312,9 @@ impl<T: Word> Subscription<T> {
         ensures kept { Keeps cx.old cx.new }
     {
         let mut inside = self.access.enter(rt);
-        match inside.guarded.state.look(&mut self.reader) {
+        match inside.guarded.state.look(self.number, &mut self.reader) {
             Taken::Value(word) => {
-                self.access.leave(rt, inside, Round::Next);
+                self.access.leave(rt, inside, Round::Next(self.number));
                 Poll::Ready(T::from_word(word))
             }
             Taken::Nothing => {
@@ -277,12 +322,12 @@ impl<T: Word> Subscription<T> {
                     .guarded
                     .state
                     .sleep_subscription(self.number, &mut self.bed, cx);
-                self.access.leave(rt, inside, Round::Next);
+                self.access.leave(rt, inside, Round::Next(self.number));
                 Poll::Pending
             }
             // Nobody moves a cursor but under the lock, so that this doesn't come: it asks to be polled again.
             Taken::Overtaken => {
-                self.access.leave(rt, inside, Round::Next);
+                self.access.leave(rt, inside, Round::Next(self.number));
                 let _again: Poll<()> = cx.yield_now();
                 Poll::Pending
             }
@@ -348,18 +393,19 @@ impl<T: Word> Subscription<T> {
     /// Ends the subscription, and gives up what it has pending, of its prelude too: Kotlin's `collect`, cancelled. Emissions that
     /// wait are then accepted while there is room.
     pub fn cancel(self, rt: &impl Wait)
-        ensures ended { (left : Party) × Made (round.Cancel self.number) self.party left }
+        ensures ended { (left : Party) × WasEnded self.number self.reader self.party left }
     {
         let Subscription {
             mut access,
             rest: _,
             reader,
+            looker: _,
             number,
-            bed,
+            bed: _,
             marker: _,
         } = self;
         let mut inside = access.enter(rt);
-        inside.guarded.state.cancel(reader, number, &bed);
+        inside.guarded.state.cancel(number, reader);
         access.leave(rt, inside, Round::Cancel(number));
         drop(access);
     }

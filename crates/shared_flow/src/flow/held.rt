@@ -30,7 +30,7 @@ impl Model for Kept {
 
     ghost Value = { Keeping };
 
-    ghost view = { λ k. record { count = k.count; shared = k.inside.guarded.state.value } };
+    ghost view = { λ k. record { count = k.count; before = k.inside.before; shared = k.inside.guarded.state.value } };
 }
 
 /// A flow whose lock is kept: nothing is emitted into it, and nobody is let in, until it is released. Subscriptions receive on, by

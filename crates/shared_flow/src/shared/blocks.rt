@@ -4,7 +4,8 @@ ghost use Rattle.flow_terms.specs.declared.refusal.Refusal.TheVariants.{Spent};
 ghost use Rattle.shared_lane.specs.Blocks.{TriedAllOn};
 ghost use Rattle.shared_lane.specs.Sequencers.{AfterScan, IsSameSequencer, RefusedTry};
 ghost use Rattle.shared_flow.specs.declared.round.Round.TheVariants as round;
-ghost use Rattle.shared_flow.specs.Rounds.{Does};
+ghost use Rattle.shared_flow.specs.Rounds.{Comes};
+ghost use Rattle.shared_flow.specs.Waking.{SleepOn};
 
 use super::Shared;
 use flow_terms::{Refusal, Word};
@@ -32,7 +33,8 @@ impl Shared {
         emitter: u32,
         values: &[T],
     ) -> Result<u64, Refusal>
-        ensures does { Does self.old (round.TryAll emitter (map T.word values.now) result) self.new }
+        ensures does { Comes self.old (round.TryAll emitter (map T.word values.now) result) self.new }
+        ensures asleep { SleepOn self.old self.new }
         ensures few { IfOk result (λ n. n ≤ length values.now) }
         ensures refused { IfErr result (λ refusal. (refusal ≡ Spent) × (values.now ≢ [])) }
     {
@@ -45,7 +47,7 @@ impl Shared {
 
     // A block of the first values.
     fn try_block<T: Word>(&mut self, emitter: u32, values: &[T]) -> Result<u64, Refusal>
-        ensures same { (self.new.name ≡ self.old.name) × IsSameSequencer self.old.sequencer self.new.sequencer }
+        ensures same { (self.new.name ≡ self.old.name) × IsSameSequencer self.old.sequencer self.new.sequencer × SleepOn self.old self.new }
         ensures refused { IfErr result (λ e. (values.now ≢ []) × AfterScan self.old.sequencer (λ m. RefusedTry m e self.new.sequencer)) }
         ensures tried { IfOk result (λ n. AfterScan self.old.sequencer (λ m. TriedAllOn m emitter (map T.word (take 64 values.now)) n self.new.sequencer)) }
     {
@@ -58,7 +60,7 @@ impl Shared {
     // All blocks after one that was accepted whole, so that no emission waits.
     fn try_others<T: Word>(&mut self, emitter: u32, values: &[T]) -> u64
         requires { self.old.sequencer.waiting ≡ [] }
-        ensures same { (self.new.name ≡ self.old.name) × IsSameSequencer self.old.sequencer self.new.sequencer }
+        ensures same { (self.new.name ≡ self.old.name) × IsSameSequencer self.old.sequencer self.new.sequencer × SleepOn self.old self.new }
         ensures tried { TriedAllOn self.old.sequencer emitter (map T.word values.now) result self.new.sequencer }
     {
         let mut done = 0;
@@ -75,7 +77,7 @@ impl Shared {
     // A further block: none of it, where the numbers are used up by the blocks before it.
     fn try_next_block<T: Word>(&mut self, emitter: u32, values: &[T]) -> u64
         requires { self.old.sequencer.waiting ≡ [] }
-        ensures same { (self.new.name ≡ self.old.name) × IsSameSequencer self.old.sequencer self.new.sequencer }
+        ensures same { (self.new.name ≡ self.old.name) × IsSameSequencer self.old.sequencer self.new.sequencer × SleepOn self.old self.new }
         ensures tried { TriedAllOn self.old.sequencer emitter (map T.word (take 64 values.now)) result self.new.sequencer }
     {
         match self.try_block(emitter, values) {

@@ -9,8 +9,10 @@ ghost use Rattle.shared_lane.specs.Polls.{IsOutFor, IsNotOut, PolledOn, Withdraw
 ghost use Rattle.shared_lane.specs.Sequencers.{AcceptedOn, IsSameSequencer, next};
 ghost use Rattle.shared_lane.specs.Views.{SequencerSeen};
 ghost use Rattle.shared_flow.specs.declared.round.Round.TheVariants as round;
+ghost use Rattle.shared_flow.specs.Sleeping.{LiesDown};
+ghost use Rattle.shared_flow.specs.Waking.{SleepOn};
 ghost use Rattle.shared_flow.specs.Parties.{IfTried, IfBegun, TriedUnder, BegunUnder};
-ghost use Rattle.shared_flow.specs.Rounds.{Does, Makes, MakesAfterScan, Scanned, IsAfter, IsReceiptAfter};
+ghost use Rattle.shared_flow.specs.Rounds.{Comes, Makes, MakesAfterScan, Scanned, IsAfter, IsReceiptAfter};
 ghost use Rattle.shared_flow.specs.Rounds.{entry, IsReceiptFor, IsReceiptOfOne, numbers_tried, numbers_begun, poll_round, withdraw_round};
 
 use super::Shared;
@@ -36,7 +38,8 @@ pub(crate) struct Released {
 impl Shared {
     /// Emits a word where that can be done at once.
     pub(crate) fn try_emit(&mut self, emission: Emission) -> Result<Tried<Receipt>, Refusal>
-        ensures does { Does self.old (round.Try emission (numbers_tried result)) self.new }
+        ensures does { Comes self.old (round.Try emission (numbers_tried result)) self.new }
+        ensures asleep { SleepOn self.old self.new }
         ensures receipt { IfTried result (IsReceiptFor self.old.name.lane emission) }
         ensures later { IfTried result (λ r. next self.old.sequencer ≤ r.number) }
         ensures refused { IfErr result (λ refusal. refusal ≡ Spent) }
@@ -51,7 +54,7 @@ impl Shared {
 
     // With the number of an accepted emission in the place of its receipt.
     fn tried_number(&mut self, emission: Emission) -> Result<Tried<u64>, Refusal>
-        ensures same { (self.new.name ≡ self.old.name) × IsSameSequencer self.old.sequencer self.new.sequencer }
+        ensures same { (self.new.name ≡ self.old.name) × IsSameSequencer self.old.sequencer self.new.sequencer × SleepOn self.old self.new }
         ensures made { MakesAfterScan self.old (round.Try emission result) self.new }
         ensures refused { IfErr result (λ refusal. refusal ≡ Spent) }
         ensures policy { TriedUnder self.old.name.config.policy result }
@@ -65,7 +68,8 @@ impl Shared {
         &mut self,
         emission: Emission,
     ) -> Result<Begun<Receipt, Ticket>, Refusal>
-        ensures does { Does self.old (round.Start emission (numbers_begun result)) self.new }
+        ensures does { Comes self.old (round.Start emission (numbers_begun result)) self.new }
+        ensures asleep { SleepOn self.old self.new }
         ensures receipt { IfBegun result (IsReceiptFor self.old.name.lane emission) }
         ensures later { IfBegun result (λ r. next self.old.sequencer ≤ r.number) }
         ensures refused { IfErr result (λ refusal. (refusal ≡ Spent) ⊎ (refusal ≡ EmitsFull)) }
@@ -79,18 +83,18 @@ impl Shared {
     // Where an emission isn't finished, who receives has to take the lock from now on. The cursors are looked at once more after
     // that: a receipt that came before has made room already.
     fn watch(&mut self, begun: &Result<Begun<Receipt, Ticket>, Refusal>)
-        ensures same { (self.new.name ≡ self.old.name) × IsSameSequencer self.old.sequencer self.new.sequencer }
+        ensures same { (self.new.name ≡ self.old.name) × IsSameSequencer self.old.sequencer self.new.sequencer × SleepOn self.old self.new }
         ensures watched { (self.new.sequencer ≡ self.old.sequencer) ⊎ Scanned self.old.sequencer self.new.sequencer }
     {
         if let Ok(Begun::Waiting(_)) = begun {
-            self.track.set_unfinished(true);
+            self.track.set_unfinished(&mut self.keeper, true);
             self.sequencer.scan(self.track.lane());
         }
     }
 
     // Without looking at the cursors once more, where it isn't finished.
     fn begun(&mut self, emission: Emission) -> Result<Begun<Receipt, Ticket>, Refusal>
-        ensures same { (self.new.name ≡ self.old.name) × IsSameSequencer self.old.sequencer self.new.sequencer }
+        ensures same { (self.new.name ≡ self.old.name) × IsSameSequencer self.old.sequencer self.new.sequencer × SleepOn self.old self.new }
         ensures made { MakesAfterScan self.old (round.Start emission (numbers_begun result)) self.new }
         ensures receipt { IfBegun result (IsReceiptFor self.old.name.lane emission) }
         ensures later { IfBegun result (λ r. next self.old.sequencer ≤ r.number) }
@@ -106,7 +110,7 @@ impl Shared {
 
     // With the number of an accepted emission in the place of its receipt.
     fn begun_number(&mut self, emission: Emission) -> Result<Begun<u64, Ticket>, Refusal>
-        ensures same { (self.new.name ≡ self.old.name) × IsSameSequencer self.old.sequencer self.new.sequencer }
+        ensures same { (self.new.name ≡ self.old.name) × IsSameSequencer self.old.sequencer self.new.sequencer × SleepOn self.old self.new }
         ensures made { MakesAfterScan self.old (round.Start emission result) self.new }
         ensures refused { IfErr result (λ refusal. (refusal ≡ Spent) ⊎ (refusal ≡ EmitsFull)) }
         ensures policy { BegunUnder self.old.name.config.policy result }
@@ -137,28 +141,19 @@ impl Shared {
         }
     }
 
-    /// Asks whether an emission of this emitter is finished, and makes a receipt for one that is, with a number above the last. It
-    /// sleeps no more then: this poll may have let it in, and its ticket is out no more, by which a round's help would find it.
-    pub(crate) fn poll_emit(
-        &mut self,
-        ticket: Ticket,
-        emitter: u32,
-        last: Option<u64>,
-        bed: &Bed,
-    ) -> Polled
-        ensures does { Does self.old (poll_round ticket emitter last result.emit result.receipt) self.new }
+    /// Asks whether an emission of this emitter is finished, and makes a receipt for one that is, with a number above the last.
+    pub(crate) fn poll_emit(&mut self, ticket: Ticket, emitter: u32, last: Option<u64>) -> Polled
+        ensures does { Comes self.old (poll_round ticket emitter last result.emit result.receipt) self.new }
+        ensures asleep { SleepOn self.old self.new }
         ensures receipt { IfSome result.receipt (λ r. (result.emit ≡ emit.Done r.number) × IsReceiptAfter self.old.name.lane emitter last r) }
     {
         self.sequencer.scan(self.track.lane());
-        let polled = self.asked(ticket, emitter, last);
-        self.emissions
-            .rise_unless_waiting(ticket, polled.emit, bed, &mut self.wakes);
-        polled
+        self.asked(ticket, emitter, last)
     }
 
     // After what waited was let in.
     fn asked(&mut self, ticket: Ticket, emitter: u32, last: Option<u64>) -> Polled
-        ensures same { (self.new.name ≡ self.old.name) × IsSameSequencer self.old.sequencer self.new.sequencer }
+        ensures same { (self.new.name ≡ self.old.name) × IsSameSequencer self.old.sequencer self.new.sequencer × SleepOn self.old self.new }
         ensures made { Makes self.old.name.lane self.old.sequencer (poll_round ticket emitter last result.emit result.receipt) self.new.sequencer }
         ensures receipt { IfSome result.receipt (λ r. (result.emit ≡ emit.Done r.number) × IsReceiptAfter self.old.name.lane emitter last r) }
     {
@@ -180,7 +175,7 @@ impl Shared {
 
     // Asks whether the emission with this ticket is finished.
     fn poll_ticket(&mut self, ticket: Ticket) -> Emit
-        ensures same { (self.new.name ≡ self.old.name) × IsSameSequencer self.old.sequencer self.new.sequencer }
+        ensures same { (self.new.name ≡ self.old.name) × IsSameSequencer self.old.sequencer self.new.sequencer × SleepOn self.old self.new }
         ensures polled { PolledOn self.old.sequencer ticket.0 result self.new.sequencer }
     {
         self.sequencer.poll_emit(self.track.lane(), ticket)
@@ -188,7 +183,7 @@ impl Shared {
 
     // Gives the emission with this ticket up.
     fn give_ticket_up(&mut self, ticket: Ticket) -> Withdrawn<u64>
-        ensures same { (self.new.name ≡ self.old.name) × IsSameSequencer self.old.sequencer self.new.sequencer }
+        ensures same { (self.new.name ≡ self.old.name) × IsSameSequencer self.old.sequencer self.new.sequencer × SleepOn self.old self.new }
         ensures withdrawn { WithdrawnFrom self.old.sequencer ticket.0 result self.new.sequencer }
     {
         self.sequencer.cancel_emit(self.track.lane(), ticket)
@@ -204,26 +199,24 @@ impl Shared {
         self.sequencer.receipt(self.track.lane(), emitter, number)
     }
 
-    /// Gives an emission of this emitter up, and makes a receipt for one that was accepted before. It sleeps no more.
+    /// Gives an emission of this emitter up, and makes a receipt for one that was accepted before.
     pub(crate) fn cancel_emit(
         &mut self,
         ticket: Ticket,
         emitter: u32,
         last: Option<u64>,
-        bed: &Bed,
     ) -> Released
-        ensures does { Does self.old (withdraw_round ticket emitter last result.withdrawn result.receipt) self.new }
+        ensures does { Comes self.old (withdraw_round ticket emitter last result.withdrawn result.receipt) self.new }
+        ensures asleep { SleepOn self.old self.new }
         ensures receipt { IfSome result.receipt (λ r. (result.withdrawn ≡ withdrawn.Left r.number) × IsReceiptAfter self.old.name.lane emitter last r) }
     {
         self.sequencer.scan(self.track.lane());
-        let released = self.given_up(ticket, emitter, last);
-        self.emissions.rise(ticket.0, bed, &mut self.wakes);
-        released
+        self.given_up(ticket, emitter, last)
     }
 
     // After what waited was let in.
     fn given_up(&mut self, ticket: Ticket, emitter: u32, last: Option<u64>) -> Released
-        ensures same { (self.new.name ≡ self.old.name) × IsSameSequencer self.old.sequencer self.new.sequencer }
+        ensures same { (self.new.name ≡ self.old.name) × IsSameSequencer self.old.sequencer self.new.sequencer × SleepOn self.old self.new }
         ensures made { Makes self.old.name.lane self.old.sequencer (withdraw_round ticket emitter last result.withdrawn result.receipt) self.new.sequencer }
         ensures receipt { IfSome result.receipt (λ r. (result.withdrawn ≡ withdrawn.Left r.number) × IsReceiptAfter self.old.name.lane emitter last r) }
     {
@@ -248,15 +241,17 @@ impl Shared {
     pub(crate) fn sleep_emission(
         &mut self,
         ticket: Ticket,
-        emit: Emit,
+        answer: Emit,
         bed: &mut Bed,
         cx: &mut Context<'_>,
     )
-        ensures same { self.new ≡ self.old }
+        ensures same { self.new ≡ record self.old { emissions = self.new.emissions } }
+        ensures waits { answer ≡ emit.Waiting → LiesDown ticket.0 self.old.emissions self.new.emissions }
+        ensures others { answer ≢ emit.Waiting → self.new ≡ self.old }
         ensures armed { IsArmed cx.new }
         ensures kept { Keeps cx.old cx.new }
     {
-        if let Emit::Waiting = emit {
+        if let Emit::Waiting = answer {
             self.emissions.sleep(ticket.0, bed, cx);
             return;
         }

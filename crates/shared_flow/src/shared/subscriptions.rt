@@ -1,5 +1,5 @@
 //! Subscriptions and the replay cache, by one who holds the lock.
-ghost use Rattle.std.specs.Prelude.{◌≡◌, ◌<◌, ◌++◌, Some, Ok, Err, length, map, slice_get, IfOk, IfErr, IsOkUnless, OnOk, OnErr};
+ghost use Rattle.std.specs.Prelude.{[], ◌≡◌, ◌<◌, ◌++◌, Some, Ok, Err, length, map, slice_get, IfOk, IfErr, IsOkUnless, OnOk, OnErr};
 ghost use Rattle.std.specs.Arc.{arc_value};
 ghost use Rattle.flow_terms.specs.declared.refusal.Refusal.TheVariants.{NoMemory};
 ghost use Rattle.futures.specs.Task.{IsArmed, Keeps};
@@ -7,12 +7,16 @@ ghost use Rattle.shared_lane.specs.Readers.{IsReaderOf};
 ghost use Rattle.shared_lane.specs.Caches.{IsLastOf};
 ghost use Rattle.shared_lane.specs.Sequencers.{seen};
 ghost use Rattle.shared_flow.specs.declared.round.Round.TheVariants as round;
+ghost use Rattle.shared_flow.specs.Names.{IsTrackOf};
 ghost use Rattle.shared_flow.specs.Looks.{Looked};
 ghost use Rattle.shared_flow.specs.Meeting.{HasMet};
 ghost use Rattle.shared_flow.specs.Owners.{OnlyMet};
-ghost use Rattle.shared_flow.specs.Rounds.{Does, IsAtLimit, IsLetIn};
+ghost use Rattle.shared_flow.specs.Sleeping.{LiesDown};
+ghost use Rattle.shared_flow.specs.Waking.{SleepOn};
+ghost use Rattle.shared_flow.specs.Rounds.{Comes, HasClosed, IsAtLimit, IsLetIn};
 
 use super::Shared;
+use crate::flag::Looker;
 use crate::sleepers::Bed;
 use crate::track::Track;
 use flow_terms::{Refusal, Word};
@@ -21,43 +25,53 @@ use shared_lane::{Met, Reader, Taken, meet};
 use std::alloc::{AllocError, Global};
 use std::sync::Arc;
 
-/// A reader that was let in, or why none was, and the number of its subscription.
+/// A reader that was let in, or why none was, the number of its subscription, and who looks at the flag for it.
 pub(crate) struct Admitted {
     pub(crate) number: u64,
+    pub(crate) looker: Looker,
     pub(crate) reader: Result<Reader, Refusal>,
 }
 
 impl Shared {
     /// Another owner of the lane and of the word beside it.
     pub(crate) fn track(&self) -> Result<Arc<Track, Global>, AllocError>
-        ensures { IfOk result (λ track. arc_value track ≡ self.now.name.lane) }
+        ensures { IfOk result (λ track. IsTrackOf self.now.name (arc_value track)) }
     {
         Arc::try_clone(&self.track)
     }
 
     /// Lets a reader in, which starts at the oldest value of the replay cache.
     pub(crate) fn subscribe(&mut self) -> Admitted
-        ensures ok { IfOk result.reader (λ reader. Does self.old (round.Subscribe (Ok result.number)) self.new × IsLetIn self.old result.number reader self.new) }
-        ensures err { IfErr result.reader (λ refusal. Does self.old (round.Subscribe (Err refusal)) self.new × IsAtLimit refusal) }
+        ensures ok { IfOk result.reader (λ reader. Comes self.old (round.Subscribe (Ok result.number)) self.new × IsLetIn self.old result.number reader self.new) }
+        ensures err { IfErr result.reader (λ refusal. Comes self.old (round.Subscribe (Err refusal)) self.new × IsAtLimit refusal) }
+        ensures looker { result.looker ≡ record { table = self.old.name.flag; looks = [] } }
+        ensures asleep { SleepOn self.old self.new }
     {
         self.sequencer.scan(self.track.lane());
         let number = self.sequencer.next_subscription();
         let reader = self.sequencer.admit(self.track.lane());
-        Admitted { number, reader }
+        let looker = self.track.looker(&mut self.keeper);
+        Admitted {
+            number,
+            looker,
+            reader,
+        }
     }
 
     /// After a subscription received a value without the lock: lets in what waits, as far as there is room by that.
-    pub(crate) fn make_room(&mut self)
-        ensures { Does self.old round.Next self.new }
+    pub(crate) fn make_room(&mut self, number: u64)
+        ensures does { Comes self.old (round.Next number) self.new }
+        ensures asleep { SleepOn self.old self.new }
     {
         self.sequencer.scan(self.track.lane());
     }
 
     /// A look of a subscription at the lane, after what waits was let in. Who has the lock alone accepts: what this look doesn't
     /// find comes after its task sleeps.
-    pub(crate) fn look(&mut self, reader: &mut Reader) -> Taken<u64>
+    pub(crate) fn look(&mut self, number: u64, reader: &mut Reader) -> Taken<u64>
         requires { IsReaderOf self.old.name.lane reader.old }
-        ensures does { Does self.old round.Next self.new }
+        ensures does { Comes self.old (round.Next number) self.new }
+        ensures asleep { SleepOn self.old self.new }
         ensures reader { IsReaderOf self.old.name.lane reader.new }
         ensures looked { Looked reader.old result reader.new }
     {
@@ -71,26 +85,31 @@ impl Shared {
 
     /// The task of a subscription without a value sleeps until something is accepted.
     pub(crate) fn sleep_subscription(&mut self, number: u64, bed: &mut Bed, cx: &mut Context<'_>)
-        ensures same { self.new ≡ self.old }
+        ensures same { self.new ≡ record self.old { subscriptions = self.new.subscriptions } }
+        ensures lies { LiesDown number self.old.subscriptions self.new.subscriptions }
         ensures armed { IsArmed cx.new }
         ensures kept { Keeps cx.old cx.new }
     {
         self.subscriptions.sleep(number, bed, cx);
     }
 
-    /// Ends a subscription, which sleeps no more, and lets in what waits.
-    pub(crate) fn cancel(&mut self, reader: Reader, number: u64, bed: &Bed)
+    /// Lets in what waits, ends a subscription, and lets in once more. Where nothing waits, that loads no cursor.
+    pub(crate) fn cancel(&mut self, number: u64, reader: Reader)
         requires { IsReaderOf self.old.name.lane reader }
-        ensures { Does self.old (round.Cancel number) self.new }
+        ensures does { Comes self.old (round.Cancel number) self.new }
+        ensures closed { HasClosed self.old reader self.new }
+        ensures asleep { SleepOn self.old self.new }
     {
-        reader.close(self.track.lane());
-        self.subscriptions.rise(number, bed, &mut self.wakes);
+        self.sequencer.scan(self.track.lane());
+        let mut closed = reader.close(self.track.lane());
+        self.sequencer.told_end(self.track.lane(), &mut closed);
         self.sequencer.scan(self.track.lane());
     }
 
     /// Empties the replay cache.
     pub(crate) fn reset_replay(&mut self)
-        ensures { Does self.old round.Reset self.new }
+        ensures does { Comes self.old round.Reset self.new }
+        ensures asleep { SleepOn self.old self.new }
     {
         self.sequencer.scan(self.track.lane());
         self.sequencer.reset_replay();
@@ -100,9 +119,10 @@ impl Shared {
     pub(crate) fn replay_cache_into<T: Word>(&mut self, out: &mut Vec<T>) -> Result<(), Refusal>
         ensures memory { IsOkUnless result Refusal.NoMemory }
         ensures ok { OnOk result (out.new.items ≡ out.old.items ++ map T.read_as self.new.sequencer.cache) }
-        ensures read { OnOk result (Does self.old (round.Cache (Ok self.new.sequencer.cache)) self.new) }
+        ensures read { OnOk result (Comes self.old (round.Cache (Ok self.new.sequencer.cache)) self.new) }
         ensures err { OnErr result (out.new.items ≡ out.old.items) }
-        ensures unread { OnErr result (Does self.old (round.Cache (Err NoMemory)) self.new) }
+        ensures unread { OnErr result (Comes self.old (round.Cache (Err NoMemory)) self.new) }
+        ensures asleep { SleepOn self.old self.new }
     {
         self.sequencer.scan(self.track.lane());
         self.read_cache(out)
@@ -123,7 +143,8 @@ impl Shared {
 
     /// How many subscriptions are live: the cursors that this call found open.
     pub(crate) fn subscription_count(&mut self) -> u32
-        ensures { Does self.old (round.Count result) self.new }
+        ensures does { Comes self.old (round.Count result) self.new }
+        ensures asleep { SleepOn self.old self.new }
     {
         self.sequencer.scan(self.track.lane());
         self.sequencer.live(self.track.lane())

@@ -4,7 +4,8 @@ ghost use Rattle.flow_terms.specs.declared.refusal.Refusal.TheVariants.{NoMemory
 ghost use Rattle.shared_flow.specs.declared.round.Round.TheVariants as round;
 ghost use Rattle.shared_flow.specs.Blocks.{IsGreetedAll, TookAllFirst, LookedAll, MissedAll, GotAll, GotAllFirst, count_of};
 ghost use Rattle.shared_flow.specs.Entering.{Made};
-ghost use Rattle.shared_flow.specs.Looks.{OnlyNext};
+ghost use Rattle.shared_lane.specs.declared.reader.Taken.TheVariants as taken;
+ghost use Rattle.shared_flow.specs.Looks.{MadeRoom, OnlyNext};
 ghost use Rattle.shared_flow.specs.Preludes.{IsPast};
 
 use super::Subscription;
@@ -56,7 +57,7 @@ impl<T: Word> Subscription<T> {
         out: &mut Vec<T, B>,
     ) -> Result<u64, Refusal>
         ensures same { self.new.number ≡ self.old.number }
-        ensures rounds { OnlyNext self.old.party self.new.party }
+        ensures rounds { OnlyNext self.old.number self.old.party self.new.party }
         ensures full { vec_capacity out.old ≡ length out.old.items → (result ≡ Ok 0) × (self.new ≡ self.old) × (out.new.items ≡ out.old.items) }
         ensures taken { length out.old.items < vec_capacity out.old → IfOk result (λ n. (values : List T) × (out.new.items ≡ out.old.items ++ values) × (n ≡ length values) × (0 < n)
             × GotAllFirst T.read_as self.old (vec_capacity out.old - length out.old.items) values self.new) }
@@ -82,7 +83,7 @@ impl<T: Word> Subscription<T> {
     ) -> Result<u64, Refusal>
         requires room { length out.old.items < vec_capacity out.old }
         ensures same { (self.new.number ≡ self.old.number) × (self.new.rest ≡ self.old.rest) }
-        ensures rounds { OnlyNext self.old.party self.new.party }
+        ensures rounds { OnlyNext self.old.number self.old.party self.new.party }
         ensures taken { IfOk result (λ n. (values : List T) × (out.new.items ≡ out.old.items ++ values) × (n ≡ length values) × (0 < n)
             × GotAll T.read_as self.old.reader (vec_capacity out.old - length out.old.items) values self.new.reader) }
         ensures nothing { IfErr result (λ refusal. (refusal ≡ NoMemory) × (out.new.items ≡ out.old.items)
@@ -100,15 +101,16 @@ impl<T: Word> Subscription<T> {
 
     // Looks for all values without the lock. As a look for one it takes the lock where an emission waits that the receipts may help.
     fn look_for_all<B: Allocator>(&mut self, rt: &impl Wait, out: &mut Vec<T, B>) -> Taken<u64>
-        ensures rounds { (self.new.party ≡ self.old.party) ⊎ Made round.Next self.old.party self.new.party }
+        ensures rounds { (self.new.party ≡ self.old.party) ⊎ Made (round.Next self.old.number) self.old.party self.new.party }
         ensures same { (self.new.number ≡ self.old.number) × (self.new.rest ≡ self.old.rest) }
         ensures looked { (words : List ℕ) × (out.new.items ≡ out.old.items ++ map T.read_as words)
             × LookedAll self.old.reader (vec_capacity out.old - length out.old.items) result words self.new.reader }
+        ensures room { (k : ℕ) → result ≡ taken.Value k → MadeRoom self.old self.new }
         ensures capacity { vec_capacity out.new ≡ vec_capacity out.old }
     {
         let taken = self.reader.try_next_all(self.access.lane(), out);
         if let Taken::Value(_) = taken {
-            if self.access.has_unfinished() {
+            if self.access.has_unfinished(&mut self.looker) {
                 self.make_room(rt);
             }
         }

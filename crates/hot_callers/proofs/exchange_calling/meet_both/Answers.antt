@@ -1,4 +1,4 @@
-use Rattle.std.proofs.Common.{rules, ◌≡◌, sym, ap, subst, ◌∙◌}
+use Rattle.std.proofs.Common.{◌≡◌, sym, ap, subst, ◌∙◌}
 use Rattle.round_lock.specs.History.{Begins}
 use Rattle.shared_flow.specs.Owners.{Owning, HasHeard}
 use Rattle.shared_flow.specs.Reach.{Party, Rounds}
@@ -30,4 +30,8 @@ returns g c =
       emitter = subst (λ (l : Rounds). HasHeard l e.party f.party) (sym it.before_is) heard;
       only = c.tell_emitter.ensures.emitter;
     } in
-    subst (λ (x : Party). MeetsBoth p x e f s t) (search rules) both
+    let same_reference = c.meet-met.ensures.same_reference ∙ c.tell_subscription.ensures.same_reference ∙ c.tell_emitter.ensures.same_reference
+    ∙ c.hold-held.ensures.same_reference in
+    -- named, since `search` enters no more than 128 records, and those of the round come first
+    let left = c.flow-1.given.1 (sym same_reference) in
+    subst (λ (x : Party). MeetsBoth p x e f s t) (sym (ap (λ (o : Owning). o.party) left)) both

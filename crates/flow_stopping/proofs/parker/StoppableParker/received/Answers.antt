@@ -1,11 +1,22 @@
-use Rattle.std.proofs.Common.{subst, ◌∙◌}
+use Rattle.std.proofs.Common.{refl, subst, ◌∙◌}
 use Rattle.futures.specs.Poll.{IfReady, OnPending}
 use Rattle.shared_flow.specs.declared.round.Round.TheVariants as round
 use Rattle.shared_flow.specs.Entering.{Made}
-use Rattle.shared_flow.specs.Looks.{GaveIn, MissedTwice}
+use Rattle.shared_flow.specs.Looks.{GaveIn, MissedTwice, by_none}
 use Rattle.shared_flow.specs.Preludes.{IsPast, GreetedOr}
-use Rattle.flow_stopping.proofs.Looking.{looked_on, received_since, rounds_since, since}
+use Rattle.shared_flow.proofs.Waiting.{only_next}
+use Rattle.flow_stopping.proofs.Looking.{looked_on, looked_soon, received_since, rounds_since, since}
 use Rattle.flow_stopping.proofs.parker.StoppableParker.received.Goals as goal
+
+pub returns-in-Some : goal.returns-in-Some
+returns-in-Some g c =
+    let before = c.args.subscription.now.party in
+    (c.next_soon.ensures.same, only_next c.args.subscription.now.number c.args.subscription.now.number before before c.next_soon.new.self.party refl (by_none before) c.next_soon.ensures.rounds, c.in-Some.ensures.given)
+
+pub loop-init : goal.loop-init
+loop-init g c =
+    let missed = c.in_default.ensures.missed in
+    looked_soon c.args.subscription.now c.next_soon.new.self c.next_soon.ensures.same missed.0 missed.1 missed.2
 
 pub returns-in-Ready : goal.returns-in-Ready
 returns-in-Ready g c =
@@ -23,6 +34,6 @@ pub loop-preserved : goal.loop-preserved
 loop-preserved g c =
     let turn = c.loop.subscription in
     let after = c.poll_next-polled.new.self in
-    let made = subst (λ p. OnPending p (Made round.Next turn.party after.party)) c.in_default-polled.is c.poll_next-polled.ensures.round in
+    let made = subst (λ p. OnPending p (Made (round.Next turn.number) turn.party after.party)) c.in_default-polled.is c.poll_next-polled.ensures.round in
     let missed = subst (λ p. OnPending p (IsPast turn after × MissedTwice turn.reader after.reader)) c.in_default-polled.is c.poll_next-polled.ensures.pending in
     looked_on c.args.subscription.now turn after c.loop.invariant c.poll_next-polled.ensures.same made missed.0 missed.1

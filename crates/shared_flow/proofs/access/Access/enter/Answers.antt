@@ -17,7 +17,7 @@ returns-clause-taken g c =
 pub invariant_of-self : goal.invariant_of-self
 invariant_of-self g c =
     let taken = ap (reach_of (λ s. s.value)) c.take-guarded.ensures.taken in
-    subst (λ known. KnowsFlow c.self.inside.wakes_count known (arc_value c.self.inside.track)) (sym (ap (λ (r : Reach). r.flow) taken)) c.self.invariant
+    (subst (λ known. KnowsFlow c.self.inside.config known (arc_value c.self.inside.track)) (sym (ap (λ (r : Reach). r.flow) taken)) c.self.invariant.0, c.self.invariant.1, c.self.invariant.2)
 
 pub returns-clause-found : goal.returns-clause-found
 returns-clause-found g c =

@@ -4,7 +4,7 @@ use Rattle.shared_flow.specs.Names.{SharedSeen}
 use Rattle.shared_flow.specs.Reach.{Reach}
 use Rattle.shared_flow.specs.Rounds.{Does}
 use Rattle.shared_flow.proofs.Boxes.{gave_back}
-use Rattle.shared_flow.proofs.Doing.{does_on}
+use Rattle.shared_flow.proofs.Doing.{does_on, helped_by}
 use Rattle.shared_flow.proofs.Reaching.{seen_is}
 use Rattle.shared_flow.proofs.access.Access.leave.Goals as goal
 
@@ -13,13 +13,14 @@ returns g c =
     let asked = c.requires.round in
     let came : SharedSeen = c.args.inside.guarded.state.value in
     let helped : SharedSeen = c.helped-guarded.result.state.value in
+    let helps = helped_by c.args.inside.before asked.0 came helped c.args.round c.ended_by.result asked.4 c.ended_by.ensures c.helped-guarded.ensures in
     record {
       left = record {
         found = asked.0;
         left = helped;
         held = asked.1;
-        does = does_on asked.0 came helped c.args.round asked.2 c.helped-guarded.ensures.same.0 c.helped-guarded.ensures.same.1 c.helped-guarded.ensures.only;
-        only = c.helped-guarded.ensures.only;
+        does = does_on asked.0 came helped c.args.round asked.2 asked.3 helps;
+        only = helps.only;
         after = gave_back (λ s. s.value) c.self.inside.lock c.put.new.self c.args.round _ c.put.ensures.given ∙ ap (left_with c.args.round helped) c.self.view_is;
       };
     }
@@ -29,12 +30,13 @@ put-requires g c =
     let asked = c.requires.round in
     let came : SharedSeen = c.args.inside.guarded.state.value in
     let helped : SharedSeen = c.helped-guarded.result.state.value in
+    let helps = helped_by c.args.inside.before asked.0 came helped c.args.round c.ended_by.result asked.4 c.ended_by.ensures c.helped-guarded.ensures in
     let holds = seen_is (λ s. s.value) c.self.inside.lock.log.held asked.0 (ap (λ (r : Reach). r.held) c.self.view_is ∙ asked.1) in
     record {
       call = (
         holds.0,
         holds.1,
         subst (λ (s : SharedSeen). Does s c.args.round helped) (sym holds.2)
-            (does_on asked.0 came helped c.args.round asked.2 c.helped-guarded.ensures.same.0 c.helped-guarded.ensures.same.1 c.helped-guarded.ensures.only),
+            (does_on asked.0 came helped c.args.round asked.2 asked.3 helps),
       );
     }

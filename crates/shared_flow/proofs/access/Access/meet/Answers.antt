@@ -32,4 +32,4 @@ meet-requires c = record {
 pub invariant_of-other : goal.invariant_of-other
 invariant_of-other c =
     let met = ap (reach_of (λ s. s.value)) c.meet.ensures.met in
-    subst (λ known. KnowsFlow c.other.inside.wakes_count known (arc_value c.other.inside.track)) (sym (ap (λ (r : Reach). r.flow) met)) c.other.invariant
+    (subst (λ known. KnowsFlow c.other.inside.config known (arc_value c.other.inside.track)) (sym (ap (λ (r : Reach). r.flow) met)) c.other.invariant.0, c.other.invariant.1, c.other.invariant.2)

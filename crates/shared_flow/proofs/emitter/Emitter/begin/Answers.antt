@@ -4,11 +4,13 @@ use Rattle.shared_flow.specs.declared.round.Emission.{Emission}
 use Rattle.shared_flow.specs.declared.round.Round.TheVariants as round
 use Rattle.shared_flow.specs.Names.{SharedSeen}
 use Rattle.shared_flow.specs.Emitters.{emission_by}
-use Rattle.shared_flow.specs.Entering.{Made}
-use Rattle.shared_flow.specs.Reach.{Reach, party_of}
-use Rattle.shared_flow.specs.Rounds.{IsAfter, Does, numbers_begun}
-use Rattle.shared_flow.specs.Parties.{Emitting, IfBegun, WasAnswered}
+use Rattle.shared_flow.specs.Entering.{IsCalled, Made}
+use Rattle.shared_flow.specs.Reach.{Party, Reach, party_of}
+use Rattle.shared_flow.specs.Rounds.{IsAfter, IsReceiptFor, numbers_begun}
+use Rattle.shared_flow.specs.Parties.{Emitting, IfBegun, IsItsReceipt, WasAnswered}
 use Rattle.shared_flow.proofs.Rising.{after_start, start_rises}
+use Rattle.shared_flow.proofs.Doing.{is_called}
+use Rattle.shared_flow.proofs.Waiting.{begun_receipt}
 use Rattle.shared_flow.proofs.Making.{made}
 use Rattle.shared_flow.proofs.emitter.Emitter.begin.Goals as goal
 
@@ -18,6 +20,16 @@ returns-clause-rises g c =
     let later = subst (λ (s : SharedSeen). IfBegun c.start_emit-begun.result (λ r. next s.sequencer ≤ r.number)) c.deref_mut.ensures.value c.start_emit-begun.ensures.later in
     subst (λ last. IfBegun c.start_emit-begun.result (λ r. IsAfter last r.number)) (ap (λ (e : Emitting). e.last) c.self.view_is)
     (start_rises c.start_emit-begun.result c.self.inside.last (next found.sequencer) c.self.inside.access.rounds later c.enter-inside.ensures.below c.self.invariant.1)
+
+pub returns-clause-receipt : goal.returns-clause-receipt
+returns-clause-receipt g c =
+    let answer = c.start_emit-begun.result in
+    let party : Party = party_of c.self.inside.access in
+    let emission : Emission = record { emitter = c.self.inside.id; word = c.to_word.result } in
+    let of_lane = subst (λ (s : SharedSeen). IfBegun answer (IsReceiptFor s.name.lane emission)) c.deref_mut.ensures.value c.start_emit-begun.ensures.receipt in
+    let its = begun_receipt answer party emission c.enter-inside.result.guarded.state.value.name c.enter-inside.ensures.named of_lane in
+    let worded = subst (λ word. IfBegun answer (IsItsReceipt party (record { emitter = c.self.inside.id; word = word }))) c.to_word.ensures.word its in
+    subst (λ (e : Emitting). IfBegun answer (IsItsReceipt e.party (emission_by e (g.T.Word.word c.args.value)))) c.self.view_is worded
 
 pub invariant_of-self : goal.invariant_of-self
 invariant_of-self g c =
@@ -31,10 +43,10 @@ invariant_of-self g c =
 pub leave-requires : goal.leave-requires
 leave-requires g c =
     let found : SharedSeen = c.enter-inside.result.guarded.state.value in
-    let new : SharedSeen = c.start_emit-begun.new.self in
     let emission : Emission = record { emitter = c.self.inside.id; word = c.to_word.result } in
-    let did = subst (λ (s : SharedSeen). Does s (round.Start emission (numbers_begun c.start_emit-begun.result)) new) c.deref_mut.ensures.value c.start_emit-begun.ensures.does in
-    record { round = (found, ap (λ (r : Reach). r.held) c.enter-inside.ensures.taken, subst (λ a. Does found (round.Start emission a) new) (sym c.number_begun-answer.ensures) did) }
+    let called = is_called c.enter-inside.new.self found c.deref_mut.result.now c.start_emit-begun.new.self c.enter-inside.result.before (round.Start emission (numbers_begun c.start_emit-begun.result)) (ap (λ (r : Reach). r.held) c.enter-inside.ensures.taken)
+    c.enter-inside.ensures.before c.deref_mut.ensures.value c.start_emit-begun.ensures.does c.start_emit-begun.ensures.asleep in
+    record { round = subst (λ a. IsCalled c.enter-inside.new.self c.enter-inside.result.before (round.Start emission a) c.start_emit-begun.new.self) (sym c.number_begun-answer.ensures) called }
 
 pub returns-clause-made : goal.returns-clause-made
 returns-clause-made g c =

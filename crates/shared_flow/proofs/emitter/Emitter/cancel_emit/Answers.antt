@@ -1,14 +1,15 @@
 use Rattle.shared_flow.specs.Names.{SharedSeen}
-use Rattle.std.proofs.Common.{rules, ◌≡◌, ◌+◌, ◌++◌, ◌∷◌, [], Some, IfSome, sym, ap, subst, ◌∙◌}
+use Rattle.std.proofs.Common.{rules, ◌≡◌, None, ◌+◌, ◌++◌, ◌∷◌, [], Some, IfSome, sym, ap, subst, ◌∙◌}
 use Rattle.flow_terms.specs.declared.answers.Withdrawn.TheVariants as withdrawn
 use Rattle.shared_flow.specs.declared.round.Round.{Round}
 use Rattle.shared_flow.specs.declared.round.Round.TheVariants as round
 use Rattle.std.proofs.lemmas.Option.{same_Some}
-use Rattle.shared_flow.specs.Entering.{Made}
+use Rattle.shared_flow.specs.Entering.{IsCalled, Made}
 use Rattle.shared_flow.specs.Reach.{Reach, party_of}
-use Rattle.shared_flow.specs.Rounds.{IsReceiptAfter, after_number, Does, withdraw_round}
+use Rattle.shared_flow.specs.Rounds.{IsReceiptAfter, after_number, Comes, withdraw_round}
 use Rattle.shared_flow.specs.Parties.{Emitting, WasAnswered}
 use Rattle.shared_flow.proofs.Rising.{answered_on, answered_last}
+use Rattle.shared_flow.proofs.Doing.{is_called, withdrawn_lies}
 use Rattle.shared_flow.proofs.Making.{made}
 use Rattle.shared_flow.proofs.Waiting.{unless_left}
 use Rattle.shared_flow.proofs.emitter.Emitter.cancel_emit.Goals as goal
@@ -30,20 +31,29 @@ invariant_of-self-2 g c =
 pub leave-requires : goal.leave-requires
 leave-requires g c =
     let found : SharedSeen = c.enter-inside.result.guarded.state.value in
+    let before : SharedSeen = c.deref_mut.result.now in
     let new : SharedSeen = c.cancel_emit-withdrawn.new.self in
-    let did = subst (λ (s : SharedSeen). Does s (withdraw_round c.in-Some.ticket c.self.inside.id c.self.inside.last c.cancel_emit-withdrawn.result.withdrawn c.cancel_emit-withdrawn.result.receipt) new) c.deref_mut.ensures.value c.cancel_emit-withdrawn.ensures.does in
-    let given_none = subst (λ r. Does found (withdraw_round c.in-Some.ticket c.self.inside.id c.self.inside.last c.cancel_emit-withdrawn.result.withdrawn r) new) c.in_default-receipt.is did in
-    record { round = (found, ap (λ (r : Reach). r.held) c.enter-inside.ensures.taken, subst (λ r. Does found r new) (sym c.withdrawn_without_receipt-round.ensures) given_none) }
+    let ticket = c.in-Some.ticket in
+    let id = c.self.inside.id in
+    let answer = c.cancel_emit-withdrawn.result.withdrawn in
+    let came = subst (λ r. Comes before (withdraw_round ticket id c.self.inside.last answer r) new) c.in_default-receipt.is c.cancel_emit-withdrawn.ensures.does in
+    let called = is_called c.enter-inside.new.self found before new c.enter-inside.result.before (withdraw_round ticket id c.self.inside.last answer None) (ap (λ (r : Reach). r.held) c.enter-inside.ensures.taken)
+    c.enter-inside.ensures.before c.deref_mut.ensures.value came (withdrawn_lies before new ticket id c.self.inside.last answer None c.cancel_emit-withdrawn.ensures.asleep) in
+    record { round = subst (λ r. IsCalled c.enter-inside.new.self c.enter-inside.result.before r new) (sym c.withdrawn_without_receipt-round.ensures) called }
 
 pub leave-requires-2 : goal.leave-requires-2
 leave-requires-2 g c =
     let found : SharedSeen = c.enter-inside.result.guarded.state.value in
+    let before : SharedSeen = c.deref_mut.result.now in
     let new : SharedSeen = c.cancel_emit-withdrawn.new.self in
-    let did = subst (λ (s : SharedSeen). Does s (withdraw_round c.in-Some.ticket c.self.inside.id c.self.inside.last c.cancel_emit-withdrawn.result.withdrawn c.cancel_emit-withdrawn.result.receipt) new) c.deref_mut.ensures.value c.cancel_emit-withdrawn.ensures.does in
-    let given_some = subst (λ r. Does found (withdraw_round c.in-Some.ticket c.self.inside.id c.self.inside.last c.cancel_emit-withdrawn.result.withdrawn r) new) c.in-Some-receipt.is did in
-    let done = subst (λ receipt. IfSome receipt (λ r. (c.cancel_emit-withdrawn.result.withdrawn ≡ withdrawn.Left r.number) × IsReceiptAfter c.deref_mut.result.now.name.lane c.self.inside.id c.self.inside.last r)) c.in-Some-receipt.is c.cancel_emit-withdrawn.ensures.receipt in
-    let at = subst (λ x. Does found (withdraw_round c.in-Some.ticket c.self.inside.id c.self.inside.last x (Some c.in-Some-receipt.receipt)) new) done.0 given_some in
-    record { round = (found, ap (λ (r : Reach). r.held) c.enter-inside.ensures.taken, subst (λ x. Does found (round.Withdraw c.in-Some.ticket x) new) (sym done.0) at) }
+    let ticket = c.in-Some.ticket in
+    let id = c.self.inside.id in
+    let given_some = subst (λ r. Comes before (withdraw_round ticket id c.self.inside.last c.cancel_emit-withdrawn.result.withdrawn r) new) c.in-Some-receipt.is c.cancel_emit-withdrawn.ensures.does in
+    let done = subst (λ receipt. IfSome receipt (λ r. (c.cancel_emit-withdrawn.result.withdrawn ≡ withdrawn.Left r.number) × IsReceiptAfter before.name.lane id c.self.inside.last r)) c.in-Some-receipt.is c.cancel_emit-withdrawn.ensures.receipt in
+    let came = subst (λ x. Comes before (withdraw_round ticket id c.self.inside.last x (Some c.in-Some-receipt.receipt)) new) done.0 given_some in
+    let called = is_called c.enter-inside.new.self found before new c.enter-inside.result.before (round.Withdraw ticket (withdrawn.Left c.in-Some-receipt.receipt.number)) (ap (λ (r : Reach). r.held) c.enter-inside.ensures.taken)
+    c.enter-inside.ensures.before c.deref_mut.ensures.value came c.cancel_emit-withdrawn.ensures.asleep in
+    record { round = subst (λ x. IsCalled c.enter-inside.new.self c.enter-inside.result.before (round.Withdraw ticket x) new) (sym done.0) called }
 
 pub returns-in_default-receipt-clause-removed : goal.returns-in_default-receipt-clause-removed
 returns-in_default-receipt-clause-removed g c = λ ticket is.

@@ -1,4 +1,8 @@
-use Rattle.std.proofs.Common.{ap}
+use Rattle.std.proofs.Common.{◌≡◌, Option, Result, Err, inl, sym, ap, subst, ◌∙◌}
+use Rattle.std.proofs.lemmas.Result.{err_from_is_err_and}
+use Rattle.flow_terms.specs.declared.refusal.Refusal.{Refusal}
+use Rattle.shared_lane.specs.Views.{ReceiptSeen}
+use Rattle.shared_flow.specs.Emitters.{Emits, emission_by}
 use Rattle.shared_flow.specs.Parties.{Emitting, IsOwnReceipt, IsSameEmitter, named}
 use Rattle.shared_flow.proofs.Waiting.{same_as_same, own_of_same, emitted_weaker}
 use Rattle.shared_flow.proofs.emitter.Emitter.emit.Goals as goal
@@ -16,3 +20,11 @@ returns-in-Waiting-clause-ends g c =
     let begun : Emitting = c.start_emit.new.self in
     let same : IsSameEmitter old begun = (ap (λ (e : Emitting). named e.party) c.start_emit.ensures.round.2, ap (λ (e : Emitting). e.id) c.start_emit.ensures.round.2) in
     (c.finish.ensures.ends.0, same_as_same old begun c.finish.new.self same c.finish.ensures.ends.1)
+
+pub returns-in_err-receipt-clause-emits : goal.returns-in_err-receipt-clause-emits
+returns-in_err-receipt-clause-emits g c =
+    let old : Emitting = c.args.self.now in
+    let e : Refusal = c.in_err-receipt.field-0.0 in
+    let p = err_from_is_err_and c.from_residual.result c.from_residual.ensures.1 in
+    let result_is : Err e ≡ c.from_residual.result = ap Err (sym p.2) ∙ sym p.1 in
+    subst (λ (answer : Result (Option ReceiptSeen) Refusal). Emits old (emission_by old (g.T.Word.word c.args.value)) answer c.start_emit.new.self) result_is (inl c.in_err-receipt.ensures.round)

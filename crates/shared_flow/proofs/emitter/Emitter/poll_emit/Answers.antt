@@ -3,11 +3,13 @@ use Rattle.std.proofs.Common.{rules, ◌≡◌, ◌+◌, ◌++◌, ◌∷◌, []
 use Rattle.flow_terms.specs.declared.answers.Emit.TheVariants as emit
 use Rattle.shared_flow.specs.declared.round.Round.{Round}
 use Rattle.shared_flow.specs.declared.round.Round.TheVariants as round
-use Rattle.shared_flow.specs.Entering.{Made}
+use Rattle.shared_flow.specs.Entering.{IsCalled, Made}
 use Rattle.shared_flow.specs.Reach.{Reach, party_of}
-use Rattle.shared_flow.specs.Rounds.{IsReceiptAfter, after_number, Does, poll_round}
+use Rattle.shared_flow.specs.Rounds.{IsReceiptAfter, after_number, Comes, poll_round}
+use Rattle.shared_flow.specs.Waking.{SleepOn}
 use Rattle.shared_flow.specs.Parties.{WasAnswered}
 use Rattle.shared_flow.proofs.Rising.{answered_on, answered_last}
+use Rattle.shared_flow.proofs.Doing.{is_called, lay_down_for}
 use Rattle.shared_flow.proofs.Making.{made}
 use Rattle.shared_flow.proofs.emitter.Emitter.poll_emit.Goals as goal
 
@@ -48,19 +50,30 @@ invariant_of-self-2 g c =
 pub leave-requires : goal.leave-requires
 leave-requires g c =
     let found : SharedSeen = c.enter-inside.result.guarded.state.value in
-    let new : SharedSeen = c.poll_emit-emit.new.self in
-    let did = subst (λ (s : SharedSeen). Does s (poll_round c.in-Some.ticket c.self.inside.id c.self.inside.last c.poll_emit-emit.result.emit c.poll_emit-emit.result.receipt) new) c.deref_mut.ensures.value c.poll_emit-emit.ensures.does in
-    let given_none = subst (λ r. Does found (poll_round c.in-Some.ticket c.self.inside.id c.self.inside.last c.poll_emit-emit.result.emit r) new) c.in_default-receipt.is did in
-    let kept = subst (Does found (poll_round c.in-Some.ticket c.self.inside.id c.self.inside.last c.poll_emit-emit.result.emit None)) (sym (c.sleep_emission.ensures.same ∙ c.deref_mut-in_default-receipt.ensures.value)) given_none in
-    let after : SharedSeen = c.sleep_emission.new.self in
-    record { round = (found, ap (λ (r : Reach). r.held) c.enter-inside.ensures.taken, subst (λ r. Does found r after) (sym c.polled_without_receipt-round.ensures) kept) }
+    let before : SharedSeen = c.deref_mut.result.now in
+    let polled : SharedSeen = c.deref_mut-in_default-receipt.result.now in
+    let last : SharedSeen = c.sleep_emission.new.self in
+    let ticket = c.in-Some.ticket in
+    let id = c.self.inside.id in
+    let answer = c.poll_emit-emit.result.emit in
+    let did = subst (λ r. Comes before (poll_round ticket id c.self.inside.last answer r) c.poll_emit-emit.new.self) c.in_default-receipt.is c.poll_emit-emit.ensures.does in
+    let is = sym c.deref_mut-in_default-receipt.ensures.value in
+    let lain = lay_down_for before polled last ticket id c.self.inside.last answer (subst (Comes before (poll_round ticket id c.self.inside.last answer None)) is did) (subst (SleepOn before) is c.poll_emit-emit.ensures.asleep)
+    c.sleep_emission.ensures.same c.sleep_emission.ensures.waits c.sleep_emission.ensures.others in
+    let called = is_called c.enter-inside.new.self found before last c.enter-inside.result.before (poll_round ticket id c.self.inside.last answer None) (ap (λ (r : Reach). r.held) c.enter-inside.ensures.taken)
+    c.enter-inside.ensures.before c.deref_mut.ensures.value lain.0 lain.1 in
+    record { round = subst (λ r. IsCalled c.enter-inside.new.self c.enter-inside.result.before r last) (sym c.polled_without_receipt-round.ensures) called }
 
 pub leave-requires-2 : goal.leave-requires-2
 leave-requires-2 g c =
     let found : SharedSeen = c.enter-inside.result.guarded.state.value in
+    let before : SharedSeen = c.deref_mut.result.now in
     let new : SharedSeen = c.poll_emit-emit.new.self in
-    let did = subst (λ (s : SharedSeen). Does s (poll_round c.in-Some.ticket c.self.inside.id c.self.inside.last c.poll_emit-emit.result.emit c.poll_emit-emit.result.receipt) new) c.deref_mut.ensures.value c.poll_emit-emit.ensures.does in
-    let given_some = subst (λ r. Does found (poll_round c.in-Some.ticket c.self.inside.id c.self.inside.last c.poll_emit-emit.result.emit r) new) c.in-Some-receipt.is did in
-    let done = subst (λ receipt. IfSome receipt (λ r. (c.poll_emit-emit.result.emit ≡ emit.Done r.number) × IsReceiptAfter c.deref_mut.result.now.name.lane c.self.inside.id c.self.inside.last r)) c.in-Some-receipt.is c.poll_emit-emit.ensures.receipt in
-    let at = subst (λ x. Does found (poll_round c.in-Some.ticket c.self.inside.id c.self.inside.last x (Some c.in-Some-receipt.receipt)) new) done.0 given_some in
-    record { round = (found, ap (λ (r : Reach). r.held) c.enter-inside.ensures.taken, subst (λ x. Does found (round.Poll c.in-Some.ticket x) new) (sym done.0) at) }
+    let ticket = c.in-Some.ticket in
+    let id = c.self.inside.id in
+    let given_some = subst (λ r. Comes before (poll_round ticket id c.self.inside.last c.poll_emit-emit.result.emit r) new) c.in-Some-receipt.is c.poll_emit-emit.ensures.does in
+    let done = subst (λ receipt. IfSome receipt (λ r. (c.poll_emit-emit.result.emit ≡ emit.Done r.number) × IsReceiptAfter before.name.lane id c.self.inside.last r)) c.in-Some-receipt.is c.poll_emit-emit.ensures.receipt in
+    let came = subst (λ x. Comes before (poll_round ticket id c.self.inside.last x (Some c.in-Some-receipt.receipt)) new) done.0 given_some in
+    let called = is_called c.enter-inside.new.self found before new c.enter-inside.result.before (round.Poll ticket (emit.Done c.in-Some-receipt.receipt.number)) (ap (λ (r : Reach). r.held) c.enter-inside.ensures.taken)
+    c.enter-inside.ensures.before c.deref_mut.ensures.value came c.poll_emit-emit.ensures.asleep in
+    record { round = subst (λ x. IsCalled c.enter-inside.new.self c.enter-inside.result.before (round.Poll ticket x) new) (sym done.0) called }

@@ -4,11 +4,12 @@ use Rattle.shared_flow.specs.declared.round.Emission.{Emission}
 use Rattle.shared_flow.specs.declared.round.Round.TheVariants as round
 use Rattle.shared_flow.specs.Names.{SharedSeen}
 use Rattle.shared_flow.specs.Emitters.{emission_by}
-use Rattle.shared_flow.specs.Entering.{Made}
+use Rattle.shared_flow.specs.Entering.{IsCalled, Made}
 use Rattle.shared_flow.specs.Reach.{Reach, party_of}
-use Rattle.shared_flow.specs.Rounds.{IsAfter, Does, numbers_tried}
+use Rattle.shared_flow.specs.Rounds.{IsAfter, numbers_tried}
 use Rattle.shared_flow.specs.Parties.{Emitting, IfTried, WasAnswered}
 use Rattle.shared_flow.proofs.Rising.{after_try, try_rises}
+use Rattle.shared_flow.proofs.Doing.{is_called}
 use Rattle.shared_flow.proofs.Making.{made}
 use Rattle.shared_flow.proofs.emitter.Emitter.try_emit.Goals as goal
 
@@ -31,10 +32,10 @@ invariant_of-self g c =
 pub leave-requires : goal.leave-requires
 leave-requires g c =
     let found : SharedSeen = c.enter-inside.result.guarded.state.value in
-    let new : SharedSeen = c.try_emit-tried.new.self in
     let emission : Emission = record { emitter = c.self.inside.id; word = c.to_word.result } in
-    let did = subst (λ (s : SharedSeen). Does s (round.Try emission (numbers_tried c.try_emit-tried.result)) new) c.deref_mut.ensures.value c.try_emit-tried.ensures.does in
-    record { round = (found, ap (λ (r : Reach). r.held) c.enter-inside.ensures.taken, subst (λ a. Does found (round.Try emission a) new) (sym c.number_tried-answer.ensures) did) }
+    let called = is_called c.enter-inside.new.self found c.deref_mut.result.now c.try_emit-tried.new.self c.enter-inside.result.before (round.Try emission (numbers_tried c.try_emit-tried.result)) (ap (λ (r : Reach). r.held) c.enter-inside.ensures.taken)
+    c.enter-inside.ensures.before c.deref_mut.ensures.value c.try_emit-tried.ensures.does c.try_emit-tried.ensures.asleep in
+    record { round = subst (λ a. IsCalled c.enter-inside.new.self c.enter-inside.result.before (round.Try emission a) c.try_emit-tried.new.self) (sym c.number_tried-answer.ensures) called }
 
 pub returns-clause-made : goal.returns-clause-made
 returns-clause-made g c =

@@ -3,9 +3,9 @@ use Rattle.shared_flow.specs.declared.round.Round.{Round}
 use Rattle.shared_flow.specs.declared.round.Round.TheVariants as round
 use Rattle.shared_flow.specs.Names.{SharedSeen}
 use Rattle.shared_flow.specs.Reach.{Party, Reach, party_of}
-use Rattle.shared_flow.specs.Rounds.{Does}
 use Rattle.shared_flow.specs.Parties.{Emitting, WasAnswered}
 use Rattle.shared_flow.proofs.Rising.{answered_on}
+use Rattle.shared_flow.proofs.Doing.{is_called}
 use Rattle.shared_flow.proofs.Making.{made, round_is}
 use Rattle.shared_flow.proofs.emitter.Emitter.try_emit_all.Goals as goal
 
@@ -22,11 +22,8 @@ leave_block-requires g c =
     let tried = round.TryAll c.self.inside.id (map g.T.Word.word c.args.values.now) c.try_emit_all-answer.result in
     record {
       picked = refl;
-      round = (
-        found,
-        ap (λ (r : Reach). r.held) c.enter-inside.ensures.taken,
-        subst (λ (s : SharedSeen). Does s tried c.try_emit_all-answer.new.self) c.deref_mut.ensures.value c.try_emit_all-answer.ensures.does,
-      );
+      round = is_called c.enter-inside.new.self found c.deref_mut.result.now c.try_emit_all-answer.new.self c.enter-inside.result.before tried (ap (λ (r : Reach). r.held) c.enter-inside.ensures.taken)
+          c.enter-inside.ensures.before c.deref_mut.ensures.value c.try_emit_all-answer.ensures.does c.try_emit_all-answer.ensures.asleep;
     }
 
 pub returns-clause-tried : goal.returns-clause-tried

@@ -13,6 +13,8 @@ returns-clause-held g c =
         found,
         search rules,
         search rules,
+        search rules,
+        search rules,
         found_again (party_of c.self.inside.access) (party_of c.enter-inside.new.self) found c.enter-inside.ensures.found (ap party_of taken),
       ),
     )

@@ -1,9 +1,10 @@
 use Rattle.flow_terms.specs.declared.refusal.Refusal.TheVariants.{NoMemory}
-use Rattle.shared_flow.specs.Rounds.{Does}
+use Rattle.shared_flow.specs.Entering.{IsCalled}
 use Rattle.shared_flow.specs.Reach.{Reach}
 use Rattle.shared_flow.specs.Names.{SharedSeen}
 use Rattle.std.proofs.Common.{rules, Ok, Err, sym, ap, subst}
 use Rattle.shared_flow.specs.declared.round.Round.TheVariants as round
+use Rattle.shared_flow.proofs.Doing.{is_called}
 use Rattle.shared_flow.proofs.Making.{made}
 use Rattle.shared_flow.proofs.flow.SharedFlow.replay_cache_into.Goals as goal
 
@@ -11,14 +12,18 @@ pub leave_cache-requires : goal.leave_cache-requires
 leave_cache-requires g c =
     let found : SharedSeen = c.enter-inside.result.guarded.state.value in
     let after : SharedSeen = c.replay_cache_into.new.self in
-    record { round = (found, ap (λ (r : Reach). r.held) c.enter-inside.ensures.taken, subst (λ (s : SharedSeen). Does s (round.Cache (Ok after.sequencer.cache)) after) c.deref_mut.ensures.value c.in-Ok.ensures.read) }
+    record {
+      round = is_called c.enter-inside.new.self found c.deref_mut.result.now after c.enter-inside.result.before (round.Cache (Ok after.sequencer.cache)) (ap (λ (r : Reach). r.held) c.enter-inside.ensures.taken)
+          c.enter-inside.ensures.before c.deref_mut.ensures.value c.in-Ok.ensures.read c.replay_cache_into.ensures.asleep;
+    }
 
 pub leave-requires : goal.leave-requires
 leave-requires g c =
     let found : SharedSeen = c.enter-inside.result.guarded.state.value in
     let after : SharedSeen = c.replay_cache_into.new.self in
-    let did = subst (λ (s : SharedSeen). Does s (round.Cache (Err NoMemory)) after) c.deref_mut.ensures.value c.in-Err.ensures.unread in
-    record { round = (found, ap (λ (r : Reach). r.held) c.enter-inside.ensures.taken, subst (λ e. Does found (round.Cache (Err e)) after) (sym c.in-Err.ensures.memory) did) }
+    let called = is_called c.enter-inside.new.self found c.deref_mut.result.now after c.enter-inside.result.before (round.Cache (Err NoMemory)) (ap (λ (r : Reach). r.held) c.enter-inside.ensures.taken)
+    c.enter-inside.ensures.before c.deref_mut.ensures.value c.in-Err.ensures.unread c.replay_cache_into.ensures.asleep in
+    record { round = subst (λ e. IsCalled c.enter-inside.new.self c.enter-inside.result.before (round.Cache (Err e)) after) (sym c.in-Err.ensures.memory) called }
 
 pub returns-in-Ok-clause-ok : goal.returns-in-Ok-clause-ok
 returns-in-Ok-clause-ok g c =

@@ -1,8 +1,10 @@
-use Rattle.std.proofs.Common.{rules, Ok, IfOk, inr, ap, subst, Err, IfErr}
+use Rattle.std.proofs.Common.{rules, Ok, IfOk, refl, inr, ap, subst, Err, IfErr}
 use Rattle.shared_flow.specs.declared.round.Round.TheVariants as round
 use Rattle.shared_flow.specs.Names.{SharedSeen}
 use Rattle.shared_flow.specs.Reach.{Reach}
-use Rattle.shared_flow.specs.Rounds.{Does, IsLetIn, IsAtLimit}
+use Rattle.shared_flow.specs.Rounds.{Comes, IsLetIn, IsAtLimit}
+use Rattle.shared_flow.specs.Waking.{SleepOn}
+use Rattle.shared_flow.proofs.Doing.{is_called}
 use Rattle.shared_flow.proofs.Making.{made, was_let_in}
 use Rattle.shared_flow.proofs.flow.SharedFlow.subscribe_with.Goals as goal
 
@@ -12,8 +14,8 @@ returns-in-Ok-clause-begins g c =
     let owner : Reach = c.another.new.self in
     let after : SharedSeen = c.subscribe-number.new.self in
     let number = c.subscribe-number.result.number in
-    let did = subst (λ (s : SharedSeen). IfOk c.subscribe-number.result.reader (λ reader. Does s (round.Subscribe (Ok number)) after × IsLetIn s number reader after)) c.deref_mut.ensures.value c.subscribe-number.ensures.ok in
-    let let_in = subst (λ r. IfOk r (λ reader. Does c.enter-inside.result.guarded.state.value (round.Subscribe (Ok number)) after × IsLetIn c.enter-inside.result.guarded.state.value number reader after)) c.in-Ok.is did in
+    let did = subst (λ (s : SharedSeen). IfOk c.subscribe-number.result.reader (λ reader. Comes s (round.Subscribe (Ok number)) after × IsLetIn s number reader after)) c.deref_mut.ensures.value c.subscribe-number.ensures.ok in
+    let let_in = subst (λ r. IfOk r (λ reader. Comes c.enter-inside.result.guarded.state.value (round.Subscribe (Ok number)) after × IsLetIn c.enter-inside.result.guarded.state.value number reader after)) c.in-Ok.is did in
     rw (← c.self.view_is, ← c.in_ok-access.ensures.same, c.new.ensures)
     (was_let_in number owner c.enter-inside.new.self c.leave.new.self c.enter-inside.result.guarded.state.value after c.in-Ok.reader
     c.enter-inside.ensures.taken c.enter-inside.ensures.found c.enter-inside.ensures.named c.leave.ensures.left let_in.1)
@@ -23,17 +25,23 @@ leave-requires g c =
     let found : SharedSeen = c.enter-inside.result.guarded.state.value in
     let after : SharedSeen = c.subscribe-number.new.self in
     let number = c.subscribe-number.result.number in
-    let did = subst (λ (s : SharedSeen). IfOk c.subscribe-number.result.reader (λ reader. Does s (round.Subscribe (Ok number)) after × IsLetIn s number reader after)) c.deref_mut.ensures.value c.subscribe-number.ensures.ok in
-    let let_in = subst (λ r. IfOk r (λ reader. Does found (round.Subscribe (Ok number)) after × IsLetIn found number reader after)) c.in-Ok.is did in
-    record { round = (found, ap (λ (r : Reach). r.held) c.enter-inside.ensures.taken, let_in.0) }
+    let did = subst (λ (s : SharedSeen). IfOk c.subscribe-number.result.reader (λ reader. Comes s (round.Subscribe (Ok number)) after × IsLetIn s number reader after)) c.deref_mut.ensures.value c.subscribe-number.ensures.ok in
+    let let_in = subst (λ r. IfOk r (λ reader. Comes found (round.Subscribe (Ok number)) after × IsLetIn found number reader after)) c.in-Ok.is did in
+    record {
+      round = is_called c.enter-inside.new.self found found after c.enter-inside.result.before (round.Subscribe (Ok number)) (ap (λ (r : Reach). r.held) c.enter-inside.ensures.taken)
+          c.enter-inside.ensures.before refl let_in.0 (subst (λ (s : SharedSeen). SleepOn s after) c.deref_mut.ensures.value c.subscribe-number.ensures.asleep);
+    }
 
 pub leave-requires-in-Err : goal.leave-requires-in-Err
 leave-requires-in-Err g c =
     let found : SharedSeen = c.enter-inside.result.guarded.state.value in
     let after : SharedSeen = c.subscribe-number.new.self in
-    let did = subst (λ (s : SharedSeen). IfErr c.subscribe-number.result.reader (λ refusal. Does s (round.Subscribe (Err refusal)) after × IsAtLimit refusal)) c.deref_mut.ensures.value c.subscribe-number.ensures.err in
-    let left_out = subst (λ r. IfErr r (λ refusal. Does found (round.Subscribe (Err refusal)) after × IsAtLimit refusal)) c.in-Err.is did in
-    record { round = (found, ap (λ (r : Reach). r.held) c.enter-inside.ensures.taken, left_out.0) }
+    let did = subst (λ (s : SharedSeen). IfErr c.subscribe-number.result.reader (λ refusal. Comes s (round.Subscribe (Err refusal)) after × IsAtLimit refusal)) c.deref_mut.ensures.value c.subscribe-number.ensures.err in
+    let left_out = subst (λ r. IfErr r (λ refusal. Comes found (round.Subscribe (Err refusal)) after × IsAtLimit refusal)) c.in-Err.is did in
+    record {
+      round = is_called c.enter-inside.new.self found found after c.enter-inside.result.before (round.Subscribe (Err c.in-Err.refusal)) (ap (λ (r : Reach). r.held) c.enter-inside.ensures.taken)
+          c.enter-inside.ensures.before refl left_out.0 (subst (λ (s : SharedSeen). SleepOn s after) c.deref_mut.ensures.value c.subscribe-number.ensures.asleep);
+    }
 
 pub returns-in-Err-clause-kept : goal.returns-in-Err-clause-kept
 returns-in-Err-clause-kept g c =

@@ -11,9 +11,9 @@ returns-in-Value-clause-does c = (
     search rules,
     search rules,
     search rules,
-    (c.scan.new.self, refl, (c.scan-in-Value.new.self, inr (c.scan-in-Value.new.self, c.scan-in-Value.result, search rules, search rules, search rules, refl), (refl, refl, refl, λ _. refl))),
+    (c.scan.new.self, refl, (c.scan-in-Value.new.self, inr (c.scan-in-Value.new.self, c.scan-in-Value.result, search rules, search rules, search rules, refl), (refl, refl, refl, λ _. refl)), tt),
   ),
 )
 
 pub returns-in_default-clause-does : goal.returns-in_default-clause-does
-returns-in_default-clause-does c = (search rules, search rules, (c.scan.new.self, c.scan.result, search rules, search rules, search rules, (c.scan.new.self, refl, (c.scan.new.self, inl refl, (refl, refl, refl, λ _. refl)))))
+returns-in_default-clause-does c = (search rules, search rules, (c.scan.new.self, c.scan.result, search rules, search rules, search rules, (c.scan.new.self, refl, (c.scan.new.self, inl refl, (refl, refl, refl, λ _. refl)), tt)))

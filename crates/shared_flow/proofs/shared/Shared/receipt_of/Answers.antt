@@ -1,7 +1,7 @@
 use Rattle.std.proofs.Common.{◌∙◌, sym, ap, subst}
 use Rattle.std.specs.Arc.{arc_value}
 use Rattle.shared_lane.specs.Places.{IsAccepted}
-use Rattle.shared_flow.specs.Names.{SharedSeen}
+use Rattle.shared_flow.specs.Names.{SharedSeen, TrackSeen}
 use Rattle.shared_flow.specs.Rounds.{IsReceiptOfOne}
 use Rattle.shared_flow.proofs.Receipts.{of_one}
 use Rattle.shared_flow.proofs.shared.Shared.receipt_of.Goals as goal
@@ -11,5 +11,5 @@ returns-clause-receipt c =
     let accepted = subst (λ (s : SharedSeen). IsAccepted s.sequencer c.args.emitter c.args.number) (sym c.self.view_is) c.requires in
     let made = c.receipt.ensures.receipt in
     subst (λ (s : SharedSeen). IsReceiptOfOne s.name.lane c.args.emitter c.receipt.result) c.self.view_is
-    (of_one (arc_value c.self.inside.track) c.self.inside.sequencer c.receipt.result c.args.emitter c.args.number c.self.invariant.0 accepted
-    (made.0 ∙ ap (λ l. l.table) (c.lane.ensures ∙ c.deref.ensures)) made.1 made.2 c.receipt.ensures.seen)
+    (of_one (arc_value c.self.inside.track).lane c.self.inside.sequencer c.receipt.result c.args.emitter c.args.number c.self.invariant.0.0 accepted
+    (made.0 ∙ ap (λ l. l.table) (c.lane.ensures ∙ ap (λ (t : TrackSeen). t.lane) c.deref.ensures)) made.1 made.2 c.receipt.ensures.seen)

@@ -3,8 +3,8 @@ use Rattle.flow_terms.specs.declared.answers.Tried.TheVariants as tried
 use Rattle.shared_lane.specs.Sequencers.{AcceptedOn, AfterScan, TriedOn, next}
 use Rattle.shared_flow.specs.declared.round.Round.TheVariants as round
 use Rattle.shared_flow.specs.Names.{FlowName, SharedSeen}
-use Rattle.shared_flow.specs.Rounds.{Does, entry, IsReceiptFor}
-use Rattle.shared_flow.proofs.Doing.{does}
+use Rattle.shared_flow.specs.Rounds.{Comes, entry, IsReceiptFor}
+use Rattle.shared_flow.proofs.Doing.{comes}
 use Rattle.shared_flow.proofs.Receipts.{is_later}
 use Rattle.shared_flow.proofs.shared.Shared.try_emit.Goals as goal
 
@@ -21,7 +21,7 @@ returns-in-Accepted-clause-does c =
     let it = round.Try c.args.emission (Ok (tried.Accepted c.receipt_for.result.number)) in
     let after = subst (λ y. AfterScan q (λ m. TriedOn m e y c.tried_number.new.self.sequencer)) c.in-Accepted.is c.in_ok-number.ensures.made in
     let numbered = subst (λ n. AfterScan q (λ m. AcceptedOn m e n c.tried_number.new.self.sequencer)) (sym c.receipt_for.ensures.number) after in
-    subst (λ (s : SharedSeen). Does old it s) (sym c.receipt_for.ensures.same) (does old c.tried_number.new.self it c.in_ok-number.ensures.same.0 c.in_ok-number.ensures.same.1 numbered)
+    subst (λ (s : SharedSeen). Comes old it s) (sym c.receipt_for.ensures.same) (comes old c.tried_number.new.self it c.in_ok-number.ensures.same.0 c.in_ok-number.ensures.same.1 numbered tt)
 
 pub returns-in-Accepted-clause-receipt : goal.returns-in-Accepted-clause-receipt
 returns-in-Accepted-clause-receipt c = subst (λ (name : FlowName). IsReceiptFor name.lane c.args.emission c.receipt_for.result) c.in_ok-number.ensures.same.0 c.receipt_for.ensures.receipt
@@ -34,9 +34,9 @@ returns-in-Accepted-clause-later c =
     subst (λ n. next q ≤ n) (sym c.receipt_for.ensures.number) (is_later q c.tried_number.new.self.sequencer e c.in-Accepted.number after)
 
 pub returns-in-Dropped-clause-does : goal.returns-in-Dropped-clause-does
-returns-in-Dropped-clause-does c = does c.args.self.now c.tried_number.new.self (round.Try c.args.emission (Ok tried.Dropped)) c.in_ok-number.ensures.same.0 c.in_ok-number.ensures.same.1
-    (subst (λ y. AfterScan c.args.self.now.sequencer (λ m. TriedOn m (entry c.args.emission) y c.tried_number.new.self.sequencer)) c.in-Dropped.is c.in_ok-number.ensures.made)
+returns-in-Dropped-clause-does c = comes c.args.self.now c.tried_number.new.self (round.Try c.args.emission (Ok tried.Dropped)) c.in_ok-number.ensures.same.0 c.in_ok-number.ensures.same.1
+    (subst (λ y. AfterScan c.args.self.now.sequencer (λ m. TriedOn m (entry c.args.emission) y c.tried_number.new.self.sequencer)) c.in-Dropped.is c.in_ok-number.ensures.made) tt
 
 pub returns-in-Full-clause-does : goal.returns-in-Full-clause-does
-returns-in-Full-clause-does c = does c.args.self.now c.tried_number.new.self (round.Try c.args.emission (Ok tried.Full)) c.in_ok-number.ensures.same.0 c.in_ok-number.ensures.same.1
-    (subst (λ y. AfterScan c.args.self.now.sequencer (λ m. TriedOn m (entry c.args.emission) y c.tried_number.new.self.sequencer)) c.in-Full.is c.in_ok-number.ensures.made)
+returns-in-Full-clause-does c = comes c.args.self.now c.tried_number.new.self (round.Try c.args.emission (Ok tried.Full)) c.in_ok-number.ensures.same.0 c.in_ok-number.ensures.same.1
+    (subst (λ y. AfterScan c.args.self.now.sequencer (λ m. TriedOn m (entry c.args.emission) y c.tried_number.new.self.sequencer)) c.in-Full.is c.in_ok-number.ensures.made) tt

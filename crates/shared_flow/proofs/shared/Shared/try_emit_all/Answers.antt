@@ -6,22 +6,22 @@ use Rattle.shared_lane.specs.Blocks.{TriedAllOn}
 use Rattle.shared_lane.specs.Sequencers.{AfterScan, IsSameSequencer, RefusedTry}
 use Rattle.shared_flow.specs.declared.round.Round.TheVariants as round
 use Rattle.shared_flow.specs.Names.{SharedSeen}
-use Rattle.shared_flow.specs.Rounds.{Does}
-use Rattle.shared_flow.proofs.Doing.{does, same_through}
+use Rattle.shared_flow.specs.Rounds.{Comes}
+use Rattle.shared_flow.proofs.Doing.{comes, same_through}
 use Rattle.shared_flow.proofs.Trying.{no_word, accepted_first, scan_then, tried_front, tried_then}
 use Rattle.shared_flow.proofs.shared.Shared.try_emit_all.Goals as goal
 
 -- the round of a list whose words were tried
 tried_all : (old new : SharedSeen) (e : ℕ) (words : List ℕ) (n : ℕ) → new.name ≡ old.name → IsSameSequencer old.sequencer new.sequencer
-    → AfterScan old.sequencer (λ m. TriedAllOn m e words n new.sequencer) → Does old (round.TryAll e words (Ok n)) new
-tried_all old new e words n named same tried = does old new (round.TryAll e words (Ok n)) named same tried
+    → AfterScan old.sequencer (λ m. TriedAllOn m e words n new.sequencer) → Comes old (round.TryAll e words (Ok n)) new
+tried_all old new e words n named same tried = comes old new (round.TryAll e words (Ok n)) named same tried tt
 
 pub returns-in_err-first-clause-does : goal.returns-in_err-first-clause-does
 returns-in_err-first-clause-does g c =
     let old : SharedSeen = c.args.self.now in let new : SharedSeen = c.try_block.new.self in let e : Refusal = c.in_err-first.field-0.0 in let refused = c.in_err-first.ensures.refused in let words : List ℕ = map g.T.Word.word c.args.values.now in
     let p = err_from_is_err_and c.from_residual.result c.from_residual.ensures.1 in
-    subst (λ (answer : Result ℕ Refusal). Does old (round.TryAll c.args.emitter words answer) new) (ap Err (sym p.2) ∙ sym p.1) (does old new (round.TryAll c.args.emitter words (Err e)) c.in_err-first.ensures.same.0 c.in_err-first.ensures.same.1
-    (scan_then old.sequencer (λ m. RefusedTry m e new.sequencer) (λ m. (words ≢ []) × RefusedTry m e new.sequencer) (λ m was. (no_word g.T.Word.word c.args.values.now refused.0, was)) refused.1))
+    subst (λ (answer : Result ℕ Refusal). Comes old (round.TryAll c.args.emitter words answer) new) (ap Err (sym p.2) ∙ sym p.1) (comes old new (round.TryAll c.args.emitter words (Err e)) c.in_err-first.ensures.same.0 c.in_err-first.ensures.same.1
+    (scan_then old.sequencer (λ m. RefusedTry m e new.sequencer) (λ m. (words ≢ []) × RefusedTry m e new.sequencer) (λ m was. (no_word g.T.Word.word c.args.values.now refused.0, was)) refused.1) tt)
 
 pub returns-then-first-clause-does : goal.returns-then-first-clause-does
 returns-then-first-clause-does g c =

@@ -8,7 +8,7 @@ use Rattle.shared_flow.proofs.Trying.{tried_front, tried_none, tried_then, tried
 use Rattle.shared_flow.proofs.shared.Shared.try_others.Goals as goal
 
 pub loop-done-init : goal.loop-done-init
-loop-done-init g c = (refl, (refl, refl, refl, refl, refl, refl), c.requires, omega arith, tried_none c.args.self.now.sequencer c.args.emitter)
+loop-done-init g c = (refl, (refl, refl, refl, refl, refl, refl), c.requires, omega arith, tried_none c.args.self.now.sequencer c.args.emitter, (refl, refl))
 
 pub returns-then-count-lt-BLOCK-clause-tried : goal.returns-then-count-lt-BLOCK-clause-tried
 returns-then-count-lt-BLOCK-clause-tried g c = let before = c.loop-done.invariant in let values = c.args.values.now in let i : ℕ = c.loop-done.done in let n : ℕ = c.try_next_block-count.result in let word = g.T.Word.word in
@@ -36,8 +36,16 @@ loop-done-preserved g c = let before = c.loop-done.invariant in let values = c.a
       tried_waiting m t e others n tried ∙ before.2,
       omega arith,
       subst (λ (l : List ℕ). TriedAllOn q e l (i + n) t) there (tried_then q m t e (map word (take i values)) others i n (omega arith) before.4 tried),
+      (c.try_next_block-count.ensures.same.2.0 ∙ before.5.0, c.try_next_block-count.ensures.same.2.1 ∙ before.5.1),
     )
 
 pub returns-clause-tried : goal.returns-clause-tried
 returns-clause-tried g c = let before = c.loop-done.invariant in let values = c.args.values.now in let within = before.3 in
     subst (λ l. TriedAllOn c.args.self.now.sequencer c.args.emitter (map g.T.Word.word l) c.loop-done.done c.loop-done.self.sequencer) (take_all c.loop-done.done values (omega arith)) before.4
+
+pub returns-then-count-lt-BLOCK-clause-same : goal.returns-then-count-lt-BLOCK-clause-same
+returns-then-count-lt-BLOCK-clause-same g c = let before = c.loop-done.invariant in let same = c.try_next_block-count.ensures.same in
+    (same.0 ∙ before.0, same_through c.args.self.now.sequencer c.loop-done.self.sequencer c.try_next_block-count.new.self.sequencer before.1 same.1, (same.2.0 ∙ before.5.0, same.2.1 ∙ before.5.1))
+
+pub returns-clause-same : goal.returns-clause-same
+returns-clause-same g c = let before = c.loop-done.invariant in (before.0, before.1, before.5)

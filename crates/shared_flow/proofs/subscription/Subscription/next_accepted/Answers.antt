@@ -1,9 +1,10 @@
+use Rattle.std.proofs.Common.{refl}
 use Rattle.shared_flow.specs.Looks.{not_once, by_none}
 use Rattle.shared_flow.proofs.Waiting.{only_next, ok_before}
 use Rattle.shared_flow.proofs.subscription.Subscription.next_accepted.Goals as goal
 
 pub returns-in-Some-clause-rounds : goal.returns-in-Some-clause-rounds
-returns-in-Some-clause-rounds g c = only_next _ _ _ (by_none c.args.self.now.party) c.look.ensures.rounds
+returns-in-Some-clause-rounds g c = only_next _ _ _ _ _ refl (by_none c.args.self.now.party) c.look.ensures.rounds
 
 pub returns-in-Some-clause-value : goal.returns-in-Some-clause-value
 returns-in-Some-clause-value g c = (c.args.self.now.reader, not_once c.args.self.now.reader, c.in-Some.ensures.given)

@@ -7,4 +7,4 @@ pub returns-then-len-capacity-clause-rounds : goal.returns-then-len-capacity-cla
 returns-then-len-capacity-clause-rounds g c = by_none c.args.self.now.party
 
 pub returns-then-not-is_empty-clause-rounds : goal.returns-then-not-is_empty-clause-rounds
-returns-then-not-is_empty-clause-rounds g c = subst (OnlyNext c.args.self.now.party) (sym (ap (λ (s : Subscribed _). s.party) c.self.view_is)) (by_none c.args.self.now.party)
+returns-then-not-is_empty-clause-rounds g c = subst (OnlyNext c.args.self.now.number c.args.self.now.party) (sym (ap (λ (s : Subscribed _). s.party) c.self.view_is)) (by_none c.args.self.now.party)

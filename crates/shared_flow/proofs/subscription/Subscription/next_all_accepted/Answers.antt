@@ -1,4 +1,4 @@
-use Rattle.std.proofs.Common.{◌≡◌, ℕ, ◌+◌, ◌-◌, List, [], ◌∷◌, ◌++◌, Result, Err, IfErr, length, map, vec_capacity, sym, ap, subst, ◌∙◌, arith, length-append}
+use Rattle.std.proofs.Common.{◌≡◌, ℕ, ◌+◌, ◌-◌, List, [], ◌∷◌, ◌++◌, Result, Err, IfErr, length, map, vec_capacity, refl, sym, ap, subst, ◌∙◌, arith, length-append}
 use Rattle.std.proofs.lemmas.List.{append-nil, length-map}
 use Rattle.std.proofs.lemmas.Result.{err_from_is_err_and}
 use Rattle.flow_terms.specs.declared.refusal.Refusal.{Refusal}
@@ -10,7 +10,7 @@ use Rattle.shared_flow.proofs.Waiting.{only_next}
 use Rattle.shared_flow.proofs.subscription.Subscription.next_all_accepted.Goals as goal
 
 pub returns-in-Value-clause-rounds : goal.returns-in-Value-clause-rounds
-returns-in-Value-clause-rounds g c = only_next _ _ _ (by_none c.args.self.now.party) c.look_for_all.ensures.rounds
+returns-in-Value-clause-rounds g c = only_next _ _ _ _ _ refl (by_none c.args.self.now.party) c.look_for_all.ensures.rounds
 
 pub returns-in_err-value : goal.returns-in_err-value
 returns-in_err-value g c = let look = c.look_for_all.ensures in let wait = c.in_err-value.ensures in let p = err_from_is_err_and c.from_residual.result c.from_residual.ensures.1 in let e : Refusal = c.in_err-value.field-0.0 in let read = g.T.Word.read_as in
@@ -18,7 +18,7 @@ returns-in_err-value g c = let look = c.look_for_all.ensures in let wait = c.in_
     let none = missed_all old.reader c.look_for_all.new.self.reader room c.look_for_all.result look.looked.0 c.in_default.not-Value look.looked.2 in
     let result_is : Err e ≡ c.from_residual.result = ap Err (sym p.2) ∙ sym p.1 in record {
       same = (wait.same.0 ∙ look.same.0, wait.same.1 ∙ look.same.1);
-      rounds = only_next_then _ _ _ (only_next _ _ _ (by_none old.party) look.rounds) wait.rounds;
+      rounds = only_next_then _ _ _ _ _ look.same.0 (only_next _ _ _ _ _ refl (by_none old.party) look.rounds) wait.rounds;
       taken = not_answered c.from_residual.result e _ result_is;
       nothing = subst (λ (answer : Result ℕ Refusal). IfErr answer (λ refusal. (refusal ≡ NoMemory) × (c.look_for_all.new.out.items ≡ out.items) × MissedAll old.reader room new.reader)) result_is
           (wait.nothing.0, look.looked.1 ∙ (ap (λ (ws : List ℕ). out.items ++ map read ws) none.0 ∙ append-nil out.items), subst (λ s. MissedAll old.reader room s.reader) (sym wait.nothing.1) none.1);
@@ -36,7 +36,7 @@ returns g c = let look = c.look_for_all.ensures in let wait = c.in_ok-value.ensu
     c.look_for_all.result look.looked.0 v c.look_for_all-more.result words c.in_default.not-Value look.looked.2 look.looked.1 wait.value push.items more.looked.2 more.looked.1 (omega arith) in
     let count = length-map words read in let k = looked_count c.wait_for_next.new.self.reader c.look_for_all-more.new.self.reader left c.look_for_all-more.result words more.looked.2 in let told = c.taken_count.ensures in record {
       same = (more.same.0 ∙ (wait.same.0 ∙ look.same.0), more.same.1 ∙ (wait.same.1 ∙ look.same.1));
-      rounds = only_next _ _ _ (only_next_then _ _ _ (only_next _ _ _ (by_none old.party) look.rounds) wait.rounds) more.rounds;
+      rounds = only_next _ _ _ _ _ (wait.same.0 ∙ look.same.0) (only_next_then _ _ _ _ _ look.same.0 (only_next _ _ _ _ _ refl (by_none old.party) look.rounds) wait.rounds) more.rounds;
       taken = (v ∷ map read words, got.0, omega arith, omega arith, got.1);
       nothing = tt;
       capacity = more.capacity ∙ capacity;

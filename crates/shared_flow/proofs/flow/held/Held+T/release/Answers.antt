@@ -9,4 +9,4 @@ pub returns-clause-made : goal.returns-clause-made
 returns-clause-made g c =
     let owner = c.flow.inside.access in
     let kept = (subst (λ (o : Owning). KeepsLock o c.args.self.kept) (sym c.flow.view_is) c.requires.held).1 in
-    rw (← c.flow.view_is, ← c.kept.view_is) (made_of (round.Hold c.kept.inside.count) owner c.leave.new.self kept.0 kept.1 kept.3 c.leave.ensures.left)
+    rw (← c.flow.view_is, ← c.kept.view_is) (made_of (round.Hold c.kept.inside.count) owner c.leave.new.self kept.0 kept.1 kept.5 c.leave.ensures.left)
