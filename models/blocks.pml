@@ -63,7 +63,7 @@ inline try_emit_all(p, e) {
     od;
     skip;
     d_step { take = 0; left = left - accepted; accepted = 0 };
-    leave(p)
+    leave(p, NOBODY)
 }
 
 /* Emitter::emit_all of all that is left, called again where it was cut short for want of memory. */

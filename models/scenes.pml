@@ -9,7 +9,8 @@
 
 #define OWN \
     byte before, result, word_read, mine, woken; bit behind, got, may_wait, is_set; \
-    byte came, seen; bit found, rings, has, early, lower, was_up
+    byte exchanged[2], exchanged_waker[2]; \
+    byte came, seen; bit found, rings, has, early, lower, was_up, rose
 
 inline end(p) { d_step { ended = ended | (1 << (p)); printf("party %d ends\n", p) } }
 

@@ -1,11 +1,12 @@
 /* Who watches a state, and who is woken, step by step as crates/state_waiting has it over crates/state_flow: the state's word, the
-   three words of the bell, and who sleeps on the first of these. README.md says which function each inline stands for, what is
-   asserted, and how a trail is read.
+   three words of the bell, who sleeps on the first of those, the turn, and the marks of watchers. README.md says which function
+   each inline stands for, what is asserted, and how a trail is read.
 
    -DSETTERS=n  1 or 2
    -DWATCHERS=n 1 or 2
    -DSETS=n     how many values each setter sets, each any of 0, 1 and 2
    -DSTOPS=n    how often all are let go at most, at any moment
+   -DALONE=n    how often watcher 0 alone is let go at most, at any moment
    -DSPURIOUS=n how many sleeps end for nothing
    -DLIMITS     a wait may come to the end of its time, at any turn, and then the watcher waits anew
 
@@ -22,6 +23,9 @@
 #ifndef STOPS
 #define STOPS 0
 #endif
+#ifndef ALONE
+#define ALONE 0
+#endif
 #ifndef SPURIOUS
 #define SPURIOUS 0
 #endif
@@ -33,6 +37,7 @@ byte value = 0;
 byte turn = 0;
 byte sleepers = 0;
 bit let_go;
+bit mark[WATCHERS];     /* this watcher alone was let go */
 
 bit asleep[WATCHERS];   /* on the turn, in the system */
 byte given[WATCHERS];   /* a watcher's own: the last value that it was given */
@@ -124,8 +129,19 @@ inline stop() {
 #endif
 }
 
-/* Collector::try_next, one load, and what a turn makes of it: the wait is over where there is a value, or all were let go. Who is
-   told of the stop has asked since. */
+/* Stopper::stop */
+inline stop_alone(w) {
+#ifdef WRONG_RINGS_BEFORE_THE_MARK
+    ring();
+    atomic { mark[w] = 1; printf("watcher %d is let go\n", w) }
+#else
+    atomic { mark[w] = 1; printf("watcher %d is let go\n", w) };
+    ring()
+#endif
+}
+
+/* Collector::try_next, one load, and what a turn makes of it: the wait is over where there is a value, or the watcher was let go.
+   Who is told of that has asked since. */
 inline ask(w) {
     atomic {
         if
@@ -139,7 +155,7 @@ inline ask(w) {
         if
         :: !is_over && is_let_go -> ended[w] = 1; is_over = 1; assert(has_asked_since)
 #else
-        :: value == given[w] && is_let_go -> ended[w] = 1; is_over = 1; assert(let_go)
+        :: value == given[w] && is_let_go -> ended[w] = 1; is_over = 1; assert(let_go || mark[w])
 #endif
         :: else -> skip
         fi;
@@ -147,16 +163,27 @@ inline ask(w) {
     }
 }
 
-/* Watcher::turn, without the sleep: the turn, whether all were let go, and the value. */
+/* Watcher::is_stopped: whether all were let go, and else the watcher's mark, where somebody may set it. */
+inline look_whether_let_go(w) {
+    is_let_go = let_go;
+#if ALONE > 0
+    if
+    :: w == 0 && !is_let_go -> is_let_go = mark[w]
+    :: else -> skip
+    fi
+#endif
+}
+
+/* Watcher::turn, without the sleep: the turn, whether the watcher was let go, and the value. */
 inline look(w) {
 #ifdef WRONG_TURN_LOADED_LAST
-    is_let_go = let_go;
+    look_whether_let_go(w);
     ask(w);
     seen = turn
 #else
     seen = turn;
 #ifndef WRONG_STOP_LOADED_LAST
-    is_let_go = let_go;
+    look_whether_let_go(w);
 #endif
     ask(w)
 #endif
@@ -252,6 +279,17 @@ proctype stopper(byte left) {
 }
 #endif
 
+#if ALONE > 0
+/* Lets watcher 0 go, at any moment, or never. */
+proctype stopper_of_one(byte left) {
+    do
+    :: left == 0 -> break
+    :: left != 0 -> stop_alone(0); left--
+    :: left != 0 -> break
+    od
+}
+#endif
+
 #if SPURIOUS > 0
 /* A sleep may end for nothing. */
 proctype spurious() {
@@ -276,6 +314,9 @@ init {
 #if STOPS > 0
         run stopper(STOPS);
 #endif
+#if ALONE > 0
+        run stopper_of_one(ALONE);
+#endif
 #if SPURIOUS > 0
         run spurious();
 #endif
@@ -285,7 +326,7 @@ init {
     timeout;
     do
     :: i == WATCHERS -> break
-    :: else -> assert(ended[i] || (asleep[i] && given[i] == value && !let_go)); i++
+    :: else -> assert(ended[i] || (asleep[i] && given[i] == value && !let_go && !mark[i])); i++
     od;
     assert(sleepers == SLEEPING)
 }

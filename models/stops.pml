@@ -29,7 +29,7 @@ inline poll_stop(p) {
 #endif
 }
 
-/* StoppableParker::next and received. */
+/* StoppableParker::next and received, over the looks of Subscription::next_now and next_soon. */
 inline next_or_stop(p, s) {
     if
     :: is_stopped[p] -> result = STOPPED
@@ -38,19 +38,25 @@ inline next_or_stop(p, s) {
         if
         :: !may_wait -> skip
         :: else ->
-            do
-            ::  turn(p);
-                poll_stop(p);
-                if
-                :: is_let_go -> is_let_go = 0; finish(p); result = STOPPED; break
-                :: else ->
-                    poll_next(p, s);
+            look(p, s);
+            if :: got -> skip :: else -> look_on(p, s) fi;
+            if
+            :: got -> skip
+            :: else ->
+                do
+                ::  turn(p);
+                    poll_stop(p);
                     if
-                    :: got -> finish(p); break
-                    :: else -> rest(p, 0)
+                    :: is_let_go -> is_let_go = 0; finish(p); result = STOPPED; break
+                    :: else ->
+                        poll_next(p, s);
+                        if
+                        :: got -> finish(p); break
+                        :: else -> rest(p, 0)
+                        fi
                     fi
-                fi
-            od
+                od
+            fi
         fi
     fi;
     may_wait = 0

@@ -59,14 +59,13 @@ byte cursor[SUBSCRIPTIONS];
 byte cell[CELLS];
 bit flag;
 
-/* What lies under the lock: the sequencer's lists, the tables of those that sleep, and the wakers of the call at hand. */
+/* What lies under the lock: the sequencer's lists, and the tables of those that sleep. */
 bit locked;
 byte waiting[2];            /* emissions without room, the oldest first: whose */
 byte waiting_count;
 byte standing[EMITTERS];    /* an accepted emission whose ticket is out: one more than its number */
 byte asleep[4];             /* two tables: the tickets of emissions, and from 2 on the numbers of subscriptions */
 byte waker[4];              /* one more than the party that each wakes */
-byte wakes;                 /* parties, one bit each */
 
 /* A party's own, which others read here for what is asserted alone. */
 byte value[EMITTERS];       /* the number of its emission among its own, from 1 on */
@@ -129,29 +128,21 @@ inline lie_down(table, bed, number, p) {
         fi;
         asleep[table + bed - 1] = number
     fi;
-    if
-    :: waker[table + bed - 1] != 0 && waker[table + bed - 1] != p + 1 -> wakes = wakes | (1 << (waker[table + bed - 1] - 1))
-    :: else -> skip
-    fi;
+    /* Each is polled by one party alone, so that no waker of another is thrown away. */
+    assert(waker[table + bed - 1] == 0 || waker[table + bed - 1] == p + 1);
     waker[table + bed - 1] = p + 1;
     printf("party %d lies down\n", p)
 }
 
-/* Takes a waker out. */
-inline take_out(key) { wakes = wakes | (1 << (waker[key] - 1)); waker[key] = 0; asleep[key] = 0 }
+/* Takes a sleeper out, and keeps its waker: Wakes::add. */
+inline take_out(key) { mine = mine | (1 << (waker[key] - 1)); waker[key] = 0; asleep[key] = 0 }
 
-/* Sleepers::rise */
-inline rise(table, bed, number) {
-    if
-    :: bed != 0 && asleep[table + bed - 1] == number -> take_out(table + bed - 1)
-    :: else -> skip
-    fi
-}
-
-#define LIES_IN(table, number) (asleep[table] == (number) || asleep[table + 1] == (number))
+#define NOBODY 0
 #define NOBODY_IN(table) (asleep[table] == 0 && asleep[table + 1] == 0)
 
-/* Sleepers::wake_all */
+inline exchange(one, other) { woken = one; one = other; other = woken; woken = 0 }
+
+/* Sleepers::wake_all: the table for the owner's own, in which nobody lies. */
 inline wake_all() {
 #ifdef WRONG_WAKES_ONE_SUBSCRIPTION /* one of those that sleep */
     if
@@ -159,20 +150,47 @@ inline wake_all() {
     :: else -> if :: asleep[3] != 0 -> take_out(SUBSCRIPTION_TABLE + 1) :: else -> skip fi
     fi
 #else
-    if :: asleep[2] != 0 -> take_out(SUBSCRIPTION_TABLE) :: else -> skip fi;
-    if :: asleep[3] != 0 -> take_out(SUBSCRIPTION_TABLE + 1) :: else -> skip fi
+    exchange(asleep[2], exchanged[0]);
+    exchange(asleep[3], exchanged[1]);
+    exchange(waker[2], exchanged_waker[0]);
+    exchange(waker[3], exchanged_waker[1])
 #endif
 }
 
-/* Sequencer::is_below, of the ticket that lies there. */
-#define IS_DONE(key, below) (asleep[key] != 0 && NAME(OWNER(asleep[key])) == asleep[key] \
-    && standing[OWNER(asleep[key])] != 0 && standing[OWNER(asleep[key])] - 1 < (below))
+/* Sleepers::wake, of the subscription that the call ended. */
+inline wake_ended(gone) {
+#ifdef WRONG_ENDED_SLEEPS_ON        /* who ended is left in the table */
+    skip
+#else
+    if :: gone != NOBODY && asleep[2] == gone -> take_out(SUBSCRIPTION_TABLE) :: else -> skip fi;
+    if :: gone != NOBODY && asleep[3] == gone -> take_out(SUBSCRIPTION_TABLE + 1) :: else -> skip fi
+#endif
+}
+
+/* Sequencer::is_below and emitter_of, of a ticket. */
+#define IS_DONE(name, below) (NAME(OWNER(name)) == (name) && standing[OWNER(name)] != 0 \
+    && standing[OWNER(name)] - 1 < (below))
+#define IS_OUT(name) (NAME(OWNER(name)) == (name) && (standing[OWNER(name)] != 0 \
+    || (waiting_count != 0 && waiting[0] == OWNER(name)) || (waiting_count == 2 && waiting[1] == OWNER(name))))
+#define IS_WITHDRAWN(name) ((withdrawn[OWNER(name)] & (1 << COUNT(name))) != 0)
+
+/* has_to_wait */
+#ifdef WRONG_TAKEN_SLEEPS_ON        /* who was answered isn't looked for */
+#define HAS_TO_WAIT(name, below) (!IS_DONE(name, below) && (IS_OUT(name) || !IS_WITHDRAWN(name)))
+#else
+#ifdef WRONG_WITHDRAWN_SLEEPS_ON    /* who was withdrawn isn't looked for */
+#define HAS_TO_WAIT(name, below) (!IS_DONE(name, below) && (IS_OUT(name) || IS_WITHDRAWN(name)))
+#else
+#define HAS_TO_WAIT(name, below) (!IS_DONE(name, below) && IS_OUT(name))
+#endif
+#endif
+#define IS_TO_RISE(key, below) (asleep[key] != 0 && !HAS_TO_WAIT(asleep[key], below))
 
 /* Sleepers::wake_done */
 inline wake_done(below) {
-#ifdef WRONG_WAKES_ANOTHER          /* the first that sleeps, where one is done */
+#ifdef WRONG_WAKES_ANOTHER          /* the first that sleeps, where one has to wait no more */
     if
-    :: IS_DONE(0, below) || IS_DONE(1, below) ->
+    :: IS_TO_RISE(0, below) || IS_TO_RISE(1, below) ->
         if
         :: asleep[0] != 0 -> take_out(EMISSION_TABLE)
         :: else -> take_out(EMISSION_TABLE + 1)
@@ -180,8 +198,8 @@ inline wake_done(below) {
     :: else -> skip
     fi
 #else
-    if :: IS_DONE(0, below) -> take_out(EMISSION_TABLE) :: else -> skip fi;
-    if :: IS_DONE(1, below) -> take_out(EMISSION_TABLE + 1) :: else -> skip fi
+    if :: IS_TO_RISE(0, below) -> take_out(EMISSION_TABLE) :: else -> skip fi;
+    if :: IS_TO_RISE(1, below) -> take_out(EMISSION_TABLE + 1) :: else -> skip fi
 #endif
 }
 
@@ -224,33 +242,74 @@ inline enter(p) { lock(p) }
 
 /* What holds as the lock is given back. */
 inline check_rules() {
+    /* Whoever lies in a table can be helped yet: its ticket is out, its subscription open. */
+    assert(asleep[0] == 0 || (IS_OUT(asleep[0]) && !IS_WITHDRAWN(asleep[0])));
+    assert(asleep[1] == 0 || (IS_OUT(asleep[1]) && !IS_WITHDRAWN(asleep[1])));
+    assert(asleep[2] == 0 || cursor[asleep[2] - 1] != CLOSED);
+    assert(asleep[3] == 0 || cursor[asleep[3] - 1] != CLOSED);
 #ifdef RULES
     /* The flag is up whenever something is unfinished. */
     assert(!HAS_UNFINISHED || flag);
-    /* Whoever lies in a table waits: an emission whose ticket is out, a subscription with nothing to receive. */
-    assert(asleep[0] == 0 || NAME(OWNER(asleep[0])) == asleep[0]);
-    assert(asleep[1] == 0 || NAME(OWNER(asleep[1])) == asleep[1]);
+    /* Whoever lies in a table waits: a subscription there has nothing to receive, and where there are places no emission
+       there was let in. */
     assert(asleep[2] == 0 || cursor[asleep[2] - 1] == tail);
     assert(asleep[3] == 0 || cursor[asleep[3] - 1] == tail);
-    /* None that lies there was let in and is finished, where there are places. */
-    assert(PLACES == 0 || (!IS_DONE(0, tail) && !IS_DONE(1, tail)));
-    assert(wakes == 0)
+    assert(PLACES == 0 || asleep[0] == 0 || !IS_DONE(asleep[0], tail));
+    assert(PLACES == 0 || asleep[1] == 0 || !IS_DONE(asleep[1], tail));
+    /* None lies there twice. */
+    assert((asleep[0] == 0 || asleep[0] != asleep[1]) && (asleep[2] == 0 || asleep[2] != asleep[3]));
+    /* No waker is left under the lock but those of whom lies there. */
+    assert((waker[0] == 0) == (asleep[0] == 0) && (waker[1] == 0) == (asleep[1] == 0));
+    assert((waker[2] == 0) == (asleep[2] == 0) && (waker[3] == 0) == (asleep[3] == 0))
+#endif
+}
+
+/* The owner has nobody left whom an earlier call of its was to wake. */
+inline check_none_left() {
+#ifdef RULES
+    assert(mine == 0 && exchanged[0] == 0 && exchanged[1] == 0 && exchanged_waker[0] == 0 && exchanged_waker[1] == 0)
 #else
     skip
 #endif
 }
 
-/* Wakes::fire: each waker is called once the lock is given back. */
+#ifdef WRONG_TABLE_NOT_FIRED        /* the table that was taken out is kept as it is, for the next exchange */
+#define NONE_LEFT (mine == 0)
+#else
+#ifdef WRONG_WAKERS_NOT_FIRED       /* the table alone is fired, not who was taken out one by one */
+#define NONE_LEFT (exchanged_waker[0] == 0 && exchanged_waker[1] == 0)
+#else
+#define NONE_LEFT (mine == 0 && exchanged_waker[0] == 0 && exchanged_waker[1] == 0)
+#endif
+#endif
+
+/* The next of an exchanged table: its place is empty then. */
+inline fire_exchanged(key) {
+    woken = exchanged_waker[key] - 1;
+#ifndef WRONG_TABLE_NOT_CLEARED     /* its waker is called, and its entry stays for the next exchange */
+    exchanged[key] = 0;
+#endif
+    exchanged_waker[key] = 0
+}
+
+/* Wakes::fire: each waker is called once the lock is given back, those of the exchanged table first. */
 inline fire() {
     do
-    :: mine == 0 -> break
+    :: NONE_LEFT -> break
     :: else ->
         d_step {
             if
-            :: mine & 1 -> woken = 0
-            :: else -> if :: mine & 2 -> woken = 1 :: else -> if :: mine & 4 -> woken = 2 :: else -> woken = 3 fi fi
+#ifndef WRONG_TABLE_NOT_FIRED
+            :: exchanged_waker[0] != 0 -> fire_exchanged(0)
+            :: exchanged_waker[0] == 0 && exchanged_waker[1] != 0 -> fire_exchanged(1)
+#endif
+            :: else ->
+                if
+                :: mine & 1 -> woken = 0
+                :: else -> if :: mine & 2 -> woken = 1 :: else -> if :: mine & 4 -> woken = 2 :: else -> woken = 3 fi fi
+                fi;
+                mine = mine - (1 << woken)
             fi;
-            mine = mine - (1 << woken);
             printf("party %d is woken\n", woken)
         };
         wake(woken);
@@ -259,28 +318,48 @@ inline fire() {
     skip
 }
 
-/* Access::leave: help, then the lock is given back, then the wakes. */
-inline leave(p) {
+/* The lock is given back. */
+inline give_back(p) {
+    check_rules();
+#ifdef LOCK_WORD
+    has = (word == 2); word = 1;
+#else
+    locked = 0;
+#endif
+    printf("party %d gives the lock back\n", p)
+}
+
+/* Access::leave: help, then the lock is given back, then the wakes. `gone` is the subscription that the call ended. */
+inline leave(p, gone) {
 #ifdef WRONG_FIRES_FIRST            /* before help, so that those that this round woke are called at the party's next */
     fire();
 #endif
-    /* Shared::wake_subscriptions and note_finished */
+    /* Shared::wake_subscriptions, with wake_ended, and tie_flag */
     d_step {
+        check_none_left();
         if
+        :: tail <= before -> wake_ended(gone)
 #ifdef WRONG_EARLY_EMPTINESS        /* whether somebody sleeps was read before the lock was taken */
-        :: !early && tail > before -> wake_all()
+        :: tail > before && !early -> wake_all()
 #else
 #ifndef WRONG_NO_HELP_TO_SUBSCRIPTIONS  /* who sleeps for a value isn't looked for */
-        :: tail > before -> wake_all()
+        :: tail > before && !NOBODY_IN(SUBSCRIPTION_TABLE) -> wake_all()
 #endif
 #endif
         :: else -> skip
         fi;
+#ifdef WRONG_EMISSIONS_AFTER_VALUES /* emissions are looked for only where something was accepted, as subscriptions are */
+        rose = tail > before;
+#endif
         before = 0;
-#ifndef WRONG_FLAG_UNLOCKED         /* the flag is taken back once the lock is given back */
-        if :: flag && !HAS_UNFINISHED -> flag = 0 :: else -> skip fi
-#else
+#ifdef WRONG_FLAG_UNLOCKED          /* the flag is taken back once the lock is given back */
         lower = flag && !HAS_UNFINISHED
+#else
+#ifdef WRONG_NO_FLAG                /* nobody raises the flag: neither who looks a last time, nor here */
+        flag = flag && HAS_UNFINISHED
+#else
+        flag = HAS_UNFINISHED
+#endif
 #endif
     };
     /* Shared::wake_emissions: finished_below, where there are no places, loads the cursors */
@@ -299,21 +378,19 @@ inline leave(p) {
 #ifdef WRONG_LAST_NOT_WOKEN         /* the last that was accepted counts as unfinished */
         wake_done(tail - 1);
 #else
-#ifndef WRONG_NO_HELP_TO_EMISSIONS  /* who sleeps in an emission isn't looked for */
+#ifdef WRONG_NO_HELP_TO_EMISSIONS   /* who sleeps in an emission that is finished isn't looked for */
+        wake_done(0);
+#else
+#ifdef WRONG_EMISSIONS_AFTER_VALUES
+        if :: rose -> wake_done(tail - behind) :: else -> skip fi;
+        rose = 0;
+#else
         wake_done(tail - behind);
 #endif
 #endif
+#endif
         behind = 0;
-#ifndef WRONG_WAKES_STAY            /* the wakers aren't taken out from under the lock */
-        mine = wakes; wakes = 0;
-#endif
-        check_rules();
-#ifdef LOCK_WORD
-        has = (word == 2); word = 1;
-#else
-        locked = 0;
-#endif
-        printf("party %d gives the lock back\n", p)
+        give_back(p)
     };
 #ifdef LOCK_WORD
     if :: has -> atomic { has = 0; rise_from_word() } :: else -> skip fi;
@@ -439,7 +516,7 @@ inline start_emit(p, e) {
 #ifdef WRONG_NO_LAST_LOOK           /* the flag, and no look at the cursors after it */
         flag = 1
 #else
-#ifdef WRONG_NO_FLAG                /* the look, and no flag */
+#ifdef WRONG_NO_FLAG
         scan()
 #else
         flag = 1; scan()
@@ -448,7 +525,7 @@ inline start_emit(p, e) {
 #endif
     :: else -> skip
     fi;
-    leave(p)
+    leave(p, NOBODY)
 }
 
 /* Emitter::try_emit */
@@ -466,10 +543,10 @@ inline try_emit(p, e) {
         fi
     fi;
     d_step { if :: result == FULL -> withdrawn[e] = withdrawn[e] | (1 << value[e]) :: else -> skip fi };
-    leave(p)
+    leave(p, NOBODY)
 }
 
-/* Emitter::poll_emit: one that is finished sleeps no more, one that isn't lies down. */
+/* Emitter::poll_emit: one that isn't finished lies down. Who slept and is answered now is found in `leave`. */
 inline poll_emit(p, e) {
     enter(p);
 #ifndef WRONG_POLL_LETS_NOBODY_IN   /* it looks at its own ticket alone */
@@ -478,12 +555,7 @@ inline poll_emit(p, e) {
     poll_ticket(e);
     d_step {
         if
-        :: result == ACCEPTED ->
-            emits[e] = 0;
-#ifndef WRONG_BED_KEPT              /* the poll ends, and leaves its place as it is */
-            rise(EMISSION_TABLE, emission_bed[e], NAME(e));
-#endif
-            assert(!LIES_IN(EMISSION_TABLE, NAME(e)))
+        :: result == ACCEPTED -> emits[e] = 0
 #ifdef WRONG_EMISSION_SLEEPS_UNLOCKED
         :: else -> skip
 #else
@@ -491,7 +563,7 @@ inline poll_emit(p, e) {
 #endif
         fi
     };
-    leave(p)
+    leave(p, NOBODY)
 #ifdef WRONG_EMISSION_SLEEPS_UNLOCKED   /* it lies down once the lock is given back */
     ;
     d_step {
@@ -521,17 +593,13 @@ inline cancel_emit(p, e) {
             withdrawn[e] = withdrawn[e] | (1 << value[e]);
             result = REMOVED; printf("value %d of emitter %d is withdrawn\n", value[e], e)
         fi;
-        emits[e] = 0;
-#ifndef WRONG_WITHDRAWN_BED_KEPT    /* it is given up, and leaves its place as it is */
-        rise(EMISSION_TABLE, emission_bed[e], NAME(e));
-#endif
-        assert(!LIES_IN(EMISSION_TABLE, NAME(e)))
+        emits[e] = 0
     };
-#ifdef WRONG_WITHDRAWAL_HELPS_NOBODY
-    d_step { before = 0; mine = wakes; wakes = 0; locked = 0 };
+#ifdef WRONG_WITHDRAWAL_HELPS_NOBODY    /* it lets in what waits, and wakes nobody but itself */
+    d_step { before = 0; wake_done(0); give_back(p) };
     fire()
 #else
-    leave(p)
+    leave(p, NOBODY)
 #endif
 }
 
@@ -594,7 +662,7 @@ inline make_room(p) {
 #ifndef WRONG_MAKES_NO_ROOM         /* it takes the lock, and lets nobody in */
     scan();
 #endif
-    leave(p)
+    leave(p, NOBODY)
 }
 
 /* Subscription::look: the flag is looked at after the exchange. */
@@ -621,7 +689,7 @@ inline look_again(p, s) {
 #endif
 #endif
 #ifdef WRONG_SLEEPS_UNLOCKED        /* it lies down once the lock is given back */
-    leave(p);
+    leave(p, NOBODY);
     d_step {
         if :: got -> skip
         :: else -> asks[s] = 1; lie_down(SUBSCRIPTION_TABLE, subscription_bed[s], s + 1, p)
@@ -633,7 +701,7 @@ inline look_again(p, s) {
         :: else -> asks[s] = 1; lie_down(SUBSCRIPTION_TABLE, subscription_bed[s], s + 1, p)
         fi
     };
-    leave(p)
+    leave(p, NOBODY)
 #endif
 }
 
@@ -643,7 +711,21 @@ inline poll_next(p, s) {
     if :: got -> skip :: else -> look_again(p, s) fi
 }
 
-/* Subscription::next, with wait_for_next and look_on: any number of looks, of which the code makes at most four. */
+/* Subscription::look_on: any number of looks, of which the code makes at most four. */
+inline look_on(p, s) {
+    do
+    :: got -> break
+    :: !got -> break
+    :: !got ->
+#ifdef WRONG_LOOKS_ON_WITHOUT_HELP  /* a value that is found while it looks on helps nobody */
+        take_next(s, 0)
+#else
+        look(p, s)
+#endif
+    od
+}
+
+/* Subscription::next, with wait_for_next and look_on */
 inline next(p, s) {
     look(p, s);
     if
@@ -653,16 +735,7 @@ inline next(p, s) {
         if
         :: !may_wait -> skip
         :: else ->
-            do
-            :: got -> break
-            :: !got -> break
-            :: !got ->
-#ifdef WRONG_LOOKS_ON_WITHOUT_HELP  /* a value that is found while it looks on helps nobody */
-                take_next(s, 0)
-#else
-                look(p, s)
-#endif
-            od;
+            look_on(p, s);
             if
             :: got -> skip
             :: else ->
@@ -683,33 +756,29 @@ inline next(p, s) {
 /* Subscription::try_next */
 inline try_next(s) { take_next(s, 1) }
 
-/* Subscription::cancel */
+/* Subscription::cancel, with Shared::cancel: what waits is let in before the cursor is closed, and after it. */
 inline cancel(p, s) {
     enter(p);
-#ifdef WRONG_CANCEL_LETS_NOBODY_IN  /* it closes its cursor after what waits was let in */
+    scan();
+    d_step { cursor[s] = CLOSED; printf("subscription %d is cancelled\n", s) };
+#ifndef WRONG_CANCEL_LETS_NOBODY_IN /* nobody is let in once the cursor is closed */
     scan();
 #endif
-    d_step {
-        cursor[s] = CLOSED; printf("subscription %d is cancelled\n", s);
-#ifndef WRONG_CANCELLED_BED_KEPT    /* it ends, and leaves its place as it is */
-        rise(SUBSCRIPTION_TABLE, subscription_bed[s], s + 1);
-#endif
-        assert(!LIES_IN(SUBSCRIPTION_TABLE, s + 1))
-    };
 #ifdef WRONG_CANCEL_HELPS_NOBODY    /* it lets in what waits, and wakes nobody but itself */
-    scan();
-    d_step { before = 0; if :: flag && !HAS_UNFINISHED -> flag = 0 :: else -> skip fi; mine = wakes; wakes = 0; locked = 0 };
+    d_step {
+        wake_ended(s + 1);
+        before = 0;
+        flag = HAS_UNFINISHED;
+        give_back(p)
+    };
     fire()
 #else
-#ifndef WRONG_CANCEL_LETS_NOBODY_IN
-    scan();
-#endif
-    leave(p)
+    leave(p, s + 1)
 #endif
 }
 
 /* Any other call that takes the lock, as SharedFlow::subscription_count. */
-inline look_in(p) { enter(p); scan(); leave(p) }
+inline look_in(p) { enter(p); scan(); leave(p, NOBODY) }
 
 #ifdef STOPS
 #include "stops.pml"
