@@ -5,6 +5,7 @@ pub mod Lives
 pub mod Makes
 pub mod Outstanding
 pub mod Policies
+pub mod Readings
 pub mod Rooms
 pub mod Rounds
 pub mod Settling

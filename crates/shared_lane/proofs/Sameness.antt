@@ -1,5 +1,7 @@
 -- It stays the same sequencer.
 use Rattle.std.proofs.Common.{ap, ◌∙◌}
+use Rattle.atomic_table.specs.Seated.{TableId}
+use Rattle.lane_steps.specs.declared.view.View.{View}
 use Rattle.shared_lane.specs.Views.{SequencerSeen}
 use Rattle.shared_lane.specs.Sequencers.{IsSameSequencer, OnlyLoaded}
 
@@ -18,3 +20,7 @@ same_twice q m t a b = (b.0 ∙ a.0, b.1 ∙ a.1, b.2 ∙ a.2, b.3 ∙ a.3, b.4 
 
 pub loaded_twice : (q m t : SequencerSeen) → OnlyLoaded q m → OnlyLoaded m t → OnlyLoaded q t
 loaded_twice q m t a b = (b.0 ∙ ap (λ (z : SequencerSeen). record z { view = t.view }) a.0, b.1 ∙ a.1, b.2 ∙ a.2, λ p. b.3 p ∙ a.3 p)
+
+-- what has changed is what its seat shows, and nothing beside it
+abbrev pub loaded_as : SequencerSeen → TableId → View → SequencerSeen
+loaded_as q table view = record q { table = table; view = view }

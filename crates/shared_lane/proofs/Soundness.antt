@@ -16,30 +16,6 @@ use Rattle.shared_lane.specs.Blocks.{accepted_all}
 use Rattle.shared_lane.proofs.Entries.{cached_after}
 use Rattle.shared_lane.proofs.Outstanding.{stand_on, stand_without}
 
-cached_on : (r : ℕ) (log : List Entry) (e : Entry) (ws : List ℕ) → IsLastOf log ws → IsLastOf (log ++ e ∷ []) (keep_last r (ws ++ e.1 ∷ []))
-cached_on r log e ws latest =
-    let words : map word_of (log ++ e ∷ []) ≡ map word_of log ++ e.1 ∷ [] = map-append word_of log (e ∷ []) in
-    subst (λ l. keep_last (length (keep_last r (ws ++ e.1 ∷ []))) l ≡ keep_last r (ws ++ e.1 ∷ [])) (sym words) (grind (arith, common_steps))
-
-pub sound_accepted : (q : SequencerSeen) (e : Entry) → IsSound q → next q + length q.waiting < 4611686018427387904 → IsSound (accepted_on e q)
-sound_accepted q e was below = let longer : length (q.view.seen ++ e ∷ []) ≡ length q.view.seen + 1 = length-append q.view.seen (e ∷ []) in record {
-  active = was.active;
-  no_flight = was.no_flight;
-  each_place_known = was.each_place_known;
-  some_place = was.some_place;
-  cells = was.cells;
-  drops = was.drops;
-  replay = was.replay;
-  few_tickets = was.few_tickets;
-  few_emits = was.few_emits;
-  numbers = omega arith;
-  tickets = was.tickets;
-  subscriptions = was.subscriptions;
-  waits = was.waits;
-  stands = stand_on q.view.shape.first q.view.seen (e ∷ []) q.standing was.stands;
-  cached = cached_on q.replay q.view.seen e q.cache was.cached;
-}
-
 pub sound_accepted_all : (q : SequencerSeen) (es : List Entry) → IsSound q → next q + length es + length q.waiting ≤ 4611686018427387904 → IsSound (accepted_all es q)
 sound_accepted_all q es was below = let longer : length (q.view.seen ++ es) ≡ length q.view.seen + length es = length-append q.view.seen es in record {
   active = was.active;
@@ -58,6 +34,10 @@ sound_accepted_all q es was below = let longer : length (q.view.seen ++ es) ≡ 
   stands = stand_on q.view.shape.first q.view.seen es q.standing was.stands;
   cached = cached_after q.replay q.view.seen es q.cache was.cached;
 }
+
+-- one emission is accepted as a list of one is
+pub sound_accepted : (q : SequencerSeen) (e : Entry) → IsSound q → next q + length q.waiting < 4611686018427387904 → IsSound (accepted_on e q)
+sound_accepted q e was below = sound_accepted_all q (e ∷ []) was (omega arith)
 
 pub sound_given_back : (i : ℕ) (q : SequencerSeen) → IsSound q → IsSound (given_back i q)
 sound_given_back i q was = let a = length-take i q.standing in let b = length-drop (suc i) q.standing in let c = length-append (take i q.standing) (drop (suc i) q.standing) in record {

@@ -11,6 +11,7 @@ use Rattle.lane_steps.specs.Layout.{tail_word, cursor_word, cell_index}
 use Rattle.lane_steps.specs.Steps.{position, got_picked, found_at}
 use Rattle.shared_lane.specs.Views.{LaneSeen, ReaderSeen}
 use Rattle.shared_lane.specs.Picks.{cell_loads}
+use Rattle.shared_lane.proofs.Readings.{found_itself}
 use Rattle.shared_lane.proofs.Stories.{position_found, found_twice, received_none, received_many, each_once}
 use Rattle.shared_lane.proofs.reader.Reader.try_next_all.Goals as goal
 
@@ -18,18 +19,10 @@ two_and : {A : Type 0} (l : List A) (a b : A) (m : List A) → ((l ++ a ∷ []) 
 two_and l a b m = append_assoc (l ++ a ∷ []) (b ∷ []) m ∙ append_assoc l (a ∷ []) (b ∷ m)
 
 pub invariant_of-self : goal.invariant_of-self
-invariant_of-self g c = let s = c.self.inside in let inv = c.self.invariant in let r : Reading = s.seat.me.0.reading in let n : ℕ = c.load_own-at.result in let own = c.load_own-at.ensures in let tail = c.load_tail-tail.ensures in
-    let e = ap (λ (v : View). v.reading) tail.view.0 ∙ ap (λ (v : View). v.reading) own.view.0 in let shape = ap (λ (v : View). v.shape) tail.view.0 ∙ ap (λ (v : View). v.shape) own.view.0 in
-    let of_lane : s.seat.me.0.shape ≡ c.words-words.result.now.shape = ap (λ (z : ReaderSeen). z.shape) c.self.view_is ∙ (c.requires.1 ∙ sym (ap (λ (z : LaneSeen). z.shape) c.words-words.ensures)) in record {
-      active = ap (λ (x : Reading). x.active) e ∙ inv.active;
-      holds_no_slot = tail.seat.2 ∙ own.seat.2 ∙ inv.holds_no_slot;
-      place_is = ap (λ (x : Reading). x.place) e ∙ inv.place_is;
-      inside = subst (λ (z : Shape). s.place < z.places) (sym shape) inv.inside;
-      start_is = ap (λ (x : Reading). x.start) e ∙ inv.start_is;
-      at_is = sym (ap position e ∙ position_found n r own.view.1);
-      cell_is = c.index_from-cell.ensures ∙ ap (λ (z : Shape). cell_index z n) (sym (shape ∙ of_lane));
-      taken_is = inv.taken_is ∙ sym (ap (λ (x : Reading). length (received s.start x.story)) e ∙ received_none s.start (n - position r) r.story);
-    }
+invariant_of-self g c = let s = c.self.inside in let n : ℕ = c.load_own-at.result in let own = c.load_own-at.ensures in let tail = c.load_tail-tail.ensures in
+    let of_lane = ap (λ (z : ReaderSeen). z.shape) c.self.view_is ∙ (c.requires.1 ∙ sym (ap (λ (z : LaneSeen). z.shape) c.words-words.ensures)) in
+    found_itself s.seat c.load_tail-tail.new.seat s.place s.start s.at s.cell s.taken n c.index_from-cell.result c.self.invariant (ap (λ (v : View). v.reading) tail.view.0 ∙ ap (λ (v : View). v.reading) own.view.0)
+    (ap (λ (v : View). v.shape) tail.view.0 ∙ ap (λ (v : View). v.shape) own.view.0) (tail.seat.2 ∙ own.seat.2) own.view.1 (c.index_from-cell.ensures ∙ ap (λ (z : Shape). cell_index z n) (sym of_lane))
 
 pub invariant_of-self-then-found-at : goal.invariant_of-self-then-found-at
 invariant_of-self-then-found-at g c = let s = c.self.inside in let inv = c.self.invariant in let r : Reading = s.seat.me.0.reading in let n : ℕ = c.load_own-at.result in let own = c.load_own-at.ensures in let tail = c.load_tail-tail.ensures in

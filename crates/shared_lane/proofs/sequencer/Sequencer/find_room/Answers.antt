@@ -8,6 +8,8 @@ use Rattle.shared_lane.specs.Views.{LaneSeen, SequencerSeen, sequencer_of}
 use Rattle.shared_lane.specs.Sequencers.{RoundedBy}
 use Rattle.shared_lane.specs.Surveys.{Round, FoundAt, Behind}
 use Rattle.shared_lane.proofs.Rounds.{roomy_cleared, roomy_found}
+use Rattle.atomic_table.specs.Seated.{TableId}
+use Rattle.shared_lane.proofs.Sameness.{loaded_as}
 use Rattle.shared_lane.proofs.sequencer.Sequencer.find_room.Goals as goal
 
 not_not : (b : Bool) → not (not b) ≡ b
@@ -34,19 +36,7 @@ returns g c = rw (← c.self.view_is) (let s = c.self.inside in let inv = c.self
     let ns : List ℕ = f.0 in let b : Bool = c.load_cursors.result.behind in let w : View = c.load_cursors.new.seat.me.0 in let lag = subst (λ (z : SequencerSeen). c.args.lag ≤ z.view.shape.cells) (sym c.self.view_is) c.requires.lag in
     let shape = ap (λ (z : SequencerSeen). z.view.shape) c.self.view_is ∙ (c.requires.lane.1 ∙ sym (ap (λ (z : LaneSeen). z.shape) c.words-words.ensures)) in let long = f.1 ∙ ap (λ (z : Shape). z.places) (sym shape) in record {
       only = (
-        (λ i. record {
-          table = c.load_cursors.ensures.seat.0 i;
-          view = w;
-          policy = s.policy;
-          capacity = s.capacity;
-          replay = s.cache.capacity;
-          emits = s.emits;
-          cache = s.cache.items;
-          waiting = s.waiting.items;
-          standing = s.standing.items;
-          ticket = s.ticket;
-          subscription = s.subscription;
-        }),
+        ap (λ (z : TableId). loaded_as q z w) c.load_cursors.ensures.seat.0,
         f.2.only.shape,
         f.2.only.seen,
         f.2.only.none_opened,

@@ -9,6 +9,8 @@ use Rattle.shared_lane.specs.Sequencers.{next, RoundedBy}
 use Rattle.shared_lane.specs.Surveys.{Round, FoundAt, Behind}
 use Rattle.shared_lane.specs.Blocks.{FindRoom, RoundedFor}
 use Rattle.shared_lane.proofs.Rooms.{room_found, room_kept}
+use Rattle.atomic_table.specs.Seated.{TableId}
+use Rattle.shared_lane.proofs.Sameness.{loaded_as}
 use Rattle.shared_lane.proofs.sequencer.Sequencer.find_room_for.Goals as goal
 
 none : (p : Policy) (q : SequencerSeen) (v : View) → (p ≡ DropOldest → ⊥) → ((ns : List ℕ) × (length ns ≡ q.view.shape.places) × Round FoundAt q.view ns v × Behind (next q) q.capacity ns true) → RoundedBy p q.capacity q false v
@@ -38,19 +40,7 @@ returns g c = rw (← c.self.view_is) (let s = c.self.inside in let inv = c.self
     let ns : List ℕ = f.0 in let k : ℕ = c.load_room.result in let w : View = c.load_room.new.seat.me.0 in let room = f.3 in let is = inv.tail_is in let most = c.requires.some in
     let shape = ap (λ (z : SequencerSeen). z.view.shape) c.self.view_is ∙ (c.requires.lane.1 ∙ sym (ap (λ (z : LaneSeen). z.shape) c.words-words.ensures)) in let long = f.1 ∙ ap (λ (z : Shape). z.places) (sym shape) in record {
       only = (
-        (λ i. record {
-          table = c.load_room.ensures.seat.0 i;
-          view = w;
-          policy = s.policy;
-          capacity = s.capacity;
-          replay = s.cache.capacity;
-          emits = s.emits;
-          cache = s.cache.items;
-          waiting = s.waiting.items;
-          standing = s.standing.items;
-          ticket = s.ticket;
-          subscription = s.subscription;
-        }),
+        ap (λ (z : TableId). loaded_as q z w) c.load_room.ensures.seat.0,
         f.2.only.shape,
         f.2.only.seen,
         f.2.only.none_opened,
