@@ -9,6 +9,7 @@ use message::Message;
 use shared_core::{Config, Policy};
 use shared_flow::{Emitter, Parker, Refusal, SharedFlow, Subscription};
 use std::alloc::AllocGlobal;
+use std::io::Print;
 use std::process::ExitCode;
 use std::random::RandomSource;
 use std::sync::Wait;
@@ -58,23 +59,61 @@ fn send_all(
     Ok(())
 }
 
+/// One sender, by an emitter of its own.
+fn send_by(
+    rt: &impl Wait,
+    bus: &mut SharedFlow<Message>,
+    parker: &mut Parker,
+    sender: u32,
+) -> Result<(), Refusal> {
+    let mut emitter = bus.emitter(rt, sender)?;
+    let sent = send_all(rt, &mut emitter, parker, sender);
+    emitter.close(rt);
+    sent
+}
+
 /// One sender's thread, with an owner of the bus that was moved into it.
 fn send<R>(rt: &R, mut bus: SharedFlow<Message>, sender: u32) -> Result<(), Refusal>
 where
     R: Wait + RandomSource + AllocGlobal,
 {
     let mut parker = Parker::new(rt)?;
-    let mut emitter = bus.emitter(rt, sender)?;
-    let sent = send_all(rt, &mut emitter, &mut parker, sender);
-    emitter.close(rt);
-    sent
+    send_by(rt, &mut bus, &mut parker, sender)
+}
+
+/// An owner of the bus for each sender.
+#[derive(Drop)]
+struct Senders {
+    one: SharedFlow<Message>,
+    other: SharedFlow<Message>,
+}
+
+impl Senders {
+    fn of(rt: &impl Wait, bus: &mut SharedFlow<Message>) -> Result<Senders, Refusal> {
+        let one = bus.dup(rt)?;
+        let other = bus.dup(rt)?;
+        Ok(Senders { one, other })
+    }
+
+    /// Both send, on two threads.
+    fn send<R>(self, rt: &R) -> Result<(), Refusal>
+    where
+        R: Wait + Threads + RandomSource + AllocGlobal + Sync,
+    {
+        let Senders { one, other } = self;
+        let (first, second) = thread::join(
+            rt,
+            move || send(rt, one, 1),
+            move || send(rt, other, 2),
+        );
+        first.and(second)
+    }
 }
 
 /// Both senders, and then the last message, which is sent also where a sender gave up: the listeners wait for it.
 fn send_both<R>(
     rt: &R,
-    one: SharedFlow<Message>,
-    other: SharedFlow<Message>,
+    senders: Senders,
     closing: &mut Emitter<Message>,
     parker: &mut Parker,
 ) -> Result<(), Refusal>
@@ -82,9 +121,9 @@ where
     R: Wait + Threads + RandomSource + AllocGlobal + Sync,
     requires { closing.old.ticket ≡ None }
 {
-    let (first, second) = thread::join(rt, move || send(rt, one, 1), move || send(rt, other, 2));
+    let sent = senders.send(rt);
     closing.emit(rt, parker, END)?;
-    first.and(second)
+    sent
 }
 
 /// Listens up to the last message of all. The thread sleeps while none is there.
@@ -115,7 +154,62 @@ where
     heard
 }
 
-/// All threads but the late listener's. Where no thread can be had, `join` calls the second closure first, so the senders stand there.
+/// Both listeners, on two threads.
+fn listen_both<R>(
+    rt: &R,
+    one: &mut Subscription<Message>,
+    other: &mut Subscription<Message>,
+) -> Result<(Vec<Message>, Vec<Message>), Refusal>
+where
+    R: Wait + Threads + RandomSource + AllocGlobal + Sync,
+{
+    let (one, other) = thread::join(rt, || listen(rt, one), || listen(rt, other));
+    Ok((one?, other?))
+}
+
+/// Listeners and senders at once. Where no thread can be had, `join` calls the second closure first, so the senders stand there.
+fn exchange<R>(
+    rt: &R,
+    senders: Senders,
+    closing: &mut Emitter<Message>,
+    parker: &mut Parker,
+    one: &mut Subscription<Message>,
+    other: &mut Subscription<Message>,
+) -> Result<(Vec<Message>, Vec<Message>), Refusal>
+where
+    R: Wait + Threads + RandomSource + AllocGlobal + Sync,
+    requires { closing.old.ticket ≡ None }
+{
+    let (heard, sent) = thread::join(
+        rt,
+        || listen_both(rt, one, other),
+        ||
+            requires { closing.now.ticket ≡ None }
+        { send_both(rt, senders, closing, parker) },
+    );
+    sent?;
+    heard
+}
+
+/// All threads but the late listener's, with an emitter for the last message.
+fn hear_by<R>(
+    rt: &R,
+    bus: &mut SharedFlow<Message>,
+    parker: &mut Parker,
+    one: &mut Subscription<Message>,
+    other: &mut Subscription<Message>,
+) -> Result<(Vec<Message>, Vec<Message>), Refusal>
+where
+    R: Wait + Threads + RandomSource + AllocGlobal + Sync,
+{
+    let senders = Senders::of(rt, bus)?;
+    let mut closing = bus.emitter(rt, 0)?;
+    let heard = exchange(rt, senders, &mut closing, parker, one, other);
+    closing.close(rt);
+    heard
+}
+
+/// All threads but the late listener's. What they need is made before they start, and lent to them.
 fn hear_both<R>(
     rt: &R,
     bus: &mut SharedFlow<Message>,
@@ -125,41 +219,44 @@ fn hear_both<R>(
 where
     R: Wait + Threads + RandomSource + AllocGlobal + Sync,
 {
-    let first = bus.dup(rt)?;
-    let second = bus.dup(rt)?;
     let mut parker = Parker::new(rt)?;
-    let mut closing = bus.emitter(rt, 0)?;
-    let ((one, other), sent) = thread::join(
-        rt,
-        || thread::join(rt, || listen(rt, one), || listen(rt, other)),
-        ||
-            requires { closing.ticket ≡ None }
-        { send_both(rt, first, second, &mut closing, &mut parker) },
-    );
-    closing.close(rt);
-    sent?;
-    Ok((one?, other?))
+    hear_by(rt, bus, &mut parker, one, other)
 }
 
-/// The bus with two listeners from the start, and one who comes when all is over.
-fn run<R>(rt: &R) -> Result<Heard, Refusal>
+/// Two listeners from the start, up to the last message.
+fn hear<R>(rt: &R, bus: &mut SharedFlow<Message>) -> Result<(Vec<Message>, Vec<Message>), Refusal>
 where
     R: Wait + Threads + RandomSource + AllocGlobal + Sync,
 {
-    let mut bus = SharedFlow::new(rt.alloc(), BUS)?;
     let mut first = bus.subscribe(rt)?;
     let heard = match bus.subscribe(rt) {
         Ok(mut second) => {
-            let heard = hear_both(rt, &mut bus, &mut first, &mut second);
+            let heard = hear_both(rt, bus, &mut first, &mut second);
             second.cancel(rt);
             heard
         }
         Err(refusal) => Err(refusal),
     };
     first.cancel(rt);
-    let (one, other) = heard?;
-    let late = listen_late(rt, &mut bus)?;
+    heard
+}
+
+/// The bus with two listeners from the start, and one who comes when all is over.
+fn run_on<R>(rt: &R, bus: &mut SharedFlow<Message>) -> Result<Heard, Refusal>
+where
+    R: Wait + Threads + RandomSource + AllocGlobal + Sync,
+{
+    let (one, other) = hear(rt, bus)?;
+    let late = listen_late(rt, bus)?;
     Ok(Heard { one, other, late })
+}
+
+fn run<R>(rt: &R) -> Result<Heard, Refusal>
+where
+    R: Wait + Threads + RandomSource + AllocGlobal + Sync,
+{
+    let mut bus = SharedFlow::new(rt.alloc(), BUS)?;
+    run_on(rt, &mut bus)
 }
 
 /// Whether the messages of a sender are all there, in its order.
@@ -168,15 +265,21 @@ fn is_in_order(heard: &[Message], sender: u32) -> bool {
     sent.map(|message| message.number).eq(1..=EACH)
 }
 
+/// Says what was heard.
+fn tell(rt: &impl Print, heard: &Heard) -> io::Result<()> {
+    let Heard { one, other, late } = heard;
+    let is_same = one == other;
+    let are_in_order = is_in_order(one, 1) && is_in_order(one, 2);
+    let are_last = one.as_slice().ends_with(late.as_slice());
+    println!(rt; "heard: {}, by both the same: {is_same}", one.len())?;
+    println!(rt; "each sender in order: {are_in_order}")?;
+    println!(rt; "late: {}, the last ones: {are_last}", late.len())
+}
+
 fn main(rt: HostRuntime) -> io::Result<ExitCode> {
     match run(&rt) {
-        Ok(Heard { one, other, late }) => {
-            let is_same = one == other;
-            let are_in_order = is_in_order(&one, 1) && is_in_order(&one, 2);
-            let are_last = one.as_slice().ends_with(late.as_slice());
-            println!(rt; "heard: {}, by both the same: {is_same}", one.len())?;
-            println!(rt; "each sender in order: {are_in_order}")?;
-            println!(rt; "late: {}, the last ones: {are_last}", late.len())?;
+        Ok(heard) => {
+            tell(&rt, &heard)?;
             Ok(ExitCode::SUCCESS)
         }
         Err(refusal) => {
