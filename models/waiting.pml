@@ -711,7 +711,7 @@ inline poll_next(p, s) {
     if :: got -> skip :: else -> look_again(p, s) fi
 }
 
-/* Subscription::look_on: any number of looks, of which the code makes at most four. */
+/* Subscription::next_soon: any number of looks, of which the code makes at most four. */
 inline look_on(p, s) {
     do
     :: got -> break
@@ -725,7 +725,7 @@ inline look_on(p, s) {
     od
 }
 
-/* Subscription::next, with wait_for_next and look_on */
+/* Subscription::next, with wait_for_next and next_soon */
 inline next(p, s) {
     look(p, s);
     if

@@ -4,10 +4,11 @@ use Rattle.shared_lane.specs.Views.{ReaderSeen}
 use Rattle.shared_flow.specs.declared.round.Round.TheVariants as round
 use Rattle.shared_flow.specs.Entering.{Made}
 use Rattle.shared_flow.specs.Parties.{Subscribed}
-use Rattle.shared_flow.specs.Looks.{Gave, GaveIn, Missed, MissedOn, MissedTwice, OnlyNext, Waited, by_none, not_once, once_more}
-use Rattle.shared_flow.specs.Preludes.{IsPast, GreetedOr}
+use Rattle.shared_flow.specs.Looks.{Gave, GaveIn, HasMadeRoom, MadeRoom, Missed, MissedOn, MissedTwice, OnlyLooked, OnlyNext, Waited, by_none, not_once, once_more}
+use Rattle.shared_flow.specs.Preludes.{IsGreeted, IsPast, GreetedOr}
 use Rattle.shared_flow.proofs.Takes.{only_next_then}
-use Rattle.shared_flow.proofs.Waiting.{only_next, waited_on}
+use Rattle.shared_flow.proofs.Receiving.{has_room}
+use Rattle.shared_flow.proofs.Waiting.{only_next, only_pending, waited_on}
 use Rattle.flow_stopping.specs.declared.answers.Received.{Received}
 use Rattle.flow_stopping.specs.declared.answers.Received.TheVariants as received
 use Rattle.flow_stopping.specs.Waits.{LookedOn, Receives}
@@ -27,20 +28,22 @@ pub past_since : {T : Type 0} (s m : Subscribed T) → LookedOn s m → m.rest �
 past_since s m looked none = ⊎_elim (λ same. sym (ap (λ (x : Subscribed _). x.rest) same) ∙ none) (λ more. more.2.0) looked
 
 -- looks that took nothing, and made no round
-pub looked_soon : {T : Type 0} (s m : Subscribed T) → m.number ≡ s.number → m.party ≡ s.party → IsPast s m → MissedOn s.reader m.reader → LookedOn s m
-looked_soon s m number party past missed = inr (number, subst (OnlyNext s.number s.party) (sym party) (by_none s.party), past, missed)
+pub looked_soon : {T : Type 0} (s m : Subscribed T) → IsPast s m × OnlyLooked s m × MissedOn s.reader m.reader → LookedOn s m
+looked_soon {T} s m it =
+    let party = ap (λ (x : Subscribed T). x.party) it.1 in
+    inr (ap (λ (x : Subscribed T). x.number) it.1, subst (OnlyNext s.number s.party) (sym party) (by_none s.party), it.0, it.2)
 
-pub looked_once : {T : Type 0} (s m : Subscribed T) → m.number ≡ s.number → m.party ≡ s.party → IsPast s m → Missed s.reader m.reader → LookedOn s m
-looked_once s m number party past missed = looked_soon s m number party past (once_more s.reader s.reader m.reader (not_once s.reader) missed)
+pub looked_once : {T : Type 0} (s m : Subscribed T) → IsPast s m × OnlyLooked s m × Missed s.reader m.reader → LookedOn s m
+looked_once s m it = looked_soon s m (it.0, it.1, once_more s.reader s.reader m.reader (not_once s.reader) it.2)
 
 -- one more poll that is pending
-pub looked_on : {T : Type 0} (s m t : Subscribed T) → LookedOn s m → t.number ≡ m.number → Made (round.Next m.number) m.party t.party → IsPast m t
+pub looked_on : {T : Type 0} (s m t : Subscribed T) → LookedOn s m → t.number ≡ m.number → Made (round.Pending m.number) m.party t.party → IsPast m t
     → MissedTwice m.reader t.reader → LookedOn s t
 looked_on s m t looked number made past twice =
     let before = since s m looked in
     inr (
       number ∙ before.0,
-      only_next s.number m.number s.party m.party t.party before.0 before.1 (inr made),
+      only_pending s.number m.number s.party m.party t.party before.0 before.1 made,
       (past_since s m looked past.0, past.1),
       once_more s.reader twice.0 t.reader (once_more s.reader m.reader twice.0 before.2 twice.1) twice.2,
     )
@@ -99,6 +102,33 @@ received_since read_as s m t v looked gave =
 pub rounds_since : {T : Type 0} (s m t : Subscribed T) → LookedOn s m → (t.party ≡ m.party) ⊎ Made (round.Next m.number) m.party t.party → OnlyNext s.number s.party t.party
 rounds_since s m t looked more = only_next s.number m.number s.party m.party t.party (since s m looked).0 (since s m looked).1 more
 
+-- a value after looks made room
+pub room_then : {T : Type 0} (s m t : Subscribed T) (v : T) → LookedOn s m → IsGreeted m v t ⊎ HasMadeRoom m t → IsGreeted s v t ⊎ HasMadeRoom s t
+room_then {T} s m t v looked room =
+    ⊎_elim
+    (λ same. subst (λ (x : Subscribed T). IsGreeted x v t ⊎ HasMadeRoom x t) same room)
+    (λ more.
+    ⊎_elim
+    (λ greeted.
+    let none = more.2.1 in
+    let some = greeted.0 in
+    let no : ⊥ = cc in
+    absurd no)
+    (λ made. inr (record {
+      before = made.before;
+      after = made.after;
+      same = made.same ∙ more.0;
+      rounds = only_next_then s.number m.number s.party m.party made.before.party more.0 more.1 made.rounds;
+      made_room = made.made_room;
+      then = made.then;
+      took_none = made.took_none;
+    }))
+    room)
+    looked
+
+pub room_now : {T : Type 0} (s t : Subscribed T) (v : T) → IsGreeted s v t ⊎ MadeRoom s t → IsGreeted s v t ⊎ HasMadeRoom s t
+room_now s t v room = ⊎_elim (λ greeted. inl greeted) (λ made. inr (has_room s s t refl (by_none s.party) made)) room
+
 -- a wait after looks
 pub receives_then : {T : Type 0} (read_as : ℕ → T) (s m t : Subscribed T) (answer : Received T) → LookedOn s m → Receives read_as m (Ok answer) t
     → Receives read_as s (Ok answer) t
@@ -107,5 +137,6 @@ receives_then read_as s m t (received.Value v) looked came =
       came.0 ∙ before.0,
       only_next_then s.number m.number s.party m.party t.party before.0 before.1 came.1,
       waited_then read_as s m t v looked came.2,
+      room_then s m t v looked came.3,
     )
 receives_then read_as s m t received.Stopped looked came = looked_then s m t looked came

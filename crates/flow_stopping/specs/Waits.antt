@@ -7,8 +7,8 @@ use Rattle.shared_flow.specs.declared.round.Emission.{Emission}
 use Rattle.shared_flow.specs.Parties.{Emitting, Subscribed}
 use Rattle.shared_flow.specs.Emitters.{WasStarted, WasFinished, WasLeft, WasWithdrawn}
 use Rattle.shared_flow.specs.Emitters as emitters
-use Rattle.shared_flow.specs.Looks.{MissedOn, OnlyNext, Waited}
-use Rattle.shared_flow.specs.Preludes.{IsPast, GreetedOr}
+use Rattle.shared_flow.specs.Looks.{HasMadeRoom, MissedOn, OnlyNext, Waited}
+use Rattle.shared_flow.specs.Preludes.{IsGreeted, IsPast, GreetedOr}
 use Rattle.flow_stopping.specs.declared.answers.Received.{Received}
 use Rattle.flow_stopping.specs.declared.answers.Received.TheVariants as received
 use Rattle.flow_stopping.specs.declared.answers.Emitted.{Emitted}
@@ -23,6 +23,7 @@ LookedOn s t = (t ≡ s) ⊎ ((t.number ≡ s.number) × OnlyNext s.number s.par
 abbrev pub Receives : {T : Type 0} → (ℕ → T) → Subscribed T → Result (Received T) Refusal → Subscribed T → Type 0
 Receives read_as s (Ok (received.Value v)) t =
     (t.number ≡ s.number) × OnlyNext s.number s.party t.party × GreetedOr s v t (Waited read_as s.reader v t.reader)
+    × (IsGreeted s v t ⊎ HasMadeRoom s t)
 Receives read_as s (Ok received.Stopped) t = LookedOn s t
 Receives read_as s (Err refusal) t = (refusal ≡ NoMemory) × (t ≡ s)
 

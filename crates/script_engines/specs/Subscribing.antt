@@ -37,7 +37,7 @@ Subscribes old prelude (Err refusal) new = ((16 < length prelude) × (refusal �
 abbrev pub Looks : Subscribed ℕ → Next ℕ → Subscribed ℕ → Type 0
 Looks s (Value v) t = ((t.party ≡ s.party) ⊎ Made (round.Next s.number) s.party t.party) × (t.number ≡ s.number)
     × GreetedOr s v t (GaveIn (λ w. w) s.reader v t.reader)
-Looks s Nothing t = Made (round.Next s.number) s.party t.party × (t.number ≡ s.number) × IsPast s t × MissedTwice s.reader t.reader
+Looks s Nothing t = Made (round.Pending s.number) s.party t.party × (t.number ≡ s.number) × IsPast s t × MissedTwice s.reader t.reader
 Looks s Closed t = ⊥
 
 -- what stands at a place looked, if a subscription does

@@ -1,5 +1,8 @@
 -- A call, and its round, put together from their parts.
-use Rattle.std.proofs.Common.{rules, ◌≡◌, ◌≢◌, ◌⊎◌, ◌<◌, ◌≤◌, Result, Ok, Err, IfOk, IfErr, OnOk, OnErr, refl, sym, subst, ◌∙◌, inl, ap, ℕ, Option, Some, None}
+use Rattle.std.proofs.Common.{rules, ◌≡◌, ◌≢◌, ◌⊎◌, ⊎_elim, ◌<◌, ◌≤◌, Bool, false, Result, Ok, Err, IfOk, IfErr, IfSome, IfNone, OnOk, OnErr, refl, sym, subst, ◌∙◌, inl, inr, ap, ℕ, Option, Some, None}
+use Rattle.std.proofs.lemmas.Option.{same_Some}
+use Rattle.flow_terms.specs.declared.answers.Begun.{Begun}
+use Rattle.flow_terms.specs.declared.answers.Begun.TheVariants as begun
 use Rattle.flow_terms.specs.declared.answers.Emit.{Emit}
 use Rattle.flow_terms.specs.declared.answers.Emit.TheVariants as emit
 use Rattle.flow_terms.specs.declared.answers.Withdrawn.{Withdrawn}
@@ -7,17 +10,22 @@ use Rattle.flow_terms.specs.declared.answers.Withdrawn.TheVariants as withdrawn
 use Rattle.flow_terms.specs.declared.ids.Ticket.{Ticket}
 use Rattle.flow_terms.specs.declared.refusal.Refusal.{Refusal}
 use Rattle.flow_terms.specs.declared.refusal.Refusal.TheVariants.{Spent, SubscribersFull}
-use Rattle.shared_lane.specs.Views.{ReceiptSeen, SequencerSeen}
+use Rattle.shared_lane.specs.declared.reader.Taken.{Taken}
+use Rattle.shared_lane.specs.declared.reader.Taken.TheVariants.{Value, Nothing, Overtaken}
+use Rattle.shared_lane.specs.Polls.{IsOutFor, IsNotOut, PolledOn, WithdrawnFrom}
+use Rattle.shared_lane.specs.Views.{LaneSeen, ReceiptSeen, SequencerSeen}
 use Rattle.shared_lane.specs.Sequencers.{IsSameSequencer, OnlyLoaded, AfterScan, next}
 use Rattle.shared_lane.specs.Places.{NotLetIn}
 use Rattle.shared_lane.proofs.Sameness.{loaded_twice}
+use Rattle.shared_flow.specs.declared.round.Emission.{Emission}
 use Rattle.shared_flow.specs.declared.round.Round.{Round}
 use Rattle.shared_flow.specs.declared.round.Round.TheVariants as round
 use Rattle.shared_flow.specs.Entering.{IsCalled}
 use Rattle.shared_flow.specs.Names.{SharedSeen}
+use Rattle.shared_flow.specs.Parties.{ticket_of}
 use Rattle.shared_flow.proofs.Numbers.{same_log}
 use Rattle.shared_flow.specs.Reach.{Reach}
-use Rattle.shared_flow.specs.Rounds.{Makes, Scanned, Comes, Does, Frees, poll_round, withdraw_round}
+use Rattle.shared_flow.specs.Rounds.{Makes, Scanned, Comes, Does, Frees, Watched, IsStray, IsNotAfter, IsReceiptAfter, look_round, number_done, number_left, numbers_begun, poll_round, withdraw_round}
 use Rattle.shared_flow.specs.Sleeping.{LiesDown, NobodySleeps, OnlyThese}
 use Rattle.shared_flow.specs.Waking.{Helps, Lies, SleepOn, IsTied, IsUnfinished, WakesEmissions, ended_by}
 
@@ -43,31 +51,45 @@ pub same_through : (q m t : SequencerSeen) → IsSameSequencer q m → IsSameSeq
 same_through q m t a b = (b.0 ∙ a.0, b.1 ∙ a.1, b.2 ∙ a.2, b.3 ∙ a.3, b.4 ∙ a.4, b.5 ∙ a.5)
 
 -- a call that was made after what waited was let in
-pub comes : (s t : SharedSeen) (r : Round) → t.name ≡ s.name → IsSameSequencer s.sequencer t.sequencer → AfterScan s.sequencer (λ x. Makes s.name.lane x r t.sequencer) → Frees (ended_by r) t.sequencer t.sequencer → Comes s r t
+pub comes : (s t : SharedSeen) (r : Round) → t.name ≡ s.name → IsSameSequencer s.sequencer t.sequencer → AfterScan s.sequencer (λ x. Makes s.name.lane x r t.sequencer) → Frees r t.sequencer t.sequencer → Comes s r t
 comes s t r named same made frees = (named, same, (made.0, made.1, made.2, made.3, made.4, (t.sequencer, made.5, (t.sequencer, inl refl, (refl, refl, refl, λ _. refl)), frees)))
 
 -- the same, where what waits may have been let in once more
 pub comes_again : (s m t : SharedSeen) (r : Round) → m.name ≡ s.name → IsSameSequencer s.sequencer m.sequencer → AfterScan s.sequencer (λ x. Makes s.name.lane x r m.sequencer)
-    → t.name ≡ m.name → IsSameSequencer m.sequencer t.sequencer → (t.sequencer ≡ m.sequencer) ⊎ Scanned m.sequencer t.sequencer → Frees (ended_by r) m.sequencer t.sequencer → Comes s r t
+    → t.name ≡ m.name → IsSameSequencer m.sequencer t.sequencer → (t.sequencer ≡ m.sequencer) ⊎ Scanned m.sequencer t.sequencer → Frees r m.sequencer t.sequencer → Comes s r t
 comes_again s m t r named same made still kept again frees = (
   still ∙ named,
   same_through s.sequencer m.sequencer t.sequencer same kept,
   (made.0, made.1, made.2, made.3, made.4, (m.sequencer, made.5, (t.sequencer, again, (refl, refl, refl, λ _. refl)), frees)),
 )
 
--- looks at the cursors after what was let in at the end of a subscription
-frees_on : (ended : Option ℕ) (q m t : SequencerSeen) → Frees ended q m → OnlyLoaded m t → Frees ended q t
-frees_on None q m t frees only = tt
-frees_on (Some number) q m t frees only = (frees.0, frees.1, loaded_twice frees.0 m t frees.2 only)
+-- looks at the cursors after what was let in once more
+frees_on : (r : Round) (q m t : SequencerSeen) → Frees r q m → OnlyLoaded m t → Frees r q t
+frees_on (round.Cancel number) q m t frees only = (frees.0, frees.1, loaded_twice frees.0 m t frees.2 only)
+frees_on (round.Start e (Ok (begun.Waiting ticket))) q m t frees only = (frees.0, frees.1, loaded_twice frees.0 m t frees.2 only)
+frees_on _ q m t frees only = tt
 
--- neither a poll nor a withdrawal ends a subscription
-pub polled_frees : (ticket : Ticket) (id : ℕ) (last : Option ℕ) (answer : Emit) (receipt : Option ReceiptSeen) (q t : SequencerSeen) → Frees (ended_by (poll_round ticket id last answer receipt)) q t
+-- where an emission has to wait what waits was let in once more
+pub watched_frees : (e : Emission) (b : Result (Begun ReceiptSeen Ticket) Refusal) (q t : SequencerSeen) → Watched (ticket_of b) q t → Frees (round.Start e (numbers_begun b)) q t
+watched_frees e (Ok (begun.Waiting ticket)) q t watched = (t, watched, (refl, refl, refl, λ _. refl))
+watched_frees e (Ok (begun.Accepted receipt)) q t watched = tt
+watched_frees e (Ok begun.Dropped) q t watched = tt
+watched_frees e (Err refusal) q t watched = tt
+
+pub watched_rests : (b : Result (Begun ReceiptSeen Ticket) Refusal) (q t : SequencerSeen) → Watched (ticket_of b) q t → (t ≡ q) ⊎ Scanned q t
+watched_rests (Ok (begun.Waiting ticket)) q t watched = inr watched
+watched_rests (Ok (begun.Accepted receipt)) q t watched = inl watched
+watched_rests (Ok begun.Dropped) q t watched = inl watched
+watched_rests (Err refusal) q t watched = inl watched
+
+-- neither a poll nor a withdrawal lets in once more
+pub polled_frees : (ticket : Ticket) (id : ℕ) (last : Option ℕ) (answer : Emit) (receipt : Option ReceiptSeen) (q t : SequencerSeen) → Frees (poll_round ticket id last answer receipt) q t
 polled_frees ticket id last (emit.Done n) (Some r) q t = tt
 polled_frees ticket id last (emit.Done n) None q t = tt
 polled_frees ticket id last emit.Waiting receipt q t = tt
 polled_frees ticket id last emit.Gone receipt q t = tt
 
-pub withdrawn_frees : (ticket : Ticket) (id : ℕ) (last : Option ℕ) (answer : Withdrawn ℕ) (receipt : Option ReceiptSeen) (q t : SequencerSeen) → Frees (ended_by (withdraw_round ticket id last answer receipt)) q t
+pub withdrawn_frees : (ticket : Ticket) (id : ℕ) (last : Option ℕ) (answer : Withdrawn ℕ) (receipt : Option ReceiptSeen) (q t : SequencerSeen) → Frees (withdraw_round ticket id last answer receipt) q t
 withdrawn_frees ticket id last (withdrawn.Left n) (Some r) q t = tt
 withdrawn_frees ticket id last (withdrawn.Left n) None q t = tt
 withdrawn_frees ticket id last withdrawn.Removed receipt q t = tt
@@ -80,7 +102,7 @@ does_on s x t r came lies helps =
     let rests = made.5.2 in (
       helps.named ∙ came.0,
       same_through s.sequencer x.sequencer t.sequencer came.1 helps.same,
-      (made.0, made.1, made.2, made.3, made.4, (made.5.0, made.5.1, (rests.0, rests.1, loaded_twice rests.0 x.sequencer t.sequencer rests.2 helps.only), frees_on (ended_by r) made.5.0 x.sequencer t.sequencer made.5.3 helps.only)),
+      (made.0, made.1, made.2, made.3, made.4, (made.5.0, made.5.1, (rests.0, rests.1, loaded_twice rests.0 x.sequencer t.sequencer rests.2 helps.only), frees_on r made.5.0 x.sequencer t.sequencer made.5.3 helps.only)),
       record { called = x; lies = lies; helps = helps },
     )
 
@@ -108,19 +130,71 @@ helped_on before ended s a b is accepted none named same only subs woken tied =
       tied = tied;
     }
 
+-- why a receipt is missing for a ticket that stood for an accepted emission
+stray : (q : SequencerSeen) (ticket emitter : ℕ) (last : Option ℕ) (n : ℕ) (is_own : Bool) → (is_own ≡ false → IsNotOut q ticket ⊎ ((x : ℕ) × (x ≢ emitter) × IsOutFor q ticket x))
+    → (is_own ≡ false) ⊎ IsNotAfter last n → IsStray q ticket emitter last n
+stray q ticket emitter last n is_own other none = ⊎_elim
+    (λ not. ⊎_elim (λ out. inl out) (λ foreign. inr (inl foreign)) (other not))
+    (λ few. inr (inr few))
+    none
+
+-- a poll of a ticket, with a receipt for an own emission that is finished
+pub polled_makes : (lane : LaneSeen) (q t : SequencerSeen) (ticket : Ticket) (emitter : ℕ) (last : Option ℕ) (answer : Emit) (receipt : Option ReceiptSeen) (is_own : Bool) → PolledOn q ticket.0 answer t
+    → (is_own ≡ false → IsNotOut q ticket.0 ⊎ ((x : ℕ) × (x ≢ emitter) × IsOutFor q ticket.0 x)) → IfNone receipt (IfSome (number_done answer) (λ n. (is_own ≡ false) ⊎ IsNotAfter last n))
+    → Makes lane q (poll_round ticket emitter last answer receipt) t
+polled_makes lane q t ticket emitter last (emit.Done n) (Some r) is_own polled other none = polled
+polled_makes lane q t ticket emitter last (emit.Done n) None is_own polled other none = (polled, stray q ticket.0 emitter last n is_own other none)
+polled_makes lane q t ticket emitter last emit.Waiting receipt is_own polled other none = polled
+polled_makes lane q t ticket emitter last emit.Gone receipt is_own polled other none = polled
+
+-- a withdrawal, in the same way
+pub withdrawn_makes : (lane : LaneSeen) (q t : SequencerSeen) (ticket : Ticket) (emitter : ℕ) (last : Option ℕ) (answer : Withdrawn ℕ) (receipt : Option ReceiptSeen) (is_own : Bool) → WithdrawnFrom q ticket.0 answer t
+    → (is_own ≡ false → IsNotOut q ticket.0 ⊎ ((x : ℕ) × (x ≢ emitter) × IsOutFor q ticket.0 x)) → IfNone receipt (IfSome (number_left answer) (λ n. (is_own ≡ false) ⊎ IsNotAfter last n))
+    → Makes lane q (withdraw_round ticket emitter last answer receipt) t
+withdrawn_makes lane q t ticket emitter last (withdrawn.Left n) (Some r) is_own gave other none = gave
+withdrawn_makes lane q t ticket emitter last (withdrawn.Left n) None is_own gave other none = (gave, stray q ticket.0 emitter last n is_own other none)
+withdrawn_makes lane q t ticket emitter last withdrawn.Removed receipt is_own gave other none = gave
+withdrawn_makes lane q t ticket emitter last withdrawn.Gone receipt is_own gave other none = gave
+
+-- the receipt of a poll is for the number that it found
+pub done_receipt : (lane : LaneSeen) (emitter : ℕ) (last : Option ℕ) (answer : Emit) (receipt : Option ReceiptSeen) → IfSome receipt (λ r. (number_done answer ≡ Some r.number) × IsReceiptAfter lane emitter last r)
+    → IfSome receipt (λ r. (answer ≡ emit.Done r.number) × IsReceiptAfter lane emitter last r)
+done_receipt lane emitter last answer None it = tt
+done_receipt lane emitter last (emit.Done n) (Some r) it = (ap (λ k. emit.Done k) (same_Some _ _ it.0), it.1)
+done_receipt lane emitter last emit.Waiting (Some r) it = let no : ⊥ = cc (it.0) in absurd no
+done_receipt lane emitter last emit.Gone (Some r) it = let no : ⊥ = cc (it.0) in absurd no
+
+pub left_receipt : (lane : LaneSeen) (emitter : ℕ) (last : Option ℕ) (answer : Withdrawn ℕ) (receipt : Option ReceiptSeen) → IfSome receipt (λ r. (number_left answer ≡ Some r.number) × IsReceiptAfter lane emitter last r)
+    → IfSome receipt (λ r. (answer ≡ withdrawn.Left r.number) × IsReceiptAfter lane emitter last r)
+left_receipt lane emitter last answer None it = tt
+left_receipt lane emitter last (withdrawn.Left n) (Some r) it = (ap (λ k. withdrawn.Left k) (same_Some _ _ it.0), it.1)
+left_receipt lane emitter last withdrawn.Removed (Some r) it = let no : ⊥ = cc (it.0) in absurd no
+left_receipt lane emitter last withdrawn.Gone (Some r) it = let no : ⊥ = cc (it.0) in absurd no
+
 -- those were helped whom a round helps
 pub helped_by : (before : ℕ) (s x t : SharedSeen) (r : Round) (ended : Option ℕ) → before ≡ next s.sequencer → ended ≡ ended_by r → Helps before ended x t → Helps (next s.sequencer) (ended_by r) x t
 helped_by before s x t r ended since is helps = subst (λ e. Helps (next s.sequencer) e x t) is (subst (λ n. Helps n ended x t) since helps)
 
--- a look of a subscription where nobody lay down
-pub none_lies : (s t : SharedSeen) (number : ℕ) → SleepOn s t → Lies s (round.Next number) t
+-- a look under the lock changes nothing of the sequencer, whatever it finds
+pub look_makes : (lane : LaneSeen) (q : SequencerSeen) (number : ℕ) (found : Taken ℕ) → Makes lane q (look_round number found) q
+look_makes lane q number (Value word) = refl
+look_makes lane q number Nothing = refl
+look_makes lane q number Overtaken = refl
+
+pub look_frees : (q t : SequencerSeen) (number : ℕ) (found : Taken ℕ) → Frees (look_round number found) q t
+look_frees q t number (Value word) = tt
+look_frees q t number Nothing = tt
+look_frees q t number Overtaken = tt
+
+-- a poll of a subscription without a value, where nobody lay down
+pub none_lies : (s t : SharedSeen) (number : ℕ) → SleepOn s t → Lies s (round.Pending number) t
 none_lies s t number same = (subst (LiesDown number s.subscriptions) (sym same.0) (λ key. inl refl), same.1)
 
 -- a subscription that took nothing lay down
-pub lay_down : (s x t : SharedSeen) (number : ℕ) → Comes s (round.Next number) x → SleepOn s x → t ≡ record x { subscriptions = t.subscriptions }
-    → LiesDown number x.subscriptions t.subscriptions → Comes s (round.Next number) t × Lies s (round.Next number) t
+pub lay_down : (s x t : SharedSeen) (number : ℕ) → Comes s (round.Pending number) x → SleepOn s x → t ≡ record x { subscriptions = t.subscriptions }
+    → LiesDown number x.subscriptions t.subscriptions → Comes s (round.Pending number) t × Lies s (round.Pending number) t
 lay_down s x t number came asleep same lies = (
-  subst (Comes s (round.Next number)) (sym same) came,
+  subst (Comes s (round.Pending number)) (sym same) came,
   (subst (λ l. LiesDown number l t.subscriptions) asleep.0 lies, ap (λ (z : SharedSeen). z.emissions) same ∙ asleep.1),
 )
 

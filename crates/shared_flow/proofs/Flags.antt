@@ -1,5 +1,5 @@
 -- Each step on the flag keeps its law.
-use Rattle.std.proofs.Common.{◌≡◌, ◌≢◌, ◌⊎◌, ℕ, zero, suc, true, false, true≢false, List, [], ◌∷◌, ◌++◌, get_or, set, sym, refl, ap, ◌∙◌, ⊎_elim}
+use Rattle.std.proofs.Common.{◌≡◌, ◌≢◌, ◌⊎◌, ℕ, zero, suc, true, false, true≢false, List, [], ◌∷◌, get_or, set, sym, refl, ap, ◌∙◌, ⊎_elim}
 use mathlib.Core.Option.{some, some-injective, some-ne-none}
 use lib.ListN.{get_elem?}
 use Rattle.atomic_table.specs.Table.{State, Me, keeps, Allows, Splits, opening}
@@ -41,16 +41,16 @@ module _ {S : Type 0} where
       (λ (t : (j ≢ id) × (get_elem? s.views j ≡ some v)). r.each j v t.1 keeping)
       (at_set s.views id j w v here)
 
-  pub looks : (slots id : ℕ) (me : Me S FlagView) → Allows FlagLaw slots id me 0 (λ n. n) (λ n now. now ≡ (seen_there me.0 n, me.1))
-  looks slots id me s r many at wide = let n = get_or s.words 0 0 in (
-    seen_there me.0 n,
+  pub looks : (slots id position : ℕ) (me : Me S FlagView) → Allows FlagLaw slots id me 0 (λ n. n) (λ n now. now ≡ (seen_there position me.0 n, me.1))
+  looks slots id position me s r many at wide = let n = get_or s.words 0 0 in (
+    seen_there position me.0 n,
     keeps,
     tt,
     record {
       flag = r.flag;
       keeper = r.keeper;
       words_are = ap (λ (l : List ℕ). set l 0 (get_or l 0 0)) r.words_are;
-      each = others_stay s r id me.0 (seen_there me.0 n) at refl refl;
+      each = others_stay s r id me.0 (seen_there position me.0 n) at refl refl;
     },
     refl,
   )

@@ -16,5 +16,6 @@ pub mod Histories
 pub mod Lives
 pub mod Turns
 pub mod Waiting
+pub mod Receiving
 pub mod Takes
 pub mod Emits

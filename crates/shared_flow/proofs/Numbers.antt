@@ -131,6 +131,7 @@ makes_next lane q (round.Withdraw ticket withdrawn.Gone) t same on = unnumbered 
 makes_next lane q (round.Subscribe (Ok number)) t same on = unnumbered q t (let log = same_log q t same on.1.1.same_log in omega (arith, log))
 makes_next lane q (round.Subscribe (Err refusal)) t same on = unnumbered q t (shut_next q refusal t on)
 makes_next lane q (round.Next number) t same on = unnumbered q t (same_state q t on)
+makes_next lane q (round.Pending number) t same on = unnumbered q t (same_state q t on)
 makes_next lane q (round.Cancel number) t same on = unnumbered q t (subst (λ z. next q ≤ next z) (sym on.2) (omega arith))
 makes_next lane q round.Reset t same on = unnumbered q t (subst (λ z. next q ≤ next z) (sym on) (omega arith))
 makes_next lane q (round.Cache (Ok words)) t same on = unnumbered q t (same_state q t on.0)

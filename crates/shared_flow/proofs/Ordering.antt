@@ -149,6 +149,7 @@ module _ (e : ℕ) where
   goes_on_ordered (round.StrayWithdraw ticket emitter last n) zs p p' goes was = unchanged zs p p' goes was
   goes_on_ordered (round.Subscribe answer) zs p p' goes was = unchanged zs p p' goes was
   goes_on_ordered (round.Next number) zs p p' goes was = unchanged zs p p' goes was
+  goes_on_ordered (round.Pending number) zs p p' goes was = unchanged zs p p' goes was
   goes_on_ordered (round.Cancel number) zs p p' goes was = unchanged zs p p' goes was
   goes_on_ordered round.Reset zs p p' goes was = unchanged zs p p' goes was
   goes_on_ordered (round.Cache answer) zs p p' goes was = unchanged zs p p' goes was

@@ -100,6 +100,7 @@ goes lane q (round.Withdraw ticket withdrawn.Gone) t on = state_is q t on.0
 goes lane q (round.Subscribe (Ok number)) t on = same q t (ap (λ (z : SequencerSeen). z.waiting) on.1.1.counted) on.1.1.same_log
 goes lane q (round.Subscribe (Err refusal)) t on = shut_is q refusal t on
 goes lane q (round.Next number) t on = state_is q t on
+goes lane q (round.Pending number) t on = state_is q t on
 goes lane q (round.Cancel number) t on = same q t (ap (λ (z : SequencerSeen). z.waiting) on.2) (ap (λ (z : SequencerSeen). seen z) on.2)
 goes lane q round.Reset t on = same q t (ap (λ (z : SequencerSeen). z.waiting) on) (ap (λ (z : SequencerSeen). seen z) on)
 goes lane q (round.Cache (Ok words)) t on = state_is q t on.0

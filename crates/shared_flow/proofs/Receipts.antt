@@ -1,17 +1,21 @@
 -- What a receipt holds, by what the sequencer answered.
-use Rattle.std.proofs.Common.{◌≡◌, ℕ, zero, suc, ◌+◌, ◌-◌, ◌≤◌, map, List, [], ◌∷◌, ◌++◌, length, take, refl, sym, ap, ◌∙◌, arith, length-append, ⊎_elim}
+use Rattle.std.proofs.Common.{◌≡◌, ℕ, zero, suc, ◌+◌, ◌-◌, ◌≤◌, map, List, [], ◌∷◌, ◌++◌, length, take, IfSome, refl, sym, ap, subst, ◌∙◌, arith, length-append, ⊎_elim}
 use mathlib.Core.Option.{some, some-injective}
 use lib.ListN.{get_elem?}
 use Rattle.std.proofs.lemmas.List.{take_all}
+use Rattle.flow_terms.specs.declared.answers.Emit.{Emit}
+use Rattle.flow_terms.specs.declared.answers.Emit.TheVariants as emit
+use Rattle.flow_terms.specs.declared.answers.Withdrawn.{Withdrawn}
+use Rattle.flow_terms.specs.declared.answers.Withdrawn.TheVariants as withdrawn
 use Rattle.lane_steps.specs.Law.{Entry}
 use Rattle.shared_lane.specs.Views.{LaneSeen, ReceiptSeen, SequencerSeen}
 use Rattle.shared_lane.specs.Sequencers.{IsSequencerOf, AcceptedOn, AfterScan, entry_of, next, seen}
 use Rattle.shared_lane.specs.Places.{IsAccepted}
-use Rattle.shared_lane.specs.Polls.{HasTicket, IsOutFor}
+use Rattle.shared_lane.specs.Polls.{HasTicket, IsOutFor, PolledOn, WithdrawnFrom}
 use Rattle.shared_lane.specs.declared.tickets.Standing.{Standing}
 use Rattle.shared_lane.proofs.Outstanding.{one_with}
 use Rattle.shared_flow.specs.declared.round.Emission.{Emission}
-use Rattle.shared_flow.specs.Rounds.{IsReceiptOfOne, IsReceiptFor, entry}
+use Rattle.shared_flow.specs.Rounds.{IsReceiptOfOne, IsReceiptFor, HasSeenUpTo, entry, number_done, number_left}
 
 at_last : {X : Type 0} (xs : List X) (x : X) → get_elem? (xs ++ x ∷ []) (length xs) ≡ some x
 at_last [] x = refl
@@ -46,6 +50,17 @@ one_of q ticket e i s out has = ⊎_elim
     (λ stands. ap (λ (z : Standing). z.emitter) (one_with q.standing ticket i stands.0 s stands.1 has.0 has.1 has.2 stands.2.0 stands.2.1 stands.2.2) ∙ stands.3)
     out
 
+-- an own emission that was found finished, or had been accepted when it was given up
+pub done_accepted : (q t : SequencerSeen) (ticket emitter : ℕ) (answer : Emit) → PolledOn q ticket answer t → IsOutFor q ticket emitter → IfSome (number_done answer) (λ n. IsAccepted t emitter n)
+done_accepted q t ticket emitter (emit.Done n) done out = subst (λ e. IsAccepted t e n) (one_of q ticket emitter done.0 done.1 out done.2) done.4
+done_accepted q t ticket emitter emit.Waiting done out = tt
+done_accepted q t ticket emitter emit.Gone done out = tt
+
+pub left_accepted : (q t : SequencerSeen) (ticket emitter : ℕ) (answer : Withdrawn ℕ) → WithdrawnFrom q ticket answer t → IsOutFor q ticket emitter → IfSome (number_left answer) (λ n. IsAccepted t emitter n)
+left_accepted q t ticket emitter (withdrawn.Left n) left out = subst (λ e. IsAccepted t e n) (one_of q ticket emitter left.0 left.1 out left.2) left.4
+left_accepted q t ticket emitter withdrawn.Removed left out = tt
+left_accepted q t ticket emitter withdrawn.Gone left out = tt
+
 -- a receipt for an accepted emission ends in it
 pub of_one : (lane : LaneSeen) (q : SequencerSeen) (r : ReceiptSeen) (e n : ℕ) → IsSequencerOf lane q → IsAccepted q e n → r.table ≡ lane.table → r.emitter ≡ e → r.number ≡ n → r.seen ≡ take (n + 1 - q.view.shape.first) (seen q) → IsReceiptOfOne lane e r
 of_one lane q r e n of accepted table emitter number seen_is =
@@ -58,17 +73,15 @@ of_one lane q r e n of accepted table emitter number seen_is =
     (table, emitter, (take i (seen q), w, seen_is ∙ ap (λ k. take k (seen q)) count ∙ ends_at (seen q) i (e, w) accepted.3, omega (arith, number, at, first, before)))
 
 -- a receipt for an emission that was accepted just now ends in it
-pub for_one : (lane : LaneSeen) (m t : SequencerSeen) (r : ReceiptSeen) (e : Emission) (n : ℕ) → IsSequencerOf lane t → t.view.shape ≡ m.view.shape → AcceptedOn m (entry e) n t
-    → r.table ≡ lane.table → r.emitter ≡ e.emitter → r.number ≡ n → r.seen ≡ take (n + 1 - t.view.shape.first) (seen t) → IsReceiptFor lane e r
-for_one lane m t r e n of same on table emitter number seen_is = (
-  table,
-  emitter,
-  (
-    seen m,
-    seen_is ∙ ends_in m t (entry e) n same on,
-    number ∙ on.1 ∙ ap (λ z. z.first + length (seen m)) (sym same ∙ of.1),
-  ),
-)
+pub for_one : (lane : LaneSeen) (m t : SequencerSeen) (r : ReceiptSeen) (e : Emission) (n : ℕ) → t.view.shape ≡ m.view.shape → AcceptedOn m (entry e) n t
+    → IsReceiptOfOne lane e.emitter r → HasSeenUpTo t r → r.number ≡ n → IsReceiptFor lane e r
+for_one lane m t r e n same on one upto number =
+    let all : r.seen ≡ seen m ++ entry e ∷ [] = upto ∙ ap (λ k. take (k + 1 - t.view.shape.first) (seen t)) number ∙ ends_in m t (entry e) n same on in
+    let counts : length (one.2.0 ++ (e.emitter, one.2.1) ∷ []) ≡ length (seen m ++ entry e ∷ []) = ap length (sym one.2.2 ∙ all) in
+    let a = length-append one.2.0 ((e.emitter, one.2.1) ∷ []) in
+    let b = length-append (seen m) (entry e ∷ []) in
+    let before : length one.2.0 ≡ length (seen m) = omega arith in
+    (one.0, one.1, (seen m, all, one.2.3 ∙ ap (λ k. lane.shape.first + k) before))
 
 -- its number is none of those that were accepted before the call
 pub is_later : (q t : SequencerSeen) (e : Entry) (n : ℕ) → AfterScan q (λ m. AcceptedOn m e n t) → next q ≤ n

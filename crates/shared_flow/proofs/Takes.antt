@@ -1,17 +1,21 @@
 -- Values that are waited for and taken at once.
-use Rattle.std.proofs.Common.{◌≡◌, inl, inr, ℕ, ◌-◌, List, [], ◌∷◌, ◌++◌, length, map, Result, Err, IfOk, refl, ap, subst, ◌∙◌, append_assoc}
+use Rattle.std.proofs.Common.{◌≡◌, ◌≢◌, inl, inr, ℕ, ◌-◌, List, [], ◌∷◌, ◌++◌, length, map, Result, Err, IfOk, refl, ap, subst, ◌∙◌, append_assoc}
 use Rattle.std.proofs.lemmas.List.{append-nil}
 use Rattle.shared_lane.specs.declared.reader.Taken.{Taken}
 use Rattle.shared_lane.specs.declared.reader.Taken.TheVariants.{Value, Nothing, Overtaken}
+use Rattle.shared_lane.specs.Readers.{at}
 use Rattle.shared_lane.specs.Views.{ReaderSeen}
 use Rattle.shared_flow.specs.Blocks.{LookedAll, MissedAll, GotAll, count_of}
-use Rattle.shared_flow.specs.Looks.{OnlyNext, by_none, by_one, Waited}
+use Rattle.shared_flow.specs.Looks.{OnlyNext, OnlyLooked, by_none, by_one, by_pending, HasMadeRoom, MadeRoom, Waited}
+use Rattle.shared_flow.specs.Parties.{Subscribed}
 use Rattle.shared_flow.specs.Reach.{Party}
+use Rattle.shared_flow.proofs.Receiving.{has_room, has_room_then}
 
 -- rounds of looks after rounds of looks
 looks_then : (number : ℕ) (p q r : Party) → OnlyNext number p q → OnlyNext number q r → OnlyNext number p r
 looks_then number p q r first (by_none s) = first
 looks_then number p q r first (by_one s m t before last) = by_one p m t (looks_then number p s m first before) last
+looks_then number p q r first (by_pending s m t before last) = by_pending p m t (looks_then number p s m first before) last
 
 pub only_next_then : (number other : ℕ) (p q r : Party) → other ≡ number → OnlyNext number p q → OnlyNext other q r → OnlyNext number p r
 only_next_then number other p q r is first later = looks_then number p q r first (subst (λ n. OnlyNext n q r) is later)
@@ -39,6 +43,13 @@ pub looked_count : (r t : ReaderSeen) (room : ℕ) (taken : Taken ℕ) (words : 
 looked_count r t room (Value k) words looked = looked.1.5
 looked_count r t room Nothing words looked = ap length looked.1.0
 looked_count r t room Overtaken words looked = ap length looked.1.0
+
+-- a last look for all values made room for what it took, or took nothing after a value that was waited for
+pub room_after : {T : Type 0} (taken : Taken ℕ) (s m t : Subscribed T) → m.number ≡ s.number → OnlyNext s.number s.party m.party → HasMadeRoom s m
+    → ((k : ℕ) → taken ≡ Value k → MadeRoom m t) → (((k : ℕ) → taken ≢ Value k) → OnlyLooked m t) → (room : ℕ) (words : List ℕ) → LookedAll m.reader room taken words t.reader → HasMadeRoom s t
+room_after (Value k) s m t same rounds before made only room words looked = has_room s m t same rounds (made k refl)
+room_after Nothing s m t same rounds before made only room words looked = has_room_then s m t before (only (λ k e. cc)) (looked.0.0, (looked.1.1.0 - at m.reader, looked.1.1.1.2))
+room_after Overtaken s m t same rounds before made only room words looked = has_room_then s m t before (only (λ k e. cc)) (looked.0.0, (looked.1.1.0 - at m.reader, looked.1.1.3))
 
 -- of what was refused nothing is said that holds of what was answered
 pub not_answered : {A E : Type 0} (answer : Result A E) (e : E) (P : A → Type 0) → Err e ≡ answer → IfOk answer P

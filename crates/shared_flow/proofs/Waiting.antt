@@ -1,22 +1,19 @@
 -- An emission, and a value, that a thread waits for.
-use Rattle.std.proofs.Common.{◌≡◌, ◌⊎◌, ℕ, Option, Some, None, Result, Ok, Err, IfOk, IfNone, sym, ap, subst, ◌∙◌, ⊎_elim}
+use Rattle.std.proofs.Common.{◌≡◌, ◌⊎◌, ℕ, Option, Some, None, Result, Ok, Err, IfErr, sym, ap, subst, ◌∙◌, ⊎_elim}
+use Rattle.flow_terms.specs.declared.policy.Policy.{Policy}
 use Rattle.flow_terms.specs.declared.refusal.Refusal.{Refusal}
 use Rattle.shared_lane.specs.Views.{ReaderSeen, ReceiptSeen}
 use Rattle.shared_flow.specs.declared.round.Round.TheVariants as round
 use Rattle.shared_flow.specs.Emitters as emitters
 use Rattle.shared_flow.specs.Emitters.{IfEmitted, Waits}
-use Rattle.futures.specs.Poll.{OnPending}
-use Rattle.futures.specs.declared.task.Poll.{Poll}
-use Rattle.futures.specs.declared.task.Poll.TheVariants.{Ready, Pending}
-use Rattle.shared_flow.specs.Preludes.{IsPast}
-use Rattle.shared_flow.specs.Looks.{GaveIn, Missed, MissedOn, MissedTwice, not_once, once_more, OnlyNext, by_one, Waited}
+use Rattle.shared_flow.specs.Looks.{GaveIn, Missed, MissedOn, not_once, once_more, OnlyNext, by_one, by_pending, Waited}
 use Rattle.std.proofs.lemmas.Option.{same_Some}
 use Rattle.flow_terms.specs.declared.answers.Begun.{Begun}
 use Rattle.flow_terms.specs.declared.answers.Begun.TheVariants as begun
 use Rattle.flow_terms.specs.declared.answers.Withdrawn.{Withdrawn}
 use Rattle.flow_terms.specs.declared.answers.Withdrawn.TheVariants as withdrawn
 use Rattle.shared_flow.specs.Entering.{Made}
-use Rattle.shared_flow.specs.Parties.{Emitting, IfBegun, IsItsReceipt, IsOwnReceipt, IsSameEmitter, Subscribed, UnlessLeft, named}
+use Rattle.shared_flow.specs.Parties.{BegunUnder, Emitting, IfBegun, IsItsReceipt, IsOwnReceipt, IsSameEmitter, OfFlow, UnlessLeft, named, without_ticket}
 use Rattle.shared_flow.specs.Reach.{Party}
 use Rattle.shared_flow.specs.Rounds.{IsReceiptFor, IsReceiptOfOne}
 use Rattle.shared_flow.specs.declared.round.Emission.{Emission}
@@ -51,6 +48,30 @@ begun_receipt (Ok begun.Dropped) p e name is for = tt
 begun_receipt (Ok (begun.Waiting k)) p e name is for = tt
 begun_receipt (Err refusal) p e name is for = tt
 
+-- so of the policy
+pub begun_policy : {K : Type 0} (answer : Result (Begun ReceiptSeen K) Refusal) (p : Party) (name : FlowName) → p.flow ≡ Some name
+    → BegunUnder name.config.policy answer → OfFlow p (λ n. BegunUnder n.config.policy answer)
+begun_policy answer p name is it = λ other at. subst (λ (n : FlowName). BegunUnder n.config.policy answer) (same_Some _ _ (sym is ∙ at)) it
+
+-- what a caller is told of a start, who doesn't see the ticket
+pub untold_receipt : {N K : Type 0} (answer : Result (Begun N K) Refusal) (P : N → Type 0) → IfBegun answer P → IfBegun (without_ticket answer) P
+untold_receipt (Ok (begun.Accepted n)) P it = it
+untold_receipt (Ok begun.Dropped) P it = tt
+untold_receipt (Ok (begun.Waiting k)) P it = tt
+untold_receipt (Err refusal) P it = tt
+
+pub untold_refusal : {N K : Type 0} (answer : Result (Begun N K) Refusal) (P : Refusal → Type 0) → IfErr answer P → IfErr (without_ticket answer) P
+untold_refusal (Ok (begun.Accepted n)) P it = tt
+untold_refusal (Ok begun.Dropped) P it = tt
+untold_refusal (Ok (begun.Waiting k)) P it = tt
+untold_refusal (Err refusal) P it = it
+
+pub untold_policy : {N K : Type 0} (answer : Result (Begun N K) Refusal) (policy : Policy) → BegunUnder policy answer → BegunUnder policy (without_ticket answer)
+untold_policy (Ok (begun.Accepted n)) policy it = tt
+untold_policy (Ok begun.Dropped) policy it = it
+untold_policy (Ok (begun.Waiting k)) policy it = it
+untold_policy (Err refusal) policy it = tt
+
 pub emitted_weaker : (answer : Result (Option ReceiptSeen) Refusal) (P Q : ReceiptSeen → Type 0) → ((r : ReceiptSeen) → P r → Q r) → IfEmitted answer P → IfEmitted answer Q
 emitted_weaker (Ok (Some receipt)) P Q weaker holds = weaker receipt holds
 emitted_weaker (Ok None) P Q weaker holds = tt
@@ -60,19 +81,9 @@ emitted_weaker (Err refusal) P Q weaker holds = tt
 pub only_next : (number other : ℕ) (p q r : Party) → other ≡ number → OnlyNext number p q → (r ≡ q) ⊎ Made (round.Next other) q r → OnlyNext number p r
 only_next number other p q r is rounds more = ⊎_elim (λ same. subst (OnlyNext number p) (sym same) rounds) (λ one. by_one p q r rounds (subst (λ n. Made (round.Next n) q r) is one)) more
 
--- a poll that is pending looked twice, where nothing is left of the prelude
-pub past_missed : {T A : Type 0} (polled : Poll A) (s g t : Subscribed T) → IsPast s g → t.rest ≡ g.rest → g.reader ≡ s.reader
-    → OnPending polled (MissedTwice g.reader t.reader) → OnPending polled (IsPast s t × MissedTwice s.reader t.reader)
-past_missed (Ready v) s g t past rest same missed = tt
-past_missed Pending s g t past rest same missed = ((past.0, rest ∙ past.1), subst (λ (r : ReaderSeen). MissedTwice r t.reader) same missed)
-
--- looks took nothing, where nothing is left of the prelude
-pub past_looked : {T A : Type 0} (found : Option A) (missed : ReaderSeen → ReaderSeen → Type 0) (s g t : Subscribed T) → IsPast s g → g.party ≡ s.party
-    → g.reader ≡ s.reader → t.rest ≡ g.rest → IfNone found ((t.party ≡ g.party) × missed g.reader t.reader)
-    → IfNone found ((t.party ≡ s.party) × IsPast s t × missed s.reader t.reader)
-past_looked (Some v) missed s g t past party reader rest looked = tt
-past_looked None missed s g t past party reader rest looked =
-    (looked.0 ∙ party, (past.0, rest ∙ past.1), subst (λ (r : ReaderSeen). missed r t.reader) reader looked.1)
+-- and one that was pending
+pub only_pending : (number other : ℕ) (p q r : Party) → other ≡ number → OnlyNext number p q → Made (round.Pending other) q r → OnlyNext number p r
+only_pending number other p q r is rounds one = by_pending p q r rounds (subst (λ n. Made (round.Pending n) q r) is one)
 
 -- a poll gave a value, after looks that gave none
 pub waited_on : {T : Type 0} (read_as : ℕ → T) (r s t : ReaderSeen) (v : T) → MissedOn r s → GaveIn read_as s v t → Waited read_as r v t
@@ -84,13 +95,8 @@ missed_before r m t (not_once s) missed = once_more r r s (not_once r) missed
 missed_before r m t (once_more s n u before later) missed = once_more r n u (missed_before r s n before missed) later
 
 -- the next value was taken, after a look that took nothing and others
-waited_before : {T : Type 0} (read_as : ℕ → T) (r m t : ReaderSeen) (v : T) → Missed r m → Waited read_as m v t → Waited read_as r v t
+pub waited_before : {T : Type 0} (read_as : ℕ → T) (r m t : ReaderSeen) (v : T) → Missed r m → Waited read_as m v t → Waited read_as r v t
 waited_before read_as r m t v missed waited = (waited.0, missed_before r m waited.0 waited.1 missed, waited.2)
-
-pub ok_before : {T : Type 0} (read_as : ℕ → T) (r m t : ReaderSeen) (answer : Result T Refusal) → Missed r m
-    → IfOk answer (λ v. Waited read_as m v t) → IfOk answer (λ v. Waited read_as r v t)
-ok_before read_as r m t (Ok v) missed waited = waited_before read_as r m t v missed waited
-ok_before read_as r m t (Err refusal) missed waited = tt
 
 -- what is so of each answer
 pub unless_left : {N : Type 0} (answer : Withdrawn N) {P : Type 0} → P → UnlessLeft answer P

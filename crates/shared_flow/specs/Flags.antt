@@ -4,6 +4,7 @@ use mathlib.Core.Option.{some}
 use lib.ListN.{get_elem?}
 use Rattle.atomic_table.specs.Seated.{TableId}
 use Rattle.atomic_table.specs.Table.{State, Me, Step}
+use Rattle.shared_flow.specs.declared.flag.view.FlagLook.{FlagLook}
 use Rattle.shared_flow.specs.declared.flag.view.FlagView.{FlagView}
 
 -- which flag it is, and whether it is up, as its keeper knows it
@@ -11,17 +12,21 @@ pub record Keeping : Type 0 where
   pub table : TableId
   pub flag : ℕ
 
--- which flag it is, and what was found there, look by look
+-- which flag it is, and the looks at it
 pub record Looking : Type 0 where
   pub table : TableId
-  pub looks : List ℕ
+  pub looks : List FlagLook
 
 abbrev pub number_of : Bool → ℕ
 number_of up = cond up 1 0
 
+-- a look for a reader that stood there
+abbrev pub flag_look : ℕ → ℕ → FlagLook
+flag_look position found = record { position = position; found = found }
+
 -- the looker has looked once more
-abbrev pub looked_at : ℕ → Looking → Looking
-looked_at found l = record l { looks = l.looks ++ found ∷ [] }
+abbrev pub looked_at : ℕ → ℕ → Looking → Looking
+looked_at position found l = record l { looks = l.looks ++ flag_look position found ∷ [] }
 
 -- the keeper's first view, of a flag that is down
 abbrev pub keeper_first : FlagView
@@ -34,8 +39,8 @@ looker_first = record { keeps = false; flag = 0; looks = [] }
 abbrev pub flagged : FlagView → ℕ → FlagView
 flagged v n = record v { flag = n }
 
-abbrev pub seen_there : FlagView → ℕ → FlagView
-seen_there v n = record v { looks = v.looks ++ n ∷ [] }
+abbrev pub seen_there : ℕ → FlagView → ℕ → FlagView
+seen_there position v n = record v { looks = v.looks ++ flag_look position n ∷ [] }
 
 module _ {S : Type 0} where
   -- One seat at most is the keeper's, and it knows the flag
@@ -48,5 +53,5 @@ module _ {S : Type 0} where
   abbrev pub SetFlag : Step S → Me S FlagView → ℕ → Me S FlagView → Type 0
   SetFlag st old found now = now ≡ (flagged old.0 found, old.1)
 
-  abbrev pub LookedAt : Step S → Me S FlagView → ℕ → Me S FlagView → Type 0
-  LookedAt st old found now = now ≡ (seen_there old.0 found, old.1)
+  abbrev pub LookedAt : ℕ → Step S → Me S FlagView → ℕ → Me S FlagView → Type 0
+  LookedAt position st old found now = now ≡ (seen_there position old.0 found, old.1)

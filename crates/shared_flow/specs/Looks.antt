@@ -1,9 +1,9 @@
 -- What a subscription was let in by, and what its looks at the lane came to.
-use Rattle.std.specs.Prelude.{◌≡◌, ◌⊎◌, ℕ, Some, Ok}
+use Rattle.std.specs.Prelude.{◌≡◌, ◌⊎◌, ◌++◌, ℕ, false, replicate, Some, Ok}
 use Rattle.shared_lane.specs.declared.reader.Taken.{Taken}
 use Rattle.shared_lane.specs.declared.reader.Taken.TheVariants.{Value, Nothing, Overtaken}
 use Rattle.shared_lane.specs.Views.{ReaderSeen}
-use Rattle.shared_lane.specs.Readers.{IsSameReader, TookNext}
+use Rattle.shared_lane.specs.Readers.{IsSameReader, TookNext, at}
 use Rattle.shared_flow.specs.declared.round.Round.TheVariants as round
 use Rattle.shared_flow.specs.Names.{FoundDown}
 use Rattle.shared_flow.specs.Parties.{Subscribed}
@@ -59,15 +59,35 @@ pub data MissedOn : ReaderSeen → ReaderSeen → Type 0 where
 abbrev pub Waited : {T : Type 0} → (ℕ → T) → ReaderSeen → T → ReaderSeen → Type 0
 Waited read_as r v t = (m : ReaderSeen) × MissedOn r m × Gave read_as m v t
 
--- a receipt took no lock: no emission may wait, or one more look found the flag down
+-- A receipt took no lock: no emission may wait, or one more look found the flag down, made as the reader stood past what it had received.
 abbrev pub Skips : {T : Type 0} → Subscribed T → Subscribed T → Type 0
-Skips s t = (t.party ≡ s.party) × FoundDown s.party.flow s.looks t.looks
+Skips s t = (t.party ≡ s.party) × FoundDown s.party.flow (at t.reader) s.looks t.looks
 
 -- a receipt let in what waits, by a round, or no emission could wait for it
 abbrev pub MadeRoom : {T : Type 0} → Subscribed T → Subscribed T → Type 0
 MadeRoom s t = Skips s t ⊎ Made (round.Next s.number) s.party t.party
 
--- the party's rounds grew by looks alone, of the subscription with this number
+-- the party's rounds grew by those of calls that receive, of the subscription with this number
 pub data OnlyNext (number : ℕ) : Party → Party → Type 0 where
   by_none : (p : Party) → OnlyNext number p p
   by_one : (p q r : Party) → OnlyNext number p q → Made (round.Next number) q r → OnlyNext number p r
+  by_pending : (p q r : Party) → OnlyNext number p q → Made (round.Pending number) q r → OnlyNext number p r
+
+-- nothing but what its reader has looked at may have changed
+abbrev pub OnlyLooked : {T : Type 0} → Subscribed T → Subscribed T → Type 0
+OnlyLooked s t = t ≡ record s { reader = t.reader }
+
+-- the reader took nothing, and may have lost values
+abbrev pub TookNone : ReaderSeen → ReaderSeen → Type 0
+TookNone r t = (t.start ≡ r.start) × ((k : ℕ) × (t.story ≡ r.story ++ replicate k false))
+
+-- The last receipt of a call let in what waits, by a round, or no emission could wait for it. Before it came rounds of the same call, and after
+-- it looks that took nothing.
+pub record HasMadeRoom {T : Type 0} (s t : Subscribed T) : Type 0 where
+  pub before : Subscribed T
+  pub after : Subscribed T
+  pub same : before.number ≡ s.number
+  pub rounds : OnlyNext s.number s.party before.party
+  pub made_room : MadeRoom before after
+  pub then : OnlyLooked after t
+  pub took_none : TookNone after.reader t.reader

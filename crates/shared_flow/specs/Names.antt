@@ -6,7 +6,9 @@ use Rattle.shared_core.specs.declared.config.Config.{Config}
 use Rattle.shared_lane.specs.Views.{LaneSeen, SequencerSeen}
 use Rattle.shared_lane.specs.Sequencers.{IsSequencerOf, IsFresh, shape_of}
 use Rattle.slab.specs.Slab.{Slab}
+use Rattle.shared_flow.specs.declared.flag.view.FlagLook.{FlagLook}
 use Rattle.shared_flow.specs.declared.sleepers.Sleeper.{Sleeper}
+use Rattle.shared_flow.specs.Flags.{flag_look}
 use Rattle.shared_flow.specs.Sleeping.{NobodySleeps}
 
 -- a flow: what it was made with, its lane, and its flag
@@ -73,9 +75,9 @@ KnowsFlow config known track = KnowsConfig config known × KnowsTrack known trac
 abbrev pub IsFlagOf : Option FlowName → TableId → Type 0
 IsFlagOf known flag = (name : FlowName) → known ≡ Some name → flag ≡ name.flag
 
--- no emission of the flow may wait, or one more look found its flag down
-abbrev pub FoundDown : Option FlowName → List ℕ → List ℕ → Type 0
-FoundDown known before after = ((name : FlowName) → known ≡ Some name → name.config.policy ≢ Suspend) ⊎ (after ≡ before ++ 0 ∷ [])
+-- no emission of the flow may wait, or one more look, for a reader that stood there, found its flag down
+abbrev pub FoundDown : Option FlowName → ℕ → List FlagLook → List FlagLook → Type 0
+FoundDown known position before after = ((name : FlowName) → known ≡ Some name → name.config.policy ≢ Suspend) ⊎ (after ≡ before ++ flag_look position 0 ∷ [])
 
 -- a flow that was made with this config
 abbrev pub IsMadeWith : Config → Option FlowName → Type 0

@@ -36,9 +36,9 @@ abbrev pub KeepsLock : Owning → Keeping → Type 0
 KeepsLock o k = (o.party.flow ≡ Some k.shared.name)
     × ((old : SharedSeen) × (o.held ≡ Some old) × Comes old (round.Hold k.count) k.shared × SleepOn old k.shared × (k.before ≡ next old.sequencer) × Found o.party old o.party.seen)
 
--- nothing has changed but what the sequencer has loaded, of the flag it says nothing, and nobody has lost a value
+-- nothing has changed but what the sequencer has loaded, and nobody has lost a value
 abbrev pub OnlyMet : SharedSeen → SharedSeen → Type 0
-OnlyMet s t = (t.name ≡ s.name) × OnlyLoaded s.sequencer t.sequencer × LosesNothing s.sequencer t.sequencer × SleepOn s t
+OnlyMet s t = (t.name ≡ s.name) × OnlyLoaded s.sequencer t.sequencer × LosesNothing s.sequencer t.sequencer × SleepOn s t × (t.flag ≡ s.flag)
 
 abbrev pub IsKept : Keeping → Keeping → Type 0
 IsKept k l = (l.count ≡ k.count) × (l.before ≡ k.before) × OnlyMet k.shared l.shared

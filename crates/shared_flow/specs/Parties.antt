@@ -12,6 +12,7 @@ use Rattle.flow_terms.specs.declared.answers.Withdrawn.TheVariants as withdrawn
 use Rattle.flow_terms.specs.declared.ids.Ticket.{Ticket}
 use Rattle.atomic_table.specs.Seated.{TableId}
 use Rattle.shared_lane.specs.Views.{ReaderSeen, ReceiptSeen}
+use Rattle.shared_flow.specs.declared.flag.view.FlagLook.{FlagLook}
 use Rattle.shared_flow.specs.declared.round.Emission.{Emission}
 use Rattle.shared_flow.specs.declared.round.Round.{Round}
 use Rattle.shared_flow.specs.Names.{FlowName}
@@ -59,13 +60,13 @@ pub record Emitting : Type 0 where
   pub ticket : Option Ticket
   pub last : Option ℕ
 
--- a subscription: its flow and its rounds, its number, what is left of its prelude, its reader, and what its looks at the flag found
+-- a subscription: its flow and its rounds, its number, what is left of its prelude, its reader, and its looks at the flag
 pub record Subscribed (T : Type 0) : Type 0 where
   pub party : Party
   pub number : ℕ
   pub rest : List T
   pub reader : ReaderSeen
-  pub looks : List ℕ
+  pub looks : List FlagLook
 
 -- the party's rounds grew by this one, and it has seen this list
 abbrev pub with_round : Round → Rounds → Party → Party

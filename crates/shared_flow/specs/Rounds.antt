@@ -1,5 +1,5 @@
 -- The rounds of a shared flow: what each call, with its answer, does to what lies under the lock.
-use Rattle.std.specs.Prelude.{◌≡◌, ◌≢◌, ◌⊎◌, ℕ, ◌+◌, List, [], ◌∷◌, ◌++◌, ◌≤◌, ◌<◌, length, ⊤, Option, Some, None, Result, Ok, Err}
+use Rattle.std.specs.Prelude.{◌≡◌, ◌≢◌, ◌⊎◌, ℕ, ◌+◌, ◌-◌, List, [], ◌∷◌, ◌++◌, ◌≤◌, ◌<◌, length, take, ⊤, Option, Some, None, Result, Ok, Err}
 use Rattle.flow_terms.specs.declared.refusal.Refusal.{Refusal}
 use Rattle.flow_terms.specs.declared.refusal.Refusal.TheVariants.{NoMemory, Spent, SubscribersFull}
 use Rattle.flow_terms.specs.declared.answers.Tried.{Tried}
@@ -12,8 +12,10 @@ use Rattle.flow_terms.specs.declared.answers.Withdrawn.{Withdrawn}
 use Rattle.flow_terms.specs.declared.answers.Withdrawn.TheVariants as withdrawn
 use Rattle.flow_terms.specs.declared.ids.Ticket.{Ticket}
 use Rattle.lane_steps.specs.Law.{Entry}
+use Rattle.shared_lane.specs.declared.reader.Taken.{Taken}
+use Rattle.shared_lane.specs.declared.reader.Taken.TheVariants.{Value, Nothing, Overtaken}
 use Rattle.shared_lane.specs.Views.{LaneSeen, ReaderSeen, ReceiptSeen, SequencerSeen}
-use Rattle.shared_lane.specs.Sequencers.{IsSameSequencer, OnlyLoaded, AfterScan, TriedOn, RefusedTry, BegunOn, RefusedStart}
+use Rattle.shared_lane.specs.Sequencers.{IsSameSequencer, OnlyLoaded, AfterScan, TriedOn, RefusedTry, BegunOn, RefusedStart, seen}
 use Rattle.shared_lane.specs.Blocks.{TriedAllOn}
 use Rattle.shared_lane.specs.Polls.{PolledOn, WithdrawnFrom, IsOutFor, IsNotOut}
 use Rattle.shared_lane.specs.Places.{LetIn, NotLetIn, Counted, told_of_end}
@@ -22,7 +24,7 @@ use Rattle.shared_flow.specs.declared.round.Emission.{Emission}
 use Rattle.shared_flow.specs.declared.round.Round.{Round}
 use Rattle.shared_flow.specs.declared.round.Round.TheVariants as round
 use Rattle.shared_flow.specs.Names.{SharedSeen}
-use Rattle.shared_flow.specs.Waking.{Wakes, ended_by}
+use Rattle.shared_flow.specs.Waking.{Wakes}
 
 -- an emission, as the lane keeps it
 abbrev pub entry : Emission → Entry
@@ -65,6 +67,7 @@ Makes lane q (round.StrayWithdraw ticket emitter last n) t = WithdrawnFrom q tic
 Makes lane q (round.Subscribe (Ok number)) t = (number ≡ q.subscription) × ((r : ReaderSeen) × LetIn lane q r t)
 Makes lane q (round.Subscribe (Err refusal)) t = NotLetIn q refusal t
 Makes lane q (round.Next number) t = t ≡ q
+Makes lane q (round.Pending number) t = t ≡ q
 -- the sequencer knows that a reader has closed its cursor
 Makes lane q (round.Cancel number) t = (r : ReaderSeen) × IsReaderOf lane r × (t ≡ told_of_end r q)
 Makes lane q round.Reset t = t ≡ record q { cache = [] }
@@ -72,6 +75,12 @@ Makes lane q (round.Cache (Ok words)) t = (t ≡ q) × (words ≡ q.cache)
 Makes lane q (round.Cache (Err refusal)) t = (t ≡ q) × (refusal ≡ NoMemory)
 Makes lane q (round.Count count) t = OnlyLoaded q t × Counted q count t
 Makes lane q (round.Hold count) t = OnlyLoaded q t × Counted q count t
+
+-- the round of a look under the lock, by what it found
+abbrev pub look_round : ℕ → Taken ℕ → Round
+look_round number (Value word) = round.Next number
+look_round number Nothing = round.Pending number
+look_round number Overtaken = round.Pending number
 
 -- what waited was let in, as far as there was room
 abbrev pub Scanned : SequencerSeen → SequencerSeen → Type 0
@@ -81,20 +90,22 @@ Scanned q t = AfterScan q (λ m. t ≡ m)
 abbrev pub Rests : SequencerSeen → SequencerSeen → Type 0
 Rests q t = (m : SequencerSeen) × ((m ≡ q) ⊎ Scanned q m) × OnlyLoaded m t
 
--- at the end of a subscription what waits is let in once more, as far as that has made room
-abbrev pub Frees : Option ℕ → SequencerSeen → SequencerSeen → Type 0
-Frees None q t = ⊤
-Frees (Some ended) q t = (m : SequencerSeen) × Scanned q m × OnlyLoaded m t
+-- What waits is let in once more at the end of a subscription, as far as that has made room; and where an emission begins to wait, which a
+-- receipt before that may have made room for.
+abbrev pub Frees : Round → SequencerSeen → SequencerSeen → Type 0
+Frees (round.Cancel number) q t = (m : SequencerSeen) × Scanned q m × OnlyLoaded m t
+Frees (round.Start e (Ok (begun.Waiting ticket))) q t = (m : SequencerSeen) × Scanned q m × OnlyLoaded m t
+Frees _ q t = ⊤
 
 -- What a call comes to, before it helps others: it lets in what waits, is made, and rests. The flow stays the same one.
 abbrev pub Comes : SharedSeen → Round → SharedSeen → Type 0
 Comes s r t = (t.name ≡ s.name) × IsSameSequencer s.sequencer t.sequencer
-    × AfterScan s.sequencer (λ m. (n : SequencerSeen) × Makes s.name.lane m r n × Rests n t.sequencer × Frees (ended_by r) n t.sequencer)
+    × AfterScan s.sequencer (λ m. (n : SequencerSeen) × Makes s.name.lane m r n × Rests n t.sequencer × Frees r n t.sequencer)
 
 -- A round: the call, and those were woken whom it has helped.
 abbrev pub Does : SharedSeen → Round → SharedSeen → Type 0
 Does s r t = (t.name ≡ s.name) × IsSameSequencer s.sequencer t.sequencer
-    × AfterScan s.sequencer (λ m. (n : SequencerSeen) × Makes s.name.lane m r n × Rests n t.sequencer × Frees (ended_by r) n t.sequencer) × Wakes s r t
+    × AfterScan s.sequencer (λ m. (n : SequencerSeen) × Makes s.name.lane m r n × Rests n t.sequencer × Frees r n t.sequencer) × Wakes s r t
 
 -- what waited was let in, and the call was made
 abbrev pub MakesAfterScan : SharedSeen → Round → SharedSeen → Type 0
@@ -123,9 +134,33 @@ abbrev pub IsReceiptOfOne : LaneSeen → ℕ → ReceiptSeen → Type 0
 IsReceiptOfOne lane emitter r = (r.table ≡ lane.table) × (r.emitter ≡ emitter)
     × ((before : List Entry) × (word : ℕ) × (r.seen ≡ before ++ (emitter, word) ∷ []) × (r.number ≡ lane.shape.first + length before))
 
+-- the receipt has seen all that was accepted up to its number
+abbrev pub HasSeenUpTo : SequencerSeen → ReceiptSeen → Type 0
+HasSeenUpTo q r = r.seen ≡ take (r.number + 1 - q.view.shape.first) (seen q)
+
 -- such a receipt, with a number above the emitter's last
 abbrev pub IsReceiptAfter : LaneSeen → ℕ → Option ℕ → ReceiptSeen → Type 0
 IsReceiptAfter lane emitter last r = IsAfter last r.number × IsReceiptOfOne lane emitter r
+
+-- the number isn't above the last one that an emitter was answered
+abbrev pub IsNotAfter : Option ℕ → ℕ → Type 0
+IsNotAfter last n = (l : ℕ) × (last ≡ Some l) × (n ≤ l)
+
+-- the number of the emission that a poll found finished, and of the one that had been accepted when it was given up
+abbrev pub number_done : Emit → Option ℕ
+number_done (emit.Done n) = Some n
+number_done emit.Waiting = None
+number_done emit.Gone = None
+
+abbrev pub number_left : Withdrawn ℕ → Option ℕ
+number_left (withdrawn.Left n) = Some n
+number_left withdrawn.Removed = None
+number_left withdrawn.Gone = None
+
+-- where an emission has a ticket, which has to wait, what waits was let in once more; else nothing was done
+abbrev pub Watched : Option Ticket → SequencerSeen → SequencerSeen → Type 0
+Watched (Some ticket) q t = Scanned q t
+Watched None q t = t ≡ q
 
 -- why nobody can be let in: the numbers are used up, or the places are
 abbrev pub IsAtLimit : Refusal → Type 0

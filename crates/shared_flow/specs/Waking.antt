@@ -14,10 +14,10 @@ use Rattle.shared_flow.specs.Sleeping.{NobodySleeps, OnlyThese, LiesDown}
 abbrev pub SleepOn : SharedSeen → SharedSeen → Type 0
 SleepOn s t = (t.subscriptions ≡ s.subscriptions) × (t.emissions ≡ s.emissions)
 
--- Who sleeps as a call has its answer: the task of a look under the lock may have lain down under its subscription's number, that of a
--- poll which waits under its ticket.
+-- Who sleeps as a call has its answer: the task of a poll that found no value may have lain down under its subscription's number, that of
+-- a poll which waits under its ticket.
 abbrev pub Lies : SharedSeen → Round → SharedSeen → Type 0
-Lies s (round.Next number) t = LiesDown number s.subscriptions t.subscriptions × (t.emissions ≡ s.emissions)
+Lies s (round.Pending number) t = LiesDown number s.subscriptions t.subscriptions × (t.emissions ≡ s.emissions)
 Lies s (round.Poll ticket emit.Waiting) t = (t.subscriptions ≡ s.subscriptions) × LiesDown ticket.0 s.emissions t.emissions
 Lies s _ t = SleepOn s t
 

@@ -1,9 +1,10 @@
 //! What every owner of a shared flow holds.
-ghost use Rattle.std.specs.Prelude.{false, ◌≡◌, ◌≢◌, ◌++◌, [], ◌∷◌, Ok, Some, None, map, IfOk, IsOkUnless};
+ghost use Rattle.std.specs.Prelude.{false, ◌≡◌, ◌≢◌, [], Ok, Some, None, map, IfOk, IsOkUnless};
 ghost use Rattle.round_lock.specs.History.{own_of};
+ghost use Rattle.shared_lane.specs.Readers.{at};
 ghost use Rattle.shared_lane.specs.Sequencers.{next};
 ghost use Rattle.shared_flow.specs.declared.round.Round.TheVariants as round;
-ghost use Rattle.shared_flow.specs.Names.{FoundDown, IsFlagOf, IsNew, SharedSeen, KnowsLane};
+ghost use Rattle.shared_flow.specs.Names.{FoundDown, IsFlagOf, IsNew, KnowsLane};
 ghost use Rattle.shared_flow.specs.Entering.{Found, IsCalled, Left};
 ghost use Rattle.shared_flow.specs.Reach.{party_of, reach_of};
 ghost use Rattle.shared_flow.specs.Rounds.{Below};
@@ -19,7 +20,7 @@ use crate::wakes::Wakes;
 use flow_terms::{Refusal, Word};
 use round_lock::{Guarded, Lock, Made};
 use shared_core::Config;
-use shared_lane::Lane;
+use shared_lane::{Lane, Reader};
 use std::alloc::{AllocError, Global};
 use std::marker::{Brand, Model};
 use std::sync::{Arc, Wait};
@@ -96,13 +97,13 @@ impl Access {
         })
     }
 
-    /// Whether who has received has to take the lock, for an emission that may wait for that. Without a lock.
-    pub fn has_unfinished(&self, looker: &mut Looker) -> bool
+    /// Whether who has received has to take the lock, for an emission that may wait for that, as its reader stands now. Without a lock.
+    pub fn has_unfinished(&self, looker: &mut Looker, reader: &Reader) -> bool
         requires { IsFlagOf self.now.flow looker.old.table }
         ensures table { looker.new.table ≡ looker.old.table }
-        ensures none { result ≡ false → FoundDown self.now.flow looker.old.looks looker.new.looks }
+        ensures none { result ≡ false → FoundDown self.now.flow (at reader.now) looker.old.looks looker.new.looks }
     {
-        self.track.has_unfinished(looker)
+        self.track.has_unfinished(looker, reader)
     }
 
     /// Looks some times whether an emission may wait still, up to where none does. Without a lock.

@@ -8,16 +8,18 @@ ghost use Rattle.futures.specs.Task.{IsArmed, Keeps};
 ghost use Rattle.shared_flow.specs.declared.round.Round.TheVariants as round;
 ghost use Rattle.shared_flow.specs.Reach.{party_of};
 ghost use Rattle.shared_flow.specs.Entering.{Made};
-ghost use Rattle.shared_flow.specs.Rounds.{IsAfter, numbers_begun, numbers_tried, poll_round, withdraw_round};
-ghost use Rattle.shared_flow.specs.Emitters.{emission_by, after_try, after_start, WasStarted, WasFinished, Waits, WasLeft, WasGivenUp};
+ghost use Rattle.shared_flow.specs.Rounds.{IsAfter, numbers_tried, poll_round, withdraw_round};
+ghost use Rattle.shared_flow.specs.Emitters.{emission_by, after_try, WasStarted, WasFinished, Waits, WasLeft, WasGivenUp};
 ghost use Rattle.shared_flow.specs.Emitters.{Emits, EndsAs, EndedWith, IfEmitted, Waited, begun_with};
 ghost use Rattle.shared_flow.specs.Parties.{IsSameEmitter, Emitting, IsItsReceipt, IsOwnReceipt, IfTried, IfBegun};
 ghost use Rattle.shared_flow.specs.Owners.{HasHeard};
-ghost use Rattle.shared_flow.specs.Parties.{TriedUnder, BegunUnder, OfFlow, ticket_of, IfLeft, without_receipt};
+ghost use Rattle.shared_flow.specs.Parties.{TriedUnder, BegunUnder, OfFlow, IfLeft, without_receipt, without_ticket};
 
 use crate::access::Access;
 use crate::parker::Parker;
-use crate::round::{Emission, Round, last_begun, last_tried, number_begun, number_tried};
+use crate::round::{
+    Emission, Round, begun_ticket, last_begun, last_tried, number_begun, number_tried,
+};
 use crate::shared::{Polled, Released};
 use crate::sleepers::Bed;
 use flow_terms::{Refusal, Word};
@@ -119,24 +121,6 @@ impl<T: Word> Emitter<T> {
         ensures refused { IfErr result (λ refusal. (refusal ≡ Spent) ⊎ (refusal ≡ EmitsFull)) }
         ensures policy { OfFlow self.old.party (λ name. BegunUnder name.config.policy result) }
     {
-        let begun = self.begin(rt, value);
-        match begun? {
-            Begun::Accepted(receipt) => Ok(Begun::Accepted(receipt)),
-            Begun::Dropped => Ok(Begun::Dropped),
-            Begun::Waiting(_) => Ok(Begun::Waiting(())),
-        }
-    }
-
-    // Begins an emission, and keeps the ticket of one that waits.
-    fn begin(&mut self, rt: &impl Wait, value: T) -> Result<Begun<Receipt, Ticket>, Refusal>
-        requires idle { self.old.ticket ≡ None }
-        ensures round { self.new ≡ after_start self.old (emission_by self.old (T.word value)) result self.new.party.seen }
-        ensures made { Made (round.Start (emission_by self.old (T.word value)) (numbers_begun result)) self.old.party self.new.party }
-        ensures receipt { IfBegun result (IsItsReceipt self.old.party (emission_by self.old (T.word value))) }
-        ensures rises { IfBegun result (λ receipt. IsAfter self.old.last receipt.number) }
-        ensures refused { IfErr result (λ refusal. (refusal ≡ Spent) ⊎ (refusal ≡ EmitsFull)) }
-        ensures policy { OfFlow self.old.party (λ name. BegunUnder name.config.policy result) }
-    {
         let emission = Emission {
             emitter: self.id,
             word: value.to_word(),
@@ -148,7 +132,7 @@ impl<T: Word> Emitter<T> {
         self.ticket = begun_ticket(&begun);
         self.access
             .leave(rt, inside, Round::Start(emission, answer));
-        begun
+        kept_ticket(begun)
     }
 
     /// Asks whether the emission in flight is finished: Kotlin's `emit`, where it resumes. Pending where it isn't, and then the
@@ -357,14 +341,16 @@ fn polled_without_receipt(ticket: Ticket, id: u32, last: Option<u64>, emit: Emit
     }
 }
 
-// The ticket of an emission that isn't finished.
-fn begun_ticket(begun: &Result<Begun<Receipt, Ticket>, Refusal>) -> Option<Ticket>
-    ensures { result ≡ ticket_of begun.now }
+// What a caller is told of a start: the ticket stays with the emitter.
+fn kept_ticket(
+    begun: Result<Begun<Receipt, Ticket>, Refusal>,
+) -> Result<Begun<Receipt, ()>, Refusal>
+    ensures { result ≡ without_ticket begun }
 {
     match begun {
-        Ok(Begun::Waiting(ticket)) => Some(*ticket),
-        Ok(Begun::Accepted(_)) => None,
-        Ok(Begun::Dropped) => None,
-        Err(_) => None,
+        Ok(Begun::Accepted(receipt)) => Ok(Begun::Accepted(receipt)),
+        Ok(Begun::Dropped) => Ok(Begun::Dropped),
+        Ok(Begun::Waiting(_)) => Ok(Begun::Waiting(())),
+        Err(refusal) => Err(refusal),
     }
 }

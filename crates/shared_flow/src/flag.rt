@@ -1,14 +1,16 @@
 //! The word that says whether an emission may have to wait for a receipt.
 ghost use Rattle.std.specs.Prelude.{◌≡◌, ℕ, [], false, IfOk};
+ghost use Rattle.shared_lane.specs.Readers.{at};
 ghost use Rattle.shared_flow.specs.Flags.{FlagLaw, SetFlag, LookedAt, keeper_first, looker_first, looked_at, number_of};
 
 use atomic_table::{Play, Seat, Split, Table, TableRule};
+use shared_lane::Reader;
 use std::alloc::{AllocError, Global};
-use std::marker::Model;
+use std::marker::{Brand, Model, PhantomData};
 
 mod view;
 
-pub use view::FlagView;
+pub use view::{FlagLook, FlagView};
 
 // The flag is up where the word is 1, and else 0.
 const FLAG: usize = 0;
@@ -29,11 +31,22 @@ impl<S> Play<S, FlagView> for Sets {
     ghost then = { SetFlag };
 }
 
-/// A looker looks at it.
-pub struct Looks;
+/// Where the reader stands for whom a look is made: the look picks it, since it has no operand that carries it.
+pub trait Stands {
+    ghost position: { ℕ };
+}
 
-impl<S> Play<S, FlagView> for Looks {
-    ghost then = { LookedAt };
+impl Stands for Brand {
+    ghost position = { 0 };
+}
+
+/// A looker looks at it.
+pub struct Looks<M> {
+    of: PhantomData<M>,
+}
+
+impl<S, M: Stands> Play<S, FlagView> for Looks<M> {
+    ghost then = { LookedAt M.position };
 }
 
 /// Another looker.
@@ -80,7 +93,7 @@ impl Model for Keeper {
     ghost invariant = { λ k. (k.seat.me.0.keeps ≡ true) × (k.seat.me.0.flag ≡ number_of k.is_up) };
 }
 
-/// Who looks at the flag. Contracts see which flag it is, and what was found, look by look.
+/// Who looks at the flag. Contracts see which flag it is, and its looks.
 #[derive(Drop)]
 pub(crate) struct Looker {
     seat: Seat<(), FlagView>,
@@ -134,12 +147,13 @@ impl Flag {
             .store::<Sets>(&mut keeper.seat, FLAG, up as u64);
     }
 
-    /// Whether it is up.
-    pub fn look(&self, looker: &mut Looker) -> bool
-        requires { looker.old.table ≡ self.now }
-        ensures { (found : ℕ) × (looker.new ≡ looked_at found looker.old) × (result ≡ false → found ≡ 0) }
+    /// Whether it is up, as this reader stands.
+    pub fn look<M: Stands>(&self, looker: &mut Looker, reader: &Reader) -> bool
+        requires table { looker.old.table ≡ self.now }
+        requires stands { M.position ≡ at reader.now }
+        ensures { (found : ℕ) × (looker.new ≡ looked_at (at reader.now) found looker.old) × (result ≡ false → found ≡ 0) }
     {
-        self.table.shared.load::<Looks>(&mut looker.seat, FLAG) != 0
+        self.table.shared.load::<Looks<M>>(&mut looker.seat, FLAG) != 0
     }
 
     /// Whether it is up, for one who has no looker. It tells nothing.

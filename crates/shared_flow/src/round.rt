@@ -1,6 +1,6 @@
 //! What the history of a flow is made of: the calls that were made under its lock, with their answers.
 ghost use Rattle.std.specs.Prelude.{◌≡◌};
-ghost use Rattle.shared_flow.specs.Parties.{last_of_try, last_of_start};
+ghost use Rattle.shared_flow.specs.Parties.{last_of_try, last_of_start, ticket_of};
 ghost use Rattle.shared_flow.specs.Rounds.{numbers_tried, numbers_begun};
 ghost use Rattle.shared_flow.specs.Waking.{ended_by as the_ended_by};
 
@@ -36,9 +36,11 @@ pub enum Round {
     StrayWithdraw(Ticket, u32, Option<u64>, u64),
     /// `SharedFlow::subscribe`, with the number of the subscription.
     Subscribe(Result<u64, Refusal>),
-    /// A call of a `Subscription` that receives, where it took the lock, with the number of the subscription. What it received is its
-    /// reader's.
+    /// A call of a `Subscription` that receives, where it took the lock and has a value, with the number of the subscription. What it
+    /// received is its reader's.
     Next(u64),
+    /// A `Subscription::poll_next` that found no value under the lock either, with the number of the subscription.
+    Pending(u64),
     /// `Subscription::cancel`, with the number of the subscription.
     Cancel(u64),
     /// `SharedFlow::reset_replay`.
@@ -84,6 +86,18 @@ pub(crate) fn number_begun(
         Ok(Begun::Dropped) => Ok(Begun::Dropped),
         Ok(Begun::Waiting(ticket)) => Ok(Begun::Waiting(*ticket)),
         Err(refusal) => Err(*refusal),
+    }
+}
+
+/// The ticket of an emission that isn't finished.
+pub(crate) fn begun_ticket(begun: &Result<Begun<Receipt, Ticket>, Refusal>) -> Option<Ticket>
+    ensures { result ≡ ticket_of begun.now }
+{
+    match begun {
+        Ok(Begun::Waiting(ticket)) => Some(*ticket),
+        Ok(Begun::Accepted(_)) => None,
+        Ok(Begun::Dropped) => None,
+        Err(_) => None,
     }
 }
 

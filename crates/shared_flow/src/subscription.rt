@@ -1,5 +1,5 @@
 //! One that receives the values of a shared flow.
-ghost use Rattle.std.specs.Prelude.{◌≡◌, ◌≢◌, ◌⊎◌, ◌+◌, None, Some, IfOk, IfErr, IfSome, IfNone};
+ghost use Rattle.std.specs.Prelude.{◌≡◌, ◌≢◌, ◌⊎◌, ◌+◌, [], None, Some, IfOk, IfErr, IfSome, IfNone};
 ghost use Rattle.futures.specs.Poll.{IfReady, OnPending};
 ghost use Rattle.futures.specs.Task.{IsArmed, Keeps};
 ghost use Rattle.lane_steps.specs.Law.{Begins};
@@ -8,7 +8,8 @@ ghost use Rattle.shared_flow.specs.declared.round.Round.TheVariants as round;
 ghost use Rattle.shared_flow.specs.Reach.{Party, party_of};
 ghost use Rattle.shared_flow.specs.Entering.{Made};
 ghost use Rattle.shared_flow.specs.Parties.{Subscribed, OfFlow};
-ghost use Rattle.shared_flow.specs.Looks.{Took, Gave, GaveIn, Missed, MissedTwice, MissedOn, OnlyNext, Waited, WasEnded, MadeRoom};
+ghost use Rattle.shared_flow.specs.Looks.{Took, Gave, GaveIn, Missed, MissedTwice, MissedOn, OnlyLooked, OnlyNext, Waited, WasEnded};
+ghost use Rattle.shared_flow.specs.Looks.{MadeRoom, HasMadeRoom};
 ghost use Rattle.shared_core.specs.Preludes.{prelude_values};
 ghost use Rattle.shared_flow.specs.Preludes.{IsGreeted, IsPast, GreetedOr, TookFirst};
 ghost use Rattle.flow_terms.specs.declared.refusal.Refusal.TheVariants.{NoMemory};
@@ -36,7 +37,7 @@ mod blocks;
 ///
 /// It has no `Drop` and must be spent, by `cancel`: until then it takes a place, and under `Suspend` it holds up emitters. Lend it
 /// to a thread by `&mut`, and spend it after the join. Contracts see its flow, the rounds that it made under the lock, the one list of
-/// rounds as far as it has seen it, its number, what is left of its prelude, its reader, and what its looks at the flag found.
+/// rounds as far as it has seen it, its number, what is left of its prelude, its reader, and its looks at the flag.
 pub struct Subscription<T: Word> {
     access: Access,
     // Given first, and by nobody but this subscription: no lock, and no word of the lane.
@@ -126,61 +127,6 @@ impl<T: Word> Subscription<T> {
         }
     }
 
-    /// Receives the oldest value that is pending: one turn of Kotlin's `collect`. Those of the prelude come first. Pending where
-    /// there is none, and then the task sleeps until a value is accepted. That the wake arrives isn't claimed.
-    ///
-    /// It looks twice: first without the lock, and where that gives no value once more with it. A value that is there costs no lock,
-    /// unless an emission waits that the receipt may help.
-    pub fn poll_next(&mut self, rt: &impl Wait, cx: &mut Context<'_>) -> Poll<T>
-        ensures round { OnPending result (Made (round.Next self.old.number) self.old.party self.new.party) }
-        ensures rounds { (self.new.party ≡ self.old.party) ⊎ Made (round.Next self.old.number) self.old.party self.new.party }
-        ensures same { self.new.number ≡ self.old.number }
-        ensures ready { IfReady result (λ v. GreetedOr self.old v self.new (GaveIn T.read_as self.old.reader v self.new.reader)) }
-        ensures room { IfReady result (λ v. IsGreeted self.old v self.new ⊎ MadeRoom self.old self.new) }
-        ensures pending { OnPending result (IsPast self.old self.new × MissedTwice self.old.reader self.new.reader) }
-        ensures armed { OnPending result (IsArmed cx.new) }
-        ensures kept { Keeps cx.old cx.new }
-    {
-        match self.greet() {
-            Some(value) => Poll::Ready(value),
-            None => self.poll_accepted(rt, cx),
-        }
-    }
-
-    // A poll for the next value that was accepted.
-    fn poll_accepted(&mut self, rt: &impl Wait, cx: &mut Context<'_>) -> Poll<T>
-        ensures round { OnPending result (Made (round.Next self.old.number) self.old.party self.new.party) }
-        ensures rounds { (self.new.party ≡ self.old.party) ⊎ Made (round.Next self.old.number) self.old.party self.new.party }
-        ensures same { (self.new.number ≡ self.old.number) × (self.new.rest ≡ self.old.rest) }
-        ensures ready { IfReady result (λ v. GaveIn T.read_as self.old.reader v self.new.reader) }
-        ensures room { IfReady result (λ v. MadeRoom self.old self.new) }
-        ensures pending { OnPending result (MissedTwice self.old.reader self.new.reader) }
-        ensures armed { OnPending result (IsArmed cx.new) }
-        ensures kept { Keeps cx.old cx.new }
-    {
-        match self.look(rt) {
-            Some(value) => Poll::Ready(value),
-            None => self.look_again(rt, cx),
-        }
-    }
-
-    /// Receives the oldest value that is pending, and waits for one where there is none: one turn of Kotlin's `collect`. Those of
-    /// the prelude come first.
-    ///
-    /// The thread sleeps while no value is there. That the wake arrives isn't claimed. Refused as `NoMemory` where no value is there
-    /// and the parker finds no memory to wait by; nothing is received then.
-    pub fn next(&mut self, rt: &impl Wait, parker: &mut Parker) -> Result<T, Refusal>
-        ensures same { self.new.number ≡ self.old.number }
-        ensures rounds { OnlyNext self.old.number self.old.party self.new.party }
-        ensures value { IfOk result (λ v. GreetedOr self.old v self.new (Waited T.read_as self.old.reader v self.new.reader)) }
-        ensures nothing { IfErr result (λ refusal. (refusal ≡ NoMemory) × IsPast self.old self.new × Missed self.old.reader self.new.reader) }
-    {
-        match self.greet() {
-            Some(value) => Ok(value),
-            None => self.next_accepted(rt, parker),
-        }
-    }
-
     /// Receives the oldest value that is pending, where one is there: the look that [`next`](Subscription::next) begins with. Those
     /// of the prelude come first. Kotlin has no such call: there `collect` suspends where this answers nothing.
     ///
@@ -191,7 +137,7 @@ impl<T: Word> Subscription<T> {
         ensures same { self.new.number ≡ self.old.number }
         ensures given { IfSome result (λ v. GreetedOr self.old v self.new (Gave T.read_as self.old.reader v self.new.reader)) }
         ensures room { IfSome result (λ v. IsGreeted self.old v self.new ⊎ MadeRoom self.old self.new) }
-        ensures missed { IfNone result ((self.new.party ≡ self.old.party) × IsPast self.old self.new × Missed self.old.reader self.new.reader) }
+        ensures missed { IfNone result (IsPast self.old self.new × OnlyLooked self.old self.new × Missed self.old.reader self.new.reader) }
     {
         match self.greet() {
             Some(value) => Some(value),
@@ -208,60 +154,13 @@ impl<T: Word> Subscription<T> {
         ensures rounds { (self.new.party ≡ self.old.party) ⊎ Made (round.Next self.old.number) self.old.party self.new.party }
         ensures same { self.new.number ≡ self.old.number }
         ensures given { IfSome result (λ v. GreetedOr self.old v self.new (Waited T.read_as self.old.reader v self.new.reader)) }
-        ensures missed { IfNone result ((self.new.party ≡ self.old.party) × IsPast self.old self.new × MissedOn self.old.reader self.new.reader) }
+        ensures room { IfSome result (λ v. IsGreeted self.old v self.new ⊎ MadeRoom self.old self.new) }
+        ensures missed { IfNone result (IsPast self.old self.new × OnlyLooked self.old self.new × MissedOn self.old.reader self.new.reader) }
     {
-        match self.greet() {
-            Some(value) => Some(value),
-            None => self.look_on(rt),
+        if let Some(value) = self.greet() {
+            return Some(value);
         }
-    }
-
-    // Waits for the next value that is accepted.
-    fn next_accepted(&mut self, rt: &impl Wait, parker: &mut Parker) -> Result<T, Refusal>
-        ensures same { (self.new.number ≡ self.old.number) × (self.new.rest ≡ self.old.rest) }
-        ensures rounds { OnlyNext self.old.number self.old.party self.new.party }
-        ensures value { IfOk result (λ v. Waited T.read_as self.old.reader v self.new.reader) }
-        ensures nothing { IfErr result (λ refusal. (refusal ≡ NoMemory) × Missed self.old.reader self.new.reader) }
-    {
-        match self.look(rt) {
-            Some(value) => Ok(value),
-            None => self.wait_for_next(rt, parker),
-        }
-    }
-
-    // Waits for it where a look found nothing. It looks on for a little while before the thread sleeps.
-    #[inline(never)]
-    fn wait_for_next(&mut self, rt: &impl Wait, parker: &mut Parker) -> Result<T, Refusal>
-        ensures same { (self.new.number ≡ self.old.number) × (self.new.rest ≡ self.old.rest) }
-        ensures rounds { OnlyNext self.old.number self.old.party self.new.party }
-        ensures value { IfOk result (λ v. Waited T.read_as self.old.reader v self.new.reader) }
-        ensures nothing { IfErr result (λ refusal. (refusal ≡ NoMemory) × (self.new ≡ self.old)) }
-    {
-        parker.begin()?;
-        if let Some(value) = self.look_on(rt) {
-            return Ok(value);
-        }
-        for _ in rt.forever() {
-            let Some(mut cx) = parker.turn(rt) else {
-                continue;
-            };
-            let polled = self.poll_accepted(rt, &mut cx);
-            cx.end(&polled);
-            if let Poll::Ready(value) = polled {
-                return Ok(value);
-            }
-        }
-        unreachable!()
-    }
-
-    // Looks some times more before the thread sleeps. A value that another thread is about to accept is there sooner than a thread
-    // that sleeps has been woken for it.
-    fn look_on(&mut self, rt: &impl Wait) -> Option<T>
-        ensures rounds { (self.new.party ≡ self.old.party) ⊎ Made (round.Next self.old.number) self.old.party self.new.party }
-        ensures same { (self.new.number ≡ self.old.number) × (self.new.rest ≡ self.old.rest) }
-        ensures given { IfSome result (λ v. Waited T.read_as self.old.reader v self.new.reader) }
-        ensures missed { IfNone result ((self.new.party ≡ self.old.party) × MissedOn self.old.reader self.new.reader) }
-    {
+        // A value that another thread is about to accept is there sooner than a thread that sleeps has been woken for it.
         for _ in 0..LOOKS {
             pause();
             if let Some(value) = self.look(rt) {
@@ -271,6 +170,72 @@ impl<T: Word> Subscription<T> {
         None
     }
 
+    /// Receives the oldest value that is pending: one turn of Kotlin's `collect`. Those of the prelude come first. Pending where
+    /// there is none, and then the task sleeps until a value is accepted. That the wake arrives isn't claimed.
+    ///
+    /// It looks twice: first without the lock, and where that gives no value once more with it. A value that is there costs no lock,
+    /// unless an emission waits that the receipt may help.
+    pub fn poll_next(&mut self, rt: &impl Wait, cx: &mut Context<'_>) -> Poll<T>
+        ensures round { OnPending result (Made (round.Pending self.old.number) self.old.party self.new.party) }
+        ensures rounds { IfReady result (λ v. (self.new.party ≡ self.old.party) ⊎ Made (round.Next self.old.number) self.old.party self.new.party) }
+        ensures same { self.new.number ≡ self.old.number }
+        ensures ready { IfReady result (λ v. GreetedOr self.old v self.new (GaveIn T.read_as self.old.reader v self.new.reader)) }
+        ensures room { IfReady result (λ v. IsGreeted self.old v self.new ⊎ MadeRoom self.old self.new) }
+        ensures pending { OnPending result (IsPast self.old self.new × MissedTwice self.old.reader self.new.reader) }
+        ensures armed { OnPending result (IsArmed cx.new) }
+        ensures kept { Keeps cx.old cx.new }
+    {
+        match self.next_now(rt) {
+            Some(value) => Poll::Ready(value),
+            None => self.look_again(rt, cx),
+        }
+    }
+
+    /// Receives the oldest value that is pending, and waits for one where there is none: one turn of Kotlin's `collect`. Those of
+    /// the prelude come first.
+    ///
+    /// The thread sleeps while no value is there. That the wake arrives isn't claimed. Refused as `NoMemory` where no value is there
+    /// and the parker finds no memory to wait by; nothing is received then.
+    pub fn next(&mut self, rt: &impl Wait, parker: &mut Parker) -> Result<T, Refusal>
+        ensures same { self.new.number ≡ self.old.number }
+        ensures rounds { OnlyNext self.old.number self.old.party self.new.party }
+        ensures value { IfOk result (λ v. GreetedOr self.old v self.new (Waited T.read_as self.old.reader v self.new.reader)) }
+        ensures room { IfOk result (λ v. IsGreeted self.old v self.new ⊎ HasMadeRoom self.old self.new) }
+        ensures nothing { IfErr result (λ refusal. (refusal ≡ NoMemory) × IsPast self.old self.new × Missed self.old.reader self.new.reader) }
+    {
+        match self.next_now(rt) {
+            Some(value) => Ok(value),
+            None => self.wait_for_next(rt, parker),
+        }
+    }
+
+    // Waits for the next value that is accepted, where a look found nothing. It looks on for a little while before the thread sleeps.
+    #[inline(never)]
+    fn wait_for_next(&mut self, rt: &impl Wait, parker: &mut Parker) -> Result<T, Refusal>
+        requires past { self.old.rest ≡ [] }
+        ensures same { (self.new.number ≡ self.old.number) × (self.new.rest ≡ self.old.rest) }
+        ensures rounds { OnlyNext self.old.number self.old.party self.new.party }
+        ensures value { IfOk result (λ v. Waited T.read_as self.old.reader v self.new.reader) }
+        ensures room { IfOk result (λ v. HasMadeRoom self.old self.new) }
+        ensures nothing { IfErr result (λ refusal. (refusal ≡ NoMemory) × (self.new ≡ self.old)) }
+    {
+        parker.begin()?;
+        if let Some(value) = self.next_soon(rt) {
+            return Ok(value);
+        }
+        for _ in rt.forever() {
+            let Some(mut cx) = parker.turn(rt) else {
+                continue;
+            };
+            let polled = self.poll_next(rt, &mut cx);
+            cx.end(&polled);
+            if let Poll::Ready(value) = polled {
+                return Ok(value);
+            }
+        }
+        unreachable!()
+    }
+
     // Looks for a value without the lock: each look for one value that comes before a subscription sleeps is made here. It takes
     // the lock where an emission waits that the receipt may help, which nobody else may ever do.
     fn look(&mut self, rt: &impl Wait) -> Option<T>
@@ -278,12 +243,13 @@ impl<T: Word> Subscription<T> {
         ensures same { (self.new.number ≡ self.old.number) × (self.new.rest ≡ self.old.rest) }
         ensures given { IfSome result (λ v. Gave T.read_as self.old.reader v self.new.reader) }
         ensures room { IfSome result (λ v. MadeRoom self.old self.new) }
-        ensures missed { IfNone result ((self.new.party ≡ self.old.party) × Missed self.old.reader self.new.reader) }
+        ensures missed { IfNone result (OnlyLooked self.old self.new × Missed self.old.reader self.new.reader) }
     {
         let Taken::Value(word) = self.reader.try_next(self.access.lane()) else {
             return None;
         };
-        if self.access.has_unfinished(&mut self.looker) {
+        let waits = self.access.has_unfinished(&mut self.looker, &self.reader);
+        if waits {
             self.make_room(rt);
         }
         Some(T::from_word(word))
@@ -304,8 +270,9 @@ impl<T: Word> Subscription<T> {
     // Looks for a value with the lock held. Without one the task sleeps.
     #[inline(never)]
     fn look_again(&mut self, rt: &impl Wait, cx: &mut Context<'_>) -> Poll<T>
-        ensures round { Made (round.Next self.old.number) self.old.party self.new.party }
         ensures same { (self.new.number ≡ self.old.number) × (self.new.rest ≡ self.old.rest) }
+        ensures round { OnPending result (Made (round.Pending self.old.number) self.old.party self.new.party) }
+        ensures rounds { IfReady result (λ v. Made (round.Next self.old.number) self.old.party self.new.party) }
         ensures ready { IfReady result (λ v. Gave T.read_as self.old.reader v self.new.reader) }
         ensures pending { OnPending result (Missed self.old.reader self.new.reader) }
         ensures armed { OnPending result (IsArmed cx.new) }
@@ -322,12 +289,12 @@ impl<T: Word> Subscription<T> {
                     .guarded
                     .state
                     .sleep_subscription(self.number, &mut self.bed, cx);
-                self.access.leave(rt, inside, Round::Next(self.number));
+                self.access.leave(rt, inside, Round::Pending(self.number));
                 Poll::Pending
             }
             // Nobody moves a cursor but under the lock, so that this doesn't come: it asks to be polled again.
             Taken::Overtaken => {
-                self.access.leave(rt, inside, Round::Next(self.number));
+                self.access.leave(rt, inside, Round::Pending(self.number));
                 let _again: Poll<()> = cx.yield_now();
                 Poll::Pending
             }

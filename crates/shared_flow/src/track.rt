@@ -1,11 +1,12 @@
 //! What all parties of a flow share without its lock.
 ghost use Rattle.std.specs.Prelude.{◌≡◌, ◌⊎◌, [], false};
+ghost use Rattle.shared_lane.specs.Readers.{at};
 ghost use Rattle.shared_flow.specs.Flags.{looked_at, number_of};
 
 use crate::flag::{Flag, Keeper, Looker};
-use shared_lane::Lane;
+use shared_lane::{Lane, Reader};
 use std::alloc::Global;
-use std::marker::Model;
+use std::marker::{Brand, Model};
 
 /// The lane of a flow, and beside it a flag that says whether some emission may have to wait for a receipt. Contracts see which lane
 /// and which flag they are, and whether emissions of the flow may wait.
@@ -55,16 +56,16 @@ impl Track {
         self.unfinished.looker(keeper)
     }
 
-    /// Whether who has received has to take the lock, for an emission that may wait for that.
-    pub fn has_unfinished(&self, looker: &mut Looker) -> bool
+    /// Whether who has received has to take the lock, for an emission that may wait for that, as its reader stands now.
+    pub fn has_unfinished(&self, looker: &mut Looker, reader: &Reader) -> bool
         requires { looker.old.table ≡ self.now.flag }
         ensures table { looker.new.table ≡ looker.old.table }
-        ensures none { result ≡ false → (self.now.may_wait ≡ false) ⊎ (looker.new ≡ looked_at 0 looker.old) }
+        ensures none { result ≡ false → (self.now.may_wait ≡ false) ⊎ (looker.new ≡ looked_at (at reader.now) 0 looker.old) }
     {
         if !self.may_wait {
             return false;
         }
-        self.unfinished.look(looker)
+        self.unfinished.look::<Brand>(looker, reader)
     }
 
     /// The same, for one who only passes the time: it tells nothing.

@@ -1,6 +1,12 @@
 //! What a seat at the flag knows.
 use std::collections::LinkedList;
 
+/// A look at the flag: where its reader stood then, and what was found. The program makes no value of it.
+pub struct FlagLook {
+    pub position: u64,
+    pub found: u64,
+}
+
 /// What contracts see of a seat at the flag. The program makes no value of it.
 pub struct FlagView {
     /// Whether it is the keeper's.
@@ -8,5 +14,5 @@ pub struct FlagView {
     /// The flag, as its keeper knows it.
     pub flag: u64,
     /// What a looker found, look by look.
-    pub looks: LinkedList<u64>,
+    pub looks: LinkedList<FlagLook>,
 }

@@ -1,22 +1,22 @@
 //! Emissions, by one who holds the lock.
-ghost use Rattle.std.specs.Prelude.{◌≡◌, ◌≢◌, ◌⊎◌, ◌≤◌, ℕ, IfErr, IfSome, Some, true, false};
+ghost use Rattle.std.specs.Prelude.{◌≡◌, ◌≢◌, ◌⊎◌, ◌≤◌, ℕ, IfErr, IfSome, IfNone, Some, true, false};
 ghost use Rattle.flow_terms.specs.declared.refusal.Refusal.TheVariants.{Spent, EmitsFull};
 ghost use Rattle.futures.specs.Task.{IsArmed, Keeps};
 ghost use Rattle.flow_terms.specs.declared.answers.Emit.TheVariants as emit;
 ghost use Rattle.flow_terms.specs.declared.answers.Withdrawn.TheVariants as withdrawn;
 ghost use Rattle.shared_lane.specs.Places.{IsAccepted};
 ghost use Rattle.shared_lane.specs.Polls.{IsOutFor, IsNotOut, PolledOn, WithdrawnFrom};
-ghost use Rattle.shared_lane.specs.Sequencers.{AcceptedOn, IsSameSequencer, next};
-ghost use Rattle.shared_lane.specs.Views.{SequencerSeen};
+ghost use Rattle.shared_lane.specs.Sequencers.{IsSameSequencer, next};
 ghost use Rattle.shared_flow.specs.declared.round.Round.TheVariants as round;
 ghost use Rattle.shared_flow.specs.Sleeping.{LiesDown};
 ghost use Rattle.shared_flow.specs.Waking.{SleepOn};
 ghost use Rattle.shared_flow.specs.Parties.{IfTried, IfBegun, TriedUnder, BegunUnder};
-ghost use Rattle.shared_flow.specs.Rounds.{Comes, Makes, MakesAfterScan, Scanned, IsAfter, IsReceiptAfter};
-ghost use Rattle.shared_flow.specs.Rounds.{entry, IsReceiptFor, IsReceiptOfOne, numbers_tried, numbers_begun, poll_round, withdraw_round};
+ghost use Rattle.shared_flow.specs.Rounds.{Comes, MakesAfterScan, Watched, IsAfter, IsNotAfter, IsReceiptAfter, HasSeenUpTo};
+ghost use Rattle.shared_flow.specs.Rounds.{IsReceiptFor, IsReceiptOfOne, numbers_tried, numbers_begun, poll_round, withdraw_round};
+ghost use Rattle.shared_flow.specs.Rounds.{number_done as the_number_done, number_left as the_number_left};
 
 use super::Shared;
-use crate::round::Emission;
+use crate::round::{Emission, begun_ticket};
 use crate::sleepers::Bed;
 use flow_terms::Refusal;
 use futures::task::{Context, Poll};
@@ -46,7 +46,7 @@ impl Shared {
         ensures policy { TriedUnder self.old.name.config.policy result }
     {
         match self.tried_number(emission)? {
-            Tried::Accepted(number) => Ok(Tried::Accepted(self.receipt_for(emission, number))),
+            Tried::Accepted(number) => Ok(Tried::Accepted(self.receipt(emission.emitter, number))),
             Tried::Dropped => Ok(Tried::Dropped),
             Tried::Full => Ok(Tried::Full),
         }
@@ -76,20 +76,21 @@ impl Shared {
         ensures policy { BegunUnder self.old.name.config.policy result }
     {
         let begun = self.begun(emission);
-        self.watch(&begun);
+        self.watch(begun_ticket(&begun));
         begun
     }
 
     // Where an emission isn't finished, who receives has to take the lock from now on. The cursors are looked at once more after
     // that: a receipt that came before has made room already.
-    fn watch(&mut self, begun: &Result<Begun<Receipt, Ticket>, Refusal>)
+    fn watch(&mut self, ticket: Option<Ticket>)
         ensures same { (self.new.name ≡ self.old.name) × IsSameSequencer self.old.sequencer self.new.sequencer × SleepOn self.old self.new }
-        ensures watched { (self.new.sequencer ≡ self.old.sequencer) ⊎ Scanned self.old.sequencer self.new.sequencer }
+        ensures watched { Watched ticket self.old.sequencer self.new.sequencer }
     {
-        if let Ok(Begun::Waiting(_)) = begun {
-            self.track.set_unfinished(&mut self.keeper, true);
-            self.sequencer.scan(self.track.lane());
-        }
+        let Some(_) = ticket else {
+            return;
+        };
+        self.track.set_unfinished(&mut self.keeper, true);
+        self.sequencer.scan(self.track.lane());
     }
 
     // Without looking at the cursors once more, where it isn't finished.
@@ -102,7 +103,7 @@ impl Shared {
         ensures policy { BegunUnder self.old.name.config.policy result }
     {
         match self.begun_number(emission)? {
-            Begun::Accepted(number) => Ok(Begun::Accepted(self.receipt_for(emission, number))),
+            Begun::Accepted(number) => Ok(Begun::Accepted(self.receipt(emission.emitter, number))),
             Begun::Dropped => Ok(Begun::Dropped),
             Begun::Waiting(ticket) => Ok(Begun::Waiting(ticket)),
         }
@@ -119,15 +120,15 @@ impl Shared {
         self.sequencer.start_emit(self.track.lane(), emitter, word)
     }
 
-    // A receipt for an emission that was accepted just now.
-    fn receipt_for(&mut self, emission: Emission, number: u64) -> Receipt
-        requires { (m : SequencerSeen) × (self.old.sequencer.view.shape ≡ m.view.shape) × AcceptedOn m (entry emission) number self.old.sequencer }
+    // A receipt for an emission of this emitter that was accepted.
+    fn receipt(&mut self, emitter: u32, number: u64) -> Receipt
+        requires { IsAccepted self.old.sequencer emitter number }
         ensures same { self.new ≡ self.old }
-        ensures receipt { IsReceiptFor self.old.name.lane emission result }
+        ensures receipt { IsReceiptOfOne self.old.name.lane emitter result }
+        ensures seen { HasSeenUpTo self.old.sequencer result }
         ensures number { result.number ≡ number }
     {
-        self.sequencer
-            .receipt(self.track.lane(), emission.emitter, number)
+        self.sequencer.receipt(self.track.lane(), emitter, number)
     }
 
     // Whether a ticket is out for an emission of this emitter.
@@ -141,6 +142,26 @@ impl Shared {
         }
     }
 
+    // A receipt for the emission that a ticket stood for, if it was accepted: where it is this emitter's own, with a number above the last.
+    fn own_receipt(
+        &mut self,
+        is_own: bool,
+        emitter: u32,
+        last: Option<u64>,
+        number: Option<u64>,
+    ) -> Option<Receipt>
+        requires { is_own ≡ true → IfSome number (λ n. IsAccepted self.old.sequencer emitter n) }
+        ensures same { self.new ≡ self.old }
+        ensures receipt { IfSome result (λ r. (number ≡ Some r.number) × IsReceiptAfter self.old.name.lane emitter last r) }
+        ensures none { IfNone result (IfSome number (λ n. (is_own ≡ false) ⊎ IsNotAfter last n)) }
+    {
+        let number = number?;
+        if !is_own || !is_after(last, number) {
+            return None;
+        }
+        Some(self.receipt(emitter, number))
+    }
+
     /// Asks whether an emission of this emitter is finished, and makes a receipt for one that is, with a number above the last.
     pub(crate) fn poll_emit(&mut self, ticket: Ticket, emitter: u32, last: Option<u64>) -> Polled
         ensures does { Comes self.old (poll_round ticket emitter last result.emit result.receipt) self.new }
@@ -148,28 +169,9 @@ impl Shared {
         ensures receipt { IfSome result.receipt (λ r. (result.emit ≡ emit.Done r.number) × IsReceiptAfter self.old.name.lane emitter last r) }
     {
         self.sequencer.scan(self.track.lane());
-        self.asked(ticket, emitter, last)
-    }
-
-    // After what waited was let in.
-    fn asked(&mut self, ticket: Ticket, emitter: u32, last: Option<u64>) -> Polled
-        ensures same { (self.new.name ≡ self.old.name) × IsSameSequencer self.old.sequencer self.new.sequencer × SleepOn self.old self.new }
-        ensures made { Makes self.old.name.lane self.old.sequencer (poll_round ticket emitter last result.emit result.receipt) self.new.sequencer }
-        ensures receipt { IfSome result.receipt (λ r. (result.emit ≡ emit.Done r.number) × IsReceiptAfter self.old.name.lane emitter last r) }
-    {
         let is_own = self.is_of(ticket, emitter);
         let emit = self.poll_ticket(ticket);
-        let receipt = None;
-        let Emit::Done(number) = emit else {
-            return Polled { emit, receipt };
-        };
-        if !is_own {
-            return Polled { emit, receipt };
-        }
-        if !is_after(last, number) {
-            return Polled { emit, receipt };
-        }
-        let receipt = Some(self.receipt_of(emitter, number));
+        let receipt = self.own_receipt(is_own, emitter, last, number_done(emit));
         Polled { emit, receipt }
     }
 
@@ -189,16 +191,6 @@ impl Shared {
         self.sequencer.cancel_emit(self.track.lane(), ticket)
     }
 
-    // A receipt for an emission that was accepted for this emitter.
-    fn receipt_of(&mut self, emitter: u32, number: u64) -> Receipt
-        requires { IsAccepted self.old.sequencer emitter number }
-        ensures same { self.new ≡ self.old }
-        ensures receipt { IsReceiptOfOne self.old.name.lane emitter result }
-        ensures number { result.number ≡ number }
-    {
-        self.sequencer.receipt(self.track.lane(), emitter, number)
-    }
-
     /// Gives an emission of this emitter up, and makes a receipt for one that was accepted before.
     pub(crate) fn cancel_emit(
         &mut self,
@@ -211,28 +203,9 @@ impl Shared {
         ensures receipt { IfSome result.receipt (λ r. (result.withdrawn ≡ withdrawn.Left r.number) × IsReceiptAfter self.old.name.lane emitter last r) }
     {
         self.sequencer.scan(self.track.lane());
-        self.given_up(ticket, emitter, last)
-    }
-
-    // After what waited was let in.
-    fn given_up(&mut self, ticket: Ticket, emitter: u32, last: Option<u64>) -> Released
-        ensures same { (self.new.name ≡ self.old.name) × IsSameSequencer self.old.sequencer self.new.sequencer × SleepOn self.old self.new }
-        ensures made { Makes self.old.name.lane self.old.sequencer (withdraw_round ticket emitter last result.withdrawn result.receipt) self.new.sequencer }
-        ensures receipt { IfSome result.receipt (λ r. (result.withdrawn ≡ withdrawn.Left r.number) × IsReceiptAfter self.old.name.lane emitter last r) }
-    {
         let is_own = self.is_of(ticket, emitter);
         let withdrawn = self.give_ticket_up(ticket);
-        let receipt = None;
-        let Withdrawn::Left(number) = withdrawn else {
-            return Released { withdrawn, receipt };
-        };
-        if !is_own {
-            return Released { withdrawn, receipt };
-        }
-        if !is_after(last, number) {
-            return Released { withdrawn, receipt };
-        }
-        let receipt = Some(self.receipt_of(emitter, number));
+        let receipt = self.own_receipt(is_own, emitter, last, number_left(withdrawn));
         Released { withdrawn, receipt }
     }
 
@@ -262,10 +235,32 @@ impl Shared {
 // Whether a number is above the last one that an emitter was answered.
 fn is_after(last: Option<u64>, number: u64) -> bool
     ensures above { result ≡ true → IsAfter last number }
-    ensures not { result ≡ false → (l : ℕ) × (last ≡ Some l) × (number ≤ l) }
+    ensures not { result ≡ false → IsNotAfter last number }
 {
     match last {
         None => true,
         Some(last) => last < number,
+    }
+}
+
+// The number of the emission that a poll found finished.
+fn number_done(emit: Emit) -> Option<u64>
+    ensures { result ≡ the_number_done emit }
+{
+    match emit {
+        Emit::Done(number) => Some(number),
+        Emit::Waiting => None,
+        Emit::Gone => None,
+    }
+}
+
+// The number of the emission that had been accepted when it was given up.
+fn number_left(withdrawn: Withdrawn<u64>) -> Option<u64>
+    ensures { result ≡ the_number_left withdrawn }
+{
+    match withdrawn {
+        Withdrawn::Left(number) => Some(number),
+        Withdrawn::Removed => None,
+        Withdrawn::Gone => None,
     }
 }

@@ -13,7 +13,7 @@ ghost use Rattle.shared_flow.specs.Meeting.{HasMet};
 ghost use Rattle.shared_flow.specs.Owners.{OnlyMet};
 ghost use Rattle.shared_flow.specs.Sleeping.{LiesDown};
 ghost use Rattle.shared_flow.specs.Waking.{SleepOn};
-ghost use Rattle.shared_flow.specs.Rounds.{Comes, HasClosed, IsAtLimit, IsLetIn};
+ghost use Rattle.shared_flow.specs.Rounds.{Comes, HasClosed, IsAtLimit, IsLetIn, look_round};
 
 use super::Shared;
 use crate::flag::Looker;
@@ -70,7 +70,7 @@ impl Shared {
     /// find comes after its task sleeps.
     pub(crate) fn look(&mut self, number: u64, reader: &mut Reader) -> Taken<u64>
         requires { IsReaderOf self.old.name.lane reader.old }
-        ensures does { Comes self.old (round.Next number) self.new }
+        ensures does { Comes self.old (look_round number result) self.new }
         ensures asleep { SleepOn self.old self.new }
         ensures reader { IsReaderOf self.old.name.lane reader.new }
         ensures looked { Looked reader.old result reader.new }

@@ -1,11 +1,11 @@
 //! A subscription takes several values at once.
-ghost use Rattle.std.specs.Prelude.{◌≡◌, ◌⊎◌, ◌-◌, ◌<◌, ℕ, List, ◌++◌, Ok, length, map, vec_capacity, IfOk, IfErr};
+ghost use Rattle.std.specs.Prelude.{◌≡◌, ◌≢◌, ◌⊎◌, ◌-◌, ◌<◌, ℕ, List, [], ◌++◌, Ok, length, map, vec_capacity, IfOk, IfErr};
 ghost use Rattle.flow_terms.specs.declared.refusal.Refusal.TheVariants.{NoMemory};
 ghost use Rattle.shared_flow.specs.declared.round.Round.TheVariants as round;
-ghost use Rattle.shared_flow.specs.Blocks.{IsGreetedAll, TookAllFirst, LookedAll, MissedAll, GotAll, GotAllFirst, count_of};
+ghost use Rattle.shared_flow.specs.Blocks.{TookAllFirst, LookedAll, MissedAll, GotAll, GotAllFirst, count_of};
 ghost use Rattle.shared_flow.specs.Entering.{Made};
 ghost use Rattle.shared_lane.specs.declared.reader.Taken.TheVariants as taken;
-ghost use Rattle.shared_flow.specs.Looks.{MadeRoom, OnlyNext};
+ghost use Rattle.shared_flow.specs.Looks.{MadeRoom, HasMadeRoom, OnlyLooked, OnlyNext};
 ghost use Rattle.shared_flow.specs.Preludes.{IsPast};
 
 use super::Subscription;
@@ -61,6 +61,7 @@ impl<T: Word> Subscription<T> {
         ensures full { vec_capacity out.old ≡ length out.old.items → (result ≡ Ok 0) × (self.new ≡ self.old) × (out.new.items ≡ out.old.items) }
         ensures taken { length out.old.items < vec_capacity out.old → IfOk result (λ n. (values : List T) × (out.new.items ≡ out.old.items ++ values) × (n ≡ length values) × (0 < n)
             × GotAllFirst T.read_as self.old (vec_capacity out.old - length out.old.items) values self.new) }
+        ensures room { length out.old.items < vec_capacity out.old → IfOk result (λ n. (self.old.rest ≢ []) ⊎ HasMadeRoom self.old self.new) }
         ensures nothing { IfErr result (λ refusal. (refusal ≡ NoMemory) × (out.new.items ≡ out.old.items) × IsPast self.old self.new
             × MissedAll self.old.reader (vec_capacity out.old - length out.old.items) self.new.reader) }
         ensures capacity { vec_capacity out.new ≡ vec_capacity out.old }
@@ -81,11 +82,13 @@ impl<T: Word> Subscription<T> {
         parker: &mut Parker,
         out: &mut Vec<T, B>,
     ) -> Result<u64, Refusal>
-        requires room { length out.old.items < vec_capacity out.old }
+        requires space { length out.old.items < vec_capacity out.old }
+        requires past { self.old.rest ≡ [] }
         ensures same { (self.new.number ≡ self.old.number) × (self.new.rest ≡ self.old.rest) }
         ensures rounds { OnlyNext self.old.number self.old.party self.new.party }
         ensures taken { IfOk result (λ n. (values : List T) × (out.new.items ≡ out.old.items ++ values) × (n ≡ length values) × (0 < n)
             × GotAll T.read_as self.old.reader (vec_capacity out.old - length out.old.items) values self.new.reader) }
+        ensures room { IfOk result (λ n. HasMadeRoom self.old self.new) }
         ensures nothing { IfErr result (λ refusal. (refusal ≡ NoMemory) × (out.new.items ≡ out.old.items)
             × MissedAll self.old.reader (vec_capacity out.old - length out.old.items) self.new.reader) }
         ensures capacity { vec_capacity out.new ≡ vec_capacity out.old }
@@ -106,11 +109,13 @@ impl<T: Word> Subscription<T> {
         ensures looked { (words : List ℕ) × (out.new.items ≡ out.old.items ++ map T.read_as words)
             × LookedAll self.old.reader (vec_capacity out.old - length out.old.items) result words self.new.reader }
         ensures room { (k : ℕ) → result ≡ taken.Value k → MadeRoom self.old self.new }
+        ensures missed { ((k : ℕ) → result ≢ taken.Value k) → OnlyLooked self.old self.new }
         ensures capacity { vec_capacity out.new ≡ vec_capacity out.old }
     {
         let taken = self.reader.try_next_all(self.access.lane(), out);
         if let Taken::Value(_) = taken {
-            if self.access.has_unfinished(&mut self.looker) {
+            let waits = self.access.has_unfinished(&mut self.looker, &self.reader);
+            if waits {
                 self.make_room(rt);
             }
         }

@@ -29,5 +29,5 @@ loop-preserved g c =
     let after = c.poll_next-polled.new.self in
     let was : HasTaken before [] turn = c.loop.invariant.1 in
     let missed = subst (λ p. OnPending p (IsPast turn after × MissedTwice turn.reader after.reader)) c.in_default.is c.poll_next-polled.ensures.pending in
-    let party = subst (λ p. OnPending p (Made (round.Next turn.number) turn.party after.party)) c.in_default.is c.poll_next-polled.ensures.round in
+    let party = subst (λ p. OnPending p (Made (round.Pending turn.number) turn.party after.party)) c.in_default.is c.poll_next-polled.ensures.round in
     ((ap named party.after ∙ c.loop.invariant.0.0, c.poll_next-polled.ensures.same ∙ c.loop.invariant.0.1), taken_more before turn after [] was (polled_none turn after missed))

@@ -1,7 +1,7 @@
 use Rattle.std.proofs.Common.{refl}
 use Rattle.shared_flow.specs.Looks.{by_none}
 use Rattle.shared_flow.proofs.Waiting.{only_next}
-use Rattle.flow_stopping.proofs.Looking.{looked_once, received_now, receives_then}
+use Rattle.flow_stopping.proofs.Looking.{looked_once, received_now, receives_then, room_now}
 use Rattle.flow_stopping.proofs.parker.StoppableParker.next.Goals as goal
 
 pub returns-in-Some : goal.returns-in-Some
@@ -11,12 +11,12 @@ returns-in-Some g c =
       c.next_now.ensures.same,
       only_next before.number before.number before.party before.party after.party refl (by_none before.party) c.next_now.ensures.rounds,
       received_now g.T.Word.read_as before after c.in-Some.value c.in-Some.ensures.given,
+      room_now before after c.in-Some.value c.in-Some.ensures.room,
     )
 
 pub returns : goal.returns
 returns g c =
     let before = c.args.subscription.now in
     let turn = c.next_now.new.self in
-    let missed = c.in_default.ensures.missed in
-    let looked = looked_once before turn c.next_now.ensures.same missed.0 missed.1 missed.2 in
+    let looked = looked_once before turn c.in_default.ensures.missed in
     receives_then g.T.Word.read_as before turn c.received.new.subscription c.received.result looked c.received.ensures

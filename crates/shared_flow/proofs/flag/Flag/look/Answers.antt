@@ -3,4 +3,4 @@ use Rattle.shared_flow.proofs.Flags.{looks}
 use Rattle.shared_flow.proofs.flag.Flag.look.Goals as goal
 
 pub load-requires : goal.load-requires
-load-requires c = (search rules, search rules, looks _ _ _)
+load-requires g c = (search rules, search rules, looks _ _ _ _)

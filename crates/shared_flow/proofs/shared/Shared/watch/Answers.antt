@@ -1,9 +1,10 @@
-use Rattle.std.proofs.Common.{refl, subst, inr}
+use Rattle.std.proofs.Common.{refl, sym, subst}
 use Rattle.shared_flow.specs.Names.{SharedSeen}
-use Rattle.shared_flow.specs.Rounds.{Scanned}
+use Rattle.shared_flow.specs.Rounds.{Scanned, Watched}
 use Rattle.shared_flow.proofs.shared.Shared.watch.Goals as goal
 
-pub returns-in-Ok-Waiting-clause-watched : goal.returns-in-Ok-Waiting-clause-watched
-returns-in-Ok-Waiting-clause-watched c =
+pub returns-clause-watched : goal.returns-clause-watched
+returns-clause-watched c =
     let scanned = c.scan.ensures in
-    inr (subst (λ (s : SharedSeen). Scanned s.sequencer c.scan.new.self) c.self.view_is (c.scan.new.self, c.scan.result, scanned.same.1, scanned.settled, scanned.stuck, refl))
+    let it = subst (λ (s : SharedSeen). Scanned s.sequencer c.scan.new.self) c.self.view_is (c.scan.new.self, c.scan.result, scanned.same.1, scanned.settled, scanned.stuck, refl) in
+    subst (λ k. Watched k c.args.self.now.sequencer c.scan.new.self) (sym c.in-Some.is) it

@@ -1,8 +1,9 @@
 use Rattle.std.proofs.Common.{sym, ap, subst}
+use Rattle.shared_lane.specs.declared.reader.Taken.{Taken}
 use Rattle.shared_flow.specs.declared.round.Round.TheVariants as round
 use Rattle.shared_flow.specs.Names.{SharedSeen}
 use Rattle.shared_flow.specs.Reach.{Reach}
-use Rattle.shared_flow.specs.Rounds.{Comes}
+use Rattle.shared_flow.specs.Rounds.{Comes, look_round}
 use Rattle.shared_flow.specs.Waking.{SleepOn}
 use Rattle.shared_flow.proofs.Doing.{is_called, lay_down, none_lies}
 use Rattle.shared_flow.proofs.Making.{made}
@@ -12,18 +13,20 @@ pub leave-requires : goal.leave-requires
 leave-requires g c =
     let found : SharedSeen = c.enter-inside.result.guarded.state.value in
     let number = c.self.inside.number in
+    let came = subst (λ (x : Taken _). Comes c.deref_mut.result.now (look_round number x) c.look.new.self) c.in-Value.is c.look.ensures.does in
     record {
       round = is_called c.enter-inside.new.self found c.deref_mut.result.now c.look.new.self c.enter-inside.result.before (round.Next number) (ap (λ (r : Reach). r.held) c.enter-inside.ensures.taken)
-          c.enter-inside.ensures.before c.deref_mut.ensures.value c.look.ensures.does (none_lies c.deref_mut.result.now c.look.new.self number c.look.ensures.asleep);
+          c.enter-inside.ensures.before c.deref_mut.ensures.value came c.look.ensures.asleep;
     }
 
 pub leave-requires-in-Overtaken : goal.leave-requires-in-Overtaken
 leave-requires-in-Overtaken g c =
     let found : SharedSeen = c.enter-inside.result.guarded.state.value in
     let number = c.self.inside.number in
+    let came = subst (λ (x : Taken _). Comes c.deref_mut.result.now (look_round number x) c.look.new.self) c.in-Overtaken.is c.look.ensures.does in
     record {
-      round = is_called c.enter-inside.new.self found c.deref_mut.result.now c.look.new.self c.enter-inside.result.before (round.Next number) (ap (λ (r : Reach). r.held) c.enter-inside.ensures.taken)
-          c.enter-inside.ensures.before c.deref_mut.ensures.value c.look.ensures.does (none_lies c.deref_mut.result.now c.look.new.self number c.look.ensures.asleep);
+      round = is_called c.enter-inside.new.self found c.deref_mut.result.now c.look.new.self c.enter-inside.result.before (round.Pending number) (ap (λ (r : Reach). r.held) c.enter-inside.ensures.taken)
+          c.enter-inside.ensures.before c.deref_mut.ensures.value came (none_lies c.deref_mut.result.now c.look.new.self number c.look.ensures.asleep);
     }
 
 -- the task lies down after the look
@@ -35,18 +38,19 @@ leave-requires-in-Nothing g c =
     let last : SharedSeen = c.sleep_subscription.new.self in
     let number = c.self.inside.number in
     let is = sym c.deref_mut-in-Nothing.ensures.value in
-    let lain = lay_down before looked last number (subst (Comes before (round.Next number)) is c.look.ensures.does) (subst (SleepOn before) is c.look.ensures.asleep)
+    let came = subst (λ (x : Taken _). Comes before (look_round number x) c.look.new.self) c.in-Nothing.is c.look.ensures.does in
+    let lain = lay_down before looked last number (subst (Comes before (round.Pending number)) is came) (subst (SleepOn before) is c.look.ensures.asleep)
     c.sleep_subscription.ensures.same c.sleep_subscription.ensures.lies in
     record {
-      round = is_called c.enter-inside.new.self found before last c.enter-inside.result.before (round.Next number) (ap (λ (r : Reach). r.held) c.enter-inside.ensures.taken)
+      round = is_called c.enter-inside.new.self found before last c.enter-inside.result.before (round.Pending number) (ap (λ (r : Reach). r.held) c.enter-inside.ensures.taken)
           c.enter-inside.ensures.before c.deref_mut.ensures.value lain.0 lain.1;
     }
 
-pub returns-in-Value-clause-round : goal.returns-in-Value-clause-round
-returns-in-Value-clause-round g c = rw (← c.self.view_is) (made (round.Next c.self.inside.number) c.self.inside.access c.enter-inside.new.self c.leave.new.self c.enter-inside.result.guarded.state.value c.enter-inside.ensures.taken c.enter-inside.ensures.found c.leave.ensures.left)
+pub returns-in-Value-clause-rounds : goal.returns-in-Value-clause-rounds
+returns-in-Value-clause-rounds g c = rw (← c.self.view_is) (made (round.Next c.self.inside.number) c.self.inside.access c.enter-inside.new.self c.leave.new.self c.enter-inside.result.guarded.state.value c.enter-inside.ensures.taken c.enter-inside.ensures.found c.leave.ensures.left)
 
 pub returns-in-Nothing-clause-round : goal.returns-in-Nothing-clause-round
-returns-in-Nothing-clause-round g c = rw (← c.self.view_is) (made (round.Next c.self.inside.number) c.self.inside.access c.enter-inside.new.self c.leave-in-Nothing.new.self c.enter-inside.result.guarded.state.value c.enter-inside.ensures.taken c.enter-inside.ensures.found c.leave-in-Nothing.ensures.left)
+returns-in-Nothing-clause-round g c = rw (← c.self.view_is) (made (round.Pending c.self.inside.number) c.self.inside.access c.enter-inside.new.self c.leave-in-Nothing.new.self c.enter-inside.result.guarded.state.value c.enter-inside.ensures.taken c.enter-inside.ensures.found c.leave-in-Nothing.ensures.left)
 
 pub returns-in-Overtaken-clause-round : goal.returns-in-Overtaken-clause-round
-returns-in-Overtaken-clause-round g c = rw (← c.self.view_is) (made (round.Next c.self.inside.number) c.self.inside.access c.enter-inside.new.self c.leave-in-Overtaken.new.self c.enter-inside.result.guarded.state.value c.enter-inside.ensures.taken c.enter-inside.ensures.found c.leave-in-Overtaken.ensures.left)
+returns-in-Overtaken-clause-round g c = rw (← c.self.view_is) (made (round.Pending c.self.inside.number) c.self.inside.access c.enter-inside.new.self c.leave-in-Overtaken.new.self c.enter-inside.result.guarded.state.value c.enter-inside.ensures.taken c.enter-inside.ensures.found c.leave-in-Overtaken.ensures.left)

@@ -1,7 +1,9 @@
 use Rattle.shared_flow.specs.Looks.{Missed}
-use Rattle.shared_flow.proofs.Waiting.{past_looked}
+use Rattle.shared_flow.proofs.Receiving.{past_looked, still}
 use Rattle.shared_flow.proofs.subscription.Subscription.next_now.Goals as goal
 
 pub returns-in-None-clause-missed : goal.returns-in-None-clause-missed
 returns-in-None-clause-missed g c =
-    past_looked c.look.result (λ r t. Missed r t) c.args.self.now c.greet.new.self c.look.new.self c.in-None.ensures.past c.in-None.ensures.same.0 c.in-None.ensures.same.2 c.look.ensures.same.1 c.look.ensures.missed
+    let s = c.args.self.now in
+    let greeted = c.greet.new.self in
+    past_looked c.look.result (λ r t. Missed r t) s greeted c.look.new.self (still s greeted c.greet.ensures.same c.in-None.ensures.past) c.in-None.ensures.past.0 c.look.ensures.missed

@@ -1,6 +1,24 @@
-use Rattle.shared_flow.proofs.Waiting.{past_missed}
+use Rattle.std.proofs.Common.{⊎_elim, inl, inr, ap, ◌∙◌}
+use Rattle.shared_flow.specs.Parties.{Subscribed}
+use Rattle.shared_flow.proofs.Receiving.{if_ready, on_pending, next_since, pending_since}
 use Rattle.shared_flow.proofs.subscription.Subscription.poll_next.Goals as goal
 
-pub returns-in-None-clause-pending : goal.returns-in-None-clause-pending
-returns-in-None-clause-pending g c =
-    past_missed c.poll_accepted.result c.args.self.now c.greet.new.self c.poll_accepted.new.self c.in-None.ensures.past c.poll_accepted.ensures.same.1 c.in-None.ensures.same.2 c.poll_accepted.ensures.pending
+pub returns-in-Some-clause-ready : goal.returns-in-Some-clause-ready
+returns-in-Some-clause-ready g c = ⊎_elim (λ greeted. inl greeted) (λ it. inr (it.0, inl it.1)) c.in-Some.ensures.given
+
+pub returns-in-None : goal.returns-in-None
+returns-in-None g c =
+    let s = c.args.self.now in
+    let m = c.next_now.new.self in
+    let t = c.look_again.new.self in
+    let missed = c.in-None.ensures.missed in
+    let rest = c.look_again.ensures.same.1 ∙ missed.0.1 in record {
+      round = on_pending c.look_again.result _ _ (λ it. pending_since s m t missed.1 it) c.look_again.ensures.round;
+      rounds = if_ready c.look_again.result _ _ (λ v it. inr (next_since s m t missed.1 it)) c.look_again.ensures.rounds;
+      same = c.look_again.ensures.same.0 ∙ ap (λ (x : Subscribed _). x.number) missed.1;
+      ready = if_ready c.look_again.result _ _ (λ v it. inr ((missed.0.0, rest), inr (m.reader, missed.2, it))) c.look_again.ensures.ready;
+      room = if_ready c.look_again.result _ _ (λ v it. inr (inr (next_since s m t missed.1 it))) c.look_again.ensures.rounds;
+      pending = on_pending c.look_again.result _ _ (λ it. ((missed.0.0, rest), (m.reader, missed.2, it))) c.look_again.ensures.pending;
+      armed = c.look_again.ensures.armed;
+      kept = c.look_again.ensures.kept;
+    }

@@ -1,43 +1,66 @@
-use Rattle.std.proofs.Common.{refl, sym, subst, ◌∙◌}
+use Rattle.std.proofs.Common.{◌≡◌, ◌⊎◌, refl, sym, subst, ◌∙◌}
 use Rattle.futures.specs.Poll.{IfReady, OnPending}
-use Rattle.shared_lane.specs.Views.{ReaderSeen}
-use Rattle.shared_flow.specs.Looks.{GaveIn, MissedTwice, OnlyNext, once_more, by_none}
-use Rattle.shared_flow.proofs.Waiting.{only_next, waited_on}
+use Rattle.shared_flow.specs.declared.round.Round.TheVariants as round
+use Rattle.shared_flow.specs.Entering.{Made}
+use Rattle.shared_flow.specs.Looks.{GaveIn, MadeRoom, MissedTwice, once_more, by_none}
+use Rattle.shared_flow.specs.Preludes.{IsGreeted, IsPast, GreetedOr}
+use Rattle.shared_flow.proofs.Waiting.{only_next, only_pending, waited_on}
+use Rattle.shared_flow.proofs.Receiving.{has_room, has_room_at_once, past_given, past_room}
 use Rattle.shared_flow.proofs.subscription.Subscription.wait_for_next.Goals as goal
 
 pub returns-in_err-begin-clause-rounds : goal.returns-in_err-begin-clause-rounds
 returns-in_err-begin-clause-rounds g c = by_none c.args.self.now.party
 
-pub returns-in-Some-clause-rounds : goal.returns-in-Some-clause-rounds
-returns-in-Some-clause-rounds g c = only_next _ _ _ _ _ refl (by_none c.args.self.now.party) c.look_on.ensures.rounds
+pub returns-in-Some : goal.returns-in-Some
+returns-in-Some g c =
+    let s = c.args.self.now in
+    let t = c.next_soon.new.self in
+    let given = past_given s t c.in-Some.value _ c.requires.past c.in-Some.ensures.given in record {
+      same = (c.next_soon.ensures.same, given.0.1 ∙ sym given.0.0);
+      rounds = only_next _ _ _ _ _ refl (by_none s.party) c.next_soon.ensures.rounds;
+      value = given.1;
+      room = has_room_at_once s t (past_room s t c.in-Some.value _ c.requires.past c.in-Some.ensures.room);
+      nothing = tt;
+    }
 
 pub loop-init : goal.loop-init
 loop-init g c =
-    let before = c.args.self.now.party in (
-      c.look_on.ensures.same.0,
-      c.look_on.ensures.same.1,
-      subst (OnlyNext c.args.self.now.number before) (sym c.in_default.ensures.missed.0) (by_none before),
-      c.in_default.ensures.missed.1,
-    )
+    let missed = c.in_default.ensures.missed in record {
+      past = missed.0.1;
+      same = c.next_soon.ensures.same;
+      rounds = only_next _ _ _ _ _ refl (by_none c.args.self.now.party) c.next_soon.ensures.rounds;
+      missed = missed.2;
+    }
 
-pub returns-in-Ready-clause-rounds : goal.returns-in-Ready-clause-rounds
-returns-in-Ready-clause-rounds g c = only_next _ _ _ _ _ c.loop.invariant.0 c.loop.invariant.2 c.poll_accepted-polled.ensures.rounds
-
-pub returns-in-Ready-clause-value : goal.returns-in-Ready-clause-value
-returns-in-Ready-clause-value g c =
-    let turn : ReaderSeen = c.loop.self.reader in
-    let after : ReaderSeen = c.poll_accepted-polled.new.self.reader in
-    let gives = subst (λ p. IfReady p (λ v. GaveIn g.T.Word.read_as turn v after)) c.in-Ready.is c.poll_accepted-polled.ensures.ready in
-    waited_on g.T.Word.read_as c.args.self.now.reader turn after c.in-Ready.value c.loop.invariant.3 gives
+pub returns-in-Ready : goal.returns-in-Ready
+returns-in-Ready g c =
+    let s = c.args.self.now in
+    let m = c.loop.self in
+    let t = c.poll_next-polled.new.self in
+    let v = c.in-Ready.value in
+    let it = c.loop.invariant in
+    let poll = c.poll_next-polled.ensures in
+    let read = g.T.Word.read_as in
+    let given = past_given m t v _ it.past (subst (λ p. IfReady p (λ v. GreetedOr m v t (GaveIn read m.reader v t.reader))) c.in-Ready.is poll.ready) in
+    let room = past_room m t v _ it.past (subst (λ p. IfReady p (λ v. IsGreeted m v t ⊎ MadeRoom m t)) c.in-Ready.is poll.room) in record {
+      same = (poll.same ∙ it.same, given.0.1 ∙ sym c.requires.past);
+      rounds = only_next _ _ _ _ _ it.same it.rounds (subst (λ p. IfReady p (λ v. (t.party ≡ m.party) ⊎ Made (round.Next m.number) m.party t.party)) c.in-Ready.is poll.rounds);
+      value = waited_on read s.reader m.reader t.reader v it.missed given.1;
+      room = has_room s m t it.same it.rounds room;
+      nothing = tt;
+    }
 
 pub loop-preserved : goal.loop-preserved
 loop-preserved g c =
-    let before : ReaderSeen = c.args.self.now.reader in
-    let turn : ReaderSeen = c.loop.self.reader in
-    let after : ReaderSeen = c.poll_accepted-polled.new.self.reader in
-    let twice : MissedTwice turn after = subst (λ p. OnPending p (MissedTwice turn after)) c.in_default-polled.is c.poll_accepted-polled.ensures.pending in (
-      c.poll_accepted-polled.ensures.same.0 ∙ c.loop.invariant.0,
-      c.poll_accepted-polled.ensures.same.1 ∙ c.loop.invariant.1,
-      only_next _ _ _ _ _ c.loop.invariant.0 c.loop.invariant.2 c.poll_accepted-polled.ensures.rounds,
-      once_more before twice.0 after (once_more before turn twice.0 c.loop.invariant.3 twice.1) twice.2,
-    )
+    let s = c.args.self.now in
+    let m = c.loop.self in
+    let t = c.poll_next-polled.new.self in
+    let it = c.loop.invariant in
+    let poll = c.poll_next-polled.ensures in
+    let pending = subst (λ p. OnPending p (IsPast m t × MissedTwice m.reader t.reader)) c.in_default-polled.is poll.pending in
+    let twice = pending.1 in record {
+      past = pending.0.1;
+      same = poll.same ∙ it.same;
+      rounds = only_pending _ _ _ _ _ it.same it.rounds (subst (λ p. OnPending p (Made (round.Pending m.number) m.party t.party)) c.in_default-polled.is poll.round);
+      missed = once_more s.reader twice.0 t.reader (once_more s.reader m.reader twice.0 it.missed twice.1) twice.2;
+    }

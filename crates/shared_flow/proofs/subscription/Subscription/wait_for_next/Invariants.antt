@@ -1,6 +1,11 @@
-use Rattle.std.proofs.Common.{◌≡◌}
+use Rattle.std.proofs.Common.{◌≡◌, []}
 use Rattle.shared_flow.specs.Looks.{MissedOn, OnlyNext}
 use Rattle.shared_flow.proofs.subscription.Subscription.wait_for_next.Given as goal
 
 abbrev pub invariant-loop : goal.invariant-loop
-invariant-loop g l = (l.self.number ≡ l.fn.self.number) × (l.self.rest ≡ l.fn.self.rest) × OnlyNext l.fn.self.number l.fn.self.party l.self.party × MissedOn l.fn.self.reader l.self.reader
+invariant-loop g l = record {
+  past : l.self.rest ≡ [];
+  same : l.self.number ≡ l.fn.self.number;
+  rounds : OnlyNext l.fn.self.number l.fn.self.party l.self.party;
+  missed : MissedOn l.fn.self.reader l.self.reader;
+}
