@@ -18,6 +18,12 @@ map-remove f [] (suc k) = refl
 map-remove f (x ∷ xs) zero = refl
 map-remove f (x ∷ xs) (suc k) = ap (λ r. f x ∷ r) (map-remove f xs k)
 
+pub remove-set : {X : Type 0} (xs : List X) (k : ℕ) (x : X) → remove (set xs k x) k ≡ remove xs k
+remove-set [] zero x = refl
+remove-set [] (suc k) x = refl
+remove-set (y ∷ xs) zero x = refl
+remove-set (y ∷ xs) (suc k) x = ap (λ r. y ∷ r) (remove-set xs k x)
+
 pub none_first : {X : Type 0} (xs : List X) → slice_get xs 0 ≡ None → xs ≡ []
 none_first [] none = refl
 none_first (x ∷ xs) none = absurd (cc)

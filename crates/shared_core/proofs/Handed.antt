@@ -1,18 +1,17 @@
 -- The values of a prelude as it is kept, four by four, and the preludes that are still being given.
-use Rattle.std.proofs.Common.{◌≡◌, ℕ, zero, suc, ◌+◌, ◌-◌, ◌<◌, ◌≤◌, inr, true, false, cond, ◌||◌, eqb, List, [], ◌∷◌, ◌++◌, length, take, drop, map, set, get_or, Option, Some, None, IsSome, slice_get, refl, sym, ap, ◌∙◌, arith, length-append, length-drop}
+use Rattle.std.proofs.Common.{◌≡◌, ℕ, zero, suc, ◌+◌, ◌-◌, ◌<◌, ◌≤◌, inr, Bool, true, false, cond, ◌||◌, eqb, List, [], ◌∷◌, ◌++◌, length, take, drop, map, set, get_or, Option, Some, None, IsSome, slice_get, refl, sym, ap, ◌∙◌, arith, length-append, length-drop}
 use Rattle.std.proofs.Math.Seq.{take_all}
-use Rattle.std.proofs.lemmas.Bool.{eq-eqb}
+use Rattle.std.proofs.lemmas.Bool.{false≢true, eq-eqb}
 use Rattle.std.proofs.lemmas.List.{take-append-drop, drop-drop, map-set}
 use Rattle.std.proofs.lemmas.Option.{none-some, same_Some, slice_get-map, get_or_from_slice_get}
 use Rattle.std.proofs.Math.ListN.{drop_of_length-le}
 use Rattle.std.specs.Option.{option_map}
 use Rattle.std.specs.List.{list_any, remove}
 use Rattle.flow_terms.specs.Few.{values_of}
-use Rattle.flow_terms.specs.declared.few.Few.{Few}
-use Rattle.flow_terms.specs.declared.few.Few.TheVariants.{Zero, One, Two, Three, Four}
 use Rattle.shared_core.specs.declared.prelude.Prelude.{Prelude}
 use Rattle.shared_core.specs.declared.greetings.Greeting.{Greeting}
-use Rattle.shared_core.specs.Preludes.{prelude_values, shown_greeting, IsLeft, left_at, begun_with, IsWithout, Greets, EndsGreeting}
+use Rattle.shared_core.specs.Greetings.{shown_greeting, IsLeft}
+use Rattle.shared_core.specs.Preludes.{prelude_values, GivesFirst, left_at, begun_with, IsWithout, Greets, EndsGreeting}
 use Rattle.shared_core.specs.Shown.{rest_of}
 use Rattle.shared_core.proofs.Entries.{list_any-map, map-remove}
 use Rattle.shared_core.proofs.Ticketing.{holds_there}
@@ -47,17 +46,6 @@ length-prelude prelude =
     length-append (values_of prelude.first) _ ∙ ap (λ n. length (values_of prelude.first) + n) (length-append (values_of prelude.second) _
     ∙ ap (λ n. length (values_of prelude.second) + n) (length-append (values_of prelude.third) (values_of prelude.fourth)))
 
-few_values : {T : Type 0} (few : Few T) → length (values_of few) ≤ 4
-few_values Zero = omega arith
-few_values (One a) = omega arith
-few_values (Two a b) = omega arith
-few_values (Three a b c) = omega arith
-few_values (Four a b c d) = omega arith
-
-pub few_handed : {T : Type 0} (prelude : Prelude T) → length (prelude_values prelude) ≤ 16
-few_handed prelude =
-    omega (arith, length-prelude prelude, few_values prelude.first, few_values prelude.second, few_values prelude.third, few_values prelude.fourth)
-
 -- ---- a value of one list or of another after it
 
 pub past_left : {X : Type 0} (xs : List X) (i : ℕ) → slice_get xs i ≡ None → length xs ≤ i
@@ -84,20 +72,15 @@ some_within xs i (Some x) is within = refl
 
 -- ---- entries
 
-none_of : {X : Type 0} (xs : List X) → length xs ≡ 0 → xs ≡ []
-none_of [] none = refl
-none_of (x ∷ xs) none = absurd (omega arith)
+-- where a test for none says no, some is left
+pub some_left : {X : Type 0} (xs : List X) (none : Bool) → (xs ≡ [] → none ≡ true) → none ≡ false → 0 < length xs
+some_left [] none empty some = absurd (false≢true (sym some ∙ empty refl))
+some_left (x ∷ xs) none empty some = omega arith
 
 module _ {T : Type 0} where
-  pub begun_none : (n : ℕ) (vs : List T) (entries : List (ℕ × List T)) → length vs ≡ 0 → entries ≡ begun_with n vs entries
-  begun_none n vs entries none = sym (ap (λ ws. begun_with n ws entries) (none_of vs none))
-
   pub begun_some : (n : ℕ) (vs : List T) (entries : List (ℕ × List T)) → 0 < length vs → entries ++ (n, vs) ∷ [] ≡ begun_with n vs entries
   begun_some n [] entries some = absurd (omega arith)
   begun_some n (v ∷ vs) entries some = refl
-
-  left_none : (at n : ℕ) (vs : List T) (entries : List (ℕ × List T)) → length vs ≡ 0 → left_at at n vs entries ≡ remove entries at
-  left_none at n vs entries none = ap (λ ws. left_at at n ws entries) (none_of vs none)
 
   left_some : (at n : ℕ) (vs : List T) (entries : List (ℕ × List T)) → 0 < length vs → left_at at n vs entries ≡ set entries at (n, vs)
   left_some at n [] entries some = absurd (omega arith)
@@ -125,37 +108,29 @@ module _ {T : Type 0} where
     pub ends_at : EndsGreeting n (shown greetings) (shown (remove greetings at))
     ends_at = inr (
       at,
-      drop g.given (prelude_values g.prelude),
-      shown_at greetings at g gets ∙ ap (λ m. Some (m, drop g.given (prelude_values g.prelude))) named,
+      g.rest,
+      shown_at greetings at g gets ∙ ap (λ m. Some (m, g.rest)) named,
       map-remove shown_greeting greetings at,
     )
 
-    module _ (v : T) (value : slice_get (prelude_values g.prelude) g.given ≡ Some v) where
-      abbrev later : List T
-      later = drop (g.given + 1) (prelude_values g.prelude)
+    -- its first value is given, and these are left
+    module _ (later : List T) where
+      entry : (v : T) → g.rest ≡ v ∷ later → slice_get (shown greetings) at ≡ Some (n, v ∷ later)
+      entry v first = shown_at greetings at g gets ∙ ap (λ vs. Some (g.number, vs)) first ∙ ap (λ m. Some (m, v ∷ later)) named
 
-      entry : slice_get (shown greetings) at ≡ Some (n, v ∷ later)
-      entry =
-          shown_at greetings at g gets ∙ ap (λ m. Some (m, drop g.given (prelude_values g.prelude))) named
-          ∙ ap (λ vs. Some (n, vs)) (dropped_some g.given (g.given + 1) (prelude_values g.prelude) v value refl)
+      pub greets_last : (value : Option T) → IsLeft g → GivesFirst g.rest value later → later ≡ [] → Greets n (shown greetings) value (shown (remove greetings at))
+      greets_last None left gives last = absurd (omega (arith, left, ap length gives.0))
+      greets_last (Some v) left gives last =
+          (at, later, entry v gives, map-remove shown_greeting greetings at ∙ sym (ap (λ vs. left_at at n vs (shown greetings)) last))
 
-      -- the last value is given
-      pub greets_last : g.given + 1 ≡ length (prelude_values g.prelude) → Greets n (shown greetings) (Some v) (shown (remove greetings at))
-      greets_last last = (
+      pub greets_one : (value : Option T) → IsLeft g → GivesFirst g.rest value later → 0 < length later → Greets n (shown greetings) value (shown (set greetings at (record g { rest = later })))
+      greets_one None left gives more = absurd (omega (arith, left, ap length gives.0))
+      greets_one (Some v) left gives more = (
         at,
         later,
-        entry,
-        map-remove shown_greeting greetings at ∙ sym (left_none at n later (shown greetings) (omega (arith, length-drop (g.given + 1) (prelude_values g.prelude), last))),
-      )
-
-      -- another is left after it
-      pub greets_one : g.given + 1 < length (prelude_values g.prelude) → Greets n (shown greetings) (Some v) (shown (set greetings at (record g { given = g.given + 1 })))
-      greets_one more = (
-        at,
-        later,
-        entry,
-        map-set shown_greeting greetings at (record g { given = g.given + 1 }) ∙ ap (λ m. set (shown greetings) at (m, later)) named
-            ∙ sym (left_some at n later (shown greetings) (omega (arith, length-drop (g.given + 1) (prelude_values g.prelude), more))),
+        entry v gives,
+        map-set shown_greeting greetings at (record g { rest = later }) ∙ ap (λ m. set (shown greetings) at (m, later)) named
+            ∙ sym (left_some at n later (shown greetings) more),
       )
 
   -- what is left, by the first entry with the number
@@ -168,14 +143,14 @@ module _ {T : Type 0} where
       ] none
 
   pub rest_found : (n at : ℕ) (greetings : List (Greeting T)) (g : Greeting T) → slice_get greetings at ≡ Some g → g.number ≡ n → list_any (λ g. eqb g.number n) (take at greetings) ≡ false
-      → rest_of n (shown greetings) ≡ drop g.given (prelude_values g.prelude)
+      → rest_of n (shown greetings) ≡ g.rest
   rest_found n at [] g gets named before = absurd (none-some _ gets)
   rest_found n zero (h ∷ greetings) g gets named before =
       let this = same_Some h g gets in
-      ap (λ b. cond b (drop h.given (prelude_values h.prelude)) (rest_of n (shown greetings))) (eq-eqb h.number n (ap (λ (x : Greeting T). x.number) this ∙ named))
-      ∙ ap (λ (x : Greeting T). drop x.given (prelude_values x.prelude)) this
+      ap (λ b. cond b h.rest (rest_of n (shown greetings))) (eq-eqb h.number n (ap (λ (x : Greeting T). x.number) this ∙ named))
+      ∙ ap (λ (x : Greeting T). x.rest) this
   rest_found n (suc at) (h ∷ greetings) g gets named before =
-      elim (eqb h.number n) as (λ b. (b || list_any (λ g. eqb g.number n) (take at greetings)) ≡ false → cond b (drop h.given (prelude_values h.prelude)) (rest_of n (shown greetings)) ≡ drop g.given (prelude_values g.prelude)) [
+      elim (eqb h.number n) as (λ b. (b || list_any (λ g. eqb g.number n) (take at greetings)) ≡ false → cond b h.rest (rest_of n (shown greetings)) ≡ g.rest) [
         | true ↦ λ no. absurd (cc)
         | false ↦ λ later. rest_found n at greetings g gets named later
       ] before

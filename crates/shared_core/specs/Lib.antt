@@ -5,6 +5,7 @@ pub mod Shown
 pub mod Queues
 pub mod Ringed
 pub mod Preludes
+pub mod Greetings
 pub mod Places
 pub mod Rising
 pub mod Kept

@@ -1,21 +1,21 @@
 -- The values of a prelude, and what contracts see of the preludes that are still being given.
-use Rattle.std.specs.Prelude.{◌≡◌, ℕ, ◌<◌, ◌⊎◌, ◌==◌, false, List, [], ◌∷◌, ◌++◌, length, drop, set, Option, Some, None, slice_get}
+use Rattle.std.specs.Prelude.{◌≡◌, ℕ, ◌⊎◌, ◌==◌, false, List, [], ◌∷◌, ◌++◌, take, drop, set, Option, Some, None, slice_get}
 use Rattle.std.specs.List.{list_any, remove}
 use Rattle.flow_terms.specs.Few.{values_of}
 use Rattle.shared_core.specs.declared.prelude.Prelude.{Prelude}
-use Rattle.shared_core.specs.declared.greetings.Greeting.{Greeting}
 
 -- the values in order
 abbrev pub prelude_values : {T : Type 0} → Prelude T → List T
 prelude_values prelude = values_of prelude.first ++ (values_of prelude.second ++ (values_of prelude.third ++ values_of prelude.fourth))
 
--- a greeting as contracts see it: the number of its subscription, and the values left
-abbrev pub shown_greeting : {T : Type 0} → Greeting T → ℕ × List T
-shown_greeting greeting = (greeting.number, drop greeting.given (prelude_values greeting.prelude))
+-- the first of these values was given, or there is none
+abbrev pub GivesFirst : {T : Type 0} → List T → Option T → List T → Type 0
+GivesFirst old None new = (old ≡ []) × (new ≡ [])
+GivesFirst old (Some v) new = old ≡ v ∷ new
 
--- some value is left
-abbrev pub IsLeft : {T : Type 0} → Greeting T → Type 0
-IsLeft greeting = greeting.given < length (prelude_values greeting.prelude)
+-- the first of these values were given, as many as there is room for
+abbrev pub GivesSome : {T : Type 0} → List T → ℕ → List T → List T → Type 0
+GivesSome old room values new = (values ≡ take room old) × (new ≡ drop room old)
 
 -- the entry at this index, of the subscription with this number, has these values left
 abbrev pub left_at : {T : Type 0} → ℕ → ℕ → List T → List (ℕ × List T) → List (ℕ × List T)

@@ -1,33 +1,22 @@
 //! The preludes that live subscriptions are still being given.
 
-ghost use Rattle.std.specs.Prelude.{◌≡◌, ◌==◌, ◌<◌, ◌≤◌, ⊤, [], false, length, take, IfOk, IfSome, IfNone, slice_get};
+ghost use Rattle.std.specs.Prelude.{◌≡◌, ◌==◌, ◌<◌, ◌≤◌, [], false, length, take, IfOk, IfSome, IfNone, slice_get};
 ghost use Rattle.std.specs.List.{list_any};
 ghost use Rattle.shared_core.specs.Preludes.{prelude_values, begun_with, Greets, EndsGreeting};
 ghost use Rattle.shared_core.specs.Shown.{rest_of};
 
 use crate::prelude::Prelude;
+use crate::rest::Rest;
 use std::alloc::{AllocError, Global};
 use std::marker::Model;
 
 /// A live subscription that wasn't given all of its prelude.
-#[derive(Copy)]
-pub struct Greeting<T> {
+#[derive(Drop)]
+pub struct Greeting<T: Copy> {
     /// The number of the subscription.
     pub number: u64,
-    /// What it was handed.
-    pub prelude: Prelude<T>,
-    /// How many of these values it was given.
-    pub given: u32,
-}
-
-impl<T: Copy> Clone for Greeting<T> {
-    ghost is_clone = { λ it copy. copy ≡ it };
-
-    ghost is_infallible = { λ _. ⊤ };
-
-    fn clone(&self) -> Result<Greeting<T>, AllocError> {
-        Ok(*self)
-    }
+    /// What is left of its prelude.
+    pub rest: Rest<T>,
 }
 
 /// The greetings, in memory that was reserved at making. Where no prelude was handed in, there is none, and to look for one
@@ -44,7 +33,7 @@ impl<T: Copy> Model for Greetings<T> {
     ghost use Rattle.std.specs.Prelude.{◌≤◌, ℕ, List, map, vec_capacity};
     ghost use Rattle.std.specs.List.{All};
     ghost use Rattle.shared_core.specs.Queues.{Queued};
-    ghost use Rattle.shared_core.specs.Preludes.{shown_greeting, IsLeft};
+    ghost use Rattle.shared_core.specs.Greetings.{shown_greeting, IsLeft};
 
     ghost Value = { Queued (ℕ × List T) };
 
@@ -83,17 +72,14 @@ impl<T: Copy> Greetings<T> {
         ensures begun { length self.old.values < self.old.limit → self.new.values ≡ begun_with number (prelude_values prelude) self.old.values }
         ensures limit { self.new.limit ≡ self.old.limit }
     {
-        if prelude.len() == 0 {
+        let rest = Rest::of(prelude);
+        if rest.is_empty() {
             return;
         }
         if self.items.len() >= self.limit {
             return;
         }
-        self.items.push_reserved(Greeting {
-            number,
-            prelude,
-            given: 0,
-        });
+        self.items.push_reserved(Greeting { number, rest });
     }
 
     /// Gives the subscription with this number the next value of its prelude, if one is left.
@@ -115,15 +101,12 @@ impl<T: Copy> Greetings<T> {
         ensures limit { self.new.limit ≡ self.old.limit }
     {
         let at = greeting_of(&self.items, number)?;
-        let greeting = self.items[at];
-        let value = greeting.prelude.at(greeting.given);
-        let given = greeting.given + 1;
-        if given == greeting.prelude.len() {
+        let rest = &mut self.items[at].rest;
+        let value = rest.give();
+        if rest.is_empty() {
             let _greeting = self.items.remove(at);
-            return Some(value);
         }
-        self.items[at] = Greeting { given, ..greeting };
-        Some(value)
+        value
     }
 
     /// The subscription with this number gives up what is left of its prelude.
@@ -144,10 +127,7 @@ impl<T: Copy> Greetings<T> {
     {
         match greeting_of(&self.items, number) {
             None => 0,
-            Some(at) => {
-                let greeting = &self.items[at];
-                (greeting.prelude.len() - greeting.given) as u64
-            }
+            Some(at) => self.items[at].rest.len() as u64,
         }
     }
 }

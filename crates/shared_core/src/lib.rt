@@ -13,6 +13,7 @@ mod laws;
 mod place;
 mod prelude;
 mod queue;
+mod rest;
 mod ring;
 mod slowest;
 mod state;
@@ -24,4 +25,5 @@ pub use flow_terms::{Begun, Emit, Next, Policy, Refusal, SubId, Ticket, Tried, W
 pub use headline::each_subscription_receives_prelude_cache_then_later;
 pub use laws::each_subscription_has_its_story;
 pub use prelude::Prelude;
+pub use rest::Rest;
 pub use state::SharedState;

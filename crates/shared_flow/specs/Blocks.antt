@@ -1,6 +1,7 @@
 -- What a list of values comes to that is emitted, and what is taken at once.
-use Rattle.std.specs.Prelude.{◌≡◌, ◌≢◌, ◌⊎◌, ℕ, ◌+◌, ◌-◌, ◌<◌, ◌≤◌, List, [], ◌∷◌, ◌++◌, length, map, take, drop, Some, None, Result, Ok, Err}
+use Rattle.std.specs.Prelude.{◌≡◌, ◌≢◌, ◌⊎◌, ℕ, ◌+◌, ◌-◌, ◌<◌, ◌≤◌, List, [], ◌∷◌, ◌++◌, length, map, take, Some, None, Result, Ok, Err}
 use Rattle.flow_terms.specs.declared.refusal.Refusal.{Refusal}
+use Rattle.shared_core.specs.Preludes.{GivesSome}
 use Rattle.shared_lane.specs.declared.reader.Taken.{Taken}
 use Rattle.shared_lane.specs.declared.reader.Taken.TheVariants.{Value, Nothing, Overtaken}
 use Rattle.shared_lane.specs.Picks.{TookAll}
@@ -44,10 +45,6 @@ pub record IsCutShort (e : Emitting) (words : List ℕ) (cut : CutShort) (f : Em
   pub emitted : length before ≡ cut.emitted
   pub accepted : EmitsOn e before cut.accepted then
   pub refused : IsRefused then word later cut.refusal f
-
--- the first of these values were given, as many as there is room for
-abbrev pub GivesSome : {T : Type 0} → List T → ℕ → List T → List T → Type 0
-GivesSome old room values new = (values ≡ take room old) × (new ≡ drop room old)
 
 -- the subscription was given values of its prelude, as many as there is room for: it made no round, and its reader did nothing
 abbrev pub IsGreetedAll : {T : Type 0} → Subscribed T → ℕ → List T → Subscribed T → Type 0

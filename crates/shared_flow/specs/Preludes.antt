@@ -1,14 +1,9 @@
 -- What is left of a subscription's prelude, which it is given first.
-use Rattle.std.specs.Prelude.{◌≡◌, ◌⊎◌, ℕ, List, [], ◌∷◌, Option, Some, None}
+use Rattle.std.specs.Prelude.{◌≡◌, ◌⊎◌, ℕ, [], ◌∷◌}
 use Rattle.shared_lane.specs.declared.reader.Taken.{Taken}
 use Rattle.shared_lane.specs.declared.reader.Taken.TheVariants.{Value, Nothing, Overtaken}
 use Rattle.shared_flow.specs.Looks.{Looked, Gave}
 use Rattle.shared_flow.specs.Parties.{Subscribed}
-
--- the first of these values was given, or there is none
-abbrev pub GivesFirst : {T : Type 0} → List T → Option T → List T → Type 0
-GivesFirst old None new = (old ≡ []) × (new ≡ [])
-GivesFirst old (Some v) new = old ≡ v ∷ new
 
 -- the subscription was given the next value of its prelude: it made no round, and its reader did nothing
 abbrev pub IsGreeted : {T : Type 0} → Subscribed T → T → Subscribed T → Type 0

@@ -57,7 +57,6 @@ mod flag;
 mod flow;
 mod laws;
 mod parker;
-mod rest;
 mod round;
 mod shared;
 mod sleepers;

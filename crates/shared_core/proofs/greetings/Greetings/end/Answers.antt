@@ -1,7 +1,8 @@
 use Rattle.std.proofs.Common.{inl, eqb, length, ap, sym, refl, subst, ◌∙◌, arith}
 use Rattle.std.proofs.lemmas.Option.{slice_get_within}
 use Rattle.std.specs.List.{list_any}
-use Rattle.shared_core.specs.Preludes.{IsLeft, EndsGreeting}
+use Rattle.shared_core.specs.Greetings.{IsLeft}
+use Rattle.shared_core.specs.Preludes.{EndsGreeting}
 use Rattle.shared_core.specs.Queues.{Queued}
 use Rattle.shared_core.proofs.Handed.{shown, without_shown, ends_at}
 use Rattle.shared_core.proofs.Ticketing.{still_indexes}

@@ -1,5 +1,5 @@
 use Rattle.std.proofs.Common.{◌≡◌, ◌-◌, List, ◌++◌, length, vec_capacity}
-use Rattle.shared_flow.proofs.rest.Rest.give_into.Given as goal
+use Rattle.shared_core.proofs.rest.Rest.give_into.Given as goal
 
 abbrev pub invariant-loop-self : goal.invariant-loop-self
 invariant-loop-self g l = (vec_capacity l.out ≡ vec_capacity l.initial.out)

@@ -1,16 +1,17 @@
 //! What is left of a prelude.
-ghost use Rattle.std.specs.Prelude.{◌≡◌, ◌↔◌, ◌-◌, ◌++◌, List, [], true, length, vec_capacity};
-ghost use Rattle.shared_core.specs.Preludes.{prelude_values};
-ghost use Rattle.shared_flow.specs.Preludes.{GivesFirst};
-ghost use Rattle.shared_flow.specs.Blocks.{GivesSome};
 
-use shared_core::Prelude;
+ghost use Rattle.std.specs.Prelude.{◌≡◌, ◌↔◌, ◌-◌, ◌≤◌, ◌++◌, List, [], true, length, vec_capacity};
+ghost use Rattle.shared_core.specs.Preludes.{prelude_values, GivesFirst, GivesSome};
+
+use crate::prelude::Prelude;
 use std::alloc::Allocator;
 use std::marker::Model;
 
 /// The values of a prelude that its subscription wasn't given yet. Contracts see these values, in order.
+///
+/// It takes no memory.
 #[derive(Drop)]
-pub(crate) struct Rest<T: Copy> {
+pub struct Rest<T: Copy> {
     prelude: Prelude<T>,
     // How many of its values were given.
     given: u32,
@@ -30,8 +31,8 @@ impl<T: Copy> Model for Rest<T> {
 }
 
 impl<T: Copy> Rest<T> {
-    /// All of it.
-    pub(crate) fn of(prelude: Prelude<T>) -> Rest<T>
+    /// All of this prelude. Never refused.
+    pub fn of(prelude: Prelude<T>) -> Rest<T>
         ensures { result ≡ prelude_values prelude }
     {
         let count = prelude.len();
@@ -43,14 +44,22 @@ impl<T: Copy> Rest<T> {
     }
 
     /// Whether nothing is left.
-    pub(crate) fn is_empty(&self) -> bool
+    pub fn is_empty(&self) -> bool
         ensures { (result ≡ true) ↔ (self.now ≡ []) }
     {
         self.given == self.count
     }
 
-    /// Appends the values that are left, as many as `out` has room for, and returns how many.
-    pub(crate) fn give_into<B: Allocator>(&mut self, out: &mut Vec<T, B>) -> u64
+    /// How many values are left, 16 at most.
+    pub fn len(&self) -> u32
+        ensures count { result ≡ length self.now }
+        ensures bound { result ≤ 16 }
+    {
+        self.count - self.given
+    }
+
+    /// Appends the values that are left, as many as `out` has room for, and returns how many. Never refused: it takes no memory.
+    pub fn give_into<B: Allocator>(&mut self, out: &mut Vec<T, B>) -> u64
         ensures given { (values : List T) × (out.new.items ≡ out.old.items ++ values) × (result ≡ length values) × GivesSome self.old (vec_capacity out.old - length out.old.items) values self.new }
         ensures capacity { vec_capacity out.new ≡ vec_capacity out.old }
     {
@@ -66,7 +75,7 @@ impl<T: Copy> Rest<T> {
     }
 
     /// Gives the first value that is left, if one is.
-    pub(crate) fn give(&mut self) -> Option<T>
+    pub fn give(&mut self) -> Option<T>
         ensures { GivesFirst self.old result self.new }
     {
         if self.given == self.count {

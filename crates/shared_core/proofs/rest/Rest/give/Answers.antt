@@ -1,7 +1,7 @@
 use Rattle.std.proofs.Common.{◌+◌, refl, sym, ◌∙◌}
 use Rattle.shared_core.specs.Preludes.{prelude_values}
 use Rattle.shared_core.proofs.Handed.{dropped_some}
-use Rattle.shared_flow.proofs.rest.Rest.give.Goals as goal
+use Rattle.shared_core.proofs.rest.Rest.give.Goals as goal
 
 pub returns : goal.returns
 returns g c =

@@ -2,7 +2,7 @@ use Rattle.std.proofs.Common.{◌∙◌, sym, ap, length, arith}
 use Rattle.std.proofs.lemmas.Bool.{eqb-true, eq-eqb}
 use Rattle.std.proofs.lemmas.List.{drop_all, length-drop}
 use Rattle.shared_core.specs.Preludes.{prelude_values}
-use Rattle.shared_flow.proofs.rest.Rest.is_empty.Goals as goal
+use Rattle.shared_core.proofs.rest.Rest.is_empty.Goals as goal
 
 pub returns : goal.returns
 returns g c =
