@@ -1,6 +1,7 @@
 pub mod Accepting
 pub mod Beginning
 pub mod Entries
+pub mod Finding
 pub mod Lives
 pub mod Makes
 pub mod Outstanding

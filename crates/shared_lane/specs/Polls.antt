@@ -31,14 +31,6 @@ WaitsWith q ticket i w = (slice_get q.waiting i ≡ Some w) × (w.ticket ≡ tic
 abbrev pub HasTicket : SequencerSeen → ℕ → ℕ → Standing → Type 0
 HasTicket q ticket i s = (slice_get q.standing i ≡ Some s) × (s.ticket ≡ ticket) × IsFirst q.standing ticket i
 
--- the first of these with this ticket is the i-th
-abbrev pub FoundStanding : List Standing → ℕ → ℕ → Type 0
-FoundStanding l ticket i = (i < length l) × ((s : Standing) × (slice_get l i ≡ Some s) × (s.ticket ≡ ticket) × IsFirst l ticket i)
-
--- the i-th of these has this ticket
-abbrev pub FoundWaiting : List Waiting → ℕ → ℕ → Type 0
-FoundWaiting l ticket i = (i < length l) × ((w : Waiting) × (slice_get l i ≡ Some w) × (w.ticket ≡ ticket))
-
 -- the first of the sequencer's standing emissions with this ticket is the i-th
 abbrev pub StandsAt : SequencerSeen → ℕ → ℕ → Type 0
 StandsAt q ticket i = (i < length q.standing) × ((s : Standing) × HasTicket q ticket i s)

@@ -10,7 +10,7 @@ ghost use Rattle.shared_lane.specs.Surveys.{Behind};
 use super::Sequencer;
 use crate::lane::Lane;
 use crate::survey::load_cursors;
-use crate::tickets::{Standing, Waiting, any_below, find_standing, find_waiting};
+use crate::tickets::{Standing, Waiting};
 use shared_core::{Emit, Ticket, Withdrawn};
 use std::alloc::Allocator;
 
@@ -19,14 +19,18 @@ impl<A: Allocator> Sequencer<A> {
     fn standing_with(&self, ticket: u64) -> Option<usize>
         ensures { MatchOption result (NoneStands self.now.standing ticket) (StandsAt self.now ticket) }
     {
-        find_standing(self.standing.as_slice(), ticket)
+        self.standing
+            .iter()
+            .position(|standing| standing.ticket == ticket)
     }
 
     // Where the emission with a ticket waits.
     fn waiting_with(&self, ticket: u64) -> Option<usize>
         ensures { MatchOption result (NoneWaits self.now.waiting ticket) (WaitsAt self.now ticket) }
     {
-        find_waiting(self.waiting.as_slice(), ticket)
+        self.waiting
+            .iter()
+            .position(|waiting| waiting.ticket == ticket)
     }
 
     // Takes back the ticket of an accepted emission, and returns its number.
@@ -142,7 +146,7 @@ impl<A: Allocator> Sequencer<A> {
     pub fn is_below(&self, ticket: Ticket, number: u64) -> bool
         ensures { result ≡ stands_below self.now.standing ticket.0 number }
     {
-        any_below(self.standing.as_slice(), ticket.0, number)
+        self.standing.iter().any(|standing| standing.ticket == ticket.0 && standing.number < number)
     }
 
     /// Whether an emission with a ticket may still have to wait: one without room, or, where there are no places, one that was
