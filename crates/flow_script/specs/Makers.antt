@@ -12,7 +12,7 @@ use Rattle.shared_core.specs.declared.config.Config.{Config}
 use Rattle.shared_core.specs.Flow.{empty}
 use Rattle.shared_core.specs.Kept.{making_refusal, parameters_of}
 use Rattle.shared_core.specs.Shown as core
-use Rattle.shared_flow.specs.Names.{IsMadeWith}
+use Rattle.shared_rounds.specs.Names.{IsMadeWith}
 use Rattle.shared_flow.specs.Owners.{at_rest}
 use Rattle.shared_flow.specs.Parties.{named, newcomer_of}
 use Rattle.state_flow.specs.Calls.{Sets}

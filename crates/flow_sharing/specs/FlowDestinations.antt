@@ -3,7 +3,7 @@ use Rattle.std.specs.Prelude.{◌≡◌, ◌≢◌, ◌⊎◌, Bool, true, false
 use Rattle.flow_terms.specs.declared.policy.Policy.TheVariants.{Suspend}
 use Rattle.flow_terms.specs.declared.refusal.Refusal.{Refusal}
 use Rattle.flow_terms.specs.declared.refusal.Refusal.TheVariants.{Spent, EmitsFull}
-use Rattle.shared_flow.specs.Names.{FlowName}
+use Rattle.shared_rounds.specs.Names.{FlowName}
 use Rattle.sharing_upstream.specs.Destinations.{Steps}
 
 -- the flow lets emissions wait

@@ -2,7 +2,7 @@
 use Rattle.std.proofs.Common.{Result, Ok, Err, inr}
 use Rattle.flow_terms.specs.declared.refusal.Refusal.{Refusal}
 use Rattle.flow_terms.specs.declared.answers.Begun.TheVariants as begun
-use Rattle.shared_flow.specs.declared.round.Emission.{Emission}
+use Rattle.shared_rounds.specs.declared.round.Emission.{Emission}
 use Rattle.shared_flow.specs.Parties.{Emitting}
 use Rattle.shared_flow.specs.Emitters.{WasStarted}
 use Rattle.flow_stopping.specs.declared.answers.Emitted.{Emitted}

@@ -1,8 +1,8 @@
 -- Looks of a wait that can be let go.
 use Rattle.std.proofs.Common.{◌≡◌, ◌⊎◌, ℕ, [], Ok, refl, sym, ap, subst, ◌∙◌, ⊎_elim, inl, inr}
 use Rattle.shared_lane.specs.Views.{ReaderSeen}
-use Rattle.shared_flow.specs.declared.round.Round.TheVariants as round
-use Rattle.shared_flow.specs.Entering.{Made}
+use Rattle.shared_rounds.specs.declared.round.Round.TheVariants as round
+use Rattle.shared_rounds.specs.Entering.{Made}
 use Rattle.shared_flow.specs.Parties.{Subscribed}
 use Rattle.shared_flow.specs.Looks.{Gave, GaveIn, HasMadeRoom, MadeRoom, Missed, MissedOn, MissedTwice, OnlyLooked, OnlyNext, Waited, by_none, not_once, once_more}
 use Rattle.shared_flow.specs.Preludes.{IsGreeted, IsPast, GreetedOr}

@@ -3,7 +3,7 @@ use Rattle.std.specs.Prelude.{◌≡◌, ◌⊎◌, ℕ, Result, Ok, Err}
 use Rattle.flow_terms.specs.declared.refusal.Refusal.{Refusal}
 use Rattle.flow_terms.specs.declared.refusal.Refusal.TheVariants.{NoMemory}
 use Rattle.flow_terms.specs.declared.answers.Begun.TheVariants as begun
-use Rattle.shared_flow.specs.declared.round.Emission.{Emission}
+use Rattle.shared_rounds.specs.declared.round.Emission.{Emission}
 use Rattle.shared_flow.specs.Parties.{Emitting, Subscribed}
 use Rattle.shared_flow.specs.Emitters.{WasStarted, WasFinished, WasLeft, WasWithdrawn}
 use Rattle.shared_flow.specs.Emitters as emitters

@@ -10,17 +10,17 @@ use Rattle.shared_core.specs.declared.config.Config.{Config}
 use Rattle.shared_lane.specs.declared.meeting.Met.{Met}
 use Rattle.shared_lane.specs.Readers.{at}
 use Rattle.shared_lane.specs.Views.{ReceiptSeen}
-use Rattle.shared_flow.specs.declared.round.Round.{Round}
-use Rattle.shared_flow.specs.declared.round.Round.TheVariants as round
+use Rattle.shared_rounds.specs.declared.round.Round.{Round}
+use Rattle.shared_rounds.specs.declared.round.Round.TheVariants as round
 use Rattle.shared_flow.specs.Emitters.{after_try, emission_by}
 use Rattle.shared_flow.specs.Laws.{EachSubscriptionLaw}
 use Rattle.shared_flow.specs.Lives.{IsSubscriptionOf, Life, LivesOn, looked, received_in}
 use Rattle.shared_flow.specs.Looks.{WasLetInBy}
-use Rattle.shared_flow.specs.Names.{FlowName, IsMadeWith}
+use Rattle.shared_rounds.specs.Names.{FlowName, IsMadeWith}
 use Rattle.shared_flow.specs.Owners.{HasHeard, Meets}
 use Rattle.shared_flow.specs.Parties.{Emitting, Subscribed, named}
-use Rattle.shared_flow.specs.Reach.{Party, Rounds}
-use Rattle.shared_flow.specs.Rounds.{numbers_tried}
+use Rattle.shared_rounds.specs.Reach.{Party, Rounds}
+use Rattle.shared_rounds.specs.Rounds.{numbers_tried}
 use Rattle.shared_flow.proofs.Lives.{lives_more, received_more}
 use Rattle.hot_callers.specs.Exchanges.{AreTries, Emits, LateExchange, Receives, ReceivesBetween, TakesEach, TellsBoth, TriesEach}
 use Rattle.hot_callers.proofs.Looks.{taken_on}

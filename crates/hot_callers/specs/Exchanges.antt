@@ -5,16 +5,16 @@ use Rattle.flow_terms.specs.declared.answers.Tried.{Tried}
 use Rattle.round_lock.specs.History.{Begins, own_of}
 use Rattle.shared_core.specs.declared.config.Config.{Config}
 use Rattle.shared_lane.specs.declared.meeting.Met.{Met}
-use Rattle.shared_flow.specs.declared.round.Round.{Round}
-use Rattle.shared_flow.specs.declared.round.Round.TheVariants as round
-use Rattle.shared_flow.specs.Entering.{Made}
+use Rattle.shared_rounds.specs.declared.round.Round.{Round}
+use Rattle.shared_rounds.specs.declared.round.Round.TheVariants as round
+use Rattle.shared_rounds.specs.Entering.{Made}
 use Rattle.shared_flow.specs.Laws.{IsOneFlow, knowing}
 use Rattle.shared_flow.specs.Lives.{Life, IsSubscriptionOf, ReceivesPreludeCacheThenLater, received_in}
 use Rattle.shared_flow.specs.Looks.{WasLetInBy}
-use Rattle.shared_flow.specs.Names.{SharedSeen}
+use Rattle.shared_rounds.specs.Names.{SharedSeen}
 use Rattle.shared_flow.specs.Owners.{HasHeard, Meets}
 use Rattle.shared_flow.specs.Parties.{Emitting, Subscribed, named}
-use Rattle.shared_flow.specs.Reach.{Party, Rounds}
+use Rattle.shared_rounds.specs.Reach.{Party, Rounds}
 use Rattle.hot_callers.specs.SharedCalls.{HasTaken}
 
 -- an emitter tried these words, one after another, each with an answer

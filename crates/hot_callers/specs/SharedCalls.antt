@@ -1,12 +1,12 @@
 -- What callers of a shared flow between threads say of its parties.
 use Rattle.std.specs.Prelude.{◌≡◌, ℕ, List, Some}
 use Rattle.shared_lane.specs.Readers.{IsReaderOf}
-use Rattle.shared_flow.specs.declared.round.Round.TheVariants as round
+use Rattle.shared_rounds.specs.declared.round.Round.TheVariants as round
 use Rattle.shared_flow.specs.Lives.{Turn, LivesOn, received_in}
-use Rattle.shared_flow.specs.Names.{FlowName, SharedSeen}
+use Rattle.shared_rounds.specs.Names.{FlowName, SharedSeen}
 use Rattle.shared_flow.specs.Parties.{Emitting, Subscribed, named}
-use Rattle.shared_flow.specs.Reach.{Party}
-use Rattle.shared_flow.specs.Rounds.{Comes}
+use Rattle.shared_rounds.specs.Reach.{Party}
+use Rattle.shared_rounds.specs.Rounds.{Comes}
 
 -- it is the same subscription, at the same flow
 abbrev pub IsSameSubscription : Subscribed ℕ → Subscribed ℕ → Type 0

@@ -5,11 +5,12 @@ ghost use Rattle.std.specs.Prelude.{◌≡◌, ◌≢◌, ◌<◌, ◌++◌, ◌
 ghost use Rattle.flow_terms.specs.declared.refusal.Refusal.TheVariants.{NoMemory};
 ghost use Rattle.shared_lane.specs.Readers.{at};
 ghost use Rattle.shared_lane.specs.declared.reader.Taken.TheVariants.{Nothing};
-ghost use Rattle.shared_flow.specs.declared.round.Round.TheVariants as round;
+ghost use Rattle.shared_rounds.specs.declared.round.Round.TheVariants as round;
 ghost use Rattle.shared_lane.specs.Views.{ReceiptSeen};
-ghost use Rattle.shared_flow.specs.Rounds.{IsAfter};
+ghost use Rattle.shared_rounds.specs.Rounds.{IsAfter};
 ghost use Rattle.shared_flow.specs.Emitters.{Emits, emission_by};
-ghost use Rattle.shared_flow.specs.Parties.{IsOwnReceipt, IsSameEmitter, named, with_round};
+ghost use Rattle.shared_rounds.specs.Reach.{with_round};
+ghost use Rattle.shared_flow.specs.Parties.{IsOwnReceipt, IsSameEmitter, named};
 ghost use Rattle.shared_flow.specs.Owners.{at_rest};
 ghost use Rattle.hot_callers.specs.SharedCalls.{AreOfOneFlow, HasTaken, IsSameSubscription, WereAtOnce};
 

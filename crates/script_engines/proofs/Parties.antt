@@ -1,6 +1,6 @@
 -- The parties of a flow for threads, as they are made.
 use Rattle.std.proofs.Common.{◌≡◌, ℕ, false, List, [], Option, Some, None, is_some, refl, ap, ◌∙◌, ◌<◌, ◌≤◌, true, arith}
-use Rattle.shared_flow.specs.declared.round.Round.{Round}
+use Rattle.shared_rounds.specs.declared.round.Round.{Round}
 use Rattle.shared_flow.specs.Owners.{Owning, at_rest}
 use Rattle.shared_flow.specs.Parties.{Subscribed, newcomer_of}
 use Rattle.script_engines.specs.Subscribing.{Subscribing}

@@ -12,12 +12,13 @@ use Rattle.flow_terms.specs.declared.answers.Withdrawn.{Withdrawn}
 use Rattle.flow_terms.specs.declared.answers.Withdrawn.TheVariants as withdrawn
 use Rattle.shared_core.specs.declared.config.Config.{Config}
 use Rattle.shared_lane.specs.Views.{ReceiptSeen}
-use Rattle.shared_flow.specs.declared.round.Round.TheVariants as round
+use Rattle.shared_rounds.specs.declared.round.Round.TheVariants as round
 use Rattle.shared_flow.specs.Emitters.{emission_by, after_try, WasStarted, WasFinished, Waits, WasLeft, WasGivenUp}
-use Rattle.shared_flow.specs.Names.{IsMadeWith}
+use Rattle.shared_rounds.specs.Names.{IsMadeWith}
 use Rattle.shared_flow.specs.Owners.{at_rest}
-use Rattle.shared_flow.specs.Parties.{Emitting, with_round, newcomer_of}
-use Rattle.shared_flow.specs.Rounds.{numbers_tried}
+use Rattle.shared_rounds.specs.Reach.{with_round}
+use Rattle.shared_flow.specs.Parties.{Emitting, newcomer_of}
+use Rattle.shared_rounds.specs.Rounds.{numbers_tried}
 use Rattle.script_calls.specs.Calls.{Receipts, Emissions}
 use Rattle.script_engines.specs.Beside.{receipts_beside}
 use Rattle.script_engines.specs.Places.{AtPlace}

@@ -6,11 +6,12 @@ use Rattle.flow_terms.specs.declared.refusal.Refusal.TheVariants.{NoMemory, Prel
 use Rattle.flow_terms.specs.declared.ids.SubId.{SubId}
 use Rattle.flow_terms.specs.declared.answers.Next.{Next}
 use Rattle.flow_terms.specs.declared.answers.Next.TheVariants.{Value, Nothing, Closed}
-use Rattle.shared_flow.specs.declared.round.Round.TheVariants as round
-use Rattle.shared_flow.specs.Entering.{Made}
+use Rattle.shared_rounds.specs.declared.round.Round.TheVariants as round
+use Rattle.shared_rounds.specs.Entering.{Made}
 use Rattle.shared_flow.specs.Looks.{WasLetInBy, GaveIn, MissedTwice}
 use Rattle.shared_flow.specs.Owners.{Owning, at_rest, IsLeftOut}
-use Rattle.shared_flow.specs.Parties.{Subscribed, with_round, newcomer_of}
+use Rattle.shared_rounds.specs.Reach.{with_round}
+use Rattle.shared_flow.specs.Parties.{Subscribed, newcomer_of}
 use Rattle.shared_flow.specs.Preludes.{GreetedOr, IsPast}
 use Rattle.script_calls.specs.Calls.{Receipts}
 use Rattle.script_engines.specs.Places.{AtPlace}

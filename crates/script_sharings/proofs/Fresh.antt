@@ -1,6 +1,6 @@
 -- An owner that has made no call.
 use Rattle.std.proofs.Common.{◌≡◌, List, [], ap, ◌∙◌}
-use Rattle.shared_flow.specs.declared.round.Round.{Round}
+use Rattle.shared_rounds.specs.declared.round.Round.{Round}
 use Rattle.shared_flow.specs.Owners.{Owning, at_rest}
 use Rattle.shared_flow.specs.Parties.{newcomer_of}
 

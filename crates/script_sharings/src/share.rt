@@ -3,7 +3,7 @@
 ghost use Rattle.std.specs.Prelude.{◌≡◌, [], IfOk};
 ghost use Rattle.sharing_upstream.specs.Shown.{Shows};
 ghost use Rattle.shared_core.specs.Kept.{making_refusal};
-ghost use Rattle.shared_flow.specs.Names.{IsMadeWith};
+ghost use Rattle.shared_rounds.specs.Names.{IsMadeWith};
 ghost use Rattle.shared_flow.specs.Owners.{at_rest};
 ghost use Rattle.shared_flow.specs.Parties.{newcomer_of};
 ghost use Rattle.script_calls.specs.Makings.{MadeUnless};

@@ -9,16 +9,16 @@ use Rattle.shared_lane.specs.Readers.{at, IsSameReader}
 use Rattle.shared_lane.specs.Sequencers.{seen}
 use Rattle.shared_lane.specs.Views.{ReaderSeen, SequencerSeen}
 use Rattle.shared_lane.proofs.Lives.{receives, lived_more, given_one}
-use Rattle.shared_flow.specs.declared.round.Round.{Round}
-use Rattle.shared_flow.specs.Names.{SharedSeen, IsNew}
+use Rattle.shared_rounds.specs.declared.round.Round.{Round}
+use Rattle.shared_rounds.specs.Names.{SharedSeen, IsNew}
 use Rattle.shared_flow.specs.Queue.{progress_of}
-use Rattle.shared_flow.specs.Entering.{IsLeftBy}
-use Rattle.shared_flow.specs.Reach.{Rounds, rounds_in}
-use Rattle.shared_flow.specs.Rounds.{Does, WasAdmitted}
+use Rattle.shared_rounds.specs.Entering.{IsLeftBy}
+use Rattle.shared_rounds.specs.Reach.{Rounds, rounds_in}
+use Rattle.shared_rounds.specs.Rounds.{Does, WasAdmitted}
 use Rattle.shared_flow.specs.Laws.{IsOneFlow, IsRuled, HasOneList, EachSubscriptionLaw, knowing}
 use Rattle.shared_flow.proofs.Lives.{looks, reader_lived, with_prelude}
-use Rattle.shared_flow.proofs.Boxes.{in_begins, same_own, unboxed}
-use Rattle.shared_flow.proofs.Numbers.{same_name}
+use Rattle.shared_rounds.proofs.Boxes.{in_begins, same_own, unboxed}
+use Rattle.shared_rounds.proofs.Numbers.{same_name}
 use Rattle.shared_flow.proofs.Ordering.{each_in_its_own_order}
 use Rattle.shared_flow.proofs.Queueing.{comes_to}
 

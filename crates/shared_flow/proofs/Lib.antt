@@ -1,13 +1,3 @@
-pub mod Flags
-pub mod Rises
-pub mod Receipts
-pub mod Refusals
-pub mod Starting
-pub mod Doing
-pub mod Trying
-pub mod Numbers
-pub mod Reaching
-pub mod Boxes
 pub mod Making
 pub mod Rising
 pub mod Queueing

@@ -6,16 +6,16 @@ use Rattle.std.proofs.lemmas.Option.{same_Some}
 use Rattle.shared_lane.specs.declared.meeting.Met.{Met}
 use Rattle.shared_lane.specs.Views.{ReaderSeen}
 use Rattle.shared_lane.proofs.Sameness.{loaded_twice}
-use Rattle.shared_flow.specs.declared.round.Round.{Round}
-use Rattle.shared_flow.specs.declared.round.Round.TheVariants as round
-use Rattle.shared_flow.specs.Entering.{Found, Left, Made, MadeOf}
+use Rattle.shared_rounds.specs.declared.round.Round.{Round}
+use Rattle.shared_rounds.specs.declared.round.Round.TheVariants as round
+use Rattle.shared_rounds.specs.Entering.{Found, Left, Made, MadeOf}
 use Rattle.shared_flow.specs.Looks.{WasEnded, WasLetInBy}
-use Rattle.shared_flow.specs.Names.{SharedSeen}
-use Rattle.shared_flow.specs.Meeting.{HasMet}
+use Rattle.shared_rounds.specs.Names.{SharedSeen}
+use Rattle.shared_rounds.specs.Meeting.{HasMet}
 use Rattle.shared_flow.specs.Owners.{HasHeard, Keeping, Meets}
-use Rattle.shared_flow.specs.Parties.{Subscribed, with_round}
-use Rattle.shared_flow.specs.Reach.{Party, Reach, Rounds, party_of}
-use Rattle.shared_flow.specs.Rounds.{HasClosed, IsLetIn, WasAdmitted}
+use Rattle.shared_rounds.specs.Reach.{with_round, Party, Reach, Rounds, party_of}
+use Rattle.shared_flow.specs.Parties.{Subscribed}
+use Rattle.shared_rounds.specs.Rounds.{HasClosed, IsLetIn, WasAdmitted}
 
 -- the owner took the lock, and gave it back with a round
 pub made : {called : SharedSeen} (r : Round) (p q t : Reach) (found : SharedSeen) → q ≡ record p { held = Some found; seen = q.seen } → Found (party_of p) found q.seen → Left r called q t → Made r (party_of p) (party_of t)

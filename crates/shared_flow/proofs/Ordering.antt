@@ -12,14 +12,14 @@ use Rattle.shared_core.specs.Story.Interleaves.{none, left, right}
 use Rattle.shared_core.proofs.Lists.{Interleaves-push_left}
 use Rattle.shared_lane.specs.Blocks.{entries}
 use Rattle.shared_lane.specs.Sequencers.{entry_of}
-use Rattle.shared_flow.specs.declared.round.Emission.{Emission}
-use Rattle.shared_flow.specs.declared.round.Round.{Round}
-use Rattle.shared_flow.specs.declared.round.Round.TheVariants as round
+use Rattle.shared_rounds.specs.declared.round.Emission.{Emission}
+use Rattle.shared_rounds.specs.declared.round.Round.{Round}
+use Rattle.shared_rounds.specs.declared.round.Round.TheVariants as round
 use Rattle.shared_flow.specs.Queue.{Progress, let_in, waits_in, IsAcceptedNow, AreAcceptedNow, IsWithdrawn, Goes, ComesTo, one_by, words_by, taken_up, emitted, EachInItsOwnOrder}
 use Rattle.shared_flow.specs.Queue.ComesTo.{begins, goes_on}
-use Rattle.shared_flow.specs.Names.{SharedSeen}
-use Rattle.shared_flow.specs.Reach.{Rounds}
-use Rattle.shared_flow.specs.Rounds.{entry}
+use Rattle.shared_rounds.specs.Names.{SharedSeen}
+use Rattle.shared_rounds.specs.Reach.{Rounds}
+use Rattle.shared_rounds.specs.Rounds.{entry}
 
 -- all emissions of a queue: those accepted, then those that wait
 abbrev all_of : Progress → List Entry

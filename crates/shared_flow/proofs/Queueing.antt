@@ -14,17 +14,17 @@ use Rattle.shared_lane.specs.Views.{LaneSeen, SequencerSeen}
 use Rattle.shared_lane.specs.Sequencers.{OnlyLoaded, Rounded, waited, Settled, RefusedStart, seen}
 use Rattle.shared_lane.specs.Places.{NotLetIn}
 use Rattle.shared_lane.specs.declared.tickets.Waiting.{Waiting}
-use Rattle.shared_flow.specs.declared.round.Emission.{Emission}
-use Rattle.shared_flow.specs.declared.round.Round.{Round}
-use Rattle.shared_flow.specs.declared.round.Round.TheVariants as round
-use Rattle.shared_flow.specs.Entering.{IsLeftBy}
-use Rattle.shared_flow.specs.Names.{SharedSeen}
-use Rattle.shared_flow.specs.Reach.{Rounds}
+use Rattle.shared_rounds.specs.declared.round.Emission.{Emission}
+use Rattle.shared_rounds.specs.declared.round.Round.{Round}
+use Rattle.shared_rounds.specs.declared.round.Round.TheVariants as round
+use Rattle.shared_rounds.specs.Entering.{IsLeftBy}
+use Rattle.shared_rounds.specs.Names.{SharedSeen}
+use Rattle.shared_rounds.specs.Reach.{Rounds}
 use Rattle.flow_terms.specs.declared.ids.Ticket.{Ticket}
 use Rattle.shared_flow.specs.Queue.{Progress, progress_of, let_in, waits_in, IsAcceptedNow, AreAcceptedNow, Goes, Proceeds, ComesTo}
 use Rattle.shared_flow.specs.Queue.ComesTo.{begins, goes_on}
-use Rattle.shared_flow.specs.Rounds.{Makes, Rests, Scanned, Does, entry}
-use Rattle.shared_flow.proofs.Trying.{tried_waiting, tried_first}
+use Rattle.shared_rounds.specs.Rounds.{Makes, Rests, Scanned, Does, entry}
+use Rattle.shared_rounds.proofs.Trying.{tried_waiting, tried_first}
 
 abbrev progress : List Waiting → List Entry → Progress
 progress ws es = record { waiting = ws; accepted = es }

@@ -8,7 +8,7 @@ use Rattle.shared_lane.specs.Views.{ReaderSeen}
 use Rattle.shared_flow.specs.Blocks.{LookedAll, MissedAll, GotAll, count_of}
 use Rattle.shared_flow.specs.Looks.{OnlyNext, OnlyLooked, by_none, by_one, by_pending, HasMadeRoom, MadeRoom, Waited}
 use Rattle.shared_flow.specs.Parties.{Subscribed}
-use Rattle.shared_flow.specs.Reach.{Party}
+use Rattle.shared_rounds.specs.Reach.{Party}
 use Rattle.shared_flow.proofs.Receiving.{has_room, has_room_then}
 
 -- rounds of looks after rounds of looks

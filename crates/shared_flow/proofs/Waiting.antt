@@ -3,7 +3,7 @@ use Rattle.std.proofs.Common.{◌≡◌, ◌⊎◌, ℕ, Option, Some, None, Res
 use Rattle.flow_terms.specs.declared.policy.Policy.{Policy}
 use Rattle.flow_terms.specs.declared.refusal.Refusal.{Refusal}
 use Rattle.shared_lane.specs.Views.{ReaderSeen, ReceiptSeen}
-use Rattle.shared_flow.specs.declared.round.Round.TheVariants as round
+use Rattle.shared_rounds.specs.declared.round.Round.TheVariants as round
 use Rattle.shared_flow.specs.Emitters as emitters
 use Rattle.shared_flow.specs.Emitters.{IfEmitted, Waits}
 use Rattle.shared_flow.specs.Looks.{GaveIn, Missed, MissedOn, not_once, once_more, OnlyNext, by_one, by_pending, Waited}
@@ -12,12 +12,13 @@ use Rattle.flow_terms.specs.declared.answers.Begun.{Begun}
 use Rattle.flow_terms.specs.declared.answers.Begun.TheVariants as begun
 use Rattle.flow_terms.specs.declared.answers.Withdrawn.{Withdrawn}
 use Rattle.flow_terms.specs.declared.answers.Withdrawn.TheVariants as withdrawn
-use Rattle.shared_flow.specs.Entering.{Made}
-use Rattle.shared_flow.specs.Parties.{BegunUnder, Emitting, IfBegun, IsItsReceipt, IsOwnReceipt, IsSameEmitter, OfFlow, UnlessLeft, named, without_ticket}
-use Rattle.shared_flow.specs.Reach.{Party}
-use Rattle.shared_flow.specs.Rounds.{IsReceiptFor, IsReceiptOfOne}
-use Rattle.shared_flow.specs.declared.round.Emission.{Emission}
-use Rattle.shared_flow.specs.Names.{FlowName}
+use Rattle.shared_rounds.specs.Entering.{Made}
+use Rattle.shared_rounds.specs.Tries.{BegunUnder, IfBegun, without_ticket}
+use Rattle.shared_flow.specs.Parties.{Emitting, IsItsReceipt, IsOwnReceipt, IsSameEmitter, OfFlow, UnlessLeft, named}
+use Rattle.shared_rounds.specs.Reach.{Party}
+use Rattle.shared_rounds.specs.Rounds.{IsReceiptFor, IsReceiptOfOne}
+use Rattle.shared_rounds.specs.declared.round.Emission.{Emission}
+use Rattle.shared_rounds.specs.Names.{FlowName}
 
 -- the emission is still in flight
 pub still_waits : (e f g : Emitting) → (f.ticket ≡ None → ⊥) → f.last ≡ e.last → IsSameEmitter e f → emitters.Waited e f → Waits f g

@@ -8,11 +8,12 @@ use Rattle.shared_lane.specs.Picks.{TookAll}
 use Rattle.shared_lane.specs.Readers.{IsSameReader}
 use Rattle.shared_lane.specs.Views.{ReaderSeen, ReceiptSeen}
 use Rattle.shared_flow.specs.declared.emitter.blocks.CutShort.{CutShort}
-use Rattle.shared_flow.specs.declared.round.Round.TheVariants as round
+use Rattle.shared_rounds.specs.declared.round.Round.TheVariants as round
 use Rattle.shared_flow.specs.Emitters.{Emits, emission_by}
-use Rattle.shared_flow.specs.Entering.{Made}
+use Rattle.shared_rounds.specs.Entering.{Made}
 use Rattle.shared_flow.specs.Looks.{Waited}
-use Rattle.shared_flow.specs.Parties.{Emitting, Subscribed, with_round}
+use Rattle.shared_rounds.specs.Reach.{with_round}
+use Rattle.shared_flow.specs.Parties.{Emitting, Subscribed}
 use Rattle.shared_flow.specs.Preludes.{IsPast}
 
 -- the emitter tried these words in order, in one round: so many were accepted, or the first was refused

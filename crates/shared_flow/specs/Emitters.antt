@@ -11,12 +11,13 @@ use Rattle.flow_terms.specs.declared.answers.Withdrawn.{Withdrawn}
 use Rattle.flow_terms.specs.declared.answers.Withdrawn.TheVariants as withdrawn
 use Rattle.flow_terms.specs.declared.ids.Ticket.{Ticket}
 use Rattle.shared_lane.specs.Views.{ReceiptSeen}
-use Rattle.shared_flow.specs.declared.round.Emission.{Emission}
-use Rattle.shared_flow.specs.declared.round.Round.TheVariants as round
-use Rattle.shared_flow.specs.Entering.{Made}
-use Rattle.shared_flow.specs.Reach.{Rounds}
-use Rattle.shared_flow.specs.Rounds.{numbers_tried, numbers_begun, poll_round, withdraw_round}
-use Rattle.shared_flow.specs.Parties.{Emitting, with_round, without_ticket, ticket_of, last_of_try, last_of_start, IfLeft, UnlessLeft, without_receipt}
+use Rattle.shared_rounds.specs.declared.round.Emission.{Emission}
+use Rattle.shared_rounds.specs.declared.round.Round.TheVariants as round
+use Rattle.shared_rounds.specs.Entering.{Made}
+use Rattle.shared_rounds.specs.Reach.{Rounds, with_round}
+use Rattle.shared_rounds.specs.Rounds.{numbers_tried, numbers_begun, poll_round, withdraw_round}
+use Rattle.shared_rounds.specs.Tries.{ticket_of, last_of_try, last_of_start, without_ticket}
+use Rattle.shared_flow.specs.Parties.{Emitting, IfLeft, UnlessLeft, without_receipt}
 
 -- the emission of this word by an emitter
 abbrev pub emission_by : Emitting → ℕ → Emission

@@ -11,15 +11,15 @@ use Rattle.lane_steps.specs.Law.{Begins}
 use Rattle.shared_lane.specs.Sequencers.{seen}
 use Rattle.shared_lane.specs.Views.{ReaderSeen}
 use Rattle.shared_lane.specs.declared.reader.Taken.{Taken}
-use Rattle.shared_flow.specs.declared.round.Round.{Round}
-use Rattle.shared_flow.specs.Names.{SharedSeen, IsNew}
+use Rattle.shared_rounds.specs.declared.round.Round.{Round}
+use Rattle.shared_rounds.specs.Names.{SharedSeen, IsNew}
 use Rattle.shared_flow.specs.Blocks.{TookAllFirst}
-use Rattle.shared_flow.specs.Entering.{IsLeftBy}
-use Rattle.shared_flow.specs.Reach.{Rounds, rounds_in}
+use Rattle.shared_rounds.specs.Entering.{IsLeftBy}
+use Rattle.shared_rounds.specs.Reach.{Rounds, rounds_in}
 use Rattle.shared_flow.specs.Lives.{Turn, LivesOn, Life, IsSubscriptionOf, ReceivesPreludeCacheThenLater, received_in}
 use Rattle.shared_flow.specs.Queue.{progress_of, ComesTo, EachInItsOwnOrder}
 use Rattle.shared_flow.specs.Parties.{Subscribed}
-use Rattle.shared_flow.specs.Rounds.{Does}
+use Rattle.shared_rounds.specs.Rounds.{Does}
 
 -- Where a list of rounds left this of a new flow: it is that flow; the emissions that it accepted are those of the list, let in by
 -- the order in which they came; and each emitter's are accepted in its own order.

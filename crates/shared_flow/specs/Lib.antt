@@ -1,17 +1,9 @@
-pub mod Names
-pub mod Rounds
 pub mod Queue
-pub mod Reach
-pub mod Flags
-pub mod Sleeping
-pub mod Waking
 pub mod Parties
 pub mod Emitters
-pub mod Entering
 pub mod Laws
 pub mod Looks
 pub mod Preludes
 pub mod Blocks
 pub mod Lives
 pub mod Owners
-pub mod Meeting

@@ -9,11 +9,11 @@ use Rattle.shared_lane.specs.Headline.{Went, words_seen, cache_then_later, pendi
 use Rattle.shared_lane.specs.Readers.{IsSameReader, at}
 use Rattle.shared_lane.specs.Sequencers.{seen}
 use Rattle.shared_lane.specs.Views.{ReaderSeen}
-use Rattle.shared_flow.specs.declared.round.Round.TheVariants as round
-use Rattle.shared_flow.specs.Names.{SharedSeen}
-use Rattle.shared_flow.specs.Reach.{Rounds}
-use Rattle.shared_flow.specs.Rounds.{WasAdmitted}
-use Rattle.shared_flow.specs.Entering.{IsLeftBy}
+use Rattle.shared_rounds.specs.declared.round.Round.TheVariants as round
+use Rattle.shared_rounds.specs.Names.{SharedSeen}
+use Rattle.shared_rounds.specs.Reach.{Rounds}
+use Rattle.shared_rounds.specs.Rounds.{WasAdmitted}
+use Rattle.shared_rounds.specs.Entering.{IsLeftBy}
 
 -- A call of the subscription, or one of its looks: it was given the next value of its prelude, or its reader gave a word or none.
 pub data Turn (T : Type 0) : Type 0 where

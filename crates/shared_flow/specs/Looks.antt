@@ -3,13 +3,14 @@ use Rattle.std.specs.Prelude.{◌≡◌, ◌⊎◌, ◌++◌, ℕ, false, replic
 use Rattle.shared_lane.specs.declared.reader.Taken.{Taken}
 use Rattle.shared_lane.specs.declared.reader.Taken.TheVariants.{Value, Nothing, Overtaken}
 use Rattle.shared_lane.specs.Views.{ReaderSeen}
-use Rattle.shared_lane.specs.Readers.{IsSameReader, TookNext, at}
-use Rattle.shared_flow.specs.declared.round.Round.TheVariants as round
-use Rattle.shared_flow.specs.Names.{FoundDown}
+use Rattle.shared_lane.specs.Readers.{at}
+use Rattle.shared_rounds.specs.declared.round.Round.TheVariants as round
+use Rattle.shared_rounds.specs.Meeting.{Looked}
+use Rattle.shared_rounds.specs.Names.{FoundDown}
 use Rattle.shared_flow.specs.Parties.{Subscribed}
-use Rattle.shared_flow.specs.Reach.{Party}
-use Rattle.shared_flow.specs.Entering.{Made}
-use Rattle.shared_flow.specs.Rounds.{HasClosed, WasAdmitted}
+use Rattle.shared_rounds.specs.Reach.{Party}
+use Rattle.shared_rounds.specs.Entering.{Made}
+use Rattle.shared_rounds.specs.Rounds.{HasClosed, WasAdmitted}
 
 -- The reader was let in by a round of this party, which answered with this number: by what that round found, which the list of rounds
 -- before it had left, and what it left of that.
@@ -23,10 +24,6 @@ pub record WasEnded (number : ℕ) (r : ReaderSeen) (p q : Party) : Type 0 where
   pub made : Made (round.Cancel number) p q
   pub flow_is : p.flow ≡ Some made.found.name
   pub closed : HasClosed made.found r made.left
-
--- a look at the lane: it is the same reader, which took the next value, or why it took none
-abbrev pub Looked : ReaderSeen → Taken ℕ → ReaderSeen → Type 0
-Looked r taken t = IsSameReader r t × TookNext r taken t
 
 -- the reader took the next value, which is read from its word
 abbrev pub Gave : {T : Type 0} → (ℕ → T) → ReaderSeen → T → ReaderSeen → Type 0

@@ -4,16 +4,15 @@ use Rattle.flow_terms.specs.declared.refusal.Refusal.{Refusal}
 use Rattle.flow_terms.specs.declared.refusal.Refusal.TheVariants.{NoMemory}
 use Rattle.round_lock.specs.History.{own_of}
 use Rattle.shared_lane.specs.Sequencers.{OnlyLoaded, next}
-use Rattle.shared_lane.specs.Places.{LosesNothing}
 use Rattle.shared_lane.specs.declared.meeting.Met.{Met}
-use Rattle.shared_flow.specs.declared.round.Round.TheVariants as round
-use Rattle.shared_flow.specs.Names.{SharedSeen}
-use Rattle.shared_flow.specs.Reach.{Party, Rounds}
-use Rattle.shared_flow.specs.Rounds.{Comes, IsAtLimit}
-use Rattle.shared_flow.specs.Waking.{SleepOn}
-use Rattle.shared_flow.specs.Parties.{Subscribed, with_round}
-use Rattle.shared_flow.specs.Entering.{Found, Made}
-use Rattle.shared_flow.specs.Meeting.{HasMet}
+use Rattle.shared_rounds.specs.declared.round.Round.TheVariants as round
+use Rattle.shared_rounds.specs.Names.{SharedSeen}
+use Rattle.shared_rounds.specs.Reach.{Party, Rounds, with_round}
+use Rattle.shared_rounds.specs.Rounds.{Comes, IsAtLimit}
+use Rattle.shared_rounds.specs.Waking.{SleepOn}
+use Rattle.shared_flow.specs.Parties.{Subscribed}
+use Rattle.shared_rounds.specs.Entering.{Found, Made}
+use Rattle.shared_rounds.specs.Meeting.{HasMet, OnlyMet}
 
 -- an owner: its flow and its rounds, and what it found under the lock, while the lock is kept
 pub record Owning : Type 0 where
@@ -35,10 +34,6 @@ pub record Keeping : Type 0 where
 abbrev pub KeepsLock : Owning → Keeping → Type 0
 KeepsLock o k = (o.party.flow ≡ Some k.shared.name)
     × ((old : SharedSeen) × (o.held ≡ Some old) × Comes old (round.Hold k.count) k.shared × SleepOn old k.shared × (k.before ≡ next old.sequencer) × Found o.party old o.party.seen)
-
--- nothing has changed but what the sequencer has loaded, and nobody has lost a value
-abbrev pub OnlyMet : SharedSeen → SharedSeen → Type 0
-OnlyMet s t = (t.name ≡ s.name) × OnlyLoaded s.sequencer t.sequencer × LosesNothing s.sequencer t.sequencer × SleepOn s t × (t.flag ≡ s.flag)
 
 abbrev pub IsKept : Keeping → Keeping → Type 0
 IsKept k l = (l.count ≡ k.count) × (l.before ≡ k.before) × OnlyMet k.shared l.shared

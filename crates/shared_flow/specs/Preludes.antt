@@ -2,7 +2,8 @@
 use Rattle.std.specs.Prelude.{◌≡◌, ◌⊎◌, ℕ, [], ◌∷◌}
 use Rattle.shared_lane.specs.declared.reader.Taken.{Taken}
 use Rattle.shared_lane.specs.declared.reader.Taken.TheVariants.{Value, Nothing, Overtaken}
-use Rattle.shared_flow.specs.Looks.{Looked, Gave}
+use Rattle.shared_rounds.specs.Meeting.{Looked}
+use Rattle.shared_flow.specs.Looks.{Gave}
 use Rattle.shared_flow.specs.Parties.{Subscribed}
 
 -- the subscription was given the next value of its prelude: it made no round, and its reader did nothing

@@ -10,12 +10,12 @@ use Rattle.shared_lane.specs.Blocks.{entries}
 use Rattle.shared_lane.specs.Sequencers.{entry_of, seen}
 use Rattle.shared_lane.specs.Views.{SequencerSeen}
 use Rattle.shared_lane.specs.declared.tickets.Waiting.{Waiting}
-use Rattle.shared_flow.specs.declared.round.Emission.{Emission}
-use Rattle.shared_flow.specs.declared.round.Round.{Round}
-use Rattle.shared_flow.specs.declared.round.Round.TheVariants as round
-use Rattle.shared_flow.specs.Names.{SharedSeen}
-use Rattle.shared_flow.specs.Reach.{Rounds}
-use Rattle.shared_flow.specs.Rounds.{entry}
+use Rattle.shared_rounds.specs.declared.round.Emission.{Emission}
+use Rattle.shared_rounds.specs.declared.round.Round.{Round}
+use Rattle.shared_rounds.specs.declared.round.Round.TheVariants as round
+use Rattle.shared_rounds.specs.Names.{SharedSeen}
+use Rattle.shared_rounds.specs.Reach.{Rounds}
+use Rattle.shared_rounds.specs.Rounds.{entry}
 
 -- the emissions that wait, and those that were accepted
 pub record Progress : Type 0 where

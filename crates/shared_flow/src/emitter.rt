@@ -5,27 +5,24 @@ ghost use Rattle.flow_terms.specs.declared.answers.Emit.TheVariants as emit;
 ghost use Rattle.flow_terms.specs.declared.answers.Withdrawn.TheVariants as withdrawn;
 ghost use Rattle.futures.specs.Poll.{IfReady, OnPending};
 ghost use Rattle.futures.specs.Task.{IsArmed, Keeps};
-ghost use Rattle.shared_flow.specs.declared.round.Round.TheVariants as round;
-ghost use Rattle.shared_flow.specs.Reach.{party_of};
-ghost use Rattle.shared_flow.specs.Entering.{Made};
-ghost use Rattle.shared_flow.specs.Rounds.{IsAfter, numbers_tried, poll_round, withdraw_round};
+ghost use Rattle.shared_rounds.specs.declared.round.Round.TheVariants as round;
+ghost use Rattle.shared_rounds.specs.Reach.{party_of};
+ghost use Rattle.shared_rounds.specs.Entering.{Made};
+ghost use Rattle.shared_rounds.specs.Rounds.{IsAfter, numbers_tried, poll_round, withdraw_round};
 ghost use Rattle.shared_flow.specs.Emitters.{emission_by, after_try, WasStarted, WasFinished, Waits, WasLeft, WasGivenUp};
 ghost use Rattle.shared_flow.specs.Emitters.{Emits, EndsAs, EndedWith, IfEmitted, Waited, begun_with};
-ghost use Rattle.shared_flow.specs.Parties.{IsSameEmitter, Emitting, IsItsReceipt, IsOwnReceipt, IfTried, IfBegun};
+ghost use Rattle.shared_rounds.specs.Tries.{IfTried, IfBegun, TriedUnder, BegunUnder};
+ghost use Rattle.shared_flow.specs.Parties.{IsSameEmitter, Emitting, IsItsReceipt, IsOwnReceipt, OfFlow, IfLeft, without_receipt};
 ghost use Rattle.shared_flow.specs.Owners.{HasHeard};
-ghost use Rattle.shared_flow.specs.Parties.{TriedUnder, BegunUnder, OfFlow, IfLeft, without_receipt, without_ticket};
 
-use crate::access::Access;
 use crate::parker::Parker;
-use crate::round::{
-    Emission, Round, begun_ticket, last_begun, last_tried, number_begun, number_tried,
-};
-use crate::shared::{Polled, Released};
-use crate::sleepers::Bed;
 use flow_terms::{Refusal, Word};
 use futures::task::{Context, Poll};
 use shared_core::{Begun, Emit, Ticket, Tried, Withdrawn};
 use shared_lane::Receipt;
+use shared_rounds::{
+    Access, Bed, Emission, Polled, Released, Round, begun_ticket, last_begun, last_tried,
+};
 use std::marker::{Model, PhantomData};
 use std::sync::Wait;
 
@@ -52,7 +49,7 @@ pub struct Emitter<T: Word> {
 
 impl<T: Word> Model for Emitter<T> {
     ghost use Rattle.std.specs.Prelude.{◌≡◌, None};
-    ghost use Rattle.shared_flow.specs.Reach.{party_of};
+    ghost use Rattle.shared_rounds.specs.Reach.{party_of};
     ghost use Rattle.shared_flow.specs.Parties.{Emitting, WasAnswered};
 
     ghost Value = { Emitting };
@@ -94,8 +91,8 @@ impl<T: Word> Emitter<T> {
             word: value.to_word(),
         };
         let mut inside = self.access.enter(rt);
-        let tried = inside.guarded.state.try_emit(emission);
-        let answer = number_tried(&tried);
+        let answer = inside.guarded.state.try_emit(emission);
+        let tried = inside.guarded.state.tried_with_receipt(emission, answer);
         self.last = last_tried(self.last, &answer);
         self.access.leave(rt, inside, Round::Try(emission, answer));
         tried
@@ -126,13 +123,13 @@ impl<T: Word> Emitter<T> {
             word: value.to_word(),
         };
         let mut inside = self.access.enter(rt);
-        let begun = inside.guarded.state.start_emit(emission);
-        let answer = number_begun(&begun);
+        let answer = inside.guarded.state.start_emit(emission);
+        let begun = inside.guarded.state.begun_with_receipt(emission, answer);
         self.last = last_begun(self.last, &answer);
-        self.ticket = begun_ticket(&begun);
+        self.ticket = begun_ticket(&answer);
         self.access
             .leave(rt, inside, Round::Start(emission, answer));
-        kept_ticket(begun)
+        begun
     }
 
     /// Asks whether the emission in flight is finished: Kotlin's `emit`, where it resumes. Pending where it isn't, and then the
@@ -338,19 +335,5 @@ fn polled_without_receipt(ticket: Ticket, id: u32, last: Option<u64>, emit: Emit
         Emit::Done(number) => Round::StrayPoll(ticket, id, last, number),
         Emit::Waiting => Round::Poll(ticket, Emit::Waiting),
         Emit::Gone => Round::Poll(ticket, Emit::Gone),
-    }
-}
-
-// What a caller is told of a start: the ticket stays with the emitter.
-fn kept_ticket(
-    begun: Result<Begun<Receipt, Ticket>, Refusal>,
-) -> Result<Begun<Receipt, ()>, Refusal>
-    ensures { result ≡ without_ticket begun }
-{
-    match begun {
-        Ok(Begun::Accepted(receipt)) => Ok(Begun::Accepted(receipt)),
-        Ok(Begun::Dropped) => Ok(Begun::Dropped),
-        Ok(Begun::Waiting(_)) => Ok(Begun::Waiting(())),
-        Err(refusal) => Err(refusal),
     }
 }

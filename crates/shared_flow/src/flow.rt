@@ -2,23 +2,22 @@
 ghost use Rattle.std.specs.Prelude.{◌≡◌, ◌⊎◌, [], None, Ok, Err, IfOk, IfErr, IfSome, IfNone, IsOkUnless, OnOk, OnErr};
 ghost use Rattle.flow_terms.specs.declared.refusal.Refusal.TheVariants.{Spent, SubscribersFull, NoMemory};
 ghost use Rattle.shared_core.specs.Kept.{making_refusal};
-ghost use Rattle.shared_flow.specs.declared.round.Round.TheVariants as round;
-ghost use Rattle.shared_flow.specs.Names.{IsMadeWith};
-ghost use Rattle.shared_flow.specs.Entering.{Made};
-ghost use Rattle.shared_flow.specs.Parties.{with_round, newcomer_of};
+ghost use Rattle.shared_rounds.specs.declared.round.Round.TheVariants as round;
+ghost use Rattle.shared_rounds.specs.Names.{IsMadeWith};
+ghost use Rattle.shared_rounds.specs.Entering.{Made};
+ghost use Rattle.shared_rounds.specs.Reach.{with_round};
+ghost use Rattle.shared_flow.specs.Parties.{newcomer_of};
 ghost use Rattle.shared_flow.specs.Owners.{at_rest, IsLeftOut, AddsCache, Meets};
 ghost use Rattle.shared_flow.specs.Looks.{WasLetInBy};
-ghost use Rattle.shared_flow.specs.Rounds.{IsAtLimit};
+ghost use Rattle.shared_rounds.specs.Rounds.{IsAtLimit};
 ghost use Rattle.shared_core.specs.Preludes.{prelude_values};
 
-use crate::access::Access;
 use crate::emitter::Emitter;
-use crate::round::Round;
-use crate::shared::{Admitted, Shared};
 use crate::subscription::Subscription;
 use flow_terms::{Refusal, Word};
 use shared_core::{Config, Prelude};
 use shared_lane::Met;
+use shared_rounds::{Access, Admitted, Round, Shared};
 use std::alloc::Global;
 use std::marker::{Model, PhantomData};
 use std::sync::Wait;
@@ -40,7 +39,7 @@ pub struct SharedFlow<T: Word> {
 }
 
 impl<T: Word> Model for SharedFlow<T> {
-    ghost use Rattle.shared_flow.specs.Reach.{party_of};
+    ghost use Rattle.shared_rounds.specs.Reach.{party_of};
     ghost use Rattle.shared_flow.specs.Owners.{Owning};
 
     ghost Value = { Owning };

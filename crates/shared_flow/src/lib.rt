@@ -51,18 +51,11 @@
 //!   that slept and is polled again without having been woken, where that poll ends its wait.
 #![tactic(auto)]
 
-mod access;
 mod emitter;
-mod flag;
 mod flow;
 mod laws;
 mod parker;
-mod round;
-mod shared;
-mod sleepers;
 mod subscription;
-mod track;
-mod wakes;
 
 pub use emitter::{CutShort, Emitter};
 pub use flow::{Held, Kept, SharedFlow};
@@ -73,7 +66,7 @@ pub use laws::{
     taking_all_is_taking_each,
 };
 pub use parker::Parker;
-pub use round::{Emission, Round};
 pub use shared_core::Prelude;
 pub use shared_lane::{Met, Receipt, Taken};
+pub use shared_rounds::{Emission, Round};
 pub use subscription::Subscription;

@@ -4,29 +4,25 @@ ghost use Rattle.futures.specs.Poll.{IfReady, OnPending};
 ghost use Rattle.futures.specs.Task.{IsArmed, Keeps};
 ghost use Rattle.lane_steps.specs.Law.{Begins};
 ghost use Rattle.shared_lane.specs.Readers.{IsReaderOf, IsReceiptOf, IsSameReader, at, received_count, lost_count};
-ghost use Rattle.shared_flow.specs.declared.round.Round.TheVariants as round;
-ghost use Rattle.shared_flow.specs.Reach.{Party, party_of};
-ghost use Rattle.shared_flow.specs.Entering.{Made};
+ghost use Rattle.shared_rounds.specs.declared.round.Round.TheVariants as round;
+ghost use Rattle.shared_rounds.specs.Reach.{Party, party_of};
+ghost use Rattle.shared_rounds.specs.Entering.{Made};
 ghost use Rattle.shared_flow.specs.Parties.{Subscribed, OfFlow};
 ghost use Rattle.shared_flow.specs.Looks.{Took, Gave, GaveIn, Missed, MissedTwice, MissedOn, OnlyLooked, OnlyNext, Waited, WasEnded};
 ghost use Rattle.shared_flow.specs.Looks.{MadeRoom, HasMadeRoom};
 ghost use Rattle.shared_core.specs.Preludes.{prelude_values};
 ghost use Rattle.shared_flow.specs.Preludes.{IsGreeted, IsPast, GreetedOr, TookFirst};
 ghost use Rattle.flow_terms.specs.declared.refusal.Refusal.TheVariants.{NoMemory};
-ghost use Rattle.shared_flow.specs.Meeting.{HasMet};
-ghost use Rattle.shared_flow.specs.Names.{IsFlagOf};
-ghost use Rattle.shared_flow.specs.Owners.{HasHeard, OnlyMet};
+ghost use Rattle.shared_rounds.specs.Meeting.{HasMet, OnlyMet};
+ghost use Rattle.shared_rounds.specs.Names.{IsFlagOf};
+ghost use Rattle.shared_flow.specs.Owners.{HasHeard};
 
-use crate::access::Access;
-use crate::flag::Looker;
-use crate::parker::{LOOKS, Parker, pause};
-use crate::round::Round;
-use crate::shared::Shared;
-use crate::sleepers::Bed;
+use crate::parker::Parker;
 use flow_terms::{Refusal, Word};
 use futures::task::{Context, Poll};
 use shared_core::{Prelude, Rest};
 use shared_lane::{Met, Reader, Receipt, Taken};
+use shared_rounds::{Access, Bed, LOOKS, Looker, Round, Shared, pause};
 use std::marker::{Model, PhantomData};
 use std::sync::Wait;
 
@@ -54,8 +50,8 @@ pub struct Subscription<T: Word> {
 impl<T: Word> Model for Subscription<T> {
     ghost use Rattle.std.specs.Prelude.{◌≡◌, None};
     ghost use Rattle.shared_lane.specs.Readers.{IsReaderOf};
-    ghost use Rattle.shared_flow.specs.Reach.{party_of};
-    ghost use Rattle.shared_flow.specs.Names.{IsFlagOf};
+    ghost use Rattle.shared_rounds.specs.Reach.{party_of};
+    ghost use Rattle.shared_rounds.specs.Names.{IsFlagOf};
     ghost use Rattle.shared_flow.specs.Parties.{Subscribed, OfFlow};
 
     ghost Value = { Subscribed T };

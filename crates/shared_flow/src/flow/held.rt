@@ -2,20 +2,19 @@
 ghost use Rattle.std.specs.Prelude.{◌≡◌, ◌<◌, ℕ, Some, length, slice_get};
 ghost use Rattle.shared_lane.specs.Caches.{IsLastOf};
 ghost use Rattle.shared_lane.specs.Sequencers.{seen};
-ghost use Rattle.shared_flow.specs.declared.round.Round.TheVariants as round;
+ghost use Rattle.shared_rounds.specs.declared.round.Round.TheVariants as round;
 ghost use Rattle.lane_steps.specs.Law.{Begins};
-ghost use Rattle.shared_flow.specs.Entering.{MadeOf};
-ghost use Rattle.shared_flow.specs.Parties.{with_round};
+ghost use Rattle.shared_rounds.specs.Entering.{MadeOf};
+ghost use Rattle.shared_rounds.specs.Reach.{with_round};
 ghost use Rattle.shared_flow.specs.Owners.{HasHeard, KeepsLock, IsKept, at_rest};
-ghost use Rattle.shared_flow.specs.Meeting.{HasMet};
+ghost use Rattle.shared_rounds.specs.Meeting.{HasMet};
 
 use super::SharedFlow;
-use crate::access::Inside;
 use crate::emitter::Emitter;
-use crate::round::Round;
 use crate::subscription::Subscription;
 use flow_terms::Word;
 use shared_lane::Met;
+use shared_rounds::{Inside, Round};
 use std::marker::Model;
 use std::sync::Wait;
 

@@ -1,9 +1,9 @@
 //! A subscription takes several values at once.
 ghost use Rattle.std.specs.Prelude.{◌≡◌, ◌≢◌, ◌⊎◌, ◌-◌, ◌<◌, ℕ, List, [], ◌++◌, Ok, length, map, vec_capacity, IfOk, IfErr};
 ghost use Rattle.flow_terms.specs.declared.refusal.Refusal.TheVariants.{NoMemory};
-ghost use Rattle.shared_flow.specs.declared.round.Round.TheVariants as round;
+ghost use Rattle.shared_rounds.specs.declared.round.Round.TheVariants as round;
 ghost use Rattle.shared_flow.specs.Blocks.{TookAllFirst, LookedAll, MissedAll, GotAll, GotAllFirst, count_of};
-ghost use Rattle.shared_flow.specs.Entering.{Made};
+ghost use Rattle.shared_rounds.specs.Entering.{Made};
 ghost use Rattle.shared_lane.specs.declared.reader.Taken.TheVariants as taken;
 ghost use Rattle.shared_flow.specs.Looks.{MadeRoom, HasMadeRoom, OnlyLooked, OnlyNext};
 ghost use Rattle.shared_flow.specs.Preludes.{IsPast};

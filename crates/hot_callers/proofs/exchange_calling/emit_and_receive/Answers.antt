@@ -1,7 +1,7 @@
 use Rattle.std.proofs.Common.{ℕ, List, sym, ap, subst}
-use Rattle.shared_flow.specs.Names.{IsMadeWith}
+use Rattle.shared_rounds.specs.Names.{IsMadeWith}
 use Rattle.shared_flow.specs.Owners.{Owning}
-use Rattle.shared_flow.specs.Reach.{Party}
+use Rattle.shared_rounds.specs.Reach.{Party}
 use Rattle.hot_callers.specs.Exchanges.{Exchange, TakesEach}
 use Rattle.hot_callers.proofs.Exchanging.{receives, emits_in}
 use Rattle.hot_callers.proofs.exchange_calling.emit_and_receive.Goals as goal

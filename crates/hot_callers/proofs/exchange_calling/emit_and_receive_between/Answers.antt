@@ -1,7 +1,7 @@
 use Rattle.std.proofs.Common.{sym, ap, subst, ◌∙◌}
-use Rattle.shared_flow.specs.Names.{IsMadeWith}
+use Rattle.shared_rounds.specs.Names.{IsMadeWith}
 use Rattle.shared_flow.specs.Owners.{Owning}
-use Rattle.shared_flow.specs.Reach.{Party}
+use Rattle.shared_rounds.specs.Reach.{Party}
 use Rattle.shared_core.specs.Preludes.{prelude_values}
 use Rattle.hot_callers.proofs.Exchanging.{late, tries_on}
 use Rattle.hot_callers.proofs.exchange_calling.emit_and_receive_between.Goals as goal

@@ -1,7 +1,7 @@
 use Rattle.std.proofs.Common.{◌≡◌, sym, ap, subst, ◌∙◌}
 use Rattle.round_lock.specs.History.{Begins}
 use Rattle.shared_flow.specs.Owners.{Owning, HasHeard}
-use Rattle.shared_flow.specs.Reach.{Party, Rounds}
+use Rattle.shared_rounds.specs.Reach.{Party, Rounds}
 use Rattle.shared_flow.proofs.Making.{meets}
 use Rattle.hot_callers.specs.Exchanges.{MeetsBoth}
 use Rattle.hot_callers.proofs.exchange_calling.meet_both.Goals as goal

@@ -1,8 +1,8 @@
 use Rattle.std.proofs.Common.{rules, ◌≡◌, sym, ap, subst, ◌∙◌}
 use Rattle.round_lock.specs.History.{Begins}
-use Rattle.shared_flow.specs.declared.round.Round.TheVariants as round
+use Rattle.shared_rounds.specs.declared.round.Round.TheVariants as round
 use Rattle.shared_flow.specs.Owners.{Owning, HasHeard}
-use Rattle.shared_flow.specs.Reach.{Party, Rounds}
+use Rattle.shared_rounds.specs.Reach.{Party, Rounds}
 use Rattle.shared_flow.proofs.Making.{made_since}
 use Rattle.hot_callers.specs.Exchanges.{TellsBoth}
 use Rattle.hot_callers.proofs.exchange_calling.tell_both.Goals as goal

@@ -1,6 +1,6 @@
 use Rattle.std.proofs.Common.{refl, sym, ap, subst, ◌∙◌}
-use Rattle.shared_flow.specs.declared.round.Round.TheVariants as round
-use Rattle.shared_flow.specs.Rounds.{Comes}
+use Rattle.shared_rounds.specs.declared.round.Round.TheVariants as round
+use Rattle.shared_rounds.specs.Rounds.{Comes}
 use Rattle.hot_callers.proofs.shared_calling.counted_with_cache.Goals as goal
 
 pub returns-in-Ok-clause-at_once : goal.returns-in-Ok-clause-at_once

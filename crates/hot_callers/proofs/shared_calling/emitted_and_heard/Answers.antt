@@ -4,10 +4,10 @@ use Rattle.lane_steps.specs.Law.{Begins}
 use Rattle.shared_lane.specs.Readers.{IsReaderOf, IsSameReader, at}
 use Rattle.shared_lane.specs.Views.{LaneSeen, ReaderSeen, ReceiptSeen}
 use Rattle.shared_lane.specs.declared.reader.Taken.TheVariants.{Nothing}
-use Rattle.shared_flow.specs.declared.round.Emission.{Emission}
-use Rattle.shared_flow.specs.Looks.{Looked}
+use Rattle.shared_rounds.specs.declared.round.Emission.{Emission}
+use Rattle.shared_rounds.specs.Meeting.{Looked}
 use Rattle.shared_flow.specs.Preludes.{TookFirst}
-use Rattle.shared_flow.specs.Rounds.{IsReceiptFor}
+use Rattle.shared_rounds.specs.Rounds.{IsReceiptFor}
 use Rattle.hot_callers.proofs.shared_calling.emitted_and_heard.Goals as goal
 
 -- a reader that was told of an emission, and then finds nothing, is past it

@@ -1,6 +1,6 @@
 use Rattle.std.proofs.Common.{ap, ◌∙◌}
 use Rattle.shared_flow.specs.Owners.{Owning}
-use Rattle.shared_flow.specs.Reach.{Party}
+use Rattle.shared_rounds.specs.Reach.{Party}
 use Rattle.hot_callers.proofs.shared_calling.heard_at_once.Goals as goal
 
 pub emitted_and_heard-heard-requires-clause-one_flow : goal.emitted_and_heard-heard-requires-clause-one_flow

@@ -1,8 +1,8 @@
 use Rattle.std.proofs.Common.{rules, ◌≡◌, ℕ, Option, Some, None, IfSome, subst}
 use Rattle.shared_lane.specs.Views.{ReceiptSeen}
-use Rattle.shared_flow.specs.Names.{FlowName}
-use Rattle.shared_flow.specs.Reach.{Party}
-use Rattle.shared_flow.specs.Rounds.{IsReceiptOfOne}
+use Rattle.shared_rounds.specs.Names.{FlowName}
+use Rattle.shared_rounds.specs.Reach.{Party}
+use Rattle.shared_rounds.specs.Rounds.{IsReceiptOfOne}
 use Rattle.shared_flow.specs.Parties.{IsOwnReceipt}
 use Rattle.hot_callers.proofs.shared_calling.passed_on.Goals as goal
 

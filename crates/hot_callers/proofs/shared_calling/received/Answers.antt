@@ -1,7 +1,7 @@
 use Rattle.std.proofs.Common.{◌≡◌, ℕ, [], ◌∷◌, refl, ap, subst, ◌∙◌}
 use Rattle.futures.specs.Poll.{IfReady, OnPending}
-use Rattle.shared_flow.specs.declared.round.Round.TheVariants as round
-use Rattle.shared_flow.specs.Entering.{Made}
+use Rattle.shared_rounds.specs.declared.round.Round.TheVariants as round
+use Rattle.shared_rounds.specs.Entering.{Made}
 use Rattle.shared_flow.specs.Parties.{named}
 use Rattle.shared_flow.specs.Looks.{GaveIn, MissedTwice}
 use Rattle.shared_flow.specs.Preludes.{IsPast, GreetedOr}

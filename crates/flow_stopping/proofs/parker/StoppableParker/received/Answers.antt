@@ -1,7 +1,7 @@
 use Rattle.std.proofs.Common.{◌≡◌, ◌⊎◌, refl, subst, ◌∙◌}
 use Rattle.futures.specs.Poll.{IfReady, OnPending}
-use Rattle.shared_flow.specs.declared.round.Round.TheVariants as round
-use Rattle.shared_flow.specs.Entering.{Made}
+use Rattle.shared_rounds.specs.declared.round.Round.TheVariants as round
+use Rattle.shared_rounds.specs.Entering.{Made}
 use Rattle.shared_flow.specs.Looks.{GaveIn, MadeRoom, MissedTwice, by_none}
 use Rattle.shared_flow.specs.Preludes.{IsGreeted, IsPast, GreetedOr}
 use Rattle.shared_flow.proofs.Waiting.{only_next}

@@ -2,7 +2,7 @@ use Rattle.std.proofs.Common.{◌≡◌, [], inr, refl, sym, ap, ◌∙◌, subs
 use Rattle.std.proofs.lemmas.Result.{err_from_is_err_and}
 use Rattle.shared_core.specs.Kept.{making_refusal}
 use Rattle.shared_flow.specs.Owners.{Owning}
-use Rattle.shared_flow.specs.Names.{IsMadeWith}
+use Rattle.shared_rounds.specs.Names.{IsMadeWith}
 use Rattle.shared_flow.specs.Parties.{newcomer_of}
 use Rattle.script_engines.specs.Subscribing.{Subscribing, subscribing_of}
 use Rattle.script_engines.proofs.Parties.{fresh}

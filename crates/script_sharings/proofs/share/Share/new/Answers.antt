@@ -1,7 +1,7 @@
 use Rattle.std.proofs.Common.{◌≡◌, inr, sym, ap, ◌∙◌, subst, refl}
 use Rattle.std.proofs.lemmas.Result.{err_from_is_err_and}
 use Rattle.shared_core.specs.Kept.{making_refusal}
-use Rattle.shared_flow.specs.Names.{IsMadeWith}
+use Rattle.shared_rounds.specs.Names.{IsMadeWith}
 use Rattle.shared_flow.specs.Owners.{Owning, at_rest}
 use Rattle.shared_flow.specs.Parties.{named, newcomer_of}
 use Rattle.script_calls.proofs.Refusals.{no_reason, refused_for}

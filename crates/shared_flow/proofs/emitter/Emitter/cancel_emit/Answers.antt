@@ -1,15 +1,15 @@
-use Rattle.shared_flow.specs.Names.{SharedSeen}
+use Rattle.shared_rounds.specs.Names.{SharedSeen}
 use Rattle.std.proofs.Common.{rules, ◌≡◌, None, ◌+◌, ◌++◌, ◌∷◌, [], Some, IfSome, sym, ap, subst, ◌∙◌}
 use Rattle.flow_terms.specs.declared.answers.Withdrawn.TheVariants as withdrawn
-use Rattle.shared_flow.specs.declared.round.Round.{Round}
-use Rattle.shared_flow.specs.declared.round.Round.TheVariants as round
+use Rattle.shared_rounds.specs.declared.round.Round.{Round}
+use Rattle.shared_rounds.specs.declared.round.Round.TheVariants as round
 use Rattle.std.proofs.lemmas.Option.{same_Some}
-use Rattle.shared_flow.specs.Entering.{IsCalled, Made}
-use Rattle.shared_flow.specs.Reach.{Reach, party_of}
-use Rattle.shared_flow.specs.Rounds.{IsReceiptAfter, after_number, Comes, withdraw_round}
+use Rattle.shared_rounds.specs.Entering.{IsCalled, Made}
+use Rattle.shared_rounds.specs.Reach.{Reach, party_of}
+use Rattle.shared_rounds.specs.Rounds.{IsReceiptAfter, after_number, Comes, withdraw_round}
 use Rattle.shared_flow.specs.Parties.{Emitting, WasAnswered}
 use Rattle.shared_flow.proofs.Rising.{answered_on, answered_last}
-use Rattle.shared_flow.proofs.Doing.{is_called, withdrawn_lies}
+use Rattle.shared_rounds.proofs.Doing.{is_called, withdrawn_lies}
 use Rattle.shared_flow.proofs.Making.{made}
 use Rattle.shared_flow.proofs.Waiting.{unless_left}
 use Rattle.shared_flow.proofs.emitter.Emitter.cancel_emit.Goals as goal

@@ -1,15 +1,15 @@
-use Rattle.shared_flow.specs.Names.{SharedSeen}
+use Rattle.shared_rounds.specs.Names.{SharedSeen}
 use Rattle.std.proofs.Common.{rules, ◌≡◌, ◌+◌, ◌++◌, ◌∷◌, [], Some, IfSome, sym, ap, subst, ◌∙◌, None}
 use Rattle.flow_terms.specs.declared.answers.Emit.TheVariants as emit
-use Rattle.shared_flow.specs.declared.round.Round.{Round}
-use Rattle.shared_flow.specs.declared.round.Round.TheVariants as round
-use Rattle.shared_flow.specs.Entering.{IsCalled, Made}
-use Rattle.shared_flow.specs.Reach.{Reach, party_of}
-use Rattle.shared_flow.specs.Rounds.{IsReceiptAfter, after_number, Comes, poll_round}
-use Rattle.shared_flow.specs.Waking.{SleepOn}
+use Rattle.shared_rounds.specs.declared.round.Round.{Round}
+use Rattle.shared_rounds.specs.declared.round.Round.TheVariants as round
+use Rattle.shared_rounds.specs.Entering.{IsCalled, Made}
+use Rattle.shared_rounds.specs.Reach.{Reach, party_of}
+use Rattle.shared_rounds.specs.Rounds.{IsReceiptAfter, after_number, Comes, poll_round}
+use Rattle.shared_rounds.specs.Waking.{SleepOn}
 use Rattle.shared_flow.specs.Parties.{WasAnswered}
 use Rattle.shared_flow.proofs.Rising.{answered_on, answered_last}
-use Rattle.shared_flow.proofs.Doing.{is_called, lay_down_for}
+use Rattle.shared_rounds.proofs.Doing.{is_called, lay_down_for}
 use Rattle.shared_flow.proofs.Making.{made}
 use Rattle.shared_flow.proofs.emitter.Emitter.poll_emit.Goals as goal
 

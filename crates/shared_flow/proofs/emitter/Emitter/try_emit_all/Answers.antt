@@ -1,11 +1,11 @@
 use Rattle.std.proofs.Common.{◌++◌, ◌∷◌, [], map, refl, sym, ap, subst, ◌∙◌}
-use Rattle.shared_flow.specs.declared.round.Round.{Round}
-use Rattle.shared_flow.specs.declared.round.Round.TheVariants as round
-use Rattle.shared_flow.specs.Names.{SharedSeen}
-use Rattle.shared_flow.specs.Reach.{Party, Reach, party_of}
+use Rattle.shared_rounds.specs.declared.round.Round.{Round}
+use Rattle.shared_rounds.specs.declared.round.Round.TheVariants as round
+use Rattle.shared_rounds.specs.Names.{SharedSeen}
+use Rattle.shared_rounds.specs.Reach.{Party, Reach, party_of}
 use Rattle.shared_flow.specs.Parties.{Emitting, WasAnswered}
 use Rattle.shared_flow.proofs.Rising.{answered_on}
-use Rattle.shared_flow.proofs.Doing.{is_called}
+use Rattle.shared_rounds.proofs.Doing.{is_called}
 use Rattle.shared_flow.proofs.Making.{made, round_is}
 use Rattle.shared_flow.proofs.emitter.Emitter.try_emit_all.Goals as goal
 

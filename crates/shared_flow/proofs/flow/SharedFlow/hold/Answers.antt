@@ -1,6 +1,6 @@
 use Rattle.std.proofs.Common.{rules, ap}
-use Rattle.shared_flow.specs.Names.{SharedSeen}
-use Rattle.shared_flow.specs.Reach.{party_of}
+use Rattle.shared_rounds.specs.Names.{SharedSeen}
+use Rattle.shared_rounds.specs.Reach.{party_of}
 use Rattle.shared_flow.proofs.Making.{found_again}
 use Rattle.shared_flow.proofs.flow.SharedFlow.hold.Goals as goal
 

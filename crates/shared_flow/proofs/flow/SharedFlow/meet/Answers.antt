@@ -1,7 +1,7 @@
 use Rattle.std.proofs.Common.{rules, ◌≡◌, sym, ap, subst, ◌∙◌}
 use Rattle.round_lock.specs.History.{Begins}
 use Rattle.shared_flow.specs.Owners.{Owning, HasHeard, Meets}
-use Rattle.shared_flow.specs.Reach.{Party}
+use Rattle.shared_rounds.specs.Reach.{Party}
 use Rattle.shared_flow.proofs.Making.{meets}
 use Rattle.shared_flow.proofs.flow.SharedFlow.meet.Goals as goal
 

@@ -1,6 +1,6 @@
 use Rattle.std.proofs.Common.{rules}
 use Rattle.shared_core.specs.Kept.{making_refusal}
-use Rattle.shared_flow.proofs.Refusals.{none_if_ok, whatever}
+use Rattle.shared_rounds.proofs.Refusals.{none_if_ok, whatever}
 use Rattle.shared_flow.proofs.flow.SharedFlow.new.Goals as goal
 
 pub returns-in_err-access-clause-refused : goal.returns-in_err-access-clause-refused

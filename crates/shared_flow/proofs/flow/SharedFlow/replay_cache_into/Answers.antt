@@ -1,10 +1,10 @@
 use Rattle.flow_terms.specs.declared.refusal.Refusal.TheVariants.{NoMemory}
-use Rattle.shared_flow.specs.Entering.{IsCalled}
-use Rattle.shared_flow.specs.Reach.{Reach}
-use Rattle.shared_flow.specs.Names.{SharedSeen}
+use Rattle.shared_rounds.specs.Entering.{IsCalled}
+use Rattle.shared_rounds.specs.Reach.{Reach}
+use Rattle.shared_rounds.specs.Names.{SharedSeen}
 use Rattle.std.proofs.Common.{rules, Ok, Err, sym, ap, subst}
-use Rattle.shared_flow.specs.declared.round.Round.TheVariants as round
-use Rattle.shared_flow.proofs.Doing.{is_called}
+use Rattle.shared_rounds.specs.declared.round.Round.TheVariants as round
+use Rattle.shared_rounds.proofs.Doing.{is_called}
 use Rattle.shared_flow.proofs.Making.{made}
 use Rattle.shared_flow.proofs.flow.SharedFlow.replay_cache_into.Goals as goal
 

@@ -1,10 +1,10 @@
 use Rattle.std.proofs.Common.{rules, Ok, IfOk, refl, inr, ap, subst, Err, IfErr}
-use Rattle.shared_flow.specs.declared.round.Round.TheVariants as round
-use Rattle.shared_flow.specs.Names.{SharedSeen}
-use Rattle.shared_flow.specs.Reach.{Reach}
-use Rattle.shared_flow.specs.Rounds.{Comes, IsLetIn, IsAtLimit}
-use Rattle.shared_flow.specs.Waking.{SleepOn}
-use Rattle.shared_flow.proofs.Doing.{is_called}
+use Rattle.shared_rounds.specs.declared.round.Round.TheVariants as round
+use Rattle.shared_rounds.specs.Names.{SharedSeen}
+use Rattle.shared_rounds.specs.Reach.{Reach}
+use Rattle.shared_rounds.specs.Rounds.{Comes, IsLetIn, IsAtLimit}
+use Rattle.shared_rounds.specs.Waking.{SleepOn}
+use Rattle.shared_rounds.proofs.Doing.{is_called}
 use Rattle.shared_flow.proofs.Making.{made, was_let_in}
 use Rattle.shared_flow.proofs.flow.SharedFlow.subscribe_with.Goals as goal
 

@@ -1,7 +1,7 @@
 use Rattle.std.proofs.Common.{subst}
-use Rattle.shared_flow.specs.Names.{SharedSeen}
-use Rattle.shared_flow.specs.Reach.{party_of}
-use Rattle.shared_flow.specs.Rounds.{HasClosed}
+use Rattle.shared_rounds.specs.Names.{SharedSeen}
+use Rattle.shared_rounds.specs.Reach.{party_of}
+use Rattle.shared_rounds.specs.Rounds.{HasClosed}
 use Rattle.shared_flow.proofs.Making.{was_ended}
 use Rattle.shared_flow.proofs.subscription.Subscription.cancel.Goals as goal
 

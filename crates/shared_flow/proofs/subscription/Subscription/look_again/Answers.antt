@@ -1,11 +1,11 @@
 use Rattle.std.proofs.Common.{sym, ap, subst}
 use Rattle.shared_lane.specs.declared.reader.Taken.{Taken}
-use Rattle.shared_flow.specs.declared.round.Round.TheVariants as round
-use Rattle.shared_flow.specs.Names.{SharedSeen}
-use Rattle.shared_flow.specs.Reach.{Reach}
-use Rattle.shared_flow.specs.Rounds.{Comes, look_round}
-use Rattle.shared_flow.specs.Waking.{SleepOn}
-use Rattle.shared_flow.proofs.Doing.{is_called, lay_down, none_lies}
+use Rattle.shared_rounds.specs.declared.round.Round.TheVariants as round
+use Rattle.shared_rounds.specs.Names.{SharedSeen}
+use Rattle.shared_rounds.specs.Reach.{Reach}
+use Rattle.shared_rounds.specs.Rounds.{Comes, look_round}
+use Rattle.shared_rounds.specs.Waking.{SleepOn}
+use Rattle.shared_rounds.proofs.Doing.{is_called, lay_down, none_lies}
 use Rattle.shared_flow.proofs.Making.{made}
 use Rattle.shared_flow.proofs.subscription.Subscription.look_again.Goals as goal
 

@@ -1,4 +1,4 @@
-use Rattle.shared_flow.specs.declared.round.Round.TheVariants as round
+use Rattle.shared_rounds.specs.declared.round.Round.TheVariants as round
 use Rattle.shared_flow.proofs.Making.{made}
 use Rattle.shared_flow.proofs.subscription.Subscription.make_room.Goals as goal
 

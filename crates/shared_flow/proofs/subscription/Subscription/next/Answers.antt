@@ -1,7 +1,7 @@
 use Rattle.std.proofs.Common.{⊎_elim, inl, inr, refl, sym, ap, subst, ◌∙◌}
 use Rattle.shared_flow.specs.Looks.{Missed, not_once, by_none}
 use Rattle.shared_flow.specs.Parties.{Subscribed}
-use Rattle.shared_flow.proofs.Doing.{if_ok, if_err}
+use Rattle.shared_rounds.proofs.Doing.{if_ok, if_err}
 use Rattle.shared_flow.proofs.Waiting.{only_next, waited_before}
 use Rattle.shared_flow.proofs.Receiving.{has_room_at_once, has_room_since, only_since}
 use Rattle.shared_flow.proofs.subscription.Subscription.next.Goals as goal

@@ -1,5 +1,5 @@
 use Rattle.std.proofs.Common.{sym, subst}
-use Rattle.shared_flow.specs.declared.round.Round.TheVariants as round
+use Rattle.shared_rounds.specs.declared.round.Round.TheVariants as round
 use Rattle.shared_flow.specs.Owners.{Owning, KeepsLock}
 use Rattle.shared_flow.proofs.Making.{made_of}
 use Rattle.shared_flow.proofs.flow.held.Held+T.release.Goals as goal

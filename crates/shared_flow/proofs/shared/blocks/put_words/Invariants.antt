@@ -1,5 +1,0 @@
-use Rattle.std.proofs.Common.{◌≡◌, map, take}
-use Rattle.shared_flow.proofs.shared.blocks.put_words.Given as goal
-
-abbrev pub invariant-loop-index : goal.invariant-loop-index
-invariant-loop-index g l = take l.index l.block ≡ map g.T.Word.word (take l.index l.values)

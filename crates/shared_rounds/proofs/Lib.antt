@@ -1,0 +1,10 @@
+pub mod Flags
+pub mod Rises
+pub mod Receipts
+pub mod Refusals
+pub mod Starting
+pub mod Doing
+pub mod Trying
+pub mod Numbers
+pub mod Reaching
+pub mod Boxes

@@ -1,0 +1,94 @@
+-- Who sleeps, where one lies down and where some are woken.
+use Rattle.std.proofs.Common.{◌≡◌, ◌≢◌, ◌⊎◌, ◌+◌, ◌↔◌, ℕ, zero, suc, Bool, true, false, List, [], ◌∷◌, Option, Some, None, refl, sym, ◌∙◌, ap, subst, inl, inr, if◌then◌else◌, slice_index_or, IsSome, ⊎_elim}
+use Rattle.std.specs.Borrow.{MutBor}
+use Rattle.std.proofs.lemmas.Bool.{cases_eq}
+use Rattle.std.proofs.lemmas.Option.{none-some, same_Some}
+use Rattle.futures.specs.declared.task.waker.Waker.{Waker}
+use Rattle.slab.specs.Slab.{Slab, RetainsFrom, CalledAt, Updates, get, with_value}
+use Rattle.slab.proofs.SlabLemmas.{Updates-with_value}
+use Rattle.shared_lane.specs.Polls.{IsNotOut, IsOutFor}
+use Rattle.shared_lane.specs.Views.{SequencerSeen}
+use Rattle.shared_rounds.specs.declared.sleepers.Sleeper.{Sleeper}
+use Rattle.shared_rounds.specs.Sleeping.{SleepsAt, HasNumber, OnlyThese, LiesDown}
+
+-- who sleeps in a bed sleeps there still with another waker
+pub sleeps_still : (sleeping : Slab Sleeper) (bed : Option ℕ) (number key : ℕ) (sleeper : Sleeper) (waker : Option Waker)
+    → SleepsAt sleeping bed number → bed ≡ Some key → get sleeping key ≡ Some sleeper
+    → SleepsAt (with_value sleeping key (record { number = sleeper.number; waker = waker })) bed number
+sleeps_still sleeping bed number key sleeper waker at is read =
+    let same : at.0 ≡ key = same_Some _ _ (sym at.2 ∙ is) in
+    let found : at.1 ≡ sleeper = same_Some _ _ (sym at.3 ∙ ap (get sleeping) same ∙ read) in
+    let after : Sleeper = record { number = sleeper.number; waker = waker } in
+    (key, after, is, (Updates-with_value sleeping key after (subst IsSome (sym read) refl)).changed, ap (λ s. s.number) (sym found) ∙ at.4)
+
+-- who sleeps in a bed has its number
+pub own_bed : (sleeping : Slab Sleeper) (bed : Option ℕ) (number key : ℕ) (sleeper : Sleeper) → SleepsAt sleeping bed number → bed ≡ Some key → get sleeping key ≡ Some sleeper → sleeper.number ≡ number
+own_bed sleeping bed number key sleeper at is read =
+    let same : at.0 ≡ key = same_Some _ _ (sym at.2 ∙ is) in
+    ap (λ s. s.number) (sym (same_Some _ _ (sym at.3 ∙ ap (get sleeping) same ∙ read))) ∙ at.4
+
+-- one lies down in a bed that was free
+pub lies_in : (old new : Slab Sleeper) (bed number : ℕ) (waker : Option Waker) → get old bed ≡ None
+    → Updates old new bed (Some (record { number = number; waker = waker })) → LiesDown number old new
+lies_in old new bed number waker free updates key =
+    elim (cases_eq key bed) [
+      | inl is ↦ inr ((record { number = number; waker = waker }, ap (get new) is ∙ updates.changed, refl), inl (ap (get old) is ∙ free))
+      | inr differs ↦ inl (updates.others key differs)
+    ]
+
+-- and is given another waker there
+pub lies_still : (old mid : Slab Sleeper) (number bed : ℕ) (sleeper : Sleeper) (waker : Option Waker) → LiesDown number old mid → get mid bed ≡ Some sleeper → sleeper.number ≡ number
+    → LiesDown number old (with_value mid bed (record { number = sleeper.number; waker = waker }))
+lies_still old mid number bed sleeper waker lies read own key =
+    let after : Sleeper = record { number = sleeper.number; waker = waker } in
+    let updates = Updates-with_value mid bed after (subst IsSome (sym read) refl) in
+    let was : (get old bed ≡ None) ⊎ HasNumber (get old bed) number =
+    ⊎_elim (λ same. inr (sleeper, sym same ∙ read, own)) (λ lay. lay.1) (lies bed) in
+    elim (cases_eq key bed) [
+      | inl is ↦ inr ((after, ap (get (with_value mid bed after)) is ∙ updates.changed, own), subst (λ k. (get old k ≡ None) ⊎ HasNumber (get old k) number) (sym is) was)
+      | inr differs ↦ let others = updates.others key differs in
+          ⊎_elim (λ same. inl (others ∙ same)) (λ lay. inr ((lay.0.0, others ∙ lay.0.1, lay.0.2), lay.1)) (lies key)
+    ]
+
+-- all sleep on but the one that was ended
+pub ended_only : (ended : Option ℕ) (number : ℕ) (old new : Slab Sleeper) → ended ≡ Some number → OnlyThese (λ n. n ≢ number) old new → OnlyThese (λ n. ended ≢ Some n) old new
+ended_only ended number old new is only key sleeper = (
+  λ now. let was = (only key sleeper).0 now in (was.0, λ same. was.1 (same_Some _ _ (sym same ∙ is))),
+  λ was. (only key sleeper).1 (was.0, λ same. was.1 (is ∙ ap Some (sym same))),
+)
+
+-- a ticket that isn't out is out for nobody
+pub not_out : (q : SequencerSeen) (ticket emitter : ℕ) → IsNotOut q ticket → IsOutFor q ticket emitter → ⊥
+not_out q ticket emitter not (inl waits) = not.0 waits.0 waits.1 waits.2.0 waits.2.1
+not_out q ticket emitter not (inr stands) = not.1 stands.0 stands.1 stands.2.0 stands.2.1
+
+module _ (Keeps : ℕ → Type 0) where
+  by_answer : (keep : Bool) (old new sleeper : Sleeper) → (keep ≡ true → new ≡ old) → (keep ≡ true → Keeps old.number) → (keep ≡ false → Keeps old.number → ⊥)
+      → ((if keep then Some new else None) ≡ Some sleeper) ↔ ((Some old ≡ Some sleeper) × Keeps sleeper.number)
+  by_answer true old new sleeper same stays goes = (
+    λ now. let is : old ≡ sleeper = sym (same refl) ∙ same_Some _ _ now in (ap Some is, subst Keeps (ap (λ s. s.number) is) (stays refl)),
+    λ was. ap Some (same refl ∙ same_Some _ _ was.0),
+  )
+  by_answer false old new sleeper same stays goes = (
+    λ now. absurd (none-some _ now),
+    λ was. absurd (goes refl (subst Keeps (ap (λ s. s.number) (sym (same_Some _ _ was.0))) was.1)),
+  )
+
+module _ {F : Type 0} (step : F → ℕ → MutBor Sleeper → Bool → MutBor Sleeper → F → Type 0) (Stays : F → Type 0) (Keeps : ℕ → Type 0)
+    (each : (f : F) (key : ℕ) (old : Sleeper) (keep : Bool) (new : Sleeper) (next : F) → Stays f → CalledAt step f key old keep new next
+    → Stays next × (keep ≡ true → new ≡ old) × (keep ≡ true → Keeps old.number) × (keep ≡ false → Keeps old.number → ⊥)) where
+  -- where each call keeps those of whom this holds, as they are, they are left, each in its slot
+  pub others_left : (f : F) (key : ℕ) (slots left : List (Option Sleeper)) → Stays f → RetainsFrom step f key slots left
+      → (at : ℕ) (sleeper : Sleeper) → (slice_index_or left at None ≡ Some sleeper) ↔ ((slice_index_or slots at None ≡ Some sleeper) × Keeps sleeper.number)
+  others_left f key [] left stays ran at sleeper = rw ran (λ now. absurd (none-some _ now), λ was. absurd (none-some _ was.0))
+  others_left f key (None ∷ rest) left stays ran zero sleeper = rw ran.1 (λ now. absurd (none-some _ now), λ was. absurd (none-some _ was.0))
+  others_left f key (None ∷ rest) left stays ran (suc at) sleeper = rw ran.1 (others_left f (key + 1) rest ran.0 stays ran.2 at sleeper)
+  others_left f key (Some old ∷ rest) left stays ran zero sleeper =
+      let one = each f key old ran.0 ran.1 ran.2 stays ran.3 in
+      rw ran.5 (by_answer Keeps ran.0 old ran.1 sleeper one.1 one.2 one.3)
+  others_left f key (Some old ∷ rest) left stays ran (suc at) sleeper =
+      let one = each f key old ran.0 ran.1 ran.2 stays ran.3 in
+      rw ran.5 (others_left ran.2 (key + 1) rest ran.4 one.0 ran.6 at sleeper)
+
+  pub only_these : (f : F) (old new : Slab Sleeper) → Stays f → RetainsFrom step f 0 old.slots new.slots → OnlyThese Keeps old new
+  only_these f old new stays ran key sleeper = others_left f 0 old.slots new.slots stays ran key sleeper

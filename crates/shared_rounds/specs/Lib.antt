@@ -1,0 +1,9 @@
+pub mod Flags
+pub mod Names
+pub mod Sleeping
+pub mod Waking
+pub mod Rounds
+pub mod Reach
+pub mod Entering
+pub mod Meeting
+pub mod Tries

@@ -1,0 +1,211 @@
+//! What every owner of a shared flow holds.
+ghost use Rattle.std.specs.Prelude.{false, ◌≡◌, ◌≢◌, [], Ok, Some, None, map, IfOk, IsOkUnless};
+ghost use Rattle.round_lock.specs.History.{own_of};
+ghost use Rattle.shared_lane.specs.Readers.{at};
+ghost use Rattle.shared_lane.specs.Sequencers.{next};
+ghost use Rattle.shared_rounds.specs.declared.round.Round.TheVariants as round;
+ghost use Rattle.shared_rounds.specs.Names.{FoundDown, IsFlagOf, IsNew, KnowsLane};
+ghost use Rattle.shared_rounds.specs.Entering.{Found, IsCalled, Left};
+ghost use Rattle.shared_rounds.specs.Reach.{party_of, reach_of};
+ghost use Rattle.shared_rounds.specs.Rounds.{Below};
+ghost use Rattle.shared_rounds.specs.Sleeping.{NobodySleeps};
+ghost use Rattle.shared_rounds.specs.Waking.{Helps};
+
+use crate::flag::Looker;
+use crate::looking::{LOOKS, pause};
+use crate::round::{Round, ended_by};
+use crate::shared::Shared;
+use crate::track::Track;
+use crate::wakes::Wakes;
+use flow_terms::{Refusal, Word};
+use round_lock::{Guarded, Lock, Made};
+use shared_core::Config;
+use shared_lane::{Lane, Reader};
+use std::alloc::{AllocError, Global};
+use std::marker::{Brand, Model};
+use std::sync::{Arc, Wait};
+
+/// An owner of the lock and of the lane, with room for those whom one call wakes. It keeps none of them beyond that call. Contracts
+/// see which lock it is, the flow, what the owner holds while it has the lock, its number, its own rounds, and the one list of rounds
+/// as far as it has seen it.
+#[derive(Drop)]
+pub struct Access {
+    lock: Lock<Box<Shared>, Round>,
+    track: Arc<Track, Global>,
+    wakes: Wakes,
+    alloc: Global,
+    // What the flow was made with.
+    config: Config,
+}
+
+impl Model for Access {
+    ghost use Rattle.std.specs.Prelude.{◌≡◌, []};
+    ghost use Rattle.std.specs.Arc.{arc_value};
+    ghost use Rattle.shared_rounds.specs.Reach.{Reach, reach_of};
+    ghost use Rattle.shared_rounds.specs.Names.{KnowsFlow};
+    ghost use Rattle.shared_rounds.specs.Sleeping.{NobodySleeps};
+
+    ghost Value = { Reach };
+
+    ghost view = { λ a. reach_of (λ s. s.value) a.lock };
+
+    ghost invariant = { λ a. KnowsFlow a.config (reach_of (λ s. s.value) a.lock).flow (arc_value a.track) × NobodySleeps a.wakes.subscriptions × (a.wakes.wakers.items ≡ []) };
+}
+
+/// What lies under the lock, for one who has taken it. It has no `Drop`, so that it is given back, by [`Access::leave`].
+pub struct Inside {
+    /// What lies there, in its box.
+    pub guarded: Guarded<Box<Shared>>,
+    /// The number that the next emission had as the lock was taken.
+    pub before: u64,
+}
+
+impl Access {
+    /// The first owner.
+    pub fn new(alloc: Global, config: Config, shared: Shared) -> Result<Access, Refusal>
+        requires { (shared.name.config ≡ config) × IsNew shared }
+        ensures made { IfOk result (λ made. (made.flow ≡ Some shared.name) × (made.held ≡ None) × (made.rounds ≡ []) × (made.seen ≡ [])) }
+        ensures memory { IsOkUnless result Refusal.NoMemory }
+    {
+        let state = Box::new(alloc, shared)?;
+        let track = state.track()?;
+        let wakes = Wakes::new(alloc, &config)?;
+        let lock = locked(alloc, state)?;
+        Ok(Access {
+            lock,
+            track,
+            wakes,
+            alloc,
+            config,
+        })
+    }
+
+    /// Another owner of the same flow, which has made no call, and has seen as much.
+    pub fn another(&mut self, rt: &impl Wait) -> Result<Access, Refusal>
+        ensures other { IfOk result (λ other. other ≡ record self.old { held = None; pass = other.pass; rounds = [] }) }
+        ensures memory { IsOkUnless result Refusal.NoMemory }
+        ensures same { self.new ≡ self.old }
+    {
+        let wakes = Wakes::new(self.alloc, &self.config)?;
+        let track = Arc::try_clone(&self.track)?;
+        let lock = self.lock.dup(rt)?;
+        Ok(Access {
+            lock,
+            track,
+            wakes,
+            alloc: self.alloc,
+            config: self.config,
+        })
+    }
+
+    /// Whether who has received has to take the lock, for an emission that may wait for that, as its reader stands now. Without a lock.
+    pub fn has_unfinished(&self, looker: &mut Looker, reader: &Reader) -> bool
+        requires { IsFlagOf self.now.flow looker.old.table }
+        ensures table { looker.new.table ≡ looker.old.table }
+        ensures none { result ≡ false → FoundDown self.now.flow (at reader.now) looker.old.looks looker.new.looks }
+    {
+        self.track.has_unfinished(looker, reader)
+    }
+
+    /// Looks some times whether an emission may wait still, up to where none does. Without a lock.
+    #[inline(never)]
+    pub fn watch_unfinished(&self) {
+        for _ in 0..LOOKS {
+            pause();
+            if !self.track.may_have_unfinished() {
+                return;
+            }
+        }
+    }
+
+    /// The lane, for which no lock is needed.
+    pub fn lane(&self) -> &Lane<Global>
+        ensures { KnowsLane self.now.flow result.now }
+    {
+        self.track.lane()
+    }
+
+    /// Takes the lock. What lay under it is the owner's flow, and its next number is above each that the owner was answered.
+    /// The owner has seen the list of rounds that left it now.
+    pub fn enter(&mut self, rt: &impl Wait) -> Inside
+        ensures taken { self.new ≡ record self.old { held = Some result.guarded.state.value; seen = self.new.seen } }
+        ensures found { Found (party_of self.old) result.guarded.state.value self.new.seen }
+        ensures named { self.old.flow ≡ Some result.guarded.state.value.name }
+        ensures below { Below (next result.guarded.state.value.sequencer) self.old.rounds }
+        ensures before { result.before ≡ next result.guarded.state.value.sequencer }
+    {
+        let guarded = self.lock.take(rt);
+        let before = guarded.state.next_number();
+        Inside { guarded, before }
+    }
+
+    /// Helps those whom the round that was made has helped, gives the lock back with that round, and then wakes them.
+    pub fn leave(&mut self, rt: &impl Wait, inside: Inside, round: Round)
+        requires round { IsCalled self.old inside.before round inside.guarded.state.value }
+        ensures left { Left round inside.guarded.state.value self.old self.new }
+    {
+        let guarded = helped(&mut self.wakes, inside, ended_by(&round));
+        self.lock.put(rt, guarded, round);
+        self.wakes.fire();
+    }
+
+    /// Who has the lock meets another owner of it: both have seen the same rounds then, and the other's own are its part of them.
+    pub fn meet(&mut self, other: &mut Access)
+        requires held { self.old.held ≢ None }
+        requires lock { other.old.lock ≡ self.old.lock }
+        ensures same { self.new ≡ self.old }
+        ensures met { other.new ≡ record other.old { seen = self.old.seen } }
+        ensures part { other.old.rounds ≡ own_of other.old.pass self.old.seen }
+    {
+        self.lock.meet(&mut other.lock);
+    }
+
+    /// Leaves as `leave` does, after an emitter tried these values: the round has their words, of which the program makes no list.
+    pub fn leave_block<T: Word, M: Made<Round>>(
+        &mut self,
+        rt: &impl Wait,
+        inside: Inside,
+        emitter: u32,
+        values: &[T],
+        answer: Result<u64, Refusal>,
+    )
+        requires picked { M.entry ≡ Some (round.TryAll emitter (map T.word values.now) answer) }
+        requires round { IsCalled self.old inside.before (round.TryAll emitter (map T.word values.now) answer) inside.guarded.state.value }
+        ensures left { Left (round.TryAll emitter (map T.word values.now) answer) inside.guarded.state.value self.old self.new }
+    {
+        let guarded = helped(&mut self.wakes, inside, None);
+        self.lock.put_as::<M>(rt, guarded);
+        self.wakes.fire();
+    }
+
+    /// Leaves as `leave` does, after the replay cache was read: the round has the words that it had.
+    pub fn leave_cache(&mut self, rt: &impl Wait, inside: Inside)
+        requires round { IsCalled self.old inside.before (round.Cache (Ok inside.guarded.state.value.sequencer.cache)) inside.guarded.state.value }
+        ensures left { Left (round.Cache (Ok inside.guarded.state.value.sequencer.cache)) inside.guarded.state.value self.old self.new }
+    {
+        let guarded = helped(&mut self.wakes, inside, None);
+        self.lock.put_as::<Brand>(rt, guarded);
+        self.wakes.fire();
+    }
+}
+
+// Takes those whom a round has helped, or ended, out from under the lock.
+fn helped(wakes: &mut Wakes, inside: Inside, ended: Option<u64>) -> Guarded<Box<Shared>>
+    requires { NobodySleeps wakes.old.subscriptions }
+    ensures { Helps inside.before ended inside.guarded.state.value result.state.value }
+{
+    let Inside {
+        mut guarded,
+        before,
+    } = inside;
+    guarded.state.help(before, ended, wakes);
+    guarded
+}
+
+// Puts it under a lock, whose first owner has made no call.
+fn locked(alloc: Global, state: Box<Shared>) -> Result<Lock<Box<Shared>, Round>, AllocError>
+    requires { IsNew state.value }
+    ensures { IfOk result (λ lock. reach_of (λ s. s.value) lock ≡ record { lock = lock.place; flow = Some state.value.name; held = None; pass = lock.pass; rounds = []; seen = [] }) }
+{
+    Lock::new(alloc, state)
+}

@@ -1,0 +1,159 @@
+//! Tasks that wait for something under the lock.
+
+ghost use Rattle.std.specs.Prelude.{◌≡◌, ◌≢◌, ◌≤◌, ◌<◌, ◌↔◌, true, false, None, IfOk};
+ghost use Rattle.slab.specs.Slab.{slab_len};
+ghost use Rattle.futures.specs.Task.{IsArmed, Keeps};
+ghost use Rattle.shared_rounds.specs.Sleeping.{SleepsAt, NobodySleeps, OnlyThese, LiesDown};
+ghost use Rattle.shared_rounds.specs.Waking.{HasToWait};
+
+use crate::wakes::Wakes;
+use futures::task::{Context, Poll, Source, Waker};
+use shared_core::Ticket;
+use shared_lane::Sequencer;
+use slab::Slab;
+use std::alloc::{AllocError, Global};
+use std::mem;
+
+/// One that sleeps: the number of its subscription or ticket, and the waker of its task.
+#[derive(Drop)]
+pub struct Sleeper {
+    number: u64,
+    waker: Option<Waker>,
+}
+
+/// Where a subscription or an emission slept last. Somebody else may sleep there by now.
+#[derive(Clone, Copy, Drop)]
+pub struct Bed {
+    key: Option<usize>,
+}
+
+impl Bed {
+    /// Of one that didn't sleep yet.
+    pub fn new() -> Bed
+        ensures { result.key ≡ None }
+    {
+        Bed { key: None }
+    }
+}
+
+/// The subscriptions, or the emissions, that sleep. Room for each of them is reserved.
+#[derive(Drop)]
+pub(crate) struct Sleepers {
+    source: Source,
+    sleeping: Slab<Sleeper>,
+}
+
+impl Sleepers {
+    /// Nobody sleeps, and so many may.
+    pub fn new(alloc: Global, count: usize) -> Result<Sleepers, AllocError>
+        ensures nobody { IfOk result (λ sleepers. NobodySleeps sleepers.sleeping) }
+        ensures room { IfOk result (λ sleepers. count ≤ sleepers.sleeping.capacity) }
+    {
+        let sleeping = Slab::with_capacity(alloc, count)?;
+        Ok(Sleepers {
+            source: Source::new(),
+            sleeping,
+        })
+    }
+
+    /// The task of this poll sleeps until the one with this number is woken. Without a place for it, which no flow comes to,
+    /// the task yields.
+    pub fn sleep(&mut self, number: u64, bed: &mut Bed, cx: &mut Context<'_>)
+        ensures sleeps { slab_len self.old.sleeping < self.old.sleeping.capacity → SleepsAt self.new.sleeping bed.new.key number }
+        ensures lies { LiesDown number self.old.sleeping self.new.sleeping }
+        ensures armed { IsArmed cx.new }
+        ensures kept { Keeps cx.old cx.new }
+    {
+        if !self.is_in(number, bed) && !self.lie_down(number, bed) {
+            let _again: Poll<()> = cx.yield_now();
+            return;
+        }
+        let Some(key) = bed.key else { unreachable!() };
+        let Some(sleeper) = self.sleeping.get_mut(key) else {
+            unreachable!()
+        };
+        let _asleep: Poll<()> = cx.register(&self.source, &mut sleeper.waker);
+    }
+
+    /// Whether the one with this number sleeps there.
+    fn is_in(&self, number: u64, bed: &Bed) -> bool
+        ensures { (result ≡ true) ↔ SleepsAt self.now.sleeping bed.now.key number }
+    {
+        match bed.key {
+            None => false,
+            Some(key) => match self.sleeping.get(key) {
+                None => false,
+                Some(sleeper) => sleeper.number == number,
+            },
+        }
+    }
+
+    /// Takes a place, where one is left, and says whether it did.
+    fn lie_down(&mut self, number: u64, bed: &mut Bed) -> bool
+        ensures lies { result ≡ true → SleepsAt self.new.sleeping bed.new.key number }
+        ensures full { result ≡ false → (self.new ≡ self.old) × (self.old.sleeping.capacity ≤ slab_len self.old.sleeping) }
+        ensures others { LiesDown number self.old.sleeping self.new.sleeping }
+        ensures room { self.new.sleeping.capacity ≡ self.old.sleeping.capacity }
+    {
+        if self.sleeping.len() >= self.sleeping.capacity() {
+            return false;
+        }
+        let waker = None;
+        bed.key = Some(self.sleeping.insert_reserved(Sleeper { number, waker }));
+        true
+    }
+
+    /// Whether nobody sleeps.
+    pub fn is_empty(&self) -> bool
+        ensures { (result ≡ true) ↔ NobodySleeps self.now.sleeping }
+    {
+        self.sleeping.is_empty()
+    }
+
+    /// Wakes all, in the place of those that the call wakes so far, of whom there are none.
+    pub fn wake_all(&mut self, wakes: &mut Wakes)
+        ensures nobody { self.new.sleeping ≡ wakes.old.subscriptions }
+        ensures woken { wakes.new ≡ record wakes.old { subscriptions = self.old.sleeping } }
+    {
+        mem::swap(&mut self.sleeping, &mut wakes.subscriptions);
+    }
+
+    /// Wakes the one with this number: it is to sleep no more.
+    pub fn wake(&mut self, number: u64, wakes: &mut Wakes)
+        ensures others { OnlyThese (λ n. n ≢ number) self.old.sleeping self.new.sleeping }
+        ensures room { self.new.sleeping.capacity ≡ self.old.sleeping.capacity }
+    {
+        self.sleeping.retain(|_, sleeper| {
+            let is_other = sleeper.number != number;
+            if !is_other {
+                wakes.add(sleeper.waker.take());
+            }
+            is_other
+        });
+    }
+
+    /// Wakes those whose emission doesn't have to wait, where each one below a number is finished.
+    pub fn wake_done(&mut self, sequencer: &Sequencer<Global>, below: u64, wakes: &mut Wakes)
+        ensures done { OnlyThese (HasToWait sequencer.now below) self.old.sleeping self.new.sleeping }
+        ensures room { self.new.sleeping.capacity ≡ self.old.sleeping.capacity }
+    {
+        self.sleeping.retain(|_, sleeper| {
+            let has_to_wait = has_to_wait(sequencer, Ticket(sleeper.number), below);
+            if !has_to_wait {
+                wakes.add(sleeper.waker.take());
+            }
+            has_to_wait
+        });
+    }
+}
+
+// Whether the emission with this ticket has to wait: the ticket is out, and doesn't stand below the number.
+fn has_to_wait(sequencer: &Sequencer<Global>, ticket: Ticket, below: u64) -> bool
+    ensures waits { result ≡ true → HasToWait sequencer.now below ticket.0 }
+    ensures done { result ≡ false → HasToWait sequencer.now below ticket.0 → ⊥ }
+{
+    if sequencer.is_below(ticket, below) {
+        return false;
+    }
+    sequencer.emitter_of(ticket).is_some()
+}
