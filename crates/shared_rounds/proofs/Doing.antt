@@ -25,7 +25,7 @@ use Rattle.shared_rounds.specs.Names.{SharedSeen}
 use Rattle.shared_rounds.specs.Tries.{ticket_of}
 use Rattle.shared_rounds.proofs.Numbers.{same_log}
 use Rattle.shared_rounds.specs.Reach.{Reach}
-use Rattle.shared_rounds.specs.Rounds.{Makes, Scanned, Comes, Does, Frees, Watched, IsStray, IsNotAfter, IsReceiptAfter, look_round, number_done, number_left, poll_round, withdraw_round}
+use Rattle.shared_rounds.specs.Rounds.{Makes, Scanned, Comes, Does, Frees, RaisedFor, Watched, IsStray, IsNotAfter, IsReceiptAfter, look_round, number_done, number_left, poll_round, withdraw_round}
 use Rattle.shared_rounds.specs.Sleeping.{LiesDown, NobodySleeps, OnlyThese}
 use Rattle.shared_rounds.specs.Waking.{Helps, Lies, SleepOn, IsTied, IsUnfinished, WakesEmissions, ended_by}
 
@@ -51,12 +51,12 @@ pub same_through : (q m t : SequencerSeen) → IsSameSequencer q m → IsSameSeq
 same_through q m t a b = (b.0 ∙ a.0, b.1 ∙ a.1, b.2 ∙ a.2, b.3 ∙ a.3, b.4 ∙ a.4, b.5 ∙ a.5)
 
 -- a call that was made after what waited was let in
-pub comes : (s t : SharedSeen) (r : Round) → t.name ≡ s.name → IsSameSequencer s.sequencer t.sequencer → AfterScan s.sequencer (λ x. Makes s.name.lane x r t.sequencer) → Frees r t.sequencer t.sequencer → Comes s r t
+pub comes : (s t : SharedSeen) (r : Round) → t.name ≡ s.name → IsSameSequencer s.sequencer t.sequencer → AfterScan s.sequencer (λ x. Makes s.name.lane x r t.sequencer) → Frees r t.sequencer t → Comes s r t
 comes s t r named same made frees = (named, same, (made.0, made.1, made.2, made.3, made.4, (t.sequencer, made.5, (t.sequencer, inl refl, (refl, refl, refl, λ _. refl)), frees)))
 
 -- the same, where what waits may have been let in once more
 pub comes_again : (s m t : SharedSeen) (r : Round) → m.name ≡ s.name → IsSameSequencer s.sequencer m.sequencer → AfterScan s.sequencer (λ x. Makes s.name.lane x r m.sequencer)
-    → t.name ≡ m.name → IsSameSequencer m.sequencer t.sequencer → (t.sequencer ≡ m.sequencer) ⊎ Scanned m.sequencer t.sequencer → Frees r m.sequencer t.sequencer → Comes s r t
+    → t.name ≡ m.name → IsSameSequencer m.sequencer t.sequencer → (t.sequencer ≡ m.sequencer) ⊎ Scanned m.sequencer t.sequencer → Frees r m.sequencer t → Comes s r t
 comes_again s m t r named same made still kept again frees = (
   still ∙ named,
   same_through s.sequencer m.sequencer t.sequencer same kept,
@@ -64,17 +64,17 @@ comes_again s m t r named same made still kept again frees = (
 )
 
 -- looks at the cursors after what was let in once more
-frees_on : (r : Round) (q m t : SequencerSeen) → Frees r q m → OnlyLoaded m t → Frees r q t
-frees_on (round.Cancel number) q m t frees only = (frees.0, frees.1, loaded_twice frees.0 m t frees.2 only)
-frees_on (round.Start e (Ok (begun.Waiting ticket))) q m t frees only = (frees.0, frees.1, loaded_twice frees.0 m t frees.2 only)
-frees_on _ q m t frees only = tt
+frees_on : (r : Round) (q : SequencerSeen) (m t : SharedSeen) → Frees r q m → OnlyLoaded m.sequencer t.sequencer → t.raised ≡ m.raised → Frees r q t
+frees_on (round.Cancel number) q m t frees only raised = (frees.0, frees.1, loaded_twice frees.0 m.sequencer t.sequencer frees.2 only)
+frees_on (round.Start e (Ok (begun.Waiting ticket))) q m t frees only raised = (frees.0, frees.1, loaded_twice frees.0 m.sequencer t.sequencer frees.2 only, raised ∙ frees.3)
+frees_on _ q m t frees only raised = tt
 
--- where an emission has to wait what waits was let in once more
-pub watched_frees : (e : Emission) (b : Result (Begun ℕ Ticket) Refusal) (q t : SequencerSeen) → Watched (ticket_of b) q t → Frees (round.Start e b) q t
-watched_frees e (Ok (begun.Waiting ticket)) q t watched = (t, watched, (refl, refl, refl, λ _. refl))
-watched_frees e (Ok (begun.Accepted n)) q t watched = tt
-watched_frees e (Ok begun.Dropped) q t watched = tt
-watched_frees e (Err refusal) q t watched = tt
+-- where an emission has to wait the flag was raised, and then what waits was let in once more
+pub watched_frees : (e : Emission) (b : Result (Begun ℕ Ticket) Refusal) (q : SequencerSeen) (t : SharedSeen) → Watched (ticket_of b) q t.sequencer → RaisedFor (ticket_of b) q t.raised → Frees (round.Start e b) q t
+watched_frees e (Ok (begun.Waiting ticket)) q t watched raised = (t.sequencer, watched, (refl, refl, refl, λ _. refl), raised)
+watched_frees e (Ok (begun.Accepted n)) q t watched raised = tt
+watched_frees e (Ok begun.Dropped) q t watched raised = tt
+watched_frees e (Err refusal) q t watched raised = tt
 
 pub watched_rests : (b : Result (Begun ℕ Ticket) Refusal) (q t : SequencerSeen) → Watched (ticket_of b) q t → (t ≡ q) ⊎ Scanned q t
 watched_rests (Ok (begun.Waiting ticket)) q t watched = inr watched
@@ -83,13 +83,13 @@ watched_rests (Ok begun.Dropped) q t watched = inl watched
 watched_rests (Err refusal) q t watched = inl watched
 
 -- neither a poll nor a withdrawal lets in once more
-pub polled_frees : (ticket : Ticket) (id : ℕ) (last : Option ℕ) (answer : Emit) (receipt : Option ReceiptSeen) (q t : SequencerSeen) → Frees (poll_round ticket id last answer receipt) q t
+pub polled_frees : (ticket : Ticket) (id : ℕ) (last : Option ℕ) (answer : Emit) (receipt : Option ReceiptSeen) (q : SequencerSeen) (t : SharedSeen) → Frees (poll_round ticket id last answer receipt) q t
 polled_frees ticket id last (emit.Done n) (Some r) q t = tt
 polled_frees ticket id last (emit.Done n) None q t = tt
 polled_frees ticket id last emit.Waiting receipt q t = tt
 polled_frees ticket id last emit.Gone receipt q t = tt
 
-pub withdrawn_frees : (ticket : Ticket) (id : ℕ) (last : Option ℕ) (answer : Withdrawn ℕ) (receipt : Option ReceiptSeen) (q t : SequencerSeen) → Frees (withdraw_round ticket id last answer receipt) q t
+pub withdrawn_frees : (ticket : Ticket) (id : ℕ) (last : Option ℕ) (answer : Withdrawn ℕ) (receipt : Option ReceiptSeen) (q : SequencerSeen) (t : SharedSeen) → Frees (withdraw_round ticket id last answer receipt) q t
 withdrawn_frees ticket id last (withdrawn.Left n) (Some r) q t = tt
 withdrawn_frees ticket id last (withdrawn.Left n) None q t = tt
 withdrawn_frees ticket id last withdrawn.Removed receipt q t = tt
@@ -102,7 +102,7 @@ does_on s x t r came lies helps =
     let rests = made.5.2 in (
       helps.named ∙ came.0,
       same_through s.sequencer x.sequencer t.sequencer came.1 helps.same,
-      (made.0, made.1, made.2, made.3, made.4, (made.5.0, made.5.1, (rests.0, rests.1, loaded_twice rests.0 x.sequencer t.sequencer rests.2 helps.only), frees_on r made.5.0 x.sequencer t.sequencer made.5.3 helps.only)),
+      (made.0, made.1, made.2, made.3, made.4, (made.5.0, made.5.1, (rests.0, rests.1, loaded_twice rests.0 x.sequencer t.sequencer rests.2 helps.only), frees_on r made.5.0 x t made.5.3 helps.only helps.raised)),
       record { called = x; lies = lies; helps = helps },
     )
 
@@ -113,8 +113,8 @@ still_tied a b tied only flag = λ unfinished. flag ∙ tied (subst IsUnfinished
 -- the subscriptions were woken, and then the emissions
 pub helped_on : (before : ℕ) (ended : Option ℕ) (s a b : SharedSeen) → a ≡ record s { subscriptions = a.subscriptions; flag = a.flag } → (before < next s.sequencer → NobodySleeps a.subscriptions)
     → (next s.sequencer ≤ before → OnlyThese (λ n. ended ≢ Some n) s.subscriptions a.subscriptions) → b.name ≡ a.name → IsSameSequencer a.sequencer b.sequencer
-    → OnlyLoaded a.sequencer b.sequencer → b.subscriptions ≡ a.subscriptions → WakesEmissions a b → IsTied b → Helps before ended s b
-helped_on before ended s a b is accepted none named same only subs woken tied =
+    → OnlyLoaded a.sequencer b.sequencer → b.subscriptions ≡ a.subscriptions → WakesEmissions a b → IsTied b → b.raised ≡ a.raised → Helps before ended s b
+helped_on before ended s a b is accepted none named same only subs woken tied raised =
     let there : a.sequencer ≡ s.sequencer = ap (λ (z : SharedSeen). z.sequencer) is in
     let loaded = subst (λ (q : SequencerSeen). OnlyLoaded q b.sequencer) there only in
     let number : next b.sequencer ≡ next s.sequencer = same_log s.sequencer b.sequencer loaded.1 loaded.2 in
@@ -128,6 +128,7 @@ helped_on before ended s a b is accepted none named same only subs woken tied =
       };
       emissions = subst (λ (z : SharedSeen). WakesEmissions z b) is woken;
       tied = tied;
+      raised = raised ∙ ap (λ (z : SharedSeen). z.raised) is;
     }
 
 -- why a receipt is missing for a ticket that stood for an accepted emission
@@ -181,7 +182,7 @@ look_makes lane q number (Value word) = refl
 look_makes lane q number Nothing = refl
 look_makes lane q number Overtaken = refl
 
-pub look_frees : (q t : SequencerSeen) (number : ℕ) (found : Taken ℕ) → Frees (look_round number found) q t
+pub look_frees : (q : SequencerSeen) (t : SharedSeen) (number : ℕ) (found : Taken ℕ) → Frees (look_round number found) q t
 look_frees q t number (Value word) = tt
 look_frees q t number Nothing = tt
 look_frees q t number Overtaken = tt

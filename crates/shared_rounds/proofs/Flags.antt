@@ -5,7 +5,7 @@ use lib.ListN.{get_elem?}
 use Rattle.atomic_table.specs.Table.{State, Me, keeps, Allows, Splits, opening}
 use Rattle.atomic_table.proofs.Lists.{at_set, at_snoc}
 use Rattle.shared_rounds.specs.declared.flag.view.FlagView.{FlagView}
-use Rattle.shared_rounds.specs.Flags.{FlagLaw, keeper_first, looker_first, flagged, seen_there}
+use Rattle.shared_rounds.specs.Flags.{FlagLaw, keeper_first, looker_first, flagged, raised_after, seen_there}
 
 module _ {S : Type 0} where
   pub starts : (xs : List S) → FlagLaw (opening (0 ∷ []) xs keeper_first)
@@ -15,10 +15,10 @@ module _ {S : Type 0} where
       first_alone zero v e _ = (refl, ap (λ (u : FlagView). u.flag) (sym (some-injective keeper_first v e)))
       first_alone (suc id) v e _ = absurd (some-ne-none v (sym e))
 
-  -- the flag is set by its keeper
-  pub sets : (slots id : ℕ) (me : Me S FlagView) (n : ℕ) → me.0.keeps ≡ true → Allows FlagLaw slots id me 0 (λ _. n) (λ _ now. now ≡ (flagged me.0 n, me.1))
-  sets slots id me n kept s r count at wide = (
-    flagged me.0 n,
+  -- its keeper writes the flag, and knows that
+  writes : (slots id : ℕ) (me : Me S FlagView) (n : ℕ) (w : FlagView) → w.flag ≡ n → me.0.keeps ≡ true → Allows FlagLaw slots id me 0 (λ _. n) (λ _ now. now ≡ (w, me.1))
+  writes slots id me n w flag kept s r count at wide = (
+    w,
     keeps,
     tt,
     record {
@@ -26,12 +26,18 @@ module _ {S : Type 0} where
       keeper = r.keeper;
       words_are = ap (λ (l : List ℕ). set l 0 n) r.words_are;
       each = λ j v here keeping. ⊎_elim
-          (λ (t : (j ≡ id) × (flagged me.0 n ≡ v)). (t.0 ∙ (r.each id me.0 at kept).0, ap (λ (u : FlagView). u.flag) (sym t.1)))
+          (λ (t : (j ≡ id) × (w ≡ v)). (t.0 ∙ (r.each id me.0 at kept).0, ap (λ (u : FlagView). u.flag) (sym t.1) ∙ flag))
           (λ (t : (j ≢ id) × (get_elem? s.views j ≡ some v)). absurd (t.0 ((r.each j v t.1 keeping).0 ∙ sym (r.each id me.0 at kept).0)))
-          (at_set s.views id j (flagged me.0 n) v here);
+          (at_set s.views id j w v here);
     },
     refl,
   )
+
+  pub sets : (slots id : ℕ) (me : Me S FlagView) (n : ℕ) → me.0.keeps ≡ true → Allows FlagLaw slots id me 0 (λ _. n) (λ _ now. now ≡ (flagged me.0 n, me.1))
+  sets slots id me n kept = writes slots id me n (flagged me.0 n) refl kept
+
+  pub raises : (slots id : ℕ) (me : Me S FlagView) (loads n : ℕ) → me.0.keeps ≡ true → Allows FlagLaw slots id me 0 (λ _. n) (λ _ now. now ≡ (raised_after loads me.0 n, me.1))
+  raises slots id me loads n kept = writes slots id me n (raised_after loads me.0 n) refl kept
 
   -- a look changes the looker's own view, and no flag
   others_stay : (s : State S FlagView) (r : FlagLaw s) (id : ℕ) (me w : FlagView) → get_elem? s.views id ≡ some me → w.keeps ≡ me.keeps → w.flag ≡ me.flag

@@ -7,10 +7,12 @@ use Rattle.atomic_table.specs.Table.{State, Me, Step}
 use Rattle.shared_rounds.specs.declared.flag.view.FlagLook.{FlagLook}
 use Rattle.shared_rounds.specs.declared.flag.view.FlagView.{FlagView}
 
--- which flag it is, and whether it is up, as its keeper knows it
+-- which flag it is, and whether it is up, as its keeper knows it; and how many words the lane's sequencer had loaded as it was raised for
+-- the last emission that began to wait
 pub record Keeping : Type 0 where
   pub table : TableId
   pub flag : ℕ
+  pub raised : ℕ
 
 -- which flag it is, and the looks at it
 pub record Looking : Type 0 where
@@ -30,14 +32,18 @@ looked_at position found l = record l { looks = l.looks ++ flag_look position fo
 
 -- the keeper's first view, of a flag that is down
 abbrev pub keeper_first : FlagView
-keeper_first = record { keeps = true; flag = 0; looks = [] }
+keeper_first = record { keeps = true; flag = 0; raised = 0; looks = [] }
 
 -- a looker that has not looked yet
 abbrev pub looker_first : FlagView
-looker_first = record { keeps = false; flag = 0; looks = [] }
+looker_first = record { keeps = false; flag = 0; raised = 0; looks = [] }
 
 abbrev pub flagged : FlagView → ℕ → FlagView
 flagged v n = record v { flag = n }
+
+-- raised for an emission that begins to wait, when the sequencer had loaded so many words
+abbrev pub raised_after : ℕ → FlagView → ℕ → FlagView
+raised_after loads v n = record v { flag = n; raised = loads }
 
 abbrev pub seen_there : ℕ → FlagView → ℕ → FlagView
 seen_there position v n = record v { looks = v.looks ++ flag_look position n ∷ [] }
@@ -52,6 +58,9 @@ module _ {S : Type 0} where
 
   abbrev pub SetFlag : Step S → Me S FlagView → ℕ → Me S FlagView → Type 0
   SetFlag st old found now = now ≡ (flagged old.0 found, old.1)
+
+  abbrev pub RaisedAfter : ℕ → Step S → Me S FlagView → ℕ → Me S FlagView → Type 0
+  RaisedAfter loads st old found now = now ≡ (raised_after loads old.0 found, old.1)
 
   abbrev pub LookedAt : ℕ → Step S → Me S FlagView → ℕ → Me S FlagView → Type 0
   LookedAt position st old found now = now ≡ (seen_there position old.0 found, old.1)

@@ -23,11 +23,13 @@ pub record TrackSeen : Type 0 where
   pub flag : TableId
   pub may_wait : Bool
 
--- what lies under the lock: which flow it is, its sequencer, its flag, and the subscriptions and the emissions whose tasks sleep
+-- what lies under the lock: which flow it is, its sequencer, its flag, how many words the sequencer had loaded as that was raised for the
+-- last emission that began to wait, and the subscriptions and the emissions whose tasks sleep
 pub record SharedSeen : Type 0 where
   pub name : FlowName
   pub sequencer : SequencerSeen
   pub flag : ℕ
+  pub raised : ℕ
   pub subscriptions : Slab Sleeper
   pub emissions : Slab Sleeper
 

@@ -92,21 +92,21 @@ abbrev pub Rests : SequencerSeen → SequencerSeen → Type 0
 Rests q t = (m : SequencerSeen) × ((m ≡ q) ⊎ Scanned q m) × OnlyLoaded m t
 
 -- What waits is let in once more at the end of a subscription, as far as that has made room; and where an emission begins to wait, which a
--- receipt before that may have made room for.
-abbrev pub Frees : Round → SequencerSeen → SequencerSeen → Type 0
-Frees (round.Cancel number) q t = (m : SequencerSeen) × Scanned q m × OnlyLoaded m t
-Frees (round.Start e (Ok (begun.Waiting ticket))) q t = (m : SequencerSeen) × Scanned q m × OnlyLoaded m t
+-- receipt before that may have made room for. The flag was raised for it before the first load of that.
+abbrev pub Frees : Round → SequencerSeen → SharedSeen → Type 0
+Frees (round.Cancel number) q t = (m : SequencerSeen) × Scanned q m × OnlyLoaded m t.sequencer
+Frees (round.Start e (Ok (begun.Waiting ticket))) q t = (m : SequencerSeen) × Scanned q m × OnlyLoaded m t.sequencer × (t.raised ≡ length q.view.loads)
 Frees _ q t = ⊤
 
 -- What a call comes to, before it helps others: it lets in what waits, is made, and rests. The flow stays the same one.
 abbrev pub Comes : SharedSeen → Round → SharedSeen → Type 0
 Comes s r t = (t.name ≡ s.name) × IsSameSequencer s.sequencer t.sequencer
-    × AfterScan s.sequencer (λ m. (n : SequencerSeen) × Makes s.name.lane m r n × Rests n t.sequencer × Frees r n t.sequencer)
+    × AfterScan s.sequencer (λ m. (n : SequencerSeen) × Makes s.name.lane m r n × Rests n t.sequencer × Frees r n t)
 
 -- A round: the call, and those were woken whom it has helped.
 abbrev pub Does : SharedSeen → Round → SharedSeen → Type 0
 Does s r t = (t.name ≡ s.name) × IsSameSequencer s.sequencer t.sequencer
-    × AfterScan s.sequencer (λ m. (n : SequencerSeen) × Makes s.name.lane m r n × Rests n t.sequencer × Frees r n t.sequencer) × Wakes s r t
+    × AfterScan s.sequencer (λ m. (n : SequencerSeen) × Makes s.name.lane m r n × Rests n t.sequencer × Frees r n t) × Wakes s r t
 
 -- what waited was let in, and the call was made
 abbrev pub MakesAfterScan : SharedSeen → Round → SharedSeen → Type 0
@@ -171,6 +171,11 @@ number_left withdrawn.Gone = None
 abbrev pub Watched : Option Ticket → SequencerSeen → SequencerSeen → Type 0
 Watched (Some ticket) q t = Scanned q t
 Watched None q t = t ≡ q
+
+-- where it has one, the flag was raised before that: the sequencer had loaded so many words then, and no more
+abbrev pub RaisedFor : Option Ticket → SequencerSeen → ℕ → Type 0
+RaisedFor (Some ticket) q loads = loads ≡ length q.view.loads
+RaisedFor None q loads = ⊤
 
 -- why nobody can be let in: the numbers are used up, or the places are
 abbrev pub IsAtLimit : Refusal → Type 0

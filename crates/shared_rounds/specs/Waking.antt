@@ -56,6 +56,7 @@ pub record Helps (before : ℕ) (ended : Option ℕ) (s t : SharedSeen) : Type 0
   pub subscriptions : WakesSubscriptions before ended s t
   pub emissions : WakesEmissions s t
   pub tied : IsTied t
+  pub raised : t.raised ≡ s.raised
 
 -- a round: its call may have put a task to sleep, and then those were woken whom it has helped
 pub record Wakes (s : SharedSeen) (r : Round) (t : SharedSeen) : Type 0 where

@@ -1,10 +1,10 @@
 //! The word that says whether an emission may have to wait for a receipt.
-ghost use Rattle.std.specs.Prelude.{◌≡◌, ℕ, [], false, IfOk};
+ghost use Rattle.std.specs.Prelude.{◌≡◌, ℕ, [], false, length, IfOk};
 ghost use Rattle.shared_lane.specs.Readers.{at};
-ghost use Rattle.shared_rounds.specs.Flags.{FlagLaw, SetFlag, LookedAt, keeper_first, looker_first, looked_at, number_of};
+ghost use Rattle.shared_rounds.specs.Flags.{FlagLaw, SetFlag, RaisedAfter, LookedAt, keeper_first, looker_first, looked_at, number_of};
 
 use atomic_table::{Play, Seat, Split, Table, TableRule};
-use shared_lane::Reader;
+use shared_lane::{Reader, Sequencer};
 use std::alloc::{AllocError, Global};
 use std::marker::{Brand, Model, PhantomData};
 
@@ -29,6 +29,24 @@ pub struct Sets;
 
 impl<S> Play<S, FlagView> for Sets {
     ghost then = { SetFlag };
+}
+
+/// How many words the lane's sequencer has loaded as the flag is raised: that picks it, since it has no operand that carries it.
+pub trait Loads {
+    ghost loads: { ℕ };
+}
+
+impl Loads for Brand {
+    ghost loads = { 0 };
+}
+
+/// The keeper raises the flag for an emission that begins to wait.
+pub struct Raises<M> {
+    of: PhantomData<M>,
+}
+
+impl<S, M: Loads> Play<S, FlagView> for Raises<M> {
+    ghost then = { RaisedAfter M.loads };
 }
 
 /// Where the reader stands for whom a look is made: the look picks it, since it has no operand that carries it.
@@ -75,7 +93,8 @@ impl Model for Flag {
     ghost invariant = { λ f. f.table.shared.table_id.words ≡ 1 };
 }
 
-/// Who sets the flag. Contracts see which flag it is, and whether it is up.
+/// Who sets the flag. Contracts see which flag it is, whether it is up, and what the lane's sequencer had loaded as it was raised for an
+/// emission that begins to wait.
 #[derive(Drop)]
 pub(crate) struct Keeper {
     seat: Seat<(), FlagView>,
@@ -88,7 +107,7 @@ impl Model for Keeper {
 
     ghost Value = { Keeping };
 
-    ghost view = { λ k. record { table = k.seat.table_id; flag = k.seat.me.0.flag } };
+    ghost view = { λ k. record { table = k.seat.table_id; flag = k.seat.me.0.flag; raised = k.seat.me.0.raised } };
 
     ghost invariant = { λ k. (k.seat.me.0.keeps ≡ true) × (k.seat.me.0.flag ≡ number_of k.is_up) };
 }
@@ -113,7 +132,7 @@ impl Model for Looker {
 impl Flag {
     /// A flag that is down, and its keeper.
     pub fn new(alloc: Global) -> Result<(Flag, Keeper), AllocError>
-        ensures { IfOk result (λ made. made.1 ≡ record { table = made.0; flag = 0 }) }
+        ensures { IfOk result (λ made. made.1 ≡ record { table = made.0; flag = 0; raised = 0 }) }
     {
         let (table, seat): (
             Table<(), FlagView, (), FlagRule, Global>,
@@ -145,6 +164,18 @@ impl Flag {
         self.table
             .shared
             .store::<Sets>(&mut keeper.seat, FLAG, up as u64);
+    }
+
+    /// Raises it for an emission that begins to wait, also where it is up: what the sequencer loads from here on it loads after that.
+    pub fn raise<M: Loads>(&self, keeper: &mut Keeper, sequencer: &Sequencer<Global>)
+        requires table { keeper.old.table ≡ self.now }
+        requires loads { M.loads ≡ length sequencer.now.view.loads }
+        ensures { keeper.new ≡ record keeper.old { flag = 1; raised = length sequencer.now.view.loads } }
+    {
+        keeper.is_up = true;
+        self.table
+            .shared
+            .store::<Raises<M>>(&mut keeper.seat, FLAG, 1);
     }
 
     /// Whether it is up, as this reader stands.

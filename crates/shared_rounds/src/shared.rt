@@ -49,7 +49,7 @@ impl Model for Shared {
 
     ghost Value = { SharedSeen };
 
-    ghost view = { λ s. record { name = record { config = s.config; lane = (arc_value s.track).lane; flag = (arc_value s.track).flag }; sequencer = s.sequencer; flag = s.keeper.flag; subscriptions = s.subscriptions.sleeping; emissions = s.emissions.sleeping } };
+    ghost view = { λ s. record { name = record { config = s.config; lane = (arc_value s.track).lane; flag = (arc_value s.track).flag }; sequencer = s.sequencer; flag = s.keeper.flag; raised = s.keeper.raised; subscriptions = s.subscriptions.sleeping; emissions = s.emissions.sleeping } };
 
     ghost invariant = { λ s. IsGuarded s.config (arc_value s.track).lane s.sequencer × (s.keeper.table ≡ (arc_value s.track).flag) × MayWait s.config (arc_value s.track) };
 }
@@ -157,7 +157,7 @@ impl Shared {
     fn wake_emissions(&mut self, wakes: &mut Wakes)
         ensures same { (self.new.name ≡ self.old.name) × IsSameSequencer self.old.sequencer self.new.sequencer }
         ensures only { OnlyLoaded self.old.sequencer self.new.sequencer }
-        ensures flag { self.new.flag ≡ self.old.flag }
+        ensures flag { (self.new.flag ≡ self.old.flag) × (self.new.raised ≡ self.old.raised) }
         ensures subscriptions { self.new.subscriptions ≡ self.old.subscriptions }
         ensures emissions { WakesEmissions self.old self.new }
     {

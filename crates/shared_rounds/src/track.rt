@@ -1,10 +1,10 @@
 //! What all parties of a flow share without its lock.
-ghost use Rattle.std.specs.Prelude.{◌≡◌, ◌⊎◌, [], false};
+ghost use Rattle.std.specs.Prelude.{◌≡◌, ◌⊎◌, [], false, length};
 ghost use Rattle.shared_lane.specs.Readers.{at};
 ghost use Rattle.shared_rounds.specs.Flags.{looked_at, number_of};
 
 use crate::flag::{Flag, Keeper, Looker};
-use shared_lane::{Lane, Reader};
+use shared_lane::{Lane, Reader, Sequencer};
 use std::alloc::Global;
 use std::marker::{Brand, Model};
 
@@ -71,6 +71,14 @@ impl Track {
     /// Whether some emission may wait, for one who only passes the time: it tells nothing.
     pub fn may_have_unfinished(&self) -> bool {
         self.may_wait && self.unfinished.peek()
+    }
+
+    /// Says that an emission begins to wait, before the cursors are looked at a last time. Only who holds the lock has the keeper.
+    pub fn raise_unfinished(&self, keeper: &mut Keeper, sequencer: &Sequencer<Global>)
+        requires { keeper.old.table ≡ self.now.flag }
+        ensures { keeper.new ≡ record keeper.old { flag = 1; raised = length sequencer.now.view.loads } }
+    {
+        self.unfinished.raise::<Brand>(keeper, sequencer);
     }
 
     /// Says whether an emission may wait. Only who holds the lock has the keeper.

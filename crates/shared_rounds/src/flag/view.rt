@@ -13,6 +13,8 @@ pub struct FlagView {
     pub keeps: bool,
     /// The flag, as its keeper knows it.
     pub flag: u64,
+    /// How many words the lane's sequencer had loaded as the keeper raised it for the last emission that began to wait.
+    pub raised: u64,
     /// What a looker found, look by look.
     pub looks: LinkedList<FlagLook>,
 }

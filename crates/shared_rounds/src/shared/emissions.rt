@@ -11,7 +11,7 @@ ghost use Rattle.shared_rounds.specs.declared.round.Round.TheVariants as round;
 ghost use Rattle.shared_rounds.specs.Sleeping.{LiesDown};
 ghost use Rattle.shared_rounds.specs.Waking.{SleepOn};
 ghost use Rattle.shared_rounds.specs.Tries.{IfTried, IfBegun, TriedUnder, BegunUnder};
-ghost use Rattle.shared_rounds.specs.Rounds.{Comes, MakesAfterScan, Watched, IsAfter, IsNotAfter, IsReceiptAfter, HasSeenUpTo};
+ghost use Rattle.shared_rounds.specs.Rounds.{Comes, MakesAfterScan, RaisedFor, Watched, IsAfter, IsNotAfter, IsReceiptAfter, HasSeenUpTo};
 ghost use Rattle.shared_rounds.specs.Rounds.{HasReceipt, IsLastAccepted, IsReceiptFor, IsReceiptOfOne, numbers_tried, poll_round, withdraw_round};
 ghost use Rattle.shared_rounds.specs.Rounds.{number_done as the_number_done, number_left as the_number_left};
 
@@ -106,12 +106,14 @@ impl Shared {
     // that: a receipt that came before has made room already.
     fn watch(&mut self, ticket: Option<Ticket>)
         ensures same { (self.new.name ≡ self.old.name) × IsSameSequencer self.old.sequencer self.new.sequencer × SleepOn self.old self.new }
+        ensures raised { RaisedFor ticket self.old.sequencer self.new.raised }
         ensures watched { Watched ticket self.old.sequencer self.new.sequencer }
     {
         let Some(_) = ticket else {
             return;
         };
-        self.track.set_unfinished(&mut self.keeper, true);
+        self.track
+            .raise_unfinished(&mut self.keeper, &self.sequencer);
         self.sequencer.scan(self.track.lane());
     }
 

@@ -15,4 +15,4 @@ returns c =
     helped_on c.args.before c.args.ended old tied c.wake_emissions.new.self same
     (λ more. subst NobodySleeps (sym subs) (woke.accepted more))
     (λ few. subst (OnlyThese (λ n. c.args.ended ≢ Some n) old.subscriptions) (sym subs) (woke.none_accepted few))
-    last.same.0 last.same.1 last.only last.subscriptions last.emissions (still_tied tied c.wake_emissions.new.self c.tie_flag.ensures.tied last.only last.flag)
+    last.same.0 last.same.1 last.only last.subscriptions last.emissions (still_tied tied c.wake_emissions.new.self c.tie_flag.ensures.tied last.only last.flag.0) last.flag.1

@@ -1,6 +1,6 @@
 use Rattle.std.proofs.Common.{subst}
 use Rattle.shared_rounds.specs.declared.round.Round.TheVariants as round
-use Rattle.shared_rounds.specs.Rounds.{Watched}
+use Rattle.shared_rounds.specs.Rounds.{RaisedFor, Watched}
 use Rattle.shared_rounds.proofs.Doing.{comes_again, watched_frees, watched_rests}
 use Rattle.shared_rounds.proofs.Receipts.{begun_last, begun_later}
 use Rattle.shared_rounds.proofs.shared.Shared.start_emit.Goals as goal
@@ -11,8 +11,9 @@ returns-clause-does c =
     let t = c.watch.new.self in
     let begun = c.begun-begun.result in
     let watched = subst (λ k. Watched k s.sequencer t.sequencer) c.begun_ticket.ensures c.watch.ensures.watched in
+    let raised = subst (λ k. RaisedFor k s.sequencer t.raised) c.begun_ticket.ensures c.watch.ensures.raised in
     comes_again c.args.self.now s t (round.Start c.args.emission begun) c.begun-begun.ensures.same.0 c.begun-begun.ensures.same.1 c.begun-begun.ensures.made
-    c.watch.ensures.same.0 c.watch.ensures.same.1 (watched_rests begun s.sequencer t.sequencer watched) (watched_frees c.args.emission begun s.sequencer t.sequencer watched)
+    c.watch.ensures.same.0 c.watch.ensures.same.1 (watched_rests begun s.sequencer t.sequencer watched) (watched_frees c.args.emission begun s.sequencer t watched raised)
 
 pub returns-clause-last : goal.returns-clause-last
 returns-clause-last c =
