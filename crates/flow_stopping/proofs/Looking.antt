@@ -4,7 +4,7 @@ use Rattle.shared_lane.specs.Views.{ReaderSeen}
 use Rattle.shared_rounds.specs.declared.round.Round.TheVariants as round
 use Rattle.shared_rounds.specs.Entering.{Made}
 use Rattle.shared_flow.specs.Parties.{Subscribed}
-use Rattle.shared_flow.specs.Looks.{Gave, GaveIn, HasMadeRoom, MadeRoom, Missed, MissedOn, MissedTwice, OnlyLooked, OnlyNext, Waited, by_none, not_once, once_more}
+use Rattle.shared_flow.specs.Looks.{Gave, GaveIn, HasMadeRoom, MadeRoom, MadeRoomIn, Missed, MissedOn, MissedTwice, OnlyLooked, OnlyNext, Waited, by_none, not_once, once_more}
 use Rattle.shared_flow.specs.Preludes.{IsGreeted, IsPast, GreetedOr}
 use Rattle.shared_flow.proofs.Takes.{only_next_then}
 use Rattle.shared_flow.proofs.Receiving.{has_room}
@@ -126,8 +126,12 @@ room_then {T} s m t v looked room =
     room)
     looked
 
+-- so did one of a poll, or of a look
+pub room_polled : {T : Type 0} (s t : Subscribed T) (v : T) → IsGreeted s v t ⊎ MadeRoomIn s t → IsGreeted s v t ⊎ HasMadeRoom s t
+room_polled s t v room = ⊎_elim (λ greeted. inl greeted) (λ made. inr (has_room s s t refl (by_none s.party) made)) room
+
 pub room_now : {T : Type 0} (s t : Subscribed T) (v : T) → IsGreeted s v t ⊎ MadeRoom s t → IsGreeted s v t ⊎ HasMadeRoom s t
-room_now s t v room = ⊎_elim (λ greeted. inl greeted) (λ made. inr (has_room s s t refl (by_none s.party) made)) room
+room_now s t v room = ⊎_elim (λ greeted. inl greeted) (λ made. inr (has_room s s t refl (by_none s.party) (inl made))) room
 
 -- a wait after looks
 pub receives_then : {T : Type 0} (read_as : ℕ → T) (s m t : Subscribed T) (answer : Received T) → LookedOn s m → Receives read_as m (Ok answer) t

@@ -1,5 +1,5 @@
 -- What a subscription is after a call that receives.
-use Rattle.std.proofs.Common.{◌≡◌, ◌⊎◌, ⊎_elim, ◌+◌, ◌++◌, [], false, replicate, Option, Some, None, IfNone, refl, sym, ap, subst, ◌∙◌, append_assoc}
+use Rattle.std.proofs.Common.{◌≡◌, ◌⊎◌, ⊎_elim, inl, ◌+◌, ◌++◌, [], false, replicate, Option, Some, None, IfNone, refl, sym, ap, subst, ◌∙◌, append_assoc}
 use Rattle.std.proofs.lemmas.List.{append-nil, replicate-append-replicate}
 use Rattle.futures.specs.Poll.{IfReady, OnPending}
 use Rattle.futures.specs.declared.task.Poll.{Poll}
@@ -7,7 +7,7 @@ use Rattle.futures.specs.declared.task.Poll.TheVariants.{Ready, Pending}
 use Rattle.shared_lane.specs.Views.{ReaderSeen}
 use Rattle.shared_rounds.specs.declared.round.Round.TheVariants as round
 use Rattle.shared_rounds.specs.Entering.{Made}
-use Rattle.shared_flow.specs.Looks.{OnlyLooked, OnlyNext, TookNone, by_none, MadeRoom, HasMadeRoom}
+use Rattle.shared_flow.specs.Looks.{OnlyLooked, OnlyNext, TookNone, by_none, MadeRoom, MadeRoomIn, HasMadeRoom}
 use Rattle.shared_flow.specs.Parties.{Subscribed}
 use Rattle.shared_flow.specs.Preludes.{IsGreeted, IsPast, GreetedOr}
 
@@ -15,6 +15,10 @@ module _ {A : Type 0} where
   pub if_ready : (polled : Poll A) (P Q : A → Type 0) → ((a : A) → P a → Q a) → IfReady polled P → IfReady polled Q
   if_ready (Ready a) P Q goes it = goes a it
   if_ready Pending P Q goes it = it
+
+  pub if_both : (polled : Poll A) (P Q R : A → Type 0) → ((a : A) → P a → Q a → R a) → IfReady polled P → IfReady polled Q → IfReady polled R
+  if_both (Ready a) P Q R goes it other = goes a it other
+  if_both Pending P Q R goes it other = it
 
   pub on_pending : (polled : Poll A) (P Q : Type 0) → (P → Q) → OnPending polled P → OnPending polled Q
   on_pending (Ready a) P Q goes it = it
@@ -83,7 +87,7 @@ module _ {T : Type 0} where
   }
 
   -- a receipt made room, by rounds that were pending and one that has a value, or at once
-  pub has_room : (s m t : Subscribed T) → m.number ≡ s.number → OnlyNext s.number s.party m.party → MadeRoom m t → HasMadeRoom s t
+  pub has_room : (s m t : Subscribed T) → m.number ≡ s.number → OnlyNext s.number s.party m.party → MadeRoomIn m t → HasMadeRoom s t
   has_room s m t same rounds made = record {
     before = m;
     after = t;
@@ -95,7 +99,7 @@ module _ {T : Type 0} where
   }
 
   pub has_room_at_once : (s t : Subscribed T) → MadeRoom s t → HasMadeRoom s t
-  has_room_at_once s t made = has_room s s t refl (by_none s.party) made
+  has_room_at_once s t made = has_room s s t refl (by_none s.party) (inl made)
 
   -- and after it came looks that took nothing
   pub has_room_then : (s m t : Subscribed T) → HasMadeRoom s m → OnlyLooked m t → TookNone m.reader t.reader → HasMadeRoom s t

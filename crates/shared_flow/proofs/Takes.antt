@@ -47,7 +47,7 @@ looked_count r t room Overtaken words looked = ap length looked.1.0
 -- a last look for all values made room for what it took, or took nothing after a value that was waited for
 pub room_after : {T : Type 0} (taken : Taken ℕ) (s m t : Subscribed T) → m.number ≡ s.number → OnlyNext s.number s.party m.party → HasMadeRoom s m
     → ((k : ℕ) → taken ≡ Value k → MadeRoom m t) → (((k : ℕ) → taken ≢ Value k) → OnlyLooked m t) → (room : ℕ) (words : List ℕ) → LookedAll m.reader room taken words t.reader → HasMadeRoom s t
-room_after (Value k) s m t same rounds before made only room words looked = has_room s m t same rounds (made k refl)
+room_after (Value k) s m t same rounds before made only room words looked = has_room s m t same rounds (inl (made k refl))
 room_after Nothing s m t same rounds before made only room words looked = has_room_then s m t before (only (λ k e. cc)) (looked.0.0, (looked.1.1.0 - at m.reader, looked.1.1.1.2))
 room_after Overtaken s m t same rounds before made only room words looked = has_room_then s m t before (only (λ k e. cc)) (looked.0.0, (looked.1.1.0 - at m.reader, looked.1.1.3))
 

@@ -1,12 +1,12 @@
 -- What a subscription was let in by, and what its looks at the lane came to.
-use Rattle.std.specs.Prelude.{◌≡◌, ◌⊎◌, ◌++◌, ℕ, false, replicate, Some, Ok}
+use Rattle.std.specs.Prelude.{◌≡◌, ◌⊎◌, ◌++◌, ℕ, false, length, replicate, Some, Ok}
 use Rattle.shared_lane.specs.declared.reader.Taken.{Taken}
 use Rattle.shared_lane.specs.declared.reader.Taken.TheVariants.{Value, Nothing, Overtaken}
 use Rattle.shared_lane.specs.Views.{ReaderSeen}
 use Rattle.shared_lane.specs.Readers.{at}
 use Rattle.shared_rounds.specs.declared.round.Round.TheVariants as round
 use Rattle.shared_rounds.specs.Meeting.{Looked}
-use Rattle.shared_rounds.specs.Names.{FoundDown}
+use Rattle.shared_rounds.specs.Names.{FoundDown, FoundUp}
 use Rattle.shared_flow.specs.Parties.{Subscribed}
 use Rattle.shared_rounds.specs.Reach.{Party}
 use Rattle.shared_rounds.specs.Entering.{Made}
@@ -58,11 +58,21 @@ Waited read_as r v t = (m : ReaderSeen) × MissedOn r m × Gave read_as m v t
 
 -- A receipt took no lock: no emission may wait, or one more look found the flag down, made as the reader stood past what it had received.
 abbrev pub Skips : {T : Type 0} → Subscribed T → Subscribed T → Type 0
-Skips s t = (t.party ≡ s.party) × FoundDown s.party.flow (at t.reader) s.looks t.looks
+Skips s t = (t.party ≡ s.party) × FoundDown s.party.flow (at t.reader) (length s.party.rounds) s.looks t.looks
 
--- a receipt let in what waits, by a round, or no emission could wait for it
+-- A receipt let in what waits, by a round that came after it: one more look found the flag up, made as the reader stood past what it had
+-- received, when its party had not made that round yet.
+abbrev pub Helped : {T : Type 0} → Subscribed T → Subscribed T → Type 0
+Helped s t = Made (round.Next s.number) s.party t.party × FoundUp (at t.reader) (length s.party.rounds) s.looks t.looks
+
+-- a receipt without the lock let in what waits, by a round, or no emission could wait for it
 abbrev pub MadeRoom : {T : Type 0} → Subscribed T → Subscribed T → Type 0
-MadeRoom s t = Skips s t ⊎ Made (round.Next s.number) s.party t.party
+MadeRoom s t = Skips s t ⊎ Helped s t
+
+-- so did one of a poll; or a look without the lock had found nothing, and the receipt was made within the round, after no look at the flag
+abbrev pub MadeRoomIn : {T : Type 0} → Subscribed T → Subscribed T → Type 0
+MadeRoomIn s t = MadeRoom s t
+    ⊎ ((m : ReaderSeen) × (w : ℕ) × Missed s.reader m × Looked m (Value w) t.reader × Made (round.Next s.number) s.party t.party × (t.looks ≡ s.looks))
 
 -- the party's rounds grew by those of calls that receive, of the subscription with this number
 pub data OnlyNext (number : ℕ) : Party → Party → Type 0 where
@@ -85,6 +95,6 @@ pub record HasMadeRoom {T : Type 0} (s t : Subscribed T) : Type 0 where
   pub after : Subscribed T
   pub same : before.number ≡ s.number
   pub rounds : OnlyNext s.number s.party before.party
-  pub made_room : MadeRoom before after
+  pub made_room : MadeRoomIn before after
   pub then : OnlyLooked after t
   pub took_none : TookNone after.reader t.reader

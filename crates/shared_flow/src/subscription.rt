@@ -9,7 +9,7 @@ ghost use Rattle.shared_rounds.specs.Reach.{Party, party_of};
 ghost use Rattle.shared_rounds.specs.Entering.{Made};
 ghost use Rattle.shared_flow.specs.Parties.{Subscribed, OfFlow};
 ghost use Rattle.shared_flow.specs.Looks.{Took, Gave, GaveIn, Missed, MissedTwice, MissedOn, OnlyLooked, OnlyNext, Waited, WasEnded};
-ghost use Rattle.shared_flow.specs.Looks.{MadeRoom, HasMadeRoom};
+ghost use Rattle.shared_flow.specs.Looks.{MadeRoom, MadeRoomIn, HasMadeRoom};
 ghost use Rattle.shared_core.specs.Preludes.{prelude_values};
 ghost use Rattle.shared_flow.specs.Preludes.{IsGreeted, IsPast, GreetedOr, TookFirst};
 ghost use Rattle.flow_terms.specs.declared.refusal.Refusal.TheVariants.{NoMemory};
@@ -175,7 +175,7 @@ impl<T: Word> Subscription<T> {
         ensures rounds { IfReady result (λ v. (self.new.party ≡ self.old.party) ⊎ Made (round.Next self.old.number) self.old.party self.new.party) }
         ensures same { self.new.number ≡ self.old.number }
         ensures ready { IfReady result (λ v. GreetedOr self.old v self.new (GaveIn T.read_as self.old.reader v self.new.reader)) }
-        ensures room { IfReady result (λ v. IsGreeted self.old v self.new ⊎ MadeRoom self.old self.new) }
+        ensures room { IfReady result (λ v. IsGreeted self.old v self.new ⊎ MadeRoomIn self.old self.new) }
         ensures pending { OnPending result (IsPast self.old self.new × MissedTwice self.old.reader self.new.reader) }
         ensures armed { OnPending result (IsArmed cx.new) }
         ensures kept { Keeps cx.old cx.new }
@@ -265,7 +265,7 @@ impl<T: Word> Subscription<T> {
     // Looks for a value with the lock held. Without one the task sleeps.
     #[inline(never)]
     fn look_again(&mut self, rt: &impl Wait, cx: &mut Context<'_>) -> Poll<T>
-        ensures same { (self.new.number ≡ self.old.number) × (self.new.rest ≡ self.old.rest) }
+        ensures same { (self.new.number ≡ self.old.number) × (self.new.rest ≡ self.old.rest) × (self.new.looks ≡ self.old.looks) }
         ensures round { OnPending result (Made (round.Pending self.old.number) self.old.party self.new.party) }
         ensures rounds { IfReady result (λ v. Made (round.Next self.old.number) self.old.party self.new.party) }
         ensures ready { IfReady result (λ v. Gave T.read_as self.old.reader v self.new.reader) }

@@ -47,16 +47,16 @@ module _ {S : Type 0} where
       (λ (t : (j ≢ id) × (get_elem? s.views j ≡ some v)). r.each j v t.1 keeping)
       (at_set s.views id j w v here)
 
-  pub looks : (slots id position : ℕ) (me : Me S FlagView) → Allows FlagLaw slots id me 0 (λ n. n) (λ n now. now ≡ (seen_there position me.0 n, me.1))
-  looks slots id position me s r many at wide = let n = get_or s.words 0 0 in (
-    seen_there position me.0 n,
+  pub looks : (slots id position rounds : ℕ) (me : Me S FlagView) → Allows FlagLaw slots id me 0 (λ n. n) (λ n now. now ≡ (seen_there position rounds me.0 n, me.1))
+  looks slots id position rounds me s r many at wide = let n = get_or s.words 0 0 in (
+    seen_there position rounds me.0 n,
     keeps,
     tt,
     record {
       flag = r.flag;
       keeper = r.keeper;
       words_are = ap (λ (l : List ℕ). set l 0 (get_or l 0 0)) r.words_are;
-      each = others_stay s r id me.0 (seen_there position me.0 n) at refl refl;
+      each = others_stay s r id me.0 (seen_there position rounds me.0 n) at refl refl;
     },
     refl,
   )

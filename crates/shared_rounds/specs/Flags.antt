@@ -22,13 +22,13 @@ pub record Looking : Type 0 where
 abbrev pub number_of : Bool → ℕ
 number_of up = cond up 1 0
 
--- a look for a reader that stood there
-abbrev pub flag_look : ℕ → ℕ → FlagLook
-flag_look position found = record { position = position; found = found }
+-- a look for a reader that stood there, whose party had made so many rounds
+abbrev pub flag_look : ℕ → ℕ → ℕ → FlagLook
+flag_look position rounds found = record { position = position; rounds = rounds; found = found }
 
 -- the looker has looked once more
-abbrev pub looked_at : ℕ → ℕ → Looking → Looking
-looked_at position found l = record l { looks = l.looks ++ flag_look position found ∷ [] }
+abbrev pub looked_at : ℕ → ℕ → ℕ → Looking → Looking
+looked_at position rounds found l = record l { looks = l.looks ++ flag_look position rounds found ∷ [] }
 
 -- the keeper's first view, of a flag that is down
 abbrev pub keeper_first : FlagView
@@ -45,8 +45,8 @@ flagged v n = record v { flag = n }
 abbrev pub raised_after : ℕ → FlagView → ℕ → FlagView
 raised_after loads v n = record v { flag = n; raised = loads }
 
-abbrev pub seen_there : ℕ → FlagView → ℕ → FlagView
-seen_there position v n = record v { looks = v.looks ++ flag_look position n ∷ [] }
+abbrev pub seen_there : ℕ → ℕ → FlagView → ℕ → FlagView
+seen_there position rounds v n = record v { looks = v.looks ++ flag_look position rounds n ∷ [] }
 
 module _ {S : Type 0} where
   -- One seat at most is the keeper's, and it knows the flag
@@ -62,5 +62,5 @@ module _ {S : Type 0} where
   abbrev pub RaisedAfter : ℕ → Step S → Me S FlagView → ℕ → Me S FlagView → Type 0
   RaisedAfter loads st old found now = now ≡ (raised_after loads old.0 found, old.1)
 
-  abbrev pub LookedAt : ℕ → Step S → Me S FlagView → ℕ → Me S FlagView → Type 0
-  LookedAt position st old found now = now ≡ (seen_there position old.0 found, old.1)
+  abbrev pub LookedAt : ℕ → ℕ → Step S → Me S FlagView → ℕ → Me S FlagView → Type 0
+  LookedAt position rounds st old found now = now ≡ (seen_there position rounds old.0 found, old.1)

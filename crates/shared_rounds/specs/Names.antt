@@ -77,9 +77,15 @@ KnowsFlow config known track = KnowsConfig config known × KnowsTrack known trac
 abbrev pub IsFlagOf : Option FlowName → TableId → Type 0
 IsFlagOf known flag = (name : FlowName) → known ≡ Some name → flag ≡ name.flag
 
--- no emission of the flow may wait, or one more look, for a reader that stood there, found its flag down
-abbrev pub FoundDown : Option FlowName → ℕ → List FlagLook → List FlagLook → Type 0
-FoundDown known position before after = ((name : FlowName) → known ≡ Some name → name.config.policy ≢ Suspend) ⊎ (after ≡ before ++ flag_look position 0 ∷ [])
+-- no emission of the flow may wait, or one more look, for a reader that stood there and whose party had made so many rounds, found its
+-- flag down
+abbrev pub FoundDown : Option FlowName → ℕ → ℕ → List FlagLook → List FlagLook → Type 0
+FoundDown known position rounds before after =
+    ((name : FlowName) → known ≡ Some name → name.config.policy ≢ Suspend) ⊎ (after ≡ before ++ flag_look position rounds 0 ∷ [])
+
+-- one more look, for such a reader, found it up
+abbrev pub FoundUp : ℕ → ℕ → List FlagLook → List FlagLook → Type 0
+FoundUp position rounds before after = (found : ℕ) × (found ≢ 0) × (after ≡ before ++ flag_look position rounds found ∷ [])
 
 -- a flow that was made with this config
 abbrev pub IsMadeWith : Config → Option FlowName → Type 0

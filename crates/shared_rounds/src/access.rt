@@ -1,17 +1,18 @@
 //! What every owner of a shared flow holds.
-ghost use Rattle.std.specs.Prelude.{false, ◌≡◌, ◌≢◌, [], Ok, Some, None, map, IfOk, IsOkUnless};
+ghost use Rattle.std.specs.Prelude.{true, false, ℕ, ◌≡◌, ◌≢◌, ◌⊎◌, [], Ok, Some, None, length, map, IfOk, IsOkUnless};
 ghost use Rattle.round_lock.specs.History.{own_of};
 ghost use Rattle.shared_lane.specs.Readers.{at};
 ghost use Rattle.shared_lane.specs.Sequencers.{next};
 ghost use Rattle.shared_rounds.specs.declared.round.Round.TheVariants as round;
-ghost use Rattle.shared_rounds.specs.Names.{FoundDown, IsFlagOf, IsNew, KnowsLane};
+ghost use Rattle.shared_rounds.specs.Flags.{looked_at};
+ghost use Rattle.shared_rounds.specs.Names.{FoundDown, FoundUp, IsFlagOf, IsNew, KnowsLane};
 ghost use Rattle.shared_rounds.specs.Entering.{Found, IsCalled, Left};
 ghost use Rattle.shared_rounds.specs.Reach.{party_of, reach_of};
 ghost use Rattle.shared_rounds.specs.Rounds.{Below};
 ghost use Rattle.shared_rounds.specs.Sleeping.{NobodySleeps};
 ghost use Rattle.shared_rounds.specs.Waking.{Helps};
 
-use crate::flag::Looker;
+use crate::flag::{Looker, Stands};
 use crate::looking::{LOOKS, pause};
 use crate::round::{Round, ended_by};
 use crate::shared::Shared;
@@ -98,13 +99,15 @@ impl Access {
         })
     }
 
-    /// Whether who has received has to take the lock, for an emission that may wait for that, as its reader stands now. Without a lock.
+    /// Whether who has received has to take the lock, for an emission that may wait for that, as its reader stands now, and after the
+    /// rounds that its party has made by now. Without a lock.
     pub fn has_unfinished(&self, looker: &mut Looker, reader: &Reader) -> bool
         requires { IsFlagOf self.now.flow looker.old.table }
         ensures table { looker.new.table ≡ looker.old.table }
-        ensures none { result ≡ false → FoundDown self.now.flow (at reader.now) looker.old.looks looker.new.looks }
+        ensures none { result ≡ false → FoundDown self.now.flow (at reader.now) (length self.now.rounds) looker.old.looks looker.new.looks }
+        ensures some { result ≡ true → FoundUp (at reader.now) (length self.now.rounds) looker.old.looks looker.new.looks }
     {
-        self.track.has_unfinished(looker, reader)
+        looked::<Brand>(&self.track, &self.lock, looker, reader)
     }
 
     /// Looks some times whether an emission may wait still, up to where none does. Without a lock.
@@ -187,6 +190,23 @@ impl Access {
         self.lock.put_as::<Brand>(rt, guarded);
         self.wakes.fire();
     }
+}
+
+// Looks at the flag for a reader of this owner of the lock, after the rounds that it has made.
+fn looked<M: Stands>(
+    track: &Track,
+    lock: &Lock<Box<Shared>, Round>,
+    looker: &mut Looker,
+    reader: &Reader,
+) -> bool
+    requires table { looker.old.table ≡ track.now.flag }
+    requires position { M.position ≡ at reader.now }
+    requires rounds { M.rounds ≡ length lock.now.log.own }
+    ensures table { looker.new.table ≡ looker.old.table }
+    ensures none { result ≡ false → (track.now.may_wait ≡ false) ⊎ (looker.new ≡ looked_at (at reader.now) (length lock.now.log.own) 0 looker.old) }
+    ensures some { result ≡ true → (found : ℕ) × (found ≢ 0) × (looker.new ≡ looked_at (at reader.now) (length lock.now.log.own) found looker.old) }
+{
+    track.has_unfinished::<M>(looker, reader)
 }
 
 // Takes those whom a round has helped, or ended, out from under the lock.

@@ -1,5 +1,5 @@
 //! The word that says whether an emission may have to wait for a receipt.
-ghost use Rattle.std.specs.Prelude.{◌≡◌, ℕ, [], false, length, IfOk};
+ghost use Rattle.std.specs.Prelude.{◌≡◌, ◌≢◌, ℕ, [], true, false, length, IfOk};
 ghost use Rattle.shared_lane.specs.Readers.{at};
 ghost use Rattle.shared_rounds.specs.Flags.{FlagLaw, SetFlag, RaisedAfter, LookedAt, keeper_first, looker_first, looked_at, number_of};
 
@@ -49,13 +49,18 @@ impl<S, M: Loads> Play<S, FlagView> for Raises<M> {
     ghost then = { RaisedAfter M.loads };
 }
 
-/// Where the reader stands for whom a look is made: the look picks it, since it has no operand that carries it.
+/// Where the reader stands for whom a look is made, and how many rounds its party has made: the look picks them, since it has no operand
+/// that carries them.
 pub trait Stands {
     ghost position: { ℕ };
+
+    ghost rounds: { ℕ };
 }
 
 impl Stands for Brand {
     ghost position = { 0 };
+
+    ghost rounds = { 0 };
 }
 
 /// A looker looks at it.
@@ -64,7 +69,7 @@ pub struct Looks<M> {
 }
 
 impl<S, M: Stands> Play<S, FlagView> for Looks<M> {
-    ghost then = { LookedAt M.position };
+    ghost then = { LookedAt M.position M.rounds };
 }
 
 /// Another looker.
@@ -182,7 +187,7 @@ impl Flag {
     pub fn look<M: Stands>(&self, looker: &mut Looker, reader: &Reader) -> bool
         requires table { looker.old.table ≡ self.now }
         requires stands { M.position ≡ at reader.now }
-        ensures { (found : ℕ) × (looker.new ≡ looked_at (at reader.now) found looker.old) × (result ≡ false → found ≡ 0) }
+        ensures { (found : ℕ) × (looker.new ≡ looked_at (at reader.now) M.rounds found looker.old) × (result ≡ false → found ≡ 0) × (result ≡ true → found ≢ 0) }
     {
         self.table.shared.load::<Looks<M>>(&mut looker.seat, FLAG) != 0
     }

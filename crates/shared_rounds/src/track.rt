@@ -1,9 +1,9 @@
 //! What all parties of a flow share without its lock.
-ghost use Rattle.std.specs.Prelude.{◌≡◌, ◌⊎◌, [], false, length};
+ghost use Rattle.std.specs.Prelude.{◌≡◌, ◌≢◌, ◌⊎◌, ℕ, [], true, false, length};
 ghost use Rattle.shared_lane.specs.Readers.{at};
 ghost use Rattle.shared_rounds.specs.Flags.{looked_at, number_of};
 
-use crate::flag::{Flag, Keeper, Looker};
+use crate::flag::{Flag, Keeper, Looker, Stands};
 use shared_lane::{Lane, Reader, Sequencer};
 use std::alloc::Global;
 use std::marker::{Brand, Model};
@@ -57,15 +57,17 @@ impl Track {
     }
 
     /// Whether who has received has to take the lock, for an emission that may wait for that, as its reader stands now.
-    pub fn has_unfinished(&self, looker: &mut Looker, reader: &Reader) -> bool
-        requires { looker.old.table ≡ self.now.flag }
+    pub fn has_unfinished<M: Stands>(&self, looker: &mut Looker, reader: &Reader) -> bool
+        requires table { looker.old.table ≡ self.now.flag }
+        requires stands { M.position ≡ at reader.now }
         ensures table { looker.new.table ≡ looker.old.table }
-        ensures none { result ≡ false → (self.now.may_wait ≡ false) ⊎ (looker.new ≡ looked_at (at reader.now) 0 looker.old) }
+        ensures none { result ≡ false → (self.now.may_wait ≡ false) ⊎ (looker.new ≡ looked_at (at reader.now) M.rounds 0 looker.old) }
+        ensures some { result ≡ true → (found : ℕ) × (found ≢ 0) × (looker.new ≡ looked_at (at reader.now) M.rounds found looker.old) }
     {
         if !self.may_wait {
             return false;
         }
-        self.unfinished.look::<Brand>(looker, reader)
+        self.unfinished.look::<M>(looker, reader)
     }
 
     /// Whether some emission may wait, for one who only passes the time: it tells nothing.

@@ -1,9 +1,11 @@
 //! What a seat at the flag knows.
 use std::collections::LinkedList;
 
-/// A look at the flag: where its reader stood then, and what was found. The program makes no value of it.
+/// A look at the flag: where its reader stood then, how many rounds its party had made, and what was found. The program makes no value
+/// of it.
 pub struct FlagLook {
     pub position: u64,
+    pub rounds: u64,
     pub found: u64,
 }
 

@@ -2,10 +2,10 @@ use Rattle.std.proofs.Common.{◌≡◌, ◌⊎◌, refl, subst, ◌∙◌}
 use Rattle.futures.specs.Poll.{IfReady, OnPending}
 use Rattle.shared_rounds.specs.declared.round.Round.TheVariants as round
 use Rattle.shared_rounds.specs.Entering.{Made}
-use Rattle.shared_flow.specs.Looks.{GaveIn, MadeRoom, MissedTwice, by_none}
+use Rattle.shared_flow.specs.Looks.{GaveIn, MadeRoomIn, MissedTwice, by_none}
 use Rattle.shared_flow.specs.Preludes.{IsGreeted, IsPast, GreetedOr}
 use Rattle.shared_flow.proofs.Waiting.{only_next}
-use Rattle.flow_stopping.proofs.Looking.{looked_on, looked_soon, received_since, room_now, room_then, rounds_since, since}
+use Rattle.flow_stopping.proofs.Looking.{looked_on, looked_soon, received_since, room_now, room_polled, room_then, rounds_since, since}
 use Rattle.flow_stopping.proofs.parker.StoppableParker.received.Goals as goal
 
 pub returns-in-Some : goal.returns-in-Some
@@ -25,11 +25,11 @@ returns-in-Ready g c =
     let read_as = g.T.Word.read_as in
     let gave = subst (λ p. IfReady p (λ v. GreetedOr turn v after (GaveIn read_as turn.reader v after.reader))) c.in-Ready.is c.poll_next-polled.ensures.ready in
     let rounds = subst (λ p. IfReady p (λ v. (after.party ≡ turn.party) ⊎ Made (round.Next turn.number) turn.party after.party)) c.in-Ready.is c.poll_next-polled.ensures.rounds in
-    let room = subst (λ p. IfReady p (λ v. IsGreeted turn v after ⊎ MadeRoom turn after)) c.in-Ready.is c.poll_next-polled.ensures.room in (
+    let room = subst (λ p. IfReady p (λ v. IsGreeted turn v after ⊎ MadeRoomIn turn after)) c.in-Ready.is c.poll_next-polled.ensures.room in (
       c.poll_next-polled.ensures.same ∙ (since before turn c.loop.invariant).0,
       rounds_since before turn after c.loop.invariant rounds,
       received_since read_as before turn after c.in-Ready.value c.loop.invariant gave,
-      room_then before turn after c.in-Ready.value c.loop.invariant (room_now turn after c.in-Ready.value room),
+      room_then before turn after c.in-Ready.value c.loop.invariant (room_polled turn after c.in-Ready.value room),
     )
 
 pub loop-preserved : goal.loop-preserved

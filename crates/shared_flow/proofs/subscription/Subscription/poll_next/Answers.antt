@@ -1,10 +1,13 @@
 use Rattle.std.proofs.Common.{⊎_elim, inl, inr, ap, ◌∙◌}
 use Rattle.shared_flow.specs.Parties.{Subscribed}
-use Rattle.shared_flow.proofs.Receiving.{if_ready, on_pending, next_since, pending_since}
+use Rattle.shared_flow.proofs.Receiving.{if_both, if_ready, on_pending, next_since, pending_since}
 use Rattle.shared_flow.proofs.subscription.Subscription.poll_next.Goals as goal
 
 pub returns-in-Some-clause-ready : goal.returns-in-Some-clause-ready
 returns-in-Some-clause-ready g c = ⊎_elim (λ greeted. inl greeted) (λ it. inr (it.0, inl it.1)) c.in-Some.ensures.given
+
+pub returns-in-Some-clause-room : goal.returns-in-Some-clause-room
+returns-in-Some-clause-room g c = ⊎_elim (λ greeted. inl greeted) (λ made. inr (inl made)) c.in-Some.ensures.room
 
 pub returns-in-None : goal.returns-in-None
 returns-in-None g c =
@@ -17,7 +20,9 @@ returns-in-None g c =
       rounds = if_ready c.look_again.result _ _ (λ v it. inr (next_since s m t missed.1 it)) c.look_again.ensures.rounds;
       same = c.look_again.ensures.same.0 ∙ ap (λ (x : Subscribed _). x.number) missed.1;
       ready = if_ready c.look_again.result _ _ (λ v it. inr ((missed.0.0, rest), inr (m.reader, missed.2, it))) c.look_again.ensures.ready;
-      room = if_ready c.look_again.result _ _ (λ v it. inr (inr (next_since s m t missed.1 it))) c.look_again.ensures.rounds;
+      room = if_both c.look_again.result _ _ _
+          (λ v gave it. inr (inr (m.reader, gave.0, missed.2, gave.2, next_since s m t missed.1 it, c.look_again.ensures.same.2 ∙ ap (λ (x : Subscribed _). x.looks) missed.1)))
+          c.look_again.ensures.ready c.look_again.ensures.rounds;
       pending = on_pending c.look_again.result _ _ (λ it. ((missed.0.0, rest), (m.reader, missed.2, it))) c.look_again.ensures.pending;
       armed = c.look_again.ensures.armed;
       kept = c.look_again.ensures.kept;

@@ -2,7 +2,7 @@ use Rattle.std.proofs.Common.{◌≡◌, ◌⊎◌, refl, sym, subst, ◌∙◌}
 use Rattle.futures.specs.Poll.{IfReady, OnPending}
 use Rattle.shared_rounds.specs.declared.round.Round.TheVariants as round
 use Rattle.shared_rounds.specs.Entering.{Made}
-use Rattle.shared_flow.specs.Looks.{GaveIn, MadeRoom, MissedTwice, once_more, by_none}
+use Rattle.shared_flow.specs.Looks.{GaveIn, MadeRoomIn, MissedTwice, once_more, by_none}
 use Rattle.shared_flow.specs.Preludes.{IsGreeted, IsPast, GreetedOr}
 use Rattle.shared_flow.proofs.Waiting.{only_next, only_pending, waited_on}
 use Rattle.shared_flow.proofs.Receiving.{has_room, has_room_at_once, past_given, past_room}
@@ -42,7 +42,7 @@ returns-in-Ready g c =
     let poll = c.poll_next-polled.ensures in
     let read = g.T.Word.read_as in
     let given = past_given m t v _ it.past (subst (λ p. IfReady p (λ v. GreetedOr m v t (GaveIn read m.reader v t.reader))) c.in-Ready.is poll.ready) in
-    let room = past_room m t v _ it.past (subst (λ p. IfReady p (λ v. IsGreeted m v t ⊎ MadeRoom m t)) c.in-Ready.is poll.room) in record {
+    let room = past_room m t v _ it.past (subst (λ p. IfReady p (λ v. IsGreeted m v t ⊎ MadeRoomIn m t)) c.in-Ready.is poll.room) in record {
       same = (poll.same ∙ it.same, given.0.1 ∙ sym c.requires.past);
       rounds = only_next _ _ _ _ _ it.same it.rounds (subst (λ p. IfReady p (λ v. (t.party ≡ m.party) ⊎ Made (round.Next m.number) m.party t.party)) c.in-Ready.is poll.rounds);
       value = waited_on read s.reader m.reader t.reader v it.missed given.1;

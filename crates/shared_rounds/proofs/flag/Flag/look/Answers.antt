@@ -3,4 +3,4 @@ use Rattle.shared_rounds.proofs.Flags.{looks}
 use Rattle.shared_rounds.proofs.flag.Flag.look.Goals as goal
 
 pub load-requires : goal.load-requires
-load-requires g c = (search rules, search rules, looks _ _ _ _)
+load-requires g c = (search rules, search rules, looks _ _ _ _ _)
