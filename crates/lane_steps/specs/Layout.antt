@@ -1,6 +1,6 @@
 -- Where the words of a lane lie in its table.
 use Rattle.std.specs.Prelude.{ℕ, ◌+◌, ◌*◌, ◌%◌}
-use Rattle.lane_steps.specs.declared.layout.TheConstants.{DISTANCE}
+use Rattle.lane_steps.specs.declared.words.TheConstants.{DISTANCE}
 use Rattle.lane_steps.specs.declared.view.Shape.{Shape}
 
 -- the number of the next emission that is accepted

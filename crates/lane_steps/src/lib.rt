@@ -30,18 +30,14 @@
 //! `index_of`, `index_from` and `next_index` touch no word and find the index of a number's cell.
 #![tactic(auto)]
 
-mod layout;
 mod plays;
 mod promises;
-mod reader;
 mod rule;
-mod seats;
-mod sequencer;
+mod steps;
 mod view;
 mod words;
 
-pub use layout::DISTANCE;
 pub use promises::{closed_cursors_stay, unread_values_stay};
 pub use rule::{LaneRule, Place};
 pub use view::{Known, Reading, Sequencing, Shape, View};
-pub use words::{CLOSED, Words};
+pub use words::{CLOSED, DISTANCE, Words};

@@ -1,18 +1,27 @@
-//! The table with the lane's words.
-ghost use Rattle.std.specs.Prelude.{◌≡◌, ℕ, ◌<◌, length, slice_index, IfOk};
+//! The words of a lane, in a table, and one function for each kind of atomic step on them.
+//!
+//! ```text
+//! word   0               D               2 D                    D places        D (1 + places)
+//!      [ tail | unused | cursor 0 | .. | cursor 1 | .. ..  .. | last cursor | .. | cell 0 | cell 1 | .. ]
+//! ```
+//!
+//! The tail and each cursor have `D` words to themselves ([`DISTANCE`]), since different threads write them. The cells
+//! are written by the sequencer alone, in order, and lie side by side.
+ghost use Rattle.std.specs.Prelude.{◌≡◌, ℕ, ◌<◌, ◌≤◌, length, slice_index, IfOk};
 ghost use Rattle.lane_steps.specs.Layout.{tail_word, cursor_word, width};
 ghost use Rattle.lane_steps.specs.Law.{closed, IsShape};
 
-use crate::layout::word_count;
 use crate::rule::LaneRule;
 use crate::view::{Shape, View};
 use atomic_table::Table;
 use std::alloc::{AllocError, Allocator};
 
-mod calls;
-
 /// The word of a closed cursor.
 pub const CLOSED: u64 = u64::MAX;
+
+/// How many words lie from one cursor to the next, and from the tail to the first: two cache lines of 64 bytes, since a
+/// processor fetches lines in pairs. docs/BENCHMARKS.md has what other distances cost.
+pub const DISTANCE: usize = 16;
 
 #[derive(Drop)]
 pub struct Words<A: Allocator> {
@@ -22,8 +31,17 @@ pub struct Words<A: Allocator> {
     pub ghost shaped: { (table.shared.key ≡ shape) × (table.shared.table_id.words ≡ width shape) × IsShape shape },
 }
 
+/// How many words a table of this shape has.
+#[tactic(auto, unfolding(crate::specs::Layout::width))]
+fn word_count(shape: &Shape) -> usize
+    requires { (shape.now.cells ≤ 65536) × (shape.now.places ≤ 1024) }
+    ensures { result ≡ width shape.now }
+{
+    DISTANCE + DISTANCE * shape.places + shape.cells
+}
+
 #[tactic(auto, using(crate::proofs::Apart::tail_within))]
-fn lay<A: Allocator + Clone>(alloc: A, shape: Shape) -> Result<Vec<u64, A>, AllocError>
+pub(crate) fn lay<A: Allocator + Clone>(alloc: A, shape: Shape) -> Result<Vec<u64, A>, AllocError>
     requires { IsShape shape }
     ensures sized { IfOk result (λ ws. length ws.items ≡ width shape) }
     ensures tail { IfOk result (λ ws. slice_index ws.items tail_word ≡ shape.first) }

@@ -15,7 +15,6 @@ mod laws;
 mod lock;
 mod log;
 mod rule;
-mod steps;
 #[cfg(test)]
 mod tests;
 

@@ -11,7 +11,7 @@ ghost use Rattle.shared_rounds.specs.Entering.{Made};
 ghost use Rattle.shared_rounds.specs.Rounds.{IsAfter, numbers_tried, poll_round, withdraw_round};
 ghost use Rattle.shared_flow.specs.Emitters.{emission_by, after_try, WasStarted, WasFinished, Waits, WasLeft, WasGivenUp};
 ghost use Rattle.shared_flow.specs.Emitters.{Emits, EndsAs, EndedWith, IfEmitted, Waited, begun_with};
-ghost use Rattle.shared_rounds.specs.Tries.{IfTried, IfBegun, TriedUnder, BegunUnder};
+ghost use Rattle.shared_rounds.specs.Tries.{IfTried, IfBegun, TriedUnder, BegunUnder, last_of_try, last_of_start};
 ghost use Rattle.shared_flow.specs.Parties.{IsSameEmitter, Emitting, IsItsReceipt, IsOwnReceipt, OfFlow, IfLeft, without_receipt};
 ghost use Rattle.shared_flow.specs.Owners.{HasHeard};
 
@@ -20,9 +20,7 @@ use flow_terms::{Refusal, Word};
 use futures::task::{Context, Poll};
 use shared_core::{Begun, Emit, Ticket, Tried, Withdrawn};
 use shared_lane::Receipt;
-use shared_rounds::{
-    Access, Bed, Emission, Polled, Released, Round, begun_ticket, last_begun, last_tried,
-};
+use shared_rounds::{Access, Bed, Emission, Polled, Released, Round, begun_ticket};
 use std::marker::{Model, PhantomData};
 use std::sync::Wait;
 
@@ -297,6 +295,30 @@ impl<T: Word> Emitter<T> {
         } = emitter;
         drop(access);
         withdrawn
+    }
+}
+
+// The last number that an emitter was answered, after a try.
+fn last_tried(last: Option<u64>, answer: &Result<Tried<u64>, Refusal>) -> Option<u64>
+    ensures { result ≡ last_of_try last answer.now }
+{
+    match answer {
+        Ok(Tried::Accepted(number)) => Some(*number),
+        Ok(Tried::Dropped) => last,
+        Ok(Tried::Full) => last,
+        Err(_) => last,
+    }
+}
+
+// The last number that an emitter was answered, after a start.
+fn last_begun(last: Option<u64>, answer: &Result<Begun<u64, Ticket>, Refusal>) -> Option<u64>
+    ensures { result ≡ last_of_start last answer.now }
+{
+    match answer {
+        Ok(Begun::Accepted(number)) => Some(*number),
+        Ok(Begun::Dropped) => last,
+        Ok(Begun::Waiting(_)) => last,
+        Err(_) => last,
     }
 }
 

@@ -32,7 +32,6 @@ pub use held::{Held, Kept};
 /// Contracts see the flow, which its owners, emitters and subscriptions have in common, and the rounds of this owner: the calls that
 /// it made under the lock, with their answers. All rounds of a flow are one list, and each owner's are its part of it; contracts see
 /// that list as far as this owner has seen it. They see too what it found under the lock, while a [`Held`] keeps that.
-#[derive(Drop)]
 pub struct SharedFlow<T: Word> {
     access: Access,
     marker: PhantomData<T>,
@@ -45,6 +44,14 @@ impl<T: Word> Model for SharedFlow<T> {
     ghost Value = { Owning };
 
     ghost view = { λ flow. record { party = party_of flow.access; held = flow.access.held } };
+}
+
+// By hand: who lets one go proves this call alone, and nothing of what it is made of.
+impl<T: Word> Drop for SharedFlow<T> {
+    fn drop(self) {
+        let SharedFlow { access, marker: _ } = self;
+        drop(access);
+    }
 }
 
 impl<T: Word> SharedFlow<T> {

@@ -11,11 +11,18 @@ use std::sync::Wait;
 /// What a thread sleeps by, while it waits in [`Emitter::emit`](crate::Emitter::emit) or
 /// [`Subscription::next`](crate::Subscription::next). Make one for each thread that waits, and use it for all of the thread's calls:
 /// a call borrows it as long as it waits, so that no two threads sleep by one.
-#[derive(Drop)]
 pub struct Parker {
     queue: Queue,
     // Whether a turn is set that no wait has taken yet: the next wait begins with it.
     is_set: bool,
+}
+
+// By hand: who lets one go proves this call alone, and nothing of what it is made of.
+impl Drop for Parker {
+    fn drop(self) {
+        let Parker { queue, is_set: _ } = self;
+        drop(queue);
+    }
 }
 
 impl Parker {

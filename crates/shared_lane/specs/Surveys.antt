@@ -6,7 +6,7 @@ use Rattle.lane_steps.specs.declared.view.View.{View}
 use Rattle.lane_steps.specs.Layout.{cursor_word}
 use Rattle.lane_steps.specs.Law.{closed}
 use Rattle.lane_steps.specs.Steps.{next_number, known_of, known_at, known_past}
-use Rattle.shared_lane.specs.declared.survey.Survey.{Survey}
+use Rattle.shared_lane.specs.declared.sequencer.Survey.{Survey}
 
 -- the loads of the cursors from the place p on, which found these
 abbrev pub cursor_loads : ℕ → List ℕ → List (ℕ × ℕ)

@@ -7,7 +7,7 @@ ghost use Rattle.lane_steps.specs.Steps.{next_number, IsRoomyAt};
 ghost use Rattle.shared_lane.specs.Surveys.{KnowsPlaces, MayDrop, Round, FoundAt, Cleared};
 ghost use Rattle.shared_lane.specs.Blocks.{HasRoom, LeavesRoom, entries, with_flight};
 
-use crate::survey::clear_one;
+use crate::sequencer::clear_one;
 use lane_steps::{CLOSED, Place, Words};
 use std::alloc::Allocator;
 

@@ -68,7 +68,6 @@ mod picking;
 mod reader;
 mod receipt;
 mod sequencer;
-mod survey;
 mod tickets;
 
 pub use closed::Closed;

@@ -1,9 +1,18 @@
 //! A reader: one subscriber's end of the lane.
+ghost use Rattle.std.specs.Prelude.{◌≡◌, ◌+◌, ◌<◌};
+ghost use Rattle.lane_steps.specs.Law.{Begins};
+ghost use Rattle.shared_lane.specs.Views.{reader_of};
+ghost use Rattle.shared_lane.specs.Kept.{IsReading};
+ghost use Rattle.shared_lane.specs.Readers.{IsReaderOf, IsReceiptOf, IsSameReader, TookNext, at, received_count, lost_count, end_of};
+
+use crate::closed::Closed;
+use crate::lane::Lane;
+use crate::receipt::Receipt;
 use lane_steps::Place;
+use std::alloc::Allocator;
 use std::marker::Model;
 
 mod blocks;
-mod calls;
 
 /// What an attempt to take the next value came to.
 #[derive(Clone, Copy, Debug, PartialEq, Eq)]
@@ -44,4 +53,111 @@ impl Model for Reader {
     ghost view = { λ r. reader_of r.seat };
 
     ghost invariant = { λ r. IsReading r.seat r.place r.start r.at r.cell r.taken };
+}
+
+impl Reader {
+    pub(crate) fn at_start(seat: Place, place: usize, start: u64, cell: usize) -> Reader
+        requires { IsReading seat place start start cell 0 }
+        ensures { result ≡ reader_of seat }
+    {
+        Reader {
+            seat,
+            place,
+            start,
+            at: start,
+            cell,
+            taken: 0,
+        }
+    }
+
+    /// Takes the next value, by two loads, a load of the value and one exchange; without a lock.
+    ///
+    /// `Nothing` where the tail that it loaded is its position: no accepted emission that it has seen, or was
+    /// [told](Reader::told), lies at or past it. `Overtaken` only on a lane that drops the oldest values. Kotlin has no
+    /// such call: there `collect` suspends where this answers `Nothing`.
+    pub fn try_next<A: Allocator>(&mut self, lane: &Lane<A>) -> Taken<u64>
+        requires { IsReaderOf lane.now self.old }
+        ensures same { IsReaderOf lane.now self.new × IsSameReader self.old self.new }
+        ensures taken { TookNext self.old result self.new }
+    {
+        let words = lane.words();
+        let at = words.load_own(&mut self.seat, self.place);
+        let cell = words.index_from(self.at, self.cell, at);
+        self.at = at;
+        self.cell = cell;
+        let tail = words.load_tail(&mut self.seat);
+        if tail == at {
+            return Taken::Nothing;
+        }
+        let word = words.load_cell(&mut self.seat, cell);
+        let found = words.receive(&mut self.seat, self.place, at);
+        if found != at {
+            self.at = found;
+            self.cell = words.index_of(found);
+            return Taken::Overtaken;
+        }
+        self.at = at + 1;
+        self.cell = words.next_index(cell);
+        self.taken += 1;
+        Taken::Value(word)
+    }
+
+    /// The reader hears of an accepted emission, by a load of the tail: from then on it has seen all that the receipt
+    /// holds. Its position stays.
+    pub fn told<A: Allocator>(&mut self, lane: &Lane<A>, receipt: &mut Receipt)
+        requires { IsReaderOf lane.now self.old × IsReceiptOf lane.now receipt.old }
+        ensures same { IsReaderOf lane.now self.new × IsSameReader self.old self.new × (self.new.story ≡ self.old.story) }
+        ensures receipt { receipt.new ≡ receipt.old }
+        ensures told { Begins self.new.seen receipt.old.seen }
+    {
+        let words = lane.words();
+        let copy = receipt.copied(lane);
+        words.hear(&mut self.seat, copy);
+        words.load_tail(&mut self.seat);
+    }
+
+    /// The number at which it began: that of the oldest value of the replay cache, as it was then.
+    pub fn start(&self) -> u64
+        ensures { result ≡ self.now.start }
+    {
+        self.start
+    }
+
+    /// How many values it received.
+    pub fn received(&self) -> u64
+        ensures { result ≡ received_count self.now }
+    {
+        self.taken
+    }
+
+    /// How many values were dropped for it, as far as it has seen.
+    pub fn dropped(&self) -> u64
+        ensures lost { result ≡ lost_count self.now }
+        ensures sum { self.now.start + received_count self.now + result ≡ at self.now }
+    {
+        self.at - self.start - self.taken
+    }
+
+    /// Closes its cursor, so that its place can be used again and holds nobody back. What was pending is given up.
+    ///
+    /// What it answers holds the seat that closed the cursor: by the lane's law the place is closed from then on, until the
+    /// sequencer opens it again. The sequencer knows so once it is [told](crate::Sequencer::told_end).
+    pub fn close<A: Allocator>(self, lane: &Lane<A>) -> Closed
+        requires { IsReaderOf lane.now self }
+        ensures { result ≡ end_of self }
+    {
+        let start = self.start();
+        let received = self.received();
+        let dropped = self.dropped();
+        let Reader {
+            mut seat,
+            place,
+            start: _,
+            at: _,
+            cell: _,
+            taken: _,
+        } = self;
+        lane.words().quit(&mut seat, place);
+        Closed::of(seat, start, received, dropped)
+    }
 }

@@ -20,7 +20,7 @@ use Rattle.shared_lane.proofs.Sameness.{loaded_twice}
 use Rattle.shared_rounds.specs.declared.round.Emission.{Emission}
 use Rattle.shared_rounds.specs.declared.round.Round.{Round}
 use Rattle.shared_rounds.specs.declared.round.Round.TheVariants as round
-use Rattle.shared_rounds.specs.Entering.{IsCalled}
+use Rattle.shared_rounds.specs.Entering.{IsCalled, Left, LeftAs}
 use Rattle.shared_rounds.specs.Names.{SharedSeen}
 use Rattle.shared_rounds.specs.Tries.{ticket_of}
 use Rattle.shared_rounds.proofs.Numbers.{same_log}
@@ -175,6 +175,10 @@ left_receipt lane emitter last withdrawn.Gone (Some r) it = let no : ⊥ = cc (i
 -- those were helped whom a round helps
 pub helped_by : (before : ℕ) (s x t : SharedSeen) (r : Round) (ended : Option ℕ) → before ≡ next s.sequencer → ended ≡ ended_by r → Helps before ended x t → Helps (next s.sequencer) (ended_by r) x t
 helped_by before s x t r ended since is helps = subst (λ e. Helps (next s.sequencer) e x t) is (subst (λ n. Helps n ended x t) since helps)
+
+-- a round that was left is the one that was picked
+pub as_picked : (picked : Option Round) (x : Round) (called : SharedSeen) (r s : Reach) → picked ≡ Some x → Left x called r s → LeftAs picked called r s
+as_picked picked x called r s is left y other = subst (λ (z : Round). Left z called r s) (same_Some x y (sym is ∙ other)) left
 
 -- a look under the lock changes nothing of the sequencer, whatever it finds
 pub look_makes : (lane : LaneSeen) (q : SequencerSeen) (number : ℕ) (found : Taken ℕ) → Makes lane q (look_round number found) q

@@ -1,12 +1,12 @@
 -- What an owner finds as it takes the lock, and the round that it makes of that.
-use Rattle.std.specs.Prelude.{◌≡◌, ℕ, ◌++◌, [], ◌∷◌, Some, None}
+use Rattle.std.specs.Prelude.{◌≡◌, ℕ, ◌++◌, [], ◌∷◌, Option, Some, None}
 use Rattle.round_lock.specs.History.{After, Begins, own_of}
 use Rattle.shared_lane.specs.Sequencers.{OnlyLoaded, next}
 use Rattle.shared_rounds.specs.declared.round.Round.{Round}
 use Rattle.shared_rounds.specs.Names.{SharedSeen, IsNew}
 use Rattle.shared_rounds.specs.Reach.{Party, Reach, Rounds, with_round}
 use Rattle.shared_rounds.specs.Rounds.{Comes, Does}
-use Rattle.shared_rounds.specs.Waking.{Lies}
+use Rattle.shared_rounds.specs.Waking.{Lies, ended_by}
 
 -- what some list of rounds left of a new flow
 abbrev pub IsLeftBy : SharedSeen → Rounds → SharedSeen → Type 0
@@ -25,6 +25,10 @@ pub record Found (p : Party) (found : SharedSeen) (seen : Rounds) : Type 0 where
 abbrev pub IsCalled : Reach → ℕ → Round → SharedSeen → Type 0
 IsCalled r before round called = (found : SharedSeen) × (r.held ≡ Some found) × Comes found round called × Lies found round called × (before ≡ next found.sequencer)
 
+-- the same of the round that a step of the lock picks, and which ended this subscription
+abbrev pub IsCalledAs : Reach → ℕ → Option Round → Option ℕ → SharedSeen → Type 0
+IsCalledAs r before picked ended called = (round : Round) × (picked ≡ Some round) × (ended ≡ ended_by round) × IsCalled r before round called
+
 -- the owner has the lock no more: its rounds, and what it has seen, grew by this one, which left this
 abbrev pub left_with : Round → SharedSeen → Reach → Reach
 left_with round left r = record r { held = None; rounds = r.rounds ++ round ∷ []; seen = r.seen ++ (r.pass, round, left) ∷ [] }
@@ -38,6 +42,10 @@ pub record Left (round : Round) (called : SharedSeen) (r s : Reach) : Type 0 whe
   pub does : Does found round left
   pub only : OnlyLoaded called.sequencer left.sequencer
   pub after : s ≡ left_with round left r
+
+-- the same of the round that was picked
+abbrev pub LeftAs : Option Round → SharedSeen → Reach → Reach → Type 0
+LeftAs picked called r s = (round : Round) → picked ≡ Some round → Left round called r s
 
 -- A party made a round. The list of rounds before it left what it found, and has the party's own rounds as its part; the round left
 -- this of that, and is the next of the list

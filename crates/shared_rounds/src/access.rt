@@ -6,18 +6,18 @@ ghost use Rattle.shared_lane.specs.Sequencers.{next};
 ghost use Rattle.shared_rounds.specs.declared.round.Round.TheVariants as round;
 ghost use Rattle.shared_rounds.specs.Flags.{looked_at};
 ghost use Rattle.shared_rounds.specs.Names.{FoundDown, FoundUp, IsFlagOf, IsNew, KnowsLane};
-ghost use Rattle.shared_rounds.specs.Entering.{Found, IsCalled, Left};
+ghost use Rattle.shared_rounds.specs.Entering.{Found, IsCalled, IsCalledAs, Left, LeftAs};
 ghost use Rattle.shared_rounds.specs.Reach.{party_of, reach_of};
 ghost use Rattle.shared_rounds.specs.Rounds.{Below};
 ghost use Rattle.shared_rounds.specs.Sleeping.{NobodySleeps};
-ghost use Rattle.shared_rounds.specs.Waking.{Helps};
+ghost use Rattle.shared_rounds.specs.Waking.{Helps, ended_by as the_ended_by};
 
-use crate::flag::{Looker, Stands};
+use crate::flag::Stands;
 use crate::looking::{LOOKS, pause};
-use crate::round::{Round, ended_by};
+use crate::round::Round;
 use crate::shared::Shared;
-use crate::track::Track;
-use crate::wakes::Wakes;
+use crate::sleepers::Wakes;
+use crate::track::{Looker, Track};
 use flow_terms::{Refusal, Word};
 use round_lock::{Guarded, Lock, Made};
 use shared_core::Config;
@@ -29,7 +29,6 @@ use std::sync::{Arc, Wait};
 /// An owner of the lock and of the lane, with room for those whom one call wakes. It keeps none of them beyond that call. Contracts
 /// see which lock it is, the flow, what the owner holds while it has the lock, its number, its own rounds, and the one list of rounds
 /// as far as it has seen it.
-#[derive(Drop)]
 pub struct Access {
     lock: Lock<Box<Shared>, Round>,
     track: Arc<Track, Global>,
@@ -51,6 +50,22 @@ impl Model for Access {
     ghost view = { λ a. reach_of (λ s. s.value) a.lock };
 
     ghost invariant = { λ a. KnowsFlow a.config (reach_of (λ s. s.value) a.lock).flow (arc_value a.track) × NobodySleeps a.wakes.subscriptions × (a.wakes.wakers.items ≡ []) };
+}
+
+// By hand: who lets one go proves this call alone, and nothing of what it is made of.
+impl Drop for Access {
+    fn drop(self) {
+        let Access {
+            lock,
+            track,
+            wakes,
+            alloc: _,
+            config: _,
+        } = self;
+        drop(lock);
+        drop(track);
+        drop(wakes);
+    }
 }
 
 /// What lies under the lock, for one who has taken it. It has no `Drop`, so that it is given back, by [`Access::leave`].
@@ -147,9 +162,7 @@ impl Access {
         requires round { IsCalled self.old inside.before round inside.guarded.state.value }
         ensures left { Left round inside.guarded.state.value self.old self.new }
     {
-        let guarded = helped(&mut self.wakes, inside, ended_by(&round));
-        self.lock.put(rt, guarded, round);
-        self.wakes.fire();
+        self.leave_as::<Brand, _>(rt, inside, ended_by(&round), &round);
     }
 
     /// Who has the lock meets another owner of it: both have seen the same rounds then, and the other's own are its part of them.
@@ -176,9 +189,7 @@ impl Access {
         requires round { IsCalled self.old inside.before (round.TryAll emitter (map T.word values.now) answer) inside.guarded.state.value }
         ensures left { Left (round.TryAll emitter (map T.word values.now) answer) inside.guarded.state.value self.old self.new }
     {
-        let guarded = helped(&mut self.wakes, inside, None);
-        self.lock.put_as::<M>(rt, guarded);
-        self.wakes.fire();
+        self.leave_as::<M, _>(rt, inside, None, &());
     }
 
     /// Leaves as `leave` does, after the replay cache was read: the round has the words that it had.
@@ -186,8 +197,22 @@ impl Access {
         requires round { IsCalled self.old inside.before (round.Cache (Ok inside.guarded.state.value.sequencer.cache)) inside.guarded.state.value }
         ensures left { Left (round.Cache (Ok inside.guarded.state.value.sequencer.cache)) inside.guarded.state.value self.old self.new }
     {
-        let guarded = helped(&mut self.wakes, inside, None);
-        self.lock.put_as::<Brand>(rt, guarded);
+        self.leave_as::<Brand, _>(rt, inside, None, &());
+    }
+
+    // Leaves with the round that the proof picks, where it can by what the call is shown.
+    fn leave_as<M: Made<Round>, P>(
+        &mut self,
+        rt: &impl Wait,
+        inside: Inside,
+        ended: Option<u64>,
+        _shown: &P,
+    )
+        requires round { IsCalledAs self.old inside.before M.entry ended inside.guarded.state.value }
+        ensures left { LeftAs M.entry inside.guarded.state.value self.old self.new }
+    {
+        let guarded = helped(&mut self.wakes, inside, ended);
+        self.lock.put_as::<M>(rt, guarded);
         self.wakes.fire();
     }
 }
@@ -220,6 +245,16 @@ fn helped(wakes: &mut Wakes, inside: Inside, ended: Option<u64>) -> Guarded<Box<
     } = inside;
     guarded.state.help(before, ended, wakes);
     guarded
+}
+
+// The subscription that a round ends.
+fn ended_by(round: &Round) -> Option<u64>
+    ensures { result ≡ the_ended_by round.now }
+{
+    match round {
+        Round::Cancel(number) => Some(*number),
+        _ => None,
+    }
 }
 
 // Puts it under a lock, whose first owner has made no call.

@@ -18,11 +18,10 @@ mod round;
 mod shared;
 mod sleepers;
 mod track;
-mod wakes;
 
 pub use access::{Access, Inside};
-pub use flag::Looker;
 pub use looking::{LOOKS, pause};
-pub use round::{Emission, Round, begun_ticket, last_begun, last_tried};
+pub use round::{Emission, Round, begun_ticket};
 pub use shared::{Admitted, Polled, Released, Shared};
 pub use sleepers::Bed;
+pub use track::Looker;

@@ -1,7 +1,6 @@
 //! What the history of a flow is made of: the calls that were made under its lock, with their answers.
 ghost use Rattle.std.specs.Prelude.{◌≡◌};
-ghost use Rattle.shared_rounds.specs.Tries.{last_of_try, last_of_start, ticket_of};
-ghost use Rattle.shared_rounds.specs.Waking.{ended_by as the_ended_by};
+ghost use Rattle.shared_rounds.specs.Tries.{ticket_of};
 
 use flow_terms::Refusal;
 use shared_core::{Begun, Emit, Ticket, Tried, Withdrawn};
@@ -53,16 +52,6 @@ pub enum Round {
     Hold(u32),
 }
 
-/// The subscription that a round ends.
-pub(crate) fn ended_by(round: &Round) -> Option<u64>
-    ensures { result ≡ the_ended_by round.now }
-{
-    match round {
-        Round::Cancel(number) => Some(*number),
-        _ => None,
-    }
-}
-
 /// The ticket of an emission that isn't finished.
 pub fn begun_ticket(begun: &Result<Begun<u64, Ticket>, Refusal>) -> Option<Ticket>
     ensures { result ≡ ticket_of begun.now }
@@ -72,29 +61,5 @@ pub fn begun_ticket(begun: &Result<Begun<u64, Ticket>, Refusal>) -> Option<Ticke
         Ok(Begun::Accepted(_)) => None,
         Ok(Begun::Dropped) => None,
         Err(_) => None,
-    }
-}
-
-/// The last number that an emitter was answered, after a try.
-pub fn last_tried(last: Option<u64>, answer: &Result<Tried<u64>, Refusal>) -> Option<u64>
-    ensures { result ≡ last_of_try last answer.now }
-{
-    match answer {
-        Ok(Tried::Accepted(number)) => Some(*number),
-        Ok(Tried::Dropped) => last,
-        Ok(Tried::Full) => last,
-        Err(_) => last,
-    }
-}
-
-/// The last number that an emitter was answered, after a start.
-pub fn last_begun(last: Option<u64>, answer: &Result<Begun<u64, Ticket>, Refusal>) -> Option<u64>
-    ensures { result ≡ last_of_start last answer.now }
-{
-    match answer {
-        Ok(Begun::Accepted(number)) => Some(*number),
-        Ok(Begun::Dropped) => last,
-        Ok(Begun::Waiting(_)) => last,
-        Err(_) => last,
     }
 }

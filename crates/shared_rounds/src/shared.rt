@@ -1,30 +1,37 @@
 //! What lies under the lock.
-ghost use Rattle.std.specs.Prelude.{◌≡◌, ◌≤◌, ◌<◌, ◌≢◌, Some, IfOk, IfSome, IfNone, IsOkUnless};
+ghost use Rattle.std.specs.Prelude.{◌≡◌, ◌≤◌, ◌<◌, ◌≢◌, Some, IfOk, IfSome, IfNone, IsOkUnless, ◌⊎◌, ℕ, IfErr, true, false};
 ghost use Rattle.shared_core.specs.Kept.{making_refusal};
 ghost use Rattle.shared_lane.specs.Sequencers.{IsFresh, IsSameSequencer, IsSequencerOf, OnlyLoaded, next};
 ghost use Rattle.shared_rounds.specs.Names.{HasRoom, IsNew};
-ghost use Rattle.shared_rounds.specs.Rounds.{Does};
-ghost use Rattle.shared_rounds.specs.Sleeping.{NobodySleeps, OnlyThese};
-ghost use Rattle.shared_rounds.specs.Waking.{Helps, IsTied, WakesEmissions};
+ghost use Rattle.shared_rounds.specs.Rounds.{Does, Comes, MakesAfterScan, RaisedFor, Watched, IsAfter, IsNotAfter, IsReceiptAfter, HasSeenUpTo};
+ghost use Rattle.shared_rounds.specs.Rounds.{HasReceipt, IsLastAccepted, IsReceiptFor, IsReceiptOfOne, numbers_tried, poll_round, withdraw_round};
+ghost use Rattle.shared_rounds.specs.Rounds.{number_done as the_number_done, number_left as the_number_left};
+ghost use Rattle.shared_rounds.specs.Sleeping.{NobodySleeps, OnlyThese, LiesDown};
+ghost use Rattle.shared_rounds.specs.Waking.{Helps, IsTied, WakesEmissions, SleepOn};
+ghost use Rattle.flow_terms.specs.declared.refusal.Refusal.TheVariants.{Spent, EmitsFull};
+ghost use Rattle.futures.specs.Task.{IsArmed, Keeps};
+ghost use Rattle.shared_lane.specs.Places.{IsAccepted};
+ghost use Rattle.shared_lane.specs.Polls.{IsOutFor, IsNotOut, PolledOn, WithdrawnFrom};
+ghost use Rattle.shared_rounds.specs.Tries.{IfTried, IfBegun, TriedUnder, BegunUnder};
+ghost use Rattle.flow_terms.specs.declared.answers.Emit.TheVariants as emit;
+ghost use Rattle.flow_terms.specs.declared.answers.Withdrawn.TheVariants as withdrawn;
+ghost use Rattle.shared_rounds.specs.declared.round.Round.TheVariants as round;
 
-use crate::flag::{Flag, Keeper};
-use crate::round::Round;
-use crate::sleepers::Sleepers;
-use crate::track::Track;
-use crate::wakes::Wakes;
+use crate::round::{Emission, Round, begun_ticket};
+use crate::sleepers::{Bed, Sleepers, Wakes};
+use crate::track::{Flag, Keeper, Track};
 use flow_terms::{Policy, Refusal};
+use futures::task::{Context, Poll};
 use round_lock::Called;
-use shared_core::Config;
-use shared_lane::{Lane, Sequencer};
+use shared_core::{Begun, Config, Emit, Ticket, Tried, Withdrawn};
+use shared_lane::{Lane, Receipt, Sequencer};
 use std::alloc::{AllocError, Global};
 use std::marker::Model;
 use std::sync::Arc;
 
 mod blocks;
-mod emissions;
 mod subscriptions;
 
-pub use emissions::{Polled, Released};
 pub use subscriptions::Admitted;
 
 /// The sequencer of a flow, an owner of its lane, and those that sleep until something changes. Contracts see which flow it is, the
@@ -166,5 +173,251 @@ impl Shared {
         }
         let below = self.sequencer.finished_below(self.track.lane());
         self.emissions.wake_done(&self.sequencer, below, wakes);
+    }
+}
+
+// Emissions, by one who holds the lock.
+/// What a poll of an emission came to, with a receipt for one that is done.
+pub struct Polled {
+    /// The answer, with the number of an emission that is done.
+    pub emit: Emit,
+    /// None too where the ticket stands for an emission that isn't the emitter's latest.
+    pub receipt: Option<Receipt>,
+}
+
+/// What became of an emission that was given up, with a receipt for one that had been accepted.
+pub struct Released {
+    /// The answer, with the number of an emission that had been accepted.
+    pub withdrawn: Withdrawn<u64>,
+    /// None too where the ticket stands for an emission that isn't the emitter's latest.
+    pub receipt: Option<Receipt>,
+}
+
+impl Shared {
+    /// Emits a word where that can be done at once. An accepted emission is the last then, with the number in the answer.
+    pub fn try_emit(&mut self, emission: Emission) -> Result<Tried<u64>, Refusal>
+        ensures does { Comes self.old (round.Try emission result) self.new }
+        ensures asleep { SleepOn self.old self.new }
+        ensures last { IfTried result (IsLastAccepted self.new.sequencer emission) }
+        ensures later { IfTried result (λ n. next self.old.sequencer ≤ n) }
+        ensures refused { IfErr result (λ refusal. refusal ≡ Spent) }
+        ensures policy { TriedUnder self.old.name.config.policy result }
+    {
+        let Emission { emitter, word } = emission;
+        self.sequencer.try_emit(self.track.lane(), emitter, word)
+    }
+
+    /// The answer of a try, with a receipt in the place of its number.
+    pub fn tried_with_receipt(
+        &mut self,
+        emission: Emission,
+        answer: Result<Tried<u64>, Refusal>,
+    ) -> Result<Tried<Receipt>, Refusal>
+        requires { IfTried answer (IsLastAccepted self.old.sequencer emission) }
+        ensures same { self.new ≡ self.old }
+        ensures numbers { answer ≡ numbers_tried result }
+        ensures receipt { IfTried result (IsReceiptFor self.old.name.lane emission) }
+    {
+        match answer? {
+            Tried::Accepted(number) => Ok(Tried::Accepted(self.receipt(emission.emitter, number))),
+            Tried::Dropped => Ok(Tried::Dropped),
+            Tried::Full => Ok(Tried::Full),
+        }
+    }
+
+    /// Begins an emission. One that was accepted and is finished is the last then, with the number in the answer.
+    pub fn start_emit(&mut self, emission: Emission) -> Result<Begun<u64, Ticket>, Refusal>
+        ensures does { Comes self.old (round.Start emission result) self.new }
+        ensures asleep { SleepOn self.old self.new }
+        ensures last { IfBegun result (IsLastAccepted self.new.sequencer emission) }
+        ensures later { IfBegun result (λ n. next self.old.sequencer ≤ n) }
+        ensures refused { IfErr result (λ refusal. (refusal ≡ Spent) ⊎ (refusal ≡ EmitsFull)) }
+        ensures policy { BegunUnder self.old.name.config.policy result }
+    {
+        let begun = self.begun(emission);
+        self.watch(begun_ticket(&begun));
+        begun
+    }
+
+    /// The answer of a start, with a receipt in the place of its number, and without its ticket, which stays with the emitter.
+    pub fn begun_with_receipt(
+        &mut self,
+        emission: Emission,
+        answer: Result<Begun<u64, Ticket>, Refusal>,
+    ) -> Result<Begun<Receipt, ()>, Refusal>
+        requires { IfBegun answer (IsLastAccepted self.old.sequencer emission) }
+        ensures same { self.new ≡ self.old }
+        ensures begins { HasReceipt self.old.name.lane emission answer result }
+    {
+        match answer? {
+            Begun::Accepted(number) => Ok(Begun::Accepted(self.receipt(emission.emitter, number))),
+            Begun::Dropped => Ok(Begun::Dropped),
+            Begun::Waiting(_) => Ok(Begun::Waiting(())),
+        }
+    }
+
+    // Where an emission isn't finished, who receives has to take the lock from now on. The cursors are looked at once more after
+    // that: a receipt that came before has made room already.
+    fn watch(&mut self, ticket: Option<Ticket>)
+        ensures same { (self.new.name ≡ self.old.name) × IsSameSequencer self.old.sequencer self.new.sequencer × SleepOn self.old self.new }
+        ensures raised { RaisedFor ticket self.old.sequencer self.new.raised }
+        ensures watched { Watched ticket self.old.sequencer self.new.sequencer }
+    {
+        let Some(_) = ticket else {
+            return;
+        };
+        self.track
+            .raise_unfinished(&mut self.keeper, &self.sequencer);
+        self.sequencer.scan(self.track.lane());
+    }
+
+    // Without looking at the cursors once more, where it isn't finished.
+    fn begun(&mut self, emission: Emission) -> Result<Begun<u64, Ticket>, Refusal>
+        ensures same { (self.new.name ≡ self.old.name) × IsSameSequencer self.old.sequencer self.new.sequencer × SleepOn self.old self.new }
+        ensures made { MakesAfterScan self.old (round.Start emission result) self.new }
+        ensures refused { IfErr result (λ refusal. (refusal ≡ Spent) ⊎ (refusal ≡ EmitsFull)) }
+        ensures policy { BegunUnder self.old.name.config.policy result }
+    {
+        let Emission { emitter, word } = emission;
+        self.sequencer.start_emit(self.track.lane(), emitter, word)
+    }
+
+    // A receipt for an emission of this emitter that was accepted.
+    fn receipt(&mut self, emitter: u32, number: u64) -> Receipt
+        requires { IsAccepted self.old.sequencer emitter number }
+        ensures same { self.new ≡ self.old }
+        ensures receipt { IsReceiptOfOne self.old.name.lane emitter result }
+        ensures seen { HasSeenUpTo self.old.sequencer result }
+        ensures number { result.number ≡ number }
+    {
+        self.sequencer.receipt(self.track.lane(), emitter, number)
+    }
+
+    // Whether a ticket is out for an emission of this emitter.
+    fn is_of(&self, ticket: Ticket, emitter: u32) -> bool
+        ensures own { result ≡ true → IsOutFor self.now.sequencer ticket.0 emitter }
+        ensures other { result ≡ false → IsNotOut self.now.sequencer ticket.0 ⊎ ((x : ℕ) × (x ≢ emitter) × IsOutFor self.now.sequencer ticket.0 x) }
+    {
+        match self.sequencer.emitter_of(ticket) {
+            Some(id) => id == emitter,
+            None => false,
+        }
+    }
+
+    // A receipt for the emission that a ticket stood for, if it was accepted: where it is this emitter's own, with a number above the last.
+    fn own_receipt(
+        &mut self,
+        is_own: bool,
+        emitter: u32,
+        last: Option<u64>,
+        number: Option<u64>,
+    ) -> Option<Receipt>
+        requires { is_own ≡ true → IfSome number (λ n. IsAccepted self.old.sequencer emitter n) }
+        ensures same { self.new ≡ self.old }
+        ensures receipt { IfSome result (λ r. (number ≡ Some r.number) × IsReceiptAfter self.old.name.lane emitter last r) }
+        ensures none { IfNone result (IfSome number (λ n. (is_own ≡ false) ⊎ IsNotAfter last n)) }
+    {
+        let number = number?;
+        if !is_own || !is_after(last, number) {
+            return None;
+        }
+        Some(self.receipt(emitter, number))
+    }
+
+    /// Asks whether an emission of this emitter is finished, and makes a receipt for one that is, with a number above the last.
+    pub fn poll_emit(&mut self, ticket: Ticket, emitter: u32, last: Option<u64>) -> Polled
+        ensures does { Comes self.old (poll_round ticket emitter last result.emit result.receipt) self.new }
+        ensures asleep { SleepOn self.old self.new }
+        ensures receipt { IfSome result.receipt (λ r. (result.emit ≡ emit.Done r.number) × IsReceiptAfter self.old.name.lane emitter last r) }
+    {
+        self.sequencer.scan(self.track.lane());
+        let is_own = self.is_of(ticket, emitter);
+        let emit = self.poll_ticket(ticket);
+        let receipt = self.own_receipt(is_own, emitter, last, number_done(emit));
+        Polled { emit, receipt }
+    }
+
+    // Asks whether the emission with this ticket is finished.
+    fn poll_ticket(&mut self, ticket: Ticket) -> Emit
+        ensures same { (self.new.name ≡ self.old.name) × IsSameSequencer self.old.sequencer self.new.sequencer × SleepOn self.old self.new }
+        ensures polled { PolledOn self.old.sequencer ticket.0 result self.new.sequencer }
+    {
+        self.sequencer.poll_emit(self.track.lane(), ticket)
+    }
+
+    // Gives the emission with this ticket up.
+    fn give_ticket_up(&mut self, ticket: Ticket) -> Withdrawn<u64>
+        ensures same { (self.new.name ≡ self.old.name) × IsSameSequencer self.old.sequencer self.new.sequencer × SleepOn self.old self.new }
+        ensures withdrawn { WithdrawnFrom self.old.sequencer ticket.0 result self.new.sequencer }
+    {
+        self.sequencer.cancel_emit(self.track.lane(), ticket)
+    }
+
+    /// Gives an emission of this emitter up, and makes a receipt for one that was accepted before.
+    pub fn cancel_emit(&mut self, ticket: Ticket, emitter: u32, last: Option<u64>) -> Released
+        ensures does { Comes self.old (withdraw_round ticket emitter last result.withdrawn result.receipt) self.new }
+        ensures asleep { SleepOn self.old self.new }
+        ensures receipt { IfSome result.receipt (λ r. (result.withdrawn ≡ withdrawn.Left r.number) × IsReceiptAfter self.old.name.lane emitter last r) }
+    {
+        self.sequencer.scan(self.track.lane());
+        let is_own = self.is_of(ticket, emitter);
+        let withdrawn = self.give_ticket_up(ticket);
+        let receipt = self.own_receipt(is_own, emitter, last, number_left(withdrawn));
+        Released { withdrawn, receipt }
+    }
+
+    /// What a poll of an emission that isn't finished does before it answers: its task sleeps. Where its ticket isn't out, which
+    /// no run of an `Emitter` shows, it asks to be polled again.
+    pub fn sleep_emission(
+        &mut self,
+        ticket: Ticket,
+        answer: Emit,
+        bed: &mut Bed,
+        cx: &mut Context<'_>,
+    )
+        ensures same { self.new ≡ record self.old { emissions = self.new.emissions } }
+        ensures waits { answer ≡ emit.Waiting → LiesDown ticket.0 self.old.emissions self.new.emissions }
+        ensures others { answer ≢ emit.Waiting → self.new ≡ self.old }
+        ensures armed { IsArmed cx.new }
+        ensures kept { Keeps cx.old cx.new }
+    {
+        if let Emit::Waiting = answer {
+            self.emissions.sleep(ticket.0, bed, cx);
+            return;
+        }
+        let _again: Poll<()> = cx.yield_now();
+    }
+}
+
+// Whether a number is above the last one that an emitter was answered.
+fn is_after(last: Option<u64>, number: u64) -> bool
+    ensures above { result ≡ true → IsAfter last number }
+    ensures not { result ≡ false → IsNotAfter last number }
+{
+    match last {
+        None => true,
+        Some(last) => last < number,
+    }
+}
+
+// The number of the emission that a poll found finished.
+fn number_done(emit: Emit) -> Option<u64>
+    ensures { result ≡ the_number_done emit }
+{
+    match emit {
+        Emit::Done(number) => Some(number),
+        Emit::Waiting => None,
+        Emit::Gone => None,
+    }
+}
+
+// The number of the emission that had been accepted when it was given up.
+fn number_left(withdrawn: Withdrawn<u64>) -> Option<u64>
+    ensures { result ≡ the_number_left withdrawn }
+{
+    match withdrawn {
+        Withdrawn::Left(number) => Some(number),
+        Withdrawn::Removed => None,
+        Withdrawn::Gone => None,
     }
 }

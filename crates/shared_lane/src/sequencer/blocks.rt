@@ -5,8 +5,7 @@ ghost use Rattle.lane_steps.specs.Steps.{IsRoomyAt};
 ghost use Rattle.shared_lane.specs.Sequencers.{IsSequencerOf, IsSameSequencer, OnlyLoaded, Rounded, HasNumber, RefusedTry, AfterScan, next};
 ghost use Rattle.shared_lane.specs.Blocks.{entries, accepted_all, RoundedFor, AcceptedSome, TriedAllOn};
 
-use super::Sequencer;
-use super::state::LIMIT;
+use super::{LIMIT, Sequencer};
 use crate::blocks::{clear_room, load_room, store_cells};
 use crate::lane::Lane;
 use flow_terms::{Policy, Refusal};

@@ -1,18 +1,16 @@
-//! Subscriber places and receipts.
-ghost use Rattle.std.specs.Prelude.{◌≡◌, ◌+◌, ◌-◌, take, IfOk, IfErr};
+//! Subscriber places, and what the sequencer is told.
+ghost use Rattle.std.specs.Prelude.{◌≡◌, ◌+◌, ◌-◌, IfOk, IfErr};
 ghost use Rattle.lane_steps.specs.Law.{Begins};
 ghost use Rattle.shared_lane.specs.Readers.{IsReaderOf, IsReceiptOf};
 ghost use Rattle.shared_lane.specs.Sequencers.{IsSequencerOf, OnlyLoaded, seen};
 ghost use Rattle.shared_lane.specs.Surveys.{OpensNone};
-ghost use Rattle.shared_lane.specs.Places.{LetIn, NotLetIn, Counted, IsAccepted, LosesNothing, KnowsEndOf, told_of_end};
+ghost use Rattle.shared_lane.specs.Places.{LetIn, NotLetIn, Counted, LosesNothing, KnowsEndOf, told_of_end};
 
-use super::Sequencer;
-use super::state::LIMIT;
+use super::{LIMIT, Sequencer, find_closed, load_cursors};
 use crate::closed::Closed;
 use crate::lane::Lane;
 use crate::reader::Reader;
 use crate::receipt::Receipt;
-use crate::survey::{find_closed, load_cursors};
 use flow_terms::Refusal;
 use std::alloc::Allocator;
 
@@ -48,19 +46,6 @@ impl<A: Allocator> Sequencer<A> {
         let seat = words.hand_out(&mut self.seat, place);
         self.subscription += 1;
         Ok(Reader::at_start(seat, place, start, words.index_of(start)))
-    }
-
-    /// A receipt for an emission that was accepted. It takes no memory.
-    pub fn receipt<B: Allocator>(&mut self, lane: &Lane<B>, emitter: u32, number: u64) -> Receipt
-        requires { IsSequencerOf lane.now self.old × IsAccepted self.old emitter number }
-        ensures same { self.new ≡ self.old }
-        ensures receipt { IsReceiptOf lane.now result × (result.emitter ≡ emitter) × (result.number ≡ number) }
-        ensures seen { result.seen ≡ take (number + 1 - self.old.view.shape.first) (seen self.old) }
-    {
-        let own = &mut self.seat;
-        let words = lane.words();
-        let seat = words.copy_seen(own, number + 1 - words.shape.first);
-        Receipt::of(seat, emitter, number)
     }
 
     /// The sequencer hears of an accepted emission: the receipt holds the beginning of what it accepted.

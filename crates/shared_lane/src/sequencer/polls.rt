@@ -1,15 +1,14 @@
 //! Emissions whose tickets are out: they are polled and withdrawn.
-ghost use Rattle.std.specs.Prelude.{◌≡◌, ◌≢◌, ◌⊎◌, ◌<◌, ◌+◌, ℕ, List, [], length, slice_get, Some, MatchOption, IfSome, IfNone, true, false};
+ghost use Rattle.std.specs.Prelude.{◌≡◌, ◌<◌, ℕ, List, length, slice_get, Some, MatchOption};
 ghost use Rattle.shared_lane.specs.declared.tickets.Standing.{Standing};
-ghost use Rattle.shared_lane.specs.Sequencers.{IsSequencerOf, IsSameSequencer, OnlyLoaded, seen};
+ghost use Rattle.shared_lane.specs.Sequencers.{IsSequencerOf, IsSameSequencer, OnlyLoaded};
 ghost use Rattle.shared_lane.specs.Polls.{given_back, withdrawn_from, Loaded, PolledOn, WithdrawnFrom, NoneStands};
 ghost use Rattle.shared_lane.specs.Polls.{NoneWaits, StandsAt, WaitsAt, IsNotOut, IsOutFor, IsFinishedBelow, stands_below};
 ghost use Rattle.shared_lane.specs.Places.{IsAccepted};
 ghost use Rattle.shared_lane.specs.Surveys.{Behind};
 
-use super::Sequencer;
+use super::{Sequencer, load_cursors};
 use crate::lane::Lane;
-use crate::survey::load_cursors;
 use crate::tickets::{Standing, Waiting};
 use shared_core::{Emit, Ticket, Withdrawn};
 use std::alloc::Allocator;
@@ -147,17 +146,5 @@ impl<A: Allocator> Sequencer<A> {
         ensures { result ≡ stands_below self.now.standing ticket.0 number }
     {
         self.standing.iter().any(|standing| standing.ticket == ticket.0 && standing.number < number)
-    }
-
-    /// Whether an emission with a ticket may still have to wait: one without room, or, where there are no places, one that was
-    /// accepted.
-    pub fn has_unfinished(&self) -> bool
-        ensures none { result ≡ false → (self.now.waiting ≡ []) × ((0 < self.now.capacity) ⊎ (self.now.standing ≡ [])) }
-        ensures some { result ≡ true → (self.now.waiting ≢ []) ⊎ ((self.now.capacity ≡ 0) × (self.now.standing ≢ [])) }
-    {
-        if !self.waiting.is_empty() {
-            return true;
-        }
-        self.capacity() == 0 && !self.standing.is_empty()
     }
 }

@@ -1,5 +1,5 @@
 //! Emissions by the block, by one who holds the lock.
-ghost use Rattle.std.specs.Prelude.{◌≡◌, ◌≢◌, ◌≤◌, ℕ, [], length, map, take, min, IfOk, IfErr};
+ghost use Rattle.std.specs.Prelude.{◌≡◌, ◌≢◌, ◌≤◌, [], length, map, take, min, IfOk, IfErr};
 ghost use Rattle.flow_terms.specs.declared.refusal.Refusal.TheVariants.{Spent};
 ghost use Rattle.shared_lane.specs.Blocks.{TriedAllOn};
 ghost use Rattle.shared_lane.specs.Sequencers.{AfterScan, IsSameSequencer, RefusedTry};

@@ -14,9 +14,8 @@ ghost use Rattle.shared_rounds.specs.Waking.{SleepOn};
 ghost use Rattle.shared_rounds.specs.Rounds.{Comes, HasClosed, IsAtLimit, IsLetIn, look_round};
 
 use super::Shared;
-use crate::flag::Looker;
 use crate::sleepers::Bed;
-use crate::track::Track;
+use crate::track::{Looker, Track};
 use flow_terms::{Refusal, Word};
 use futures::task::Context;
 use shared_lane::{Met, Reader, Taken, meet};

@@ -2,5 +2,5 @@ use Rattle.std.specs.Prelude.{Some, Ok}
 use Rattle.shared_rounds.specs.declared.round.Round.TheVariants as round
 use Rattle.shared_rounds.proofs.access.Access.leave_cache.Given as goal
 
-abbrev pub ghosts-put_as : goal.ghosts-put_as
-ghosts-put_as g a = record { entry = Some (round.Cache (Ok a.guarded.state.value.sequencer.cache)) }
+abbrev pub ghosts-leave_as : goal.ghosts-leave_as
+ghosts-leave_as g a = record { entry = Some (round.Cache (Ok a.inside.guarded.state.value.sequencer.cache)) }
