@@ -13,13 +13,25 @@ use std::sync::Wait;
 
 /// What a thread sleeps by, while it waits on a shared flow and may be let go. Make one for each thread that waits, and use it for
 /// all of the thread's waits: a wait borrows it, so that no two threads sleep by one.
-#[derive(Drop)]
 pub struct StoppableParker {
     queue: Queue,
     // Whether a turn is set that no wait has taken yet: the next wait begins with it.
     is_set: bool,
     // Ready once a stopper was used.
     stop: Abortable<Pending<()>>,
+}
+
+// By hand: who lets one go proves this call alone, and nothing of what it is made of.
+impl Drop for StoppableParker {
+    fn drop(self) {
+        let StoppableParker {
+            queue,
+            is_set: _,
+            stop,
+        } = self;
+        drop(queue);
+        drop(stop);
+    }
 }
 
 /// A turn of a wait, in which the thread asks again, or is let go.

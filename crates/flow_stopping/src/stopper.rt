@@ -4,9 +4,16 @@ use futures::future::AbortHandle;
 use std::alloc::AllocError;
 
 /// Lets go whoever waits by its parker: Kotlin's `Job.cancel`. Any number of them may be had, on any thread.
-#[derive(Drop)]
 pub struct Stopper {
     handle: AbortHandle,
+}
+
+// By hand: who lets one go proves this call alone, and nothing of what it is made of.
+impl Drop for Stopper {
+    fn drop(self) {
+        let Stopper { handle } = self;
+        drop(handle);
+    }
 }
 
 impl Stopper {

@@ -19,7 +19,6 @@ use std::sync::Arc;
 /// share with it.
 ///
 /// Contracts see which flow it is, and the seat's [`View`].
-#[derive(Drop)]
 pub struct StateSeat<T: Word, A: Allocator = Global> {
     flow: Arc<StateFlow<T, A>, A>,
     // A token of no bytes, with what the proofs know of the seat.
@@ -38,6 +37,19 @@ impl<T: Word, A: Allocator> Model for StateSeat<T, A> {
     ghost view = { λ s. seen_by s.seat };
 
     ghost invariant = { λ s. IsSeated s.seat (arc_value s.flow).table.shared.table_id s.share false };
+}
+
+// By hand: who lets one go proves this call alone, and nothing of what it is made of.
+impl<T: Word, A: Allocator> Drop for StateSeat<T, A> {
+    fn drop(self) {
+        let StateSeat {
+            flow,
+            seat,
+            share: _,
+        } = self;
+        drop(flow);
+        drop(seat);
+    }
 }
 
 impl<T: Word, A: Allocator> StateSeat<T, A> {

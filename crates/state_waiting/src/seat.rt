@@ -18,7 +18,6 @@ use std::sync::Arc;
 /// No call of a seat takes a lock or waits. A seat that is dropped takes its share with it.
 ///
 /// Contracts see which flow it is, and the seat's [`View`](state_flow::View).
-#[derive(Drop)]
 pub struct WatchedSeat<T: Word> {
     seat: StateSeat<T>,
     bell: Arc<Bell>,
@@ -32,6 +31,20 @@ impl<T: Word> Model for WatchedSeat<T> {
     ghost Value = { SeatSeen T };
 
     ghost view = { λ s. s.seat };
+}
+
+// By hand: who lets one go proves this call alone, and nothing of what it is made of.
+impl<T: Word> Drop for WatchedSeat<T> {
+    fn drop(self) {
+        let WatchedSeat {
+            seat,
+            bell,
+            stopper,
+        } = self;
+        drop(seat);
+        drop(bell);
+        drop(stopper);
+    }
 }
 
 impl<T: Word> WatchedSeat<T> {

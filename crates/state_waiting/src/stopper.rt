@@ -11,9 +11,16 @@ use std::sync::atomic::{AtomicBool, Ordering};
 /// Lets go one [`Watcher`](crate::Watcher), and none beside it: Kotlin's `Job.cancel` of a coroutine that collects. It is made by
 /// [`WatchedSeat::watcher_stopper`](crate::WatchedSeat::watcher_stopper), before the watching begins. Any number of them may be had,
 /// on any thread.
-#[derive(Drop)]
 pub struct Stopper {
     mark: Arc<Mark>,
+}
+
+// By hand: who lets one go proves this call alone, and nothing of what it is made of.
+impl Drop for Stopper {
+    fn drop(self) {
+        let Stopper { mark } = self;
+        drop(mark);
+    }
 }
 
 /// What a watcher shares with its stoppers. No contract speaks of it.
