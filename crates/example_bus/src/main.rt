@@ -36,6 +36,12 @@ const END: Message = Message {
     number: 0,
 };
 
+/// What the bus and its threads need of a runtime: to wait, to start threads, to name a parker and to take memory. `Sync`, since
+/// it is lent to each thread.
+trait Runtime: Wait + Threads + RandomSource + AllocGlobal + Sync {}
+
+impl<R: Wait + Threads + RandomSource + AllocGlobal + Sync> Runtime for R {}
+
 /// What the listeners heard.
 #[derive(Drop)]
 struct Heard {
@@ -59,26 +65,13 @@ fn send_all(
     Ok(())
 }
 
-/// One sender, by an emitter of its own.
-fn send_by(
-    rt: &impl Wait,
-    bus: &mut SharedFlow<Message>,
-    parker: &mut Parker,
-    sender: u32,
-) -> Result<(), Refusal> {
+/// One sender's thread, with an owner of the bus that was moved into it, and an emitter and a parker of its own.
+fn send(rt: &impl Runtime, mut bus: SharedFlow<Message>, sender: u32) -> Result<(), Refusal> {
+    let mut parker = Parker::new(rt)?;
     let mut emitter = bus.emitter(rt, sender)?;
-    let sent = send_all(rt, &mut emitter, parker, sender);
+    let sent = send_all(rt, &mut emitter, &mut parker, sender);
     emitter.close(rt);
     sent
-}
-
-/// One sender's thread, with an owner of the bus that was moved into it.
-fn send<R>(rt: &R, mut bus: SharedFlow<Message>, sender: u32) -> Result<(), Refusal>
-where
-    R: Wait + RandomSource + AllocGlobal,
-{
-    let mut parker = Parker::new(rt)?;
-    send_by(rt, &mut bus, &mut parker, sender)
 }
 
 /// An owner of the bus for each sender.
@@ -96,10 +89,7 @@ impl Senders {
     }
 
     /// Both send, on two threads.
-    fn send<R>(self, rt: &R) -> Result<(), Refusal>
-    where
-        R: Wait + Threads + RandomSource + AllocGlobal + Sync,
-    {
+    fn send(self, rt: &impl Runtime) -> Result<(), Refusal> {
         let Senders { one, other } = self;
         let (first, second) = thread::join(
             rt,
@@ -111,14 +101,12 @@ impl Senders {
 }
 
 /// Both senders, and then the last message, which is sent also where a sender gave up: the listeners wait for it.
-fn send_both<R>(
-    rt: &R,
+fn send_both(
+    rt: &impl Runtime,
     senders: Senders,
     closing: &mut Emitter<Message>,
     parker: &mut Parker,
 ) -> Result<(), Refusal>
-where
-    R: Wait + Threads + RandomSource + AllocGlobal + Sync,
     requires { closing.old.ticket ≡ None }
 {
     let sent = senders.send(rt);
@@ -127,10 +115,7 @@ where
 }
 
 /// Listens up to the last message of all. The thread sleeps while none is there.
-fn listen<R>(rt: &R, reader: &mut Subscription<Message>) -> Result<Vec<Message>, Refusal>
-where
-    R: Wait + RandomSource + AllocGlobal,
-{
+fn listen(rt: &impl Runtime, reader: &mut Subscription<Message>) -> Result<Vec<Message>, Refusal> {
     let mut parker = Parker::new(rt)?;
     let mut heard = Vec::new(rt.alloc());
     for _ in rt.forever() {
@@ -144,10 +129,7 @@ where
 }
 
 /// Listens from the replay cache on.
-fn listen_late<R>(rt: &R, bus: &mut SharedFlow<Message>) -> Result<Vec<Message>, Refusal>
-where
-    R: Wait + RandomSource + AllocGlobal,
-{
+fn listen_late(rt: &impl Runtime, bus: &mut SharedFlow<Message>) -> Result<Vec<Message>, Refusal> {
     let mut reader = bus.subscribe(rt)?;
     let heard = listen(rt, &mut reader);
     reader.cancel(rt);
@@ -155,29 +137,24 @@ where
 }
 
 /// Both listeners, on two threads.
-fn listen_both<R>(
-    rt: &R,
+fn listen_both(
+    rt: &impl Runtime,
     one: &mut Subscription<Message>,
     other: &mut Subscription<Message>,
-) -> Result<(Vec<Message>, Vec<Message>), Refusal>
-where
-    R: Wait + Threads + RandomSource + AllocGlobal + Sync,
-{
+) -> Result<(Vec<Message>, Vec<Message>), Refusal> {
     let (one, other) = thread::join(rt, || listen(rt, one), || listen(rt, other));
     Ok((one?, other?))
 }
 
 /// Listeners and senders at once. Where no thread can be had, `join` calls the second closure first, so the senders stand there.
-fn exchange<R>(
-    rt: &R,
+fn exchange(
+    rt: &impl Runtime,
     senders: Senders,
     closing: &mut Emitter<Message>,
     parker: &mut Parker,
     one: &mut Subscription<Message>,
     other: &mut Subscription<Message>,
 ) -> Result<(Vec<Message>, Vec<Message>), Refusal>
-where
-    R: Wait + Threads + RandomSource + AllocGlobal + Sync,
     requires { closing.old.ticket ≡ None }
 {
     let (heard, sent) = thread::join(
@@ -191,43 +168,26 @@ where
     heard
 }
 
-/// All threads but the late listener's, with an emitter for the last message.
-fn hear_by<R>(
-    rt: &R,
+/// All threads but the late listener's. What they need is made before they start, and lent to them or moved into them.
+fn hear_both(
+    rt: &impl Runtime,
     bus: &mut SharedFlow<Message>,
-    parker: &mut Parker,
     one: &mut Subscription<Message>,
     other: &mut Subscription<Message>,
-) -> Result<(Vec<Message>, Vec<Message>), Refusal>
-where
-    R: Wait + Threads + RandomSource + AllocGlobal + Sync,
-{
+) -> Result<(Vec<Message>, Vec<Message>), Refusal> {
+    let mut parker = Parker::new(rt)?;
     let senders = Senders::of(rt, bus)?;
     let mut closing = bus.emitter(rt, 0)?;
-    let heard = exchange(rt, senders, &mut closing, parker, one, other);
+    let heard = exchange(rt, senders, &mut closing, &mut parker, one, other);
     closing.close(rt);
     heard
 }
 
-/// All threads but the late listener's. What they need is made before they start, and lent to them.
-fn hear_both<R>(
-    rt: &R,
-    bus: &mut SharedFlow<Message>,
-    one: &mut Subscription<Message>,
-    other: &mut Subscription<Message>,
-) -> Result<(Vec<Message>, Vec<Message>), Refusal>
-where
-    R: Wait + Threads + RandomSource + AllocGlobal + Sync,
-{
-    let mut parker = Parker::new(rt)?;
-    hear_by(rt, bus, &mut parker, one, other)
-}
-
 /// Two listeners from the start, up to the last message.
-fn hear<R>(rt: &R, bus: &mut SharedFlow<Message>) -> Result<(Vec<Message>, Vec<Message>), Refusal>
-where
-    R: Wait + Threads + RandomSource + AllocGlobal + Sync,
-{
+fn hear(
+    rt: &impl Runtime,
+    bus: &mut SharedFlow<Message>,
+) -> Result<(Vec<Message>, Vec<Message>), Refusal> {
     let mut first = bus.subscribe(rt)?;
     let heard = match bus.subscribe(rt) {
         Ok(mut second) => {
@@ -242,21 +202,11 @@ where
 }
 
 /// The bus with two listeners from the start, and one who comes when all is over.
-fn run_on<R>(rt: &R, bus: &mut SharedFlow<Message>) -> Result<Heard, Refusal>
-where
-    R: Wait + Threads + RandomSource + AllocGlobal + Sync,
-{
-    let (one, other) = hear(rt, bus)?;
-    let late = listen_late(rt, bus)?;
-    Ok(Heard { one, other, late })
-}
-
-fn run<R>(rt: &R) -> Result<Heard, Refusal>
-where
-    R: Wait + Threads + RandomSource + AllocGlobal + Sync,
-{
+fn run(rt: &impl Runtime) -> Result<Heard, Refusal> {
     let mut bus = SharedFlow::new(rt.alloc(), BUS)?;
-    run_on(rt, &mut bus)
+    let (one, other) = hear(rt, &mut bus)?;
+    let late = listen_late(rt, &mut bus)?;
+    Ok(Heard { one, other, late })
 }
 
 /// Whether the messages of a sender are all there, in its order.
