@@ -9,13 +9,13 @@ use Rattle.shared_lane.proofs.Sameness.{loaded_twice}
 use Rattle.shared_rounds.specs.declared.round.Round.{Round}
 use Rattle.shared_rounds.specs.declared.round.Round.TheVariants as round
 use Rattle.shared_rounds.specs.Entering.{Found, Left, Made, MadeOf}
-use Rattle.shared_flow.specs.Looks.{WasEnded, WasLetInBy}
+use Rattle.shared_flow.specs.Looks.{WasEnded, WasLetInBy, WasMadeWithin}
 use Rattle.shared_rounds.specs.Names.{SharedSeen}
 use Rattle.shared_rounds.specs.Meeting.{HasMet}
 use Rattle.shared_flow.specs.Owners.{HasHeard, Keeping, Meets}
 use Rattle.shared_rounds.specs.Reach.{with_round, Party, Reach, Rounds, party_of}
 use Rattle.shared_flow.specs.Parties.{Subscribed}
-use Rattle.shared_rounds.specs.Rounds.{HasClosed, IsLetIn, WasAdmitted}
+use Rattle.shared_rounds.specs.Rounds.{HasClosed, HasFreed, IsLetIn, WasAdmitted}
 
 -- the owner took the lock, and gave it back with a round
 pub made : {called : SharedSeen} (r : Round) (p q t : Reach) (found : SharedSeen) → q ≡ record p { held = Some found; seen = q.seen } → Found (party_of p) found q.seen → Left r called q t → Made r (party_of p) (party_of t)
@@ -51,6 +51,17 @@ was_ended number p q t found called reader taken saw named went closed =
       flow_is = named ∙ ap (λ (s : SharedSeen). Some s.name) same;
       closed = subst (λ (s : SharedSeen). HasClosed s reader went.left) same
           (closed.0, closed.1, closed.2, closed.3, closed.4, (closed.5.0, closed.5.1, loaded_twice closed.5.0 called.sequencer went.left.sequencer closed.5.2 went.only));
+    }
+
+-- so it did, of which a receipt was a part
+pub was_made_within : (number : ℕ) (p q t : Reach) (found called : SharedSeen) → q ≡ record p { held = Some found; seen = q.seen }
+    → Found (party_of p) found q.seen → Left (round.Next number) called q t → HasFreed found called → WasMadeWithin number (party_of p) (party_of t)
+unfolding made
+was_made_within number p q t found called taken saw went freed =
+    let same : found ≡ went.found = same_Some _ _ (sym (ap (λ (x : Reach). x.held) taken) ∙ went.held) in record {
+      made = made (round.Next number) p q t found taken saw went;
+      freed = subst (λ (s : SharedSeen). HasFreed s went.left) same
+          (freed.0, freed.1, freed.2, freed.3, freed.4, (freed.5.0, freed.5.1, loaded_twice freed.5.0 called.sequencer went.left.sequencer freed.5.2 went.only));
     }
 
 -- the owner that kept the lock gave it back with a round

@@ -7,7 +7,7 @@ use Rattle.futures.specs.declared.task.Poll.TheVariants.{Ready, Pending}
 use Rattle.shared_lane.specs.Views.{ReaderSeen}
 use Rattle.shared_rounds.specs.declared.round.Round.TheVariants as round
 use Rattle.shared_rounds.specs.Entering.{Made}
-use Rattle.shared_flow.specs.Looks.{OnlyLooked, OnlyNext, TookNone, by_none, MadeRoom, MadeRoomIn, HasMadeRoom}
+use Rattle.shared_flow.specs.Looks.{OnlyLooked, OnlyNext, TookNone, by_none, MadeRoom, MadeRoomIn, HasMadeRoom, WasMadeWithin}
 use Rattle.shared_flow.specs.Parties.{Subscribed}
 use Rattle.shared_flow.specs.Preludes.{IsGreeted, IsPast, GreetedOr}
 
@@ -63,8 +63,8 @@ module _ {T : Type 0} where
   pub rounds_since : (s m t : Subscribed T) → OnlyLooked s m → (t.party ≡ m.party) ⊎ Made (round.Next m.number) m.party t.party → (t.party ≡ s.party) ⊎ Made (round.Next s.number) s.party t.party
   rounds_since s m t looked rounds = subst (λ (x : Subscribed T). (t.party ≡ x.party) ⊎ Made (round.Next x.number) x.party t.party) looked rounds
 
-  pub next_since : (s m t : Subscribed T) → OnlyLooked s m → Made (round.Next m.number) m.party t.party → Made (round.Next s.number) s.party t.party
-  next_since s m t looked it = subst (λ (x : Subscribed T). Made (round.Next x.number) x.party t.party) looked it
+  pub within_since : (s m t : Subscribed T) → OnlyLooked s m → WasMadeWithin m.number m.party t.party → WasMadeWithin s.number s.party t.party
+  within_since s m t looked it = subst (λ (x : Subscribed T). WasMadeWithin x.number x.party t.party) looked it
 
   pub pending_since : (s m t : Subscribed T) → OnlyLooked s m → Made (round.Pending m.number) m.party t.party → Made (round.Pending s.number) s.party t.party
   pending_since s m t looked it = subst (λ (x : Subscribed T). Made (round.Pending x.number) x.party t.party) looked it

@@ -10,7 +10,7 @@ use Rattle.shared_rounds.specs.Names.{FoundDown, FoundUp}
 use Rattle.shared_flow.specs.Parties.{Subscribed}
 use Rattle.shared_rounds.specs.Reach.{Party}
 use Rattle.shared_rounds.specs.Entering.{Made}
-use Rattle.shared_rounds.specs.Rounds.{HasClosed, WasAdmitted}
+use Rattle.shared_rounds.specs.Rounds.{HasClosed, HasFreed, WasAdmitted}
 
 -- The reader was let in by a round of this party, which answered with this number: by what that round found, which the list of rounds
 -- before it had left, and what it left of that.
@@ -24,6 +24,11 @@ pub record WasEnded (number : ℕ) (r : ReaderSeen) (p q : Party) : Type 0 where
   pub made : Made (round.Cancel number) p q
   pub flow_is : p.flow ≡ Some made.found.name
   pub closed : HasClosed made.found r made.left
+
+-- A receipt was made within a round of this party: what waits was let in before it, and once more after it.
+pub record WasMadeWithin (number : ℕ) (p q : Party) : Type 0 where
+  pub made : Made (round.Next number) p q
+  pub freed : HasFreed made.found made.left
 
 -- the reader took the next value, which is read from its word
 abbrev pub Gave : {T : Type 0} → (ℕ → T) → ReaderSeen → T → ReaderSeen → Type 0
@@ -69,10 +74,10 @@ Helped s t = Made (round.Next s.number) s.party t.party × FoundUp (at t.reader)
 abbrev pub MadeRoom : {T : Type 0} → Subscribed T → Subscribed T → Type 0
 MadeRoom s t = Skips s t ⊎ Helped s t
 
--- so did one of a poll; or a look without the lock had found nothing, and the receipt was made within the round, after no look at the flag
+-- so did one of a poll; or a look without the lock had found nothing, and the receipt was made within a round, after no look at the flag
 abbrev pub MadeRoomIn : {T : Type 0} → Subscribed T → Subscribed T → Type 0
 MadeRoomIn s t = MadeRoom s t
-    ⊎ ((m : ReaderSeen) × (w : ℕ) × Missed s.reader m × Looked m (Value w) t.reader × Made (round.Next s.number) s.party t.party × (t.looks ≡ s.looks))
+    ⊎ ((m : ReaderSeen) × (w : ℕ) × Missed s.reader m × Looked m (Value w) t.reader × WasMadeWithin s.number s.party t.party × (t.looks ≡ s.looks))
 
 -- the party's rounds grew by those of calls that receive, of the subscription with this number
 pub data OnlyNext (number : ℕ) : Party → Party → Type 0 where

@@ -9,7 +9,7 @@ ghost use Rattle.shared_rounds.specs.Reach.{Party, party_of};
 ghost use Rattle.shared_rounds.specs.Entering.{Made};
 ghost use Rattle.shared_flow.specs.Parties.{Subscribed, OfFlow};
 ghost use Rattle.shared_flow.specs.Looks.{Took, Gave, GaveIn, Missed, MissedTwice, MissedOn, OnlyLooked, OnlyNext, Waited, WasEnded};
-ghost use Rattle.shared_flow.specs.Looks.{MadeRoom, MadeRoomIn, HasMadeRoom};
+ghost use Rattle.shared_flow.specs.Looks.{MadeRoom, MadeRoomIn, HasMadeRoom, WasMadeWithin};
 ghost use Rattle.shared_core.specs.Preludes.{prelude_values};
 ghost use Rattle.shared_flow.specs.Preludes.{IsGreeted, IsPast, GreetedOr, TookFirst};
 ghost use Rattle.flow_terms.specs.declared.refusal.Refusal.TheVariants.{NoMemory};
@@ -267,7 +267,7 @@ impl<T: Word> Subscription<T> {
     fn look_again(&mut self, rt: &impl Wait, cx: &mut Context<'_>) -> Poll<T>
         ensures same { (self.new.number ≡ self.old.number) × (self.new.rest ≡ self.old.rest) × (self.new.looks ≡ self.old.looks) }
         ensures round { OnPending result (Made (round.Pending self.old.number) self.old.party self.new.party) }
-        ensures rounds { IfReady result (λ v. Made (round.Next self.old.number) self.old.party self.new.party) }
+        ensures within { IfReady result (λ v. WasMadeWithin self.old.number self.old.party self.new.party) }
         ensures ready { IfReady result (λ v. Gave T.read_as self.old.reader v self.new.reader) }
         ensures pending { OnPending result (Missed self.old.reader self.new.reader) }
         ensures armed { OnPending result (IsArmed cx.new) }

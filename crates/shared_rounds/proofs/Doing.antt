@@ -25,7 +25,7 @@ use Rattle.shared_rounds.specs.Names.{SharedSeen}
 use Rattle.shared_rounds.specs.Tries.{ticket_of}
 use Rattle.shared_rounds.proofs.Numbers.{same_log}
 use Rattle.shared_rounds.specs.Reach.{Reach}
-use Rattle.shared_rounds.specs.Rounds.{Makes, Scanned, Comes, Does, Frees, RaisedFor, Watched, IsStray, IsNotAfter, IsReceiptAfter, look_round, number_done, number_left, poll_round, withdraw_round}
+use Rattle.shared_rounds.specs.Rounds.{Makes, Scanned, Comes, Does, Frees, FreesAfter, HasFreed, RaisedFor, Watched, IsStray, IsNotAfter, IsReceiptAfter, look_round, number_done, number_left, poll_round, withdraw_round}
 use Rattle.shared_rounds.specs.Sleeping.{LiesDown, NobodySleeps, OnlyThese}
 use Rattle.shared_rounds.specs.Waking.{Helps, Lies, SleepOn, IsTied, IsUnfinished, WakesEmissions, ended_by}
 
@@ -190,6 +190,17 @@ pub look_frees : (q : SequencerSeen) (t : SharedSeen) (number : ℕ) (found : Ta
 look_frees q t number (Value word) = tt
 look_frees q t number Nothing = tt
 look_frees q t number Overtaken = tt
+
+-- what waits was let in before a look and after it, which is asked where that gave a value
+pub look_freed : (found : Taken ℕ) (s t : SharedSeen) → HasFreed s t → FreesAfter found s t
+look_freed (Value word) s t freed = freed
+look_freed Nothing s t freed = tt
+look_freed Overtaken s t freed = tt
+
+pub none_freed : (found : Taken ℕ) (s t : SharedSeen) → ((word : ℕ) → found ≡ Value word → ⊥) → FreesAfter found s t
+none_freed (Value word) s t none = absurd (none word refl)
+none_freed Nothing s t none = tt
+none_freed Overtaken s t none = tt
 
 -- a poll of a subscription without a value, where nobody lay down
 pub none_lies : (s t : SharedSeen) (number : ℕ) → SleepOn s t → Lies s (round.Pending number) t

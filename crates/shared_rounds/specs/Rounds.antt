@@ -193,6 +193,16 @@ WasAdmitted s r t = AfterScan s.sequencer (λ m. (n : SequencerSeen) × LetIn s.
 abbrev pub HasClosed : SharedSeen → ReaderSeen → SharedSeen → Type 0
 HasClosed s r t = AfterScan s.sequencer (λ m. (n : SequencerSeen) × Scanned (told_of_end r m) n × OnlyLoaded n t.sequencer)
 
+-- what waits was let in before a look, and once more after it
+abbrev pub HasFreed : SharedSeen → SharedSeen → Type 0
+HasFreed s t = AfterScan s.sequencer (λ m. (n : SequencerSeen) × Scanned m n × OnlyLoaded n t.sequencer)
+
+-- so it was where the look gave a value, which may have made room
+abbrev pub FreesAfter : Taken ℕ → SharedSeen → SharedSeen → Type 0
+FreesAfter (Value word) s t = HasFreed s t
+FreesAfter Nothing s t = ⊤
+FreesAfter Overtaken s t = ⊤
+
 -- one more than the number that a round answered with, or 0
 abbrev pub after_number : Round → ℕ
 after_number (round.Try e (Ok (tried.Accepted n))) = n + 1

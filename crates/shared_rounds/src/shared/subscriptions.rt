@@ -11,7 +11,7 @@ ghost use Rattle.shared_rounds.specs.Names.{IsTrackOf};
 ghost use Rattle.shared_rounds.specs.Meeting.{Looked, HasMet, OnlyMet};
 ghost use Rattle.shared_rounds.specs.Sleeping.{LiesDown};
 ghost use Rattle.shared_rounds.specs.Waking.{SleepOn};
-ghost use Rattle.shared_rounds.specs.Rounds.{Comes, HasClosed, IsAtLimit, IsLetIn, look_round};
+ghost use Rattle.shared_rounds.specs.Rounds.{Comes, FreesAfter, HasClosed, IsAtLimit, IsLetIn, look_round};
 
 use super::Shared;
 use crate::sleepers::Bed;
@@ -71,6 +71,7 @@ impl Shared {
     pub fn look(&mut self, number: u64, reader: &mut Reader) -> Taken<u64>
         requires { IsReaderOf self.old.name.lane reader.old }
         ensures does { Comes self.old (look_round number result) self.new }
+        ensures freed { FreesAfter result self.old self.new }
         ensures asleep { SleepOn self.old self.new }
         ensures reader { IsReaderOf self.old.name.lane reader.new }
         ensures looked { Looked reader.old result reader.new }

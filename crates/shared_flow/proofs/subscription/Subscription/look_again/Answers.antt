@@ -3,10 +3,10 @@ use Rattle.shared_lane.specs.declared.reader.Taken.{Taken}
 use Rattle.shared_rounds.specs.declared.round.Round.TheVariants as round
 use Rattle.shared_rounds.specs.Names.{SharedSeen}
 use Rattle.shared_rounds.specs.Reach.{Reach}
-use Rattle.shared_rounds.specs.Rounds.{Comes, look_round}
+use Rattle.shared_rounds.specs.Rounds.{Comes, FreesAfter, HasFreed, look_round}
 use Rattle.shared_rounds.specs.Waking.{SleepOn}
 use Rattle.shared_rounds.proofs.Doing.{is_called, lay_down, none_lies}
-use Rattle.shared_flow.proofs.Making.{made}
+use Rattle.shared_flow.proofs.Making.{made, was_made_within}
 use Rattle.shared_flow.proofs.subscription.Subscription.look_again.Goals as goal
 
 pub leave-requires : goal.leave-requires
@@ -46,8 +46,13 @@ leave-requires-in-Nothing g c =
           c.enter-inside.ensures.before c.deref_mut.ensures.value lain.0 lain.1;
     }
 
-pub returns-in-Value-clause-rounds : goal.returns-in-Value-clause-rounds
-returns-in-Value-clause-rounds g c = rw (← c.self.view_is) (made (round.Next c.self.inside.number) c.self.inside.access c.enter-inside.new.self c.leave.new.self c.enter-inside.result.guarded.state.value c.enter-inside.ensures.taken c.enter-inside.ensures.found c.leave.ensures.left)
+pub returns-in-Value-clause-within : goal.returns-in-Value-clause-within
+returns-in-Value-clause-within g c =
+    let found : SharedSeen = c.enter-inside.result.guarded.state.value in
+    let before : SharedSeen = c.deref_mut.result.now in
+    let freed = subst (λ (x : Taken _). FreesAfter x before c.look.new.self) c.in-Value.is c.look.ensures.freed in
+    rw (← c.self.view_is) (was_made_within c.self.inside.number c.self.inside.access c.enter-inside.new.self c.leave.new.self found c.look.new.self c.enter-inside.ensures.taken c.enter-inside.ensures.found c.leave.ensures.left
+    (subst (λ (s : SharedSeen). HasFreed s c.look.new.self) c.deref_mut.ensures.value freed))
 
 pub returns-in-Nothing-clause-round : goal.returns-in-Nothing-clause-round
 returns-in-Nothing-clause-round g c = rw (← c.self.view_is) (made (round.Pending c.self.inside.number) c.self.inside.access c.enter-inside.new.self c.leave-in-Nothing.new.self c.enter-inside.result.guarded.state.value c.enter-inside.ensures.taken c.enter-inside.ensures.found c.leave-in-Nothing.ensures.left)

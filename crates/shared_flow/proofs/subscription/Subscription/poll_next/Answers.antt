@@ -1,6 +1,6 @@
 use Rattle.std.proofs.Common.{⊎_elim, inl, inr, ap, ◌∙◌}
 use Rattle.shared_flow.specs.Parties.{Subscribed}
-use Rattle.shared_flow.proofs.Receiving.{if_both, if_ready, on_pending, next_since, pending_since}
+use Rattle.shared_flow.proofs.Receiving.{if_both, if_ready, on_pending, pending_since, within_since}
 use Rattle.shared_flow.proofs.subscription.Subscription.poll_next.Goals as goal
 
 pub returns-in-Some-clause-ready : goal.returns-in-Some-clause-ready
@@ -17,12 +17,12 @@ returns-in-None g c =
     let missed = c.in-None.ensures.missed in
     let rest = c.look_again.ensures.same.1 ∙ missed.0.1 in record {
       round = on_pending c.look_again.result _ _ (λ it. pending_since s m t missed.1 it) c.look_again.ensures.round;
-      rounds = if_ready c.look_again.result _ _ (λ v it. inr (next_since s m t missed.1 it)) c.look_again.ensures.rounds;
+      rounds = if_ready c.look_again.result _ _ (λ v it. inr (within_since s m t missed.1 it).made) c.look_again.ensures.within;
       same = c.look_again.ensures.same.0 ∙ ap (λ (x : Subscribed _). x.number) missed.1;
       ready = if_ready c.look_again.result _ _ (λ v it. inr ((missed.0.0, rest), inr (m.reader, missed.2, it))) c.look_again.ensures.ready;
       room = if_both c.look_again.result _ _ _
-          (λ v gave it. inr (inr (m.reader, gave.0, missed.2, gave.2, next_since s m t missed.1 it, c.look_again.ensures.same.2 ∙ ap (λ (x : Subscribed _). x.looks) missed.1)))
-          c.look_again.ensures.ready c.look_again.ensures.rounds;
+          (λ v gave it. inr (inr (m.reader, gave.0, missed.2, gave.2, within_since s m t missed.1 it, c.look_again.ensures.same.2 ∙ ap (λ (x : Subscribed _). x.looks) missed.1)))
+          c.look_again.ensures.ready c.look_again.ensures.within;
       pending = on_pending c.look_again.result _ _ (λ it. ((missed.0.0, rest), (m.reader, missed.2, it))) c.look_again.ensures.pending;
       armed = c.look_again.ensures.armed;
       kept = c.look_again.ensures.kept;

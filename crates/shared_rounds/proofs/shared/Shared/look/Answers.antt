@@ -1,5 +1,5 @@
 use Rattle.std.proofs.Common.{rules, refl, inl, inr}
-use Rattle.shared_rounds.proofs.Doing.{look_makes, look_frees}
+use Rattle.shared_rounds.proofs.Doing.{look_freed, look_frees, look_makes, none_freed}
 use Rattle.shared_rounds.proofs.shared.Shared.look.Goals as goal
 
 pub returns-in-Value-clause-does : goal.returns-in-Value-clause-does
@@ -39,3 +39,16 @@ returns-in_default-clause-does c = (
     ),
   ),
 )
+
+pub returns-in-Value-clause-freed : goal.returns-in-Value-clause-freed
+returns-in-Value-clause-freed c = look_freed c.try_next-taken.result _ _ (
+  c.scan.new.self,
+  c.scan.result,
+  search rules,
+  search rules,
+  search rules,
+  (c.scan-in-Value.new.self, (c.scan-in-Value.new.self, c.scan-in-Value.result, search rules, search rules, search rules, refl), (refl, refl, refl, λ _. refl)),
+)
+
+pub returns-in_default-clause-freed : goal.returns-in_default-clause-freed
+returns-in_default-clause-freed c = none_freed c.try_next-taken.result _ _ c.in_default.not-Value
