@@ -29,6 +29,7 @@ use Rattle.script_engines.specs.Seen.{state_of, parties_of}
 use Rattle.script_engines.specs.Subscribing.{Subscribing, subscribing_of}
 use Rattle.script_sharings.specs.declared.share.Share.{Share}
 use Rattle.script_sharings.specs.declared.stated.Stated.{Stated}
+use Rattle.flow_sharing.specs.FlowDestinations.{IsNewPlace}
 use Rattle.script_sharings.specs.Ticks.{Sharings, Stating, sharings_of, stating_of}
 use Rattle.script_states.specs.Watching.{Watch}
 use Rattle.script_objects.specs.declared.object.Object.{Object}
@@ -63,7 +64,7 @@ StartsOr None starting makes reply = (started : Started) × StartsAs starting st
 abbrev pub IsShared : {U : Type 0} → Config → Started → Origin → Subscribing → Sharings SourceFlow U → Type 0
 IsShared config started origin shown it = IsMadeWith config shown.flow.party.flow
     × (shown ≡ record { flow = at_rest (newcomer_of shown.flow.party.pass shown.flow.party); places = [] })
-    × (named it.owner.party ≡ named shown.flow.party) × (it.waiting ≡ None)
+    × (named it.place.owner.party ≡ named shown.flow.party) × IsNewPlace shown.flow.party it.place
     × (started_by it.strategy ≡ started) × Shows it.strategy [] × (origin_in it.source.source ≡ origin) × (it.course ≡ Idle)
 
 abbrev pub MakesShare : {W U : Type 0} {flow : flows.Ghosts SourceFlow ℕ ℕ U} {run : runs.Ghosts U ℕ ℕ} → Config → Starting → Origin

@@ -7,14 +7,17 @@ use Rattle.cold_flow.specs.declared.flow.Flow as flows
 use Rattle.cold_flow.specs.declared.run.Run as runs
 use Rattle.cold_flow.specs.Poll.{Traces}
 use Rattle.shared_flow.specs.Owners.{Owning}
-use Rattle.shared_flow.specs.Parties.{PartyName, named}
+use Rattle.shared_flow.specs.Parties.{Emitting, PartyName, named}
 use Rattle.sharing_upstream.specs.declared.polled.Polled.{Polled}
 use Rattle.sharing_upstream.specs.declared.strategy.Strategy.{Strategy}
 use Rattle.sharing_upstream.specs.declared.upstream.Upstream.{Upstream}
 use Rattle.sharing_upstream.specs.Sharings.{IsRefusedAt}
 use Rattle.sharing_upstream.specs.Upstreams.{course_of, PollsAt}
 use Rattle.flow_sharing.specs.declared.sharing.Sharing.{Sharing}
-use Rattle.flow_sharing.specs.FlowDestinations.{emitting}
+use Rattle.flow_sharing.specs.FlowDestinations.{Place, emitting}
+use Rattle.flow_sharing.specs.Outlets.{place_at}
+use Rattle.futures.specs.declared.task.Poll.{Poll}
+use Rattle.cold_flow.specs.declared.event.Event.{Event}
 
 module _ {T F E U : Type 0} {word : words.Ghosts T} {compare : compared.Ghosts T}
     {flow : flows.Ghosts F T E U} {run : runs.Ghosts U T E} where
@@ -36,17 +39,26 @@ module _ {T F E U : Type 0} {word : words.Ghosts T} {compare : compared.Ghosts T
   abbrev pub strategy_of : Sharing T F E U word compare flow run → Strategy
   strategy_of sharing = sharing.strategy
 
-  -- What a poll at this moment did. The first three words say what a run may give, how it has ended, and what a new run may give
-  abbrev pub SharesAt : (U → Traces T E) → (U → Option (Cause E)) → (F → Traces T E) → Sharing T F E U word compare flow run → ℕ → Polled
-      → Sharing T F E U word compare flow run → Type 0
-  SharesAt may ended new_run old now polled new =
-      PollsAt (emitting old.flow.party.flow) may ended new_run old.strategy now polled old.upstream old.outlet.waiting new.upstream new.outlet.waiting
+  -- its emitter
+  abbrev pub emitter_of : Sharing T F E U word compare flow run → Emitting
+  emitter_of sharing = sharing.outlet.emitter
 
-  -- a poll at this moment was refused: a start was commanded
-  abbrev pub RefusesAt : Sharing T F E U word compare flow run → ℕ → Sharing T F E U word compare flow run → Type 0
-  RefusesAt old now new = IsRefusedAt (emitting old.flow.party.flow) old.strategy now old.outlet.waiting new.outlet.waiting
+  -- the place where its values go
+  abbrev pub place_of : Sharing T F E U word compare flow run → Place T
+  place_of sharing = place_at sharing.flow sharing.outlet
 
-  -- its strategy, the course of its upstream and what waits are as before
+  -- What a poll at this moment did. The first five words say what a value's word is, what a run may give, how it has ended, how it was
+  -- polled, and what a new run may give
+  abbrev pub SharesAt : (T → ℕ) → (U → Traces T E) → (U → Option (Cause E)) → (U → Poll (Event T E) → U → Type 0) → (F → Traces T E)
+      → Sharing T F E U word compare flow run → ℕ → Polled → Sharing T F E U word compare flow run → Type 0
+  SharesAt word_of may ended polled new_run old now answer new =
+      PollsAt (emitting word_of) may ended polled new_run old.strategy now answer old.upstream (place_of old) new.upstream (place_of new)
+
+  -- a poll at this moment was refused: a start was commanded, and it had counted
+  abbrev pub RefusesAt : (T → ℕ) → Sharing T F E U word compare flow run → ℕ → Sharing T F E U word compare flow run → Type 0
+  RefusesAt word_of old now new = IsRefusedAt (emitting word_of) old.strategy now (place_of old) (place_of new)
+
+  -- its strategy, the course of its upstream, its emitter and what waits are as before
   abbrev pub IsAsBefore : Sharing T F E U word compare flow run → Sharing T F E U word compare flow run → Type 0
   IsAsBefore old new = (new.strategy ≡ old.strategy) × (course_of new.upstream ≡ course_of old.upstream)
-      × (new.outlet.waiting ≡ old.outlet.waiting)
+      × (new.outlet.emitter ≡ old.outlet.emitter) × (new.outlet.waiting ≡ old.outlet.waiting)

@@ -1,7 +1,9 @@
 -- What contracts name of a state's sharing. A caller needs to know no more of it.
 use Rattle.std.specs.Prelude.{ℕ, Option}
 use Rattle.cold_flow.specs.declared.cause.Cause.{Cause}
+use Rattle.cold_flow.specs.declared.event.Event.{Event}
 use Rattle.cold_flow.specs.Poll.{Traces}
+use Rattle.futures.specs.declared.task.Poll.{Poll}
 use Rattle.state_flow.specs.Views.{SeatSeen}
 use Rattle.sharing_upstream.specs.declared.polled.Polled.{Polled}
 use Rattle.sharing_upstream.specs.declared.strategy.Strategy.{Strategy}
@@ -26,11 +28,12 @@ module _ {T F A E U : Type 0} where
   abbrev pub strategy_of : StateSharing T F A E U → Strategy
   strategy_of sharing = sharing.strategy
 
-  -- What a poll at this moment did. The first three words say what a run may give, how it has ended, and what a new run may give
-  abbrev pub SetsAt : (U → Traces T E) → (U → Option (Cause E)) → (F → Traces T E) → StateSharing T F A E U → ℕ → Polled
-      → StateSharing T F A E U → Type 0
-  SetsAt may ended new_run old now polled new =
-      PollsAt (setting old.initial) may ended new_run old.strategy now polled old.upstream old.seat.view new.upstream new.seat.view
+  -- What a poll at this moment did. The first four words say what a run may give, how it has ended, how it was polled, and what a new
+  -- run may give
+  abbrev pub SetsAt : (U → Traces T E) → (U → Option (Cause E)) → (U → Poll (Event T E) → U → Type 0) → (F → Traces T E)
+      → StateSharing T F A E U → ℕ → Polled → StateSharing T F A E U → Type 0
+  SetsAt may ended polled new_run old now answer new =
+      PollsAt (setting old.initial) may ended polled new_run old.strategy now answer old.upstream old.seat.view new.upstream new.seat.view
 
   -- a poll at this moment was refused: a start was commanded
   abbrev pub RefusesAt : StateSharing T F A E U → ℕ → StateSharing T F A E U → Type 0

@@ -1,9 +1,10 @@
 //! A shared flow as the place where the values of a sharing go.
 
-ghost use Rattle.std.specs.Prelude.{◌≡◌, ℕ, None, Option};
+ghost use Rattle.std.specs.Prelude.{◌≡◌, ℕ, None};
 ghost use Rattle.std.specs.Borrow.{GName};
 ghost use Rattle.shared_flow.specs.Parties.{PartyName, named};
-ghost use Rattle.flow_sharing.specs.FlowDestinations.{emitting};
+ghost use Rattle.flow_sharing.specs.FlowDestinations.{emitting, Place};
+ghost use Rattle.flow_sharing.specs.Outlets.{place_at};
 
 use crate::outlet::Outlet;
 use cold_flow::Word;
@@ -26,21 +27,20 @@ impl<'a, T: Word, W: Wait> Destination<T> for FlowDestination<'a, T, W> {
 
     ghost kept = { λ d. (d.flow.ghost_name, named d.flow.now.party, d.outlet.ghost_name, named d.outlet.now.emitter.party, d.outlet.now.emitter.id) };
 
-    ghost Seen = { Option T };
+    ghost Seen = { Place T };
 
-    ghost seen = { λ d. d.outlet.now.waiting };
+    ghost seen = { λ d. place_at d.flow.now d.outlet.now };
 
-    ghost steps = { λ kept. emitting kept.3.flow };
+    ghost steps = { λ _. emitting T.word };
 
-    ghost free = { λ waiting. waiting ≡ None };
+    ghost free = { λ place. place.waiting ≡ None };
 
     fn count(&mut self) -> u32 {
         self.flow.subscription_count(self.rt)
     }
 
     fn still_waits(&mut self, cx: &mut Context<'_>) -> bool {
-        self.outlet.poll(self.rt, cx);
-        self.outlet.is_waiting()
+        self.outlet.still_waits(self.rt, cx)
     }
 
     fn offer(&mut self, value: T) -> Offer {

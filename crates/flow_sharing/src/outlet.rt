@@ -1,14 +1,16 @@
 //! The side of a sharing that emits.
 
-ghost use Rattle.std.specs.Prelude.{◌≡◌, ◌≢◌, ◌⊎◌, None, is_some};
+ghost use Rattle.std.specs.Prelude.{◌≡◌, None, IsTrue, is_some};
 ghost use Rattle.futures.specs.Task.{IsArmed, Keeps};
 ghost use Rattle.flow_terms.specs.declared.answers.Withdrawn.TheVariants as withdrawn;
+ghost use Rattle.shared_flow.specs.Emitters.{EndedWith};
+ghost use Rattle.shared_flow.specs.Owners.{Owning};
 ghost use Rattle.shared_flow.specs.Parties.{IfLeft, IsSameEmitter};
 ghost use Rattle.sharing_upstream.specs.Destinations.{Offered};
-ghost use Rattle.flow_sharing.specs.FlowDestinations.{emitting};
+ghost use Rattle.flow_sharing.specs.FlowDestinations.{emitting, Found, Withdrew};
 
 use cold_flow::Word;
-use futures::task::Context;
+use futures::task::{Context, Poll};
 use shared_core::{Begun, Withdrawn};
 use shared_flow::{Emitter, Receipt};
 use sharing_upstream::Offer;
@@ -23,6 +25,8 @@ pub struct Outlet<T: Word> {
 }
 
 impl<T: Word> Outlet<T> {
+    ghost use Rattle.flow_sharing.specs.Outlets.{place_at};
+
     pub(crate) fn new(emitter: Emitter<T>) -> Outlet<T>
         requires idle { emitter.ticket ≡ None }
         ensures emitter { result.emitter ≡ emitter }
@@ -37,11 +41,12 @@ impl<T: Word> Outlet<T> {
     // Offers a value to the flow, which accepts it, drops it or lets it wait.
     pub(crate) fn offer(&mut self, rt: &impl Wait, value: T) -> Offer
         requires free { self.old.waiting ≡ None }
-        ensures offered { Offered (emitting self.old.emitter.party.flow) self.old.waiting value result self.new.waiting }
+        ensures offered { (owner : Owning) → Offered (emitting T.word) (place_at owner self.old) value result (place_at owner self.new) }
         ensures same { IsSameEmitter self.old.emitter self.new.emitter }
     {
         match self.emitter.start_emit(rt, value) {
-            Ok(Begun::Accepted(_) | Begun::Dropped) => Offer::Accepted,
+            Ok(Begun::Accepted(_)) => Offer::Accepted,
+            Ok(Begun::Dropped) => Offer::Accepted,
             Ok(Begun::Waiting(())) => {
                 self.waiting = Some(value);
                 Offer::Waiting
@@ -50,37 +55,39 @@ impl<T: Word> Outlet<T> {
         }
     }
 
-    pub(crate) fn is_waiting(&self) -> bool
-        ensures { result ≡ is_some self.now.waiting }
-    {
-        self.waiting.is_some()
-    }
-
-    // Asks whether the waiting emission is finished, where there is one.
-    pub(crate) fn poll(&mut self, rt: &impl Wait, cx: &mut Context<'_>)
-        ensures waits { (self.new.waiting ≡ None) ⊎ ((self.new.waiting ≡ self.old.waiting) × IsArmed cx.new) }
+    // Asks whether the waiting emission, if there is one, waits still.
+    pub(crate) fn still_waits(&mut self, rt: &impl Wait, cx: &mut Context<'_>) -> bool
+        ensures found { (owner : Owning) → Found (place_at owner self.old) result (place_at owner self.new) }
+        ensures armed { IsTrue result → IsArmed cx.new }
         ensures same { IsSameEmitter self.old.emitter self.new.emitter }
         ensures kept { Keeps cx.old cx.new }
     {
-        if self.waiting.is_some() && self.emitter.poll_emit(rt, cx).is_ready() {
-            self.waiting = None;
+        if self.waiting.is_none() {
+            return false;
         }
+        if let Poll::Pending = self.emitter.poll_emit(rt, cx) {
+            return true;
+        }
+        self.waiting = None;
+        false
     }
 
     // Withdraws the waiting emission.
-    pub(crate) fn withdraw(&mut self, rt: &impl Wait) -> Withdrawn<Receipt>
-        ensures waiting { self.new.waiting ≡ None }
-        ensures idle { self.old.waiting ≡ None → result ≡ withdrawn.Gone }
-        ensures receipt { IfLeft result (λ receipt. receipt.emitter ≡ self.old.emitter.id) }
+    pub(crate) fn withdraw(&mut self, rt: &impl Wait)
+        ensures withdrew { (owner : Owning) → Withdrew (place_at owner self.old) (place_at owner self.new) }
         ensures same { IsSameEmitter self.old.emitter self.new.emitter }
     {
+        if self.waiting.is_none() {
+            return;
+        }
         self.waiting = None;
-        self.emitter.cancel_emit(rt)
+        let _withdrawn = self.emitter.cancel_emit(rt);
     }
 
     // Withdraws the waiting emission, and lets the emitter go.
     pub(crate) fn close(self, rt: &impl Wait) -> Withdrawn<Receipt>
         ensures idle { self.waiting ≡ None → result ≡ withdrawn.Gone }
+        ensures ended { EndedWith self.emitter result }
         ensures receipt { IfLeft result (λ receipt. receipt.emitter ≡ self.emitter.id) }
     {
         let Outlet {

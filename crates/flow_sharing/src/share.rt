@@ -1,10 +1,11 @@
 //! `share_in`: a cold flow, shared.
 
-ghost use Rattle.std.specs.Prelude.{◌≡◌, [], None, IfOk, IsOkUnless};
+ghost use Rattle.std.specs.Prelude.{◌≡◌, [], IfOk, IsOkUnless};
 ghost use Rattle.shared_flow.specs.Parties.{named};
 ghost use Rattle.sharing_upstream.specs.Shown.{started_by, Shows};
 ghost use Rattle.sharing_upstream.specs.Upstreams.{IsUnstarted};
-ghost use Rattle.flow_sharing.specs.Sharings.{shared_by, waiting_in, upstream_of, strategy_of};
+ghost use Rattle.flow_sharing.specs.FlowDestinations.{IsNewPlace};
+ghost use Rattle.flow_sharing.specs.Sharings.{shared_by, place_of, upstream_of, strategy_of};
 
 use crate::sharing::{Sharing, leave};
 use cold_flow::{Flow, Refusal, Word};
@@ -24,7 +25,7 @@ pub fn share_in<T: Word, F: Flow<Item = T>>(
 ) -> Result<Sharing<T, F>, Refusal>
     ensures flow { IfOk result (λ sharing. shared_by sharing ≡ named flow.old.party) }
     ensures upstream { IfOk result (λ sharing. IsUnstarted upstream (upstream_of sharing)) }
-    ensures idle { IfOk result (λ sharing. waiting_in sharing ≡ None) }
+    ensures place { IfOk result (λ sharing. IsNewPlace flow.old.party (place_of sharing)) }
     ensures started { IfOk result (λ sharing. (started_by (strategy_of sharing) ≡ started) × Shows (strategy_of sharing) []) }
     ensures memory { IsOkUnless result Refusal.NoMemory }
     ensures same { flow.new ≡ flow.old }

@@ -4,6 +4,7 @@ ghost use Rattle.std.specs.Prelude.{◌≡◌, [], None, IsTrue, IfOk, IfErr, On
 ghost use Rattle.futures.specs.Task.{IsArmed, Keeps};
 ghost use Rattle.flow_terms.specs.declared.refusal.Refusal.TheVariants.{NoMemory};
 ghost use Rattle.flow_terms.specs.declared.answers.Withdrawn.TheVariants as withdrawn;
+ghost use Rattle.shared_flow.specs.Emitters.{EndedWith};
 ghost use Rattle.shared_flow.specs.Parties.{IfLeft, named};
 ghost use Rattle.sharing_upstream.specs.Shown.{started_by, Shows};
 ghost use Rattle.sharing_upstream.specs.Polls.{ShowsMore, Answers};
@@ -36,7 +37,7 @@ pub struct Sharing<T: Word, F: Flow<Item = T>> {
 pub(crate) fn leave<T: Word>(_flow: SharedFlow<T>) {}
 
 impl<T: Word, F: Flow<Item = T>> Sharing<T, F> {
-    ghost use Rattle.flow_sharing.specs.Sharings.{shared_by, waiting_in, upstream_of, strategy_of, SharesAt, RefusesAt, IsAsBefore};
+    ghost use Rattle.flow_sharing.specs.Sharings.{shared_by, waiting_in, upstream_of, strategy_of, emitter_of, SharesAt, RefusesAt, IsAsBefore};
 
     // The sharing of an upstream that wasn't started, into the flow of an owner and of an emitter without an emission in flight.
     pub(crate) fn over(
@@ -50,6 +51,7 @@ impl<T: Word, F: Flow<Item = T>> Sharing<T, F> {
         requires idle { emitter.ticket ≡ None }
         ensures flow { result.flow ≡ flow }
         ensures upstream { IsUnstarted upstream result.upstream }
+        ensures emitter { result.outlet.emitter ≡ emitter }
         ensures idle { result.outlet.waiting ≡ None }
         ensures started { started_by result.strategy ≡ started }
         ensures shows { Shows result.strategy [] }
@@ -83,11 +85,11 @@ impl<T: Word, F: Flow<Item = T>> Sharing<T, F> {
         ensures started { started_by (strategy_of self.new) ≡ started_by (strategy_of self.old) }
         ensures shows { IfOk result (λ polled. ShowsMore (strategy_of self.old) now polled.count (strategy_of self.new)) }
         ensures answers { IfOk result (Answers (strategy_of self.old) (cause_kept (upstream_of self.old)) now) }
-        ensures acts { IfOk result (λ polled. SharesAt F.Running.may F.Running.ended F.may self.old now polled self.new) }
+        ensures acts { IfOk result (λ polled. SharesAt T.word F.Running.may F.Running.ended F.Running.polled F.may self.old now polled self.new) }
         ensures same { (shared_by self.new ≡ shared_by self.old) × (flow_of (upstream_of self.new) ≡ flow_of (upstream_of self.old)) }
         ensures err { OnErr result (IsAsBefore self.old self.new) }
         ensures refused { IfErr result (λ refusal. (refusal ≡ NoMemory) × (cause_kept (upstream_of self.old) ≡ None)) }
-        ensures starts { IfErr result (λ _. RefusesAt self.old now self.new) }
+        ensures starts { IfErr result (λ _. RefusesAt T.word self.old now self.new) }
         ensures armed { IfOk result (λ polled. IsTrue polled.on → IsTrue (has_run (upstream_of self.new)) → IsArmed cx.new) }
         ensures kept { Keeps cx.old cx.new }
     {
@@ -118,6 +120,7 @@ impl<T: Word, F: Flow<Item = T>> Sharing<T, F> {
     /// waited.
     pub fn close(self, rt: &impl Wait) -> Withdrawn<Receipt>
         ensures idle { waiting_in self ≡ None → result ≡ withdrawn.Gone }
+        ensures ended { EndedWith (emitter_of self) result }
         ensures receipt { IfLeft result (λ receipt. receipt.emitter ≡ 0) }
     {
         let Sharing {

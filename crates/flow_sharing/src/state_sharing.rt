@@ -64,7 +64,7 @@ impl<T: Word, F: Flow<Item = T>, A: Allocator> StateSharing<T, F, A> {
         ensures started { started_by (strategy_of self.new) ≡ started_by (strategy_of self.old) }
         ensures shows { IfOk result (λ polled. ShowsMore (strategy_of self.old) now polled.count (strategy_of self.new)) }
         ensures answers { IfOk result (Answers (strategy_of self.old) (cause_kept (upstream_of self.old)) now) }
-        ensures acts { IfOk result (λ polled. SetsAt F.Running.may F.Running.ended F.may self.old now polled self.new) }
+        ensures acts { IfOk result (λ polled. SetsAt F.Running.may F.Running.ended F.Running.polled F.may self.old now polled self.new) }
         ensures same { ((seat_of self.new).flow ≡ (seat_of self.old).flow) × (initial_of self.new ≡ initial_of self.old)
             × (flow_of (upstream_of self.new) ≡ flow_of (upstream_of self.old)) }
         ensures err { OnErr result ((strategy_of self.new ≡ strategy_of self.old)

@@ -4,7 +4,9 @@ use Rattle.cold_flow.specs.declared.cause.Cause.{Cause}
 use Rattle.cold_flow.specs.declared.cause.Cause.TheVariants as causes
 use Rattle.cold_flow.specs.declared.flow.Flow as flows
 use Rattle.cold_flow.specs.declared.run.Run as runs
+use Rattle.cold_flow.specs.declared.event.Event.{Event}
 use Rattle.cold_flow.specs.Poll.{Traces}
+use Rattle.futures.specs.declared.task.Poll.{Poll}
 use Rattle.flow_terms.specs.declared.refusal.Refusal.{Refusal}
 use Rattle.flow_terms.specs.declared.refusal.Refusal.TheVariants.{NoMemory}
 use Rattle.flow_terms.specs.declared.started.Started.{Started}
@@ -14,7 +16,7 @@ use Rattle.sharing_upstream.specs.declared.polled.Polled.{Polled}
 use Rattle.sharing_upstream.specs.declared.strategy.Strategy.{Strategy}
 use Rattle.sharing_upstream.specs.Courses.{kept_cause}
 use Rattle.sharing_upstream.specs.Destinations.{Steps}
-use Rattle.flow_sharing.specs.FlowDestinations.{emitting}
+use Rattle.flow_sharing.specs.FlowDestinations.{IsNewPlace, Place, emitting}
 use Rattle.sharing_upstream.specs.Polls.{ShowsMore, Answers}
 use Rattle.sharing_upstream.specs.Sharings.{ActsAt, IsRefusedAt}
 use Rattle.sharing_upstream.specs.Shown.{started_by}
@@ -54,13 +56,14 @@ pub record Turning (U P : Type 0) : Type 0 where
   pub course : Course U ℕ
   pub place : P
 
-module _ {U P : Type 0} (may : U → Traces ℕ ℕ) (ended : U → Option (Cause ℕ)) (steps : Steps ℕ P) (new_run : Traces ℕ ℕ) where
+module _ {U P : Type 0} (may : U → Traces ℕ ℕ) (ended : U → Option (Cause ℕ)) (asked : U → Poll (Event ℕ ℕ) → U → Type 0)
+    (steps : Steps ℕ P) (new_run : Traces ℕ ℕ) where
   -- One poll at this moment was answered so, and the sharing did at it what its strategy commands. Refused is the start of a run
   -- alone, which was commanded; then nothing else has changed
   abbrev pub Polls : Turning U P → ℕ → Result Polled Refusal → Turning U P → Type 0
   Polls old now (Ok polled) new = ShowsMore old.strategy now polled.count new.strategy
       × Answers old.strategy (kept_cause old.course) now polled
-      × ActsAt steps may ended new_run old.strategy now polled old.course old.place new.course new.place
+      × ActsAt steps may ended asked new_run old.strategy now polled old.course old.place new.course new.place
   Polls old now (Err refusal) new = (refusal ≡ NoMemory) × (kept_cause old.course ≡ None)
       × (new.strategy ≡ old.strategy) × (new.course ≡ old.course) × IsRefusedAt steps old.strategy now old.place new.place
 
@@ -77,10 +80,9 @@ pub record Stating (F U : Type 0) : Type 0 where
   pub course : Course U ℕ
   pub strategy : Strategy
 
--- what emits into a flow: an owner of it, the value that waits, and a source with what is kept of its sharing
+-- what emits into a flow: an owner of it with an emitter and the value that waits, and a source with what is kept of its sharing
 pub record Sharings (F U : Type 0) : Type 0 where
-  pub owner : Owning
-  pub waiting : Option ℕ
+  pub place : Place ℕ
   pub source : F
   pub course : Course U ℕ
   pub strategy : Strategy
@@ -100,24 +102,24 @@ SetsFrom started source it = (started_by (stated.strategy_of it.sharing) ≡ sta
 
 abbrev pub sharings_of : {W F U : Type 0} {flow : flows.Ghosts F ℕ ℕ U} {run : runs.Ghosts U ℕ ℕ} → Share W F ℕ U flow run → Sharings F (LiveRun U)
 sharings_of it = record {
-  owner = shared.owner_of it.sharing;
-  waiting = shared.waiting_in it.sharing;
+  place = shared.place_of it.sharing;
   source = flow_of (shared.upstream_of it.sharing);
   course = course_of (shared.upstream_of it.sharing);
   strategy = shared.strategy_of it.sharing;
 }
 
--- it emits into the flow of this owner and was started so; nothing waits, and this source isn't collected yet
+-- it emits into the flow of this owner, and nothing waits; it was started so, and this source isn't collected yet
 abbrev pub SharesFrom : {W F U : Type 0} {flow : flows.Ghosts F ℕ ℕ U} {run : runs.Ghosts U ℕ ℕ} → Owning → Started → F → Share W F ℕ U flow run → Type 0
-SharesFrom owner started source it = (shared.shared_by it.sharing ≡ named owner.party) × (shared.waiting_in it.sharing ≡ None)
+SharesFrom owner started source it = (shared.shared_by it.sharing ≡ named owner.party) × IsNewPlace owner.party (shared.place_of it.sharing)
     × (started_by (shared.strategy_of it.sharing) ≡ started) × IsUnstarted source (shared.upstream_of it.sharing)
 
-module _ {F U : Type 0} (may : U → Traces ℕ ℕ) (ended : U → Option (Cause ℕ)) (may_of : F → Traces ℕ ℕ) where
+module _ {F U : Type 0} (may : U → Traces ℕ ℕ) (ended : U → Option (Cause ℕ)) (asked : U → Poll (Event ℕ ℕ) → U → Type 0)
+    (may_of : F → Traces ℕ ℕ) where
   -- the sharing was polled, and sets the state by the same seat
   abbrev pub stating : Turns (Stating F U)
   stating = record {
     Ticks = λ old now reply new. (new.seat.flow ≡ old.seat.flow) × (new.initial ≡ old.initial) × (new.source ≡ old.source)
-        × TicksAt may ended (setting old.initial) (may_of old.source)
+        × TicksAt may ended asked (setting old.initial) (may_of old.source)
         (record { strategy = old.strategy; course = old.course; place = old.seat.view }) now reply
         (record { strategy = new.strategy; course = new.course; place = new.seat.view });
   }
@@ -125,8 +127,8 @@ module _ {F U : Type 0} (may : U → Traces ℕ ℕ) (ended : U → Option (Caus
   -- the sharing was polled, and shares into the same flow
   abbrev pub sharing : Turns (Sharings F U)
   sharing = record {
-    Ticks = λ old now reply new. (named new.owner.party ≡ named old.owner.party) × (new.source ≡ old.source)
-        × TicksAt may ended (emitting old.owner.party.flow) (may_of old.source)
-        (record { strategy = old.strategy; course = old.course; place = old.waiting }) now reply
-        (record { strategy = new.strategy; course = new.course; place = new.waiting });
+    Ticks = λ old now reply new. (named new.place.owner.party ≡ named old.place.owner.party) × (new.source ≡ old.source)
+        × TicksAt may ended asked (emitting (λ word. word)) (may_of old.source)
+        (record { strategy = old.strategy; course = old.course; place = old.place }) now reply
+        (record { strategy = new.strategy; course = new.course; place = new.place });
   }

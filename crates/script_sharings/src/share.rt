@@ -53,7 +53,7 @@ impl<'a, W: Wait, S: Flow<Item = u64, Fault = u64>> SharedSource for Share<'a, W
 
     ghost turns = { turns_of
         sharings_of
-        (sharing (λ live. S.Running.may live.run) (λ live. S.Running.ended live.run) S.may) };
+        (sharing (λ live. S.Running.may live.run) (λ live. S.Running.ended live.run) (λ was answer is. S.Running.polled was.run answer is.run) S.may) };
 
     fn tick(&mut self, now: u64, cx: &mut Context<'_>) -> Ticked {
         let polled = self.sharing.poll(self.rt, now, cx);

@@ -40,7 +40,7 @@ impl<S: Flow<Item = u64, Fault = u64>> SharedSource for Stated<S> {
 
     ghost turns = { turns_of
         stating_of
-        (stating (λ live. S.Running.may live.run) (λ live. S.Running.ended live.run) S.may) };
+        (stating (λ live. S.Running.may live.run) (λ live. S.Running.ended live.run) (λ was answer is. S.Running.polled was.run answer is.run) S.may) };
 
     fn tick(&mut self, now: u64, cx: &mut Context<'_>) -> Ticked {
         let polled = self.sharing.poll(now, cx);

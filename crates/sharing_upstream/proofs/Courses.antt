@@ -1,14 +1,16 @@
 -- What an upstream gave, one event after another.
 use Rattle.std.proofs.Common.{◌≡◌, refl, sym, subst, List, [], ◌++◌, ◌∷◌, Option, Some, None}
+use Rattle.futures.specs.declared.task.Poll.{Poll}
 use Rattle.futures.specs.declared.task.Poll.TheVariants.{Ready, Pending}
 use Rattle.cold_flow.specs.declared.cause.Cause.{Cause}
+use Rattle.cold_flow.specs.declared.event.Event.{Event}
 use Rattle.cold_flow.specs.Trace.{Trace, so_far}
 use Rattle.cold_flow.specs.Poll.{Traces, Within, After}
 use Rattle.cold_flow.specs.Gather.{Gathered}
 use Rattle.cold_flow.specs.GatherLaws.{gathers_value, gathers_end, gathers_so_far, gathers_within}
 use Rattle.sharing_upstream.specs.declared.course.Course.{Course}
 use Rattle.sharing_upstream.specs.declared.course.Course.TheVariants.{Idle, Running, Broken}
-use Rattle.sharing_upstream.specs.Courses.{Asked, GoesOn, Ends, GaveAll, Gave, Waited}
+use Rattle.sharing_upstream.specs.Courses.{Asked, AnsweredPending, GoesOn, Ends, GaveAll, Gave, Waited}
 
 module _ {U T E : Type 0} (may : U → Traces T E) (ended : U → Option (Cause E)) where
   -- no event yet
@@ -87,3 +89,12 @@ module _ {U T E : Type 0} (may : U → Traces T E) (ended : U → Option (Cause 
   asked_pending from to was is was_from is_to within going =
       let waited : Waited may ended was to = subst (λ (c : Course U E). Waited may ended was c) (sym is_to) (within, going) in
       subst (λ (c : Course U E). Asked may ended c Pending to) (sym was_from) waited
+
+-- the runs that a pending answer tells of
+pub runs_of : {U T E : Type 0} (polled : U → Poll (Event T E) → U → Type 0) (from to : Course U E) → AnsweredPending polled from to
+    → (was : U) × (is : U) × (from ≡ Running was) × polled was Pending is × (to ≡ Running is)
+runs_of polled (Running was) (Running is) h = (was, is, refl, h, refl)
+runs_of polled (Running was) Idle h = absurd h
+runs_of polled (Running was) (Broken cause) h = absurd h
+runs_of polled Idle to h = absurd h
+runs_of polled (Broken cause) to h = absurd h

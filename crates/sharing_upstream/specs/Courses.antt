@@ -4,6 +4,7 @@ use Rattle.futures.specs.declared.task.Poll.{Poll}
 use Rattle.futures.specs.declared.task.Poll.TheVariants.{Ready, Pending}
 use Rattle.cold_flow.specs.declared.cause.Cause.{Cause}
 use Rattle.cold_flow.specs.declared.cause.Cause.TheVariants.{Finished, Failed, Cancelled, Refused}
+use Rattle.cold_flow.specs.declared.event.Event.{Event}
 use Rattle.cold_flow.specs.Trace.{so_far, ended_by}
 use Rattle.cold_flow.specs.Poll.{Traces, Within, After}
 use Rattle.cold_flow.specs.Gather.{Gathered}
@@ -80,3 +81,9 @@ module _ {U T E : Type 0} (may : U → Traces T E) (ended : U → Option (Cause 
   GaveAll Idle values = values ≡ []
   GaveAll (Broken cause) values = values ≡ []
   GaveAll (Running from) values = may from (so_far values)
+
+-- The run that was going was polled, answered pending, and goes on. The word before them says of a poll of a run how the run stood, what it
+-- answered, and how the run stood then
+abbrev pub AnsweredPending : {U T E : Type 0} → (U → Poll (Event T E) → U → Type 0) → Course U E → Course U E → Type 0
+AnsweredPending polled (Running was) (Running is) = polled was Pending is
+AnsweredPending _ _ _ = ⊥

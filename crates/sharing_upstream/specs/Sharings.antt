@@ -1,13 +1,16 @@
 -- What a poll of a sharing does to its upstream, and to the place where its values go.
-use Rattle.std.specs.Prelude.{◌≡◌, ℕ, ◌<◌, ◌≤◌, ◌⊎◌, Bool, true, false, List, [], ◌∷◌, ◌++◌, length, Option, Some, None}
+use Rattle.std.specs.Prelude.{◌≡◌, ℕ, ◌<◌, ◌⊎◌, Bool, true, false, List, [], ◌∷◌, ◌++◌, length, Option, Some, None}
+use Rattle.futures.specs.declared.task.Poll.{Poll}
+use Rattle.futures.specs.declared.task.Poll.TheVariants.{Pending}
 use Rattle.cold_flow.specs.declared.cause.Cause.{Cause}
 use Rattle.cold_flow.specs.declared.cause.Cause.TheVariants.{Refused}
+use Rattle.cold_flow.specs.declared.event.Event.{Event}
 use Rattle.flow_terms.specs.declared.refusal.Refusal.{Refusal}
 use Rattle.cold_flow.specs.Poll.{Traces}
 use Rattle.flow_terms.specs.declared.command.Command.{Command}
 use Rattle.flow_terms.specs.declared.command.Command.TheVariants.{Start, Stop, StopAndReset}
 use Rattle.sharing_upstream.specs.declared.course.Course.{Course}
-use Rattle.sharing_upstream.specs.declared.course.Course.TheVariants.{Broken}
+use Rattle.sharing_upstream.specs.declared.course.Course.TheVariants.{Running, Broken}
 use Rattle.sharing_upstream.specs.declared.polled.Polled.{Polled}
 use Rattle.sharing_upstream.specs.declared.strategy.Strategy.{Strategy}
 use Rattle.sharing_upstream.specs.Courses.{IsNew, GoesOn, Ends, GaveAll, stopped, kept_cause}
@@ -23,11 +26,17 @@ module _ {T S : Type 0} (steps : Steps T S) {U E : Type 0} (may : U → Traces T
   Obeys new_run (Some StopAndReset) from before to after = (to ≡ stopped from)
       × ((between : S) × steps.Withdraws before between × steps.Resets between after)
 
-  -- What a poll takes of the upstream, at most 32 events, where nothing waits. Each value is offered before the next is asked for, so
-  -- only the last one can wait, and a refused one is the last
+-- the word `polled` says of a poll of a run how the run stood, what it answered, and how the run stood then
+module _ {T S : Type 0} (steps : Steps T S) {U E : Type 0} (may : U → Traces T E) (ended : U → Option (Cause E))
+    (polled : U → Poll (Event T E) → U → Type 0) where
+  -- What a poll takes of the upstream, at most 32 events, where nothing waits, and why it stops there: 32 values were accepted, the run
+  -- answered pending, a value waits, no run is going any more, or a value was refused. Each value is offered before the next is asked for,
+  -- so only the last one can wait, and a refused one is the last
   pub data Takes (from : Course U E) (before : S) (to : Course U E) (after : S) : Type 0 where
-    goes_on : (values : List T) → length values ≤ 32 → GoesOn may ended from values to
+    is_full : (values : List T) → length values ≡ 32 → GoesOn may ended from values to
         → AcceptsEach steps before values after → Takes from before to after
+    is_pending : (values : List T) (was is : U) → length values < 32 → GoesOn may ended from values (Running was) → polled was Pending is
+        → to ≡ Running is → GoesOn may ended from values to → AcceptsEach steps before values after → Takes from before to after
     last_waits : (values : List T) (last : T) (between : S) → length values < 32 → GoesOn may ended from (values ++ last ∷ []) to
         → AcceptsEach steps before values between → steps.Delays between last after → Takes from before to after
     ends : (values : List T) → length values < 32 → Ends may ended from values to
@@ -47,12 +56,12 @@ module _ {T S : Type 0} (steps : Steps T S) {U E : Type 0} (may : U → Traces T
   abbrev pub Acts : Option (Cause E) → Traces T E → (Option Command → Type 0) → Bool → Course U E → S → Course U E → S → Type 0
   Acts (Some cause) new_run IsCommand on from before to after = (to ≡ from) × (after ≡ before)
   Acts None new_run IsCommand on from before to after = (done : Option Command) × IsCommand done
-      × ((between : Course U E) × (middle : S) × Obeys new_run done from before between middle × Shares on between middle to after)
+      × ((between : Course U E) × (middle : S) × Obeys steps may ended new_run done from before between middle × Shares on between middle to after)
 
   -- what a poll did at this moment that found the strategy so
   abbrev pub ActsAt : Traces T E → Strategy → ℕ → Polled → Course U E → S → Course U E → S → Type 0
-  ActsAt new_run strategy now polled from before to after = (listened : S) × steps.Counts before polled.count listened
-      × Acts (kept_cause from) new_run (Commands strategy now polled.count) polled.on from listened to after
+  ActsAt new_run strategy now found from before to after = (listened : S) × steps.Counts before found.count listened
+      × Acts (kept_cause from) new_run (Commands strategy now found.count) found.on from listened to after
 
 -- a poll at this moment was refused that found the strategy so: it counted, and a start was commanded
 abbrev pub IsRefusedAt : {T S : Type 0} → Steps T S → Strategy → ℕ → S → S → Type 0

@@ -1,6 +1,8 @@
 -- What contracts name of an upstream. A caller needs to know no more of it.
 use Rattle.std.specs.Prelude.{◌≡◌, ℕ, Bool, Option}
+use Rattle.futures.specs.declared.task.Poll.{Poll}
 use Rattle.cold_flow.specs.declared.cause.Cause.{Cause}
+use Rattle.cold_flow.specs.declared.event.Event.{Event}
 use Rattle.cold_flow.specs.Poll.{Traces}
 use Rattle.sharing_upstream.specs.declared.course.Course.{Course}
 use Rattle.sharing_upstream.specs.declared.course.Course.TheVariants.{Idle}
@@ -33,9 +35,10 @@ module _ {F T E U : Type 0} where
   abbrev pub IsUnstarted : F → Upstream F T E U → Type 0
   IsUnstarted flow upstream = upstream ≡ record { flow = flow; course = Idle }
 
-  -- What a poll did at this moment that found the strategy so. The three words before it say what a run may give, how it has ended,
-  -- and what a new run of the flow may give
-  abbrev pub PollsAt : {S : Type 0} → Steps T S → (U → Traces T E) → (U → Option (Cause E)) → (F → Traces T E) → Strategy → ℕ → Polled
-      → Upstream F T E U → S → Upstream F T E U → S → Type 0
-  PollsAt steps may ended new_run strategy now polled from before to after =
-      ActsAt steps (λ live. may live.run) (λ live. ended live.run) (new_run from.flow) strategy now polled from.course before to.course after
+  -- What a poll did at this moment that found the strategy so. The four words before it say what a run may give, how it has ended, what a
+  -- poll of it answered, and what a new run of the flow may give
+  abbrev pub PollsAt : {S : Type 0} → Steps T S → (U → Traces T E) → (U → Option (Cause E)) → (U → Poll (Event T E) → U → Type 0)
+      → (F → Traces T E) → Strategy → ℕ → Polled → Upstream F T E U → S → Upstream F T E U → S → Type 0
+  PollsAt steps may ended polled new_run strategy now found from before to after =
+      ActsAt steps (λ live. may live.run) (λ live. ended live.run) (λ was answer is. polled was.run answer is.run) (new_run from.flow)
+      strategy now found from.course before to.course after

@@ -50,8 +50,8 @@ impl<T: Word, F: Flow<Item = T>> Upstream<F> {
 
     // Asks the value that waits, and unless it still does, takes events.
     pub(crate) fn share<D: Destination<T>>(&mut self, destination: &mut D, cx: &mut Context<'_>)
-        ensures shares { Shares (D.steps (D.kept destination.old)) (λ live. F.Running.may live.run) (λ live. F.Running.ended live.run) true
-            self.old.course (D.seen destination.old) self.new.course (D.seen destination.new) }
+        ensures shares { Shares (D.steps (D.kept destination.old)) (λ live. F.Running.may live.run) (λ live. F.Running.ended live.run)
+            (λ was answer is. F.Running.polled was.run answer is.run) true self.old.course (D.seen destination.old) self.new.course (D.seen destination.new) }
         ensures flow { self.new.flow ≡ self.old.flow }
         ensures kept { D.kept destination.new ≡ D.kept destination.old }
         ensures armed { IsTrue (is_running self.new.course) → IsArmed cx.new }
@@ -67,7 +67,7 @@ impl<T: Word, F: Flow<Item = T>> Upstream<F> {
     fn take_events<D: Destination<T>>(&mut self, destination: &mut D, cx: &mut Context<'_>)
         requires free { D.free (D.seen destination.old) }
         ensures takes { Takes (D.steps (D.kept destination.old)) (λ live. F.Running.may live.run) (λ live. F.Running.ended live.run)
-            self.old.course (D.seen destination.old) self.new.course (D.seen destination.new) }
+            (λ was answer is. F.Running.polled was.run answer is.run) self.old.course (D.seen destination.old) self.new.course (D.seen destination.new) }
         ensures flow { self.new.flow ≡ self.old.flow }
         ensures kept { D.kept destination.new ≡ D.kept destination.old }
         ensures armed { IsTrue (is_running self.new.course) → IsArmed cx.new }

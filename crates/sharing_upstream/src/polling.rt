@@ -30,8 +30,8 @@ pub fn poll_sharing<T: Word, F: Flow<Item = T>, D: Destination<T>>(
     ensures started { started_by strategy.new ≡ started_by strategy.old }
     ensures shows { IfOk result (λ polled. ShowsMore strategy.old now polled.count strategy.new) }
     ensures answers { IfOk result (Answers strategy.old (cause_kept upstream.old) now) }
-    ensures acts { IfOk result (λ polled. PollsAt (D.steps (D.kept destination.old)) F.Running.may F.Running.ended F.may strategy.old now polled
-        upstream.old (D.seen destination.old) upstream.new (D.seen destination.new)) }
+    ensures acts { IfOk result (λ polled. PollsAt (D.steps (D.kept destination.old)) F.Running.may F.Running.ended F.Running.polled F.may strategy.old
+        now polled upstream.old (D.seen destination.old) upstream.new (D.seen destination.new)) }
     ensures flow { flow_of upstream.new ≡ flow_of upstream.old }
     ensures kept { D.kept destination.new ≡ D.kept destination.old }
     ensures err { OnErr result ((strategy.new ≡ strategy.old) × (course_of upstream.new ≡ course_of upstream.old)) }

@@ -6,7 +6,7 @@ ghost use Rattle.futures.specs.Task.{IsArmed, Keeps};
 ghost use Rattle.cold_flow.specs.declared.cause.Cause.TheVariants.{Refused};
 ghost use Rattle.flow_terms.specs.declared.refusal.Refusal.TheVariants.{NoMemory};
 ghost use Rattle.sharing_upstream.specs.declared.course.Course.TheVariants.{Running, Broken};
-ghost use Rattle.sharing_upstream.specs.Courses.{IsNew, Asked, stopped, after_end};
+ghost use Rattle.sharing_upstream.specs.Courses.{IsNew, Asked, AnsweredPending, stopped, after_end};
 ghost use Rattle.sharing_upstream.specs.Upstreams.{cause_kept, IsUnstarted};
 
 use crate::course::Course;
@@ -69,6 +69,7 @@ impl<F: Flow> Upstream<F> {
     pub(crate) fn poll(&mut self, cx: &mut Context<'_>) -> Poll<Option<F::Item>>
         ensures flow { self.new.flow ≡ self.old.flow }
         ensures asked { Asked (λ live. F.Running.may live.run) (λ live. F.Running.ended live.run) self.old.course result self.new.course }
+        ensures polled { OnPending result (AnsweredPending (λ was answer is. F.Running.polled was.run answer is.run) self.old.course self.new.course) }
         ensures armed { OnPending result (IsArmed cx.new) }
         ensures kept { Keeps cx.old cx.new }
     {
@@ -101,6 +102,7 @@ fn ask<R: Run>(
     cx: &mut Context<'_>,
 ) -> (Poll<Option<R::Item>>, Course<LiveRun<R>, R::Fault>)
     ensures asked { Asked (λ live. R.may live.run) (λ live. R.ended live.run) course result.0 result.1 }
+    ensures polled { OnPending result.0 (AnsweredPending (λ was answer is. R.polled was.run answer is.run) course result.1) }
     ensures armed { OnPending result.0 (IsArmed cx.new) }
     ensures kept { Keeps cx.old cx.new }
 {
@@ -117,6 +119,7 @@ fn ask_run<R: Run>(
     cx: &mut Context<'_>,
 ) -> (Poll<Option<R::Item>>, Course<LiveRun<R>, R::Fault>)
     ensures asked { Asked (λ live. R.may live.run) (λ live. R.ended live.run) (Running live) result.0 result.1 }
+    ensures polled { OnPending result.0 (AnsweredPending (λ was answer is. R.polled was.run answer is.run) (Running live) result.1) }
     ensures armed { OnPending result.0 (IsArmed cx.new) }
     ensures kept { Keeps cx.old cx.new }
 {

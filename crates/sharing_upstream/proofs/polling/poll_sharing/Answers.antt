@@ -11,7 +11,7 @@ returns-then-is_some-clause-acts g c =
     let same : c.over.result.count ≡ c.count-count.result = cc (c.over.ensures, c.of-turn.ensures.count) in (
       g.D.Destination.seen c.count-count.new.self,
       rw same c.count-count.ensures.counts,
-      acts_not steps _ _ _ _ _ _ _ _ _ _ ended refl refl,
+      acts_not steps _ _ _ _ _ _ _ _ _ _ _ ended refl refl,
     )
 
 pub returns-clause-acts : goal.returns-clause-acts
@@ -22,12 +22,12 @@ returns-clause-acts g c =
     let commanded = Commands c.args.strategy.now c.args.now c.of-turn.result.polled.count in (
       g.D.Destination.seen c.count-count.new.self,
       rw c.of-turn.ensures.count c.count-count.ensures.counts,
-      acts_so steps _ _ _ _ commanded _ _ _ _ _ going c.of-turn.result.command
+      acts_so steps _ _ _ _ _ commanded _ _ _ _ _ going c.of-turn.result.command
           (λ history shows. rw c.of-turn.ensures.count (c.of-turn.ensures.command history shows))
           c.obey.new.self.course (g.D.Destination.seen c.obey.new.destination) (rw c.count-count.ensures.kept at c.in_ok-obey.ensures.obeys)
           (elim c.if-turn.branch [
-            | then-turn w ↦ rw (w.upstream-is, w.destination-is) (shares_on steps _ _ _ _ _ _ _ w.if-turn.true (rw kept at w.share.ensures.shares))
-            | else-turn w ↦ rw (w.upstream-is, w.destination-is) (shares_off steps _ _ _ _ _ _ _ w.if-turn.false refl refl)
+            | then-turn w ↦ rw (w.upstream-is, w.destination-is) (shares_on steps _ _ _ _ _ _ _ _ w.if-turn.true (rw kept at w.share.ensures.shares))
+            | else-turn w ↦ rw (w.upstream-is, w.destination-is) (shares_off steps _ _ _ _ _ _ _ _ w.if-turn.false refl refl)
           ]),
     )
 

@@ -5,6 +5,8 @@ use Rattle.shared_rounds.specs.Names.{IsMadeWith}
 use Rattle.shared_flow.specs.Owners.{Owning, at_rest}
 use Rattle.shared_flow.specs.Parties.{named, newcomer_of}
 use Rattle.script_calls.proofs.Refusals.{no_reason, refused_for}
+use Rattle.flow_sharing.specs.FlowDestinations.{IsNewPlace}
+use Rattle.flow_sharing.specs.Sharings.{place_of}
 use Rattle.script_sharings.proofs.Fresh.{is_newcomer}
 use Rattle.script_sharings.proofs.share.Share.new.Goals as goal
 
@@ -28,7 +30,7 @@ returns-clause-made g c = (
 pub returns-clause-sharing : goal.returns-clause-sharing
 returns-clause-sharing g c = (
   c.in_ok-sharing.ensures.flow ∙ sym (ap (λ (o : Owning). named o.party) c.in_ok-sharing.ensures.same),
-  c.in_ok-sharing.ensures.idle,
+  subst (λ (o : Owning). IsNewPlace o.party (place_of c.in_ok-sharing.sharing)) (sym c.in_ok-sharing.ensures.same) c.in_ok-sharing.ensures.place,
   c.in_ok-sharing.ensures.started.0,
   c.in_ok-sharing.ensures.upstream,
 )
