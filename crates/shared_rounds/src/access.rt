@@ -235,6 +235,7 @@ fn looked<M: Stands>(
 }
 
 // Takes those whom a round has helped, or ended, out from under the lock.
+#[inline(always)]
 fn helped(wakes: &mut Wakes, inside: Inside, ended: Option<u64>) -> Guarded<Box<Shared>>
     requires { NobodySleeps wakes.old.subscriptions }
     ensures { Helps inside.before ended inside.guarded.state.value result.state.value }

@@ -200,6 +200,10 @@ impl Wakes {
         ensures none { NobodySleeps self.new.subscriptions × (self.new.wakers.items ≡ []) }
         ensures room { (self.new.subscriptions.capacity ≡ self.old.subscriptions.capacity) × (vec_capacity self.new.wakers ≡ vec_capacity self.old.wakers) }
     {
+        // Most calls wake nobody, and write nothing here.
+        if self.subscriptions.is_empty() && self.wakers.is_empty() {
+            return;
+        }
         self.subscriptions.clear();
         self.wakers.clear();
     }
