@@ -292,7 +292,7 @@ inline fire_exchanged(key) {
     exchanged_waker[key] = 0
 }
 
-/* Wakes::fire: each waker is called once the lock is given back, those of the exchanged table first. */
+/* Wakes::fire_unless: each waker is called once the lock is given back, those of the exchanged table first. */
 inline fire() {
     do
     :: NONE_LEFT -> break

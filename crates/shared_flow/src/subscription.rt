@@ -240,10 +240,12 @@ impl<T: Word> Subscription<T> {
         ensures room { IfSome result (λ v. MadeRoom self.old self.new) }
         ensures missed { IfNone result (OnlyLooked self.old self.new × Missed self.old.reader self.new.reader) }
     {
-        let Taken::Value(word) = self.reader.try_next(self.access.lane()) else {
+        let access = &self.access;
+        let track = access.track();
+        let Taken::Value(word) = self.reader.try_next(track.lane()) else {
             return None;
         };
-        let waits = self.access.has_unfinished(&mut self.looker, &self.reader);
+        let waits = access.has_unfinished(track, &mut self.looker, &self.reader);
         if waits {
             self.make_room(rt);
         }

@@ -5,7 +5,7 @@ ghost use Rattle.shared_lane.specs.Readers.{at};
 ghost use Rattle.shared_lane.specs.Sequencers.{next};
 ghost use Rattle.shared_rounds.specs.declared.round.Round.TheVariants as round;
 ghost use Rattle.shared_rounds.specs.Flags.{looked_at};
-ghost use Rattle.shared_rounds.specs.Names.{FoundDown, FoundUp, IsFlagOf, IsNew, KnowsLane};
+ghost use Rattle.shared_rounds.specs.Names.{FoundDown, FoundUp, IsFlagOf, IsNew, KnowsLane, KnowsTrack};
 ghost use Rattle.shared_rounds.specs.Entering.{Found, IsCalled, IsCalledAs, Left, LeftAs};
 ghost use Rattle.shared_rounds.specs.Reach.{party_of, reach_of};
 ghost use Rattle.shared_rounds.specs.Rounds.{Below};
@@ -115,14 +115,16 @@ impl Access {
     }
 
     /// Whether who has received has to take the lock, for an emission that may wait for that, as its reader stands now, and after the
-    /// rounds that its party has made by now. Without a lock.
-    pub fn has_unfinished(&self, looker: &mut Looker, reader: &Reader) -> bool
-        requires { IsFlagOf self.now.flow looker.old.table }
+    /// rounds that its party has made by now. Without a lock. The track is fetched before the exchange, so that only the flag is
+    /// loaded after it.
+    pub fn has_unfinished(&self, track: &Track, looker: &mut Looker, reader: &Reader) -> bool
+        requires track { KnowsTrack self.now.flow track.now }
+        requires flag { IsFlagOf self.now.flow looker.old.table }
         ensures table { looker.new.table ≡ looker.old.table }
         ensures none { result ≡ false → FoundDown self.now.flow (at reader.now) (length self.now.rounds) looker.old.looks looker.new.looks }
         ensures some { result ≡ true → FoundUp (at reader.now) (length self.now.rounds) looker.old.looks looker.new.looks }
     {
-        looked::<Brand>(&self.track, &self.lock, looker, reader)
+        looked::<Brand>(track, &self.lock, looker, reader)
     }
 
     /// Looks some times whether an emission may wait still, up to where none does. Without a lock.
@@ -134,6 +136,13 @@ impl Access {
                 return;
             }
         }
+    }
+
+    /// The lane and the flag, for which no lock is needed.
+    pub fn track(&self) -> &Track
+        ensures { KnowsTrack self.now.flow result.now }
+    {
+        &self.track
     }
 
     /// The lane, for which no lock is needed.
@@ -212,8 +221,10 @@ impl Access {
         ensures left { LeftAs M.entry inside.guarded.state.value self.old self.new }
     {
         let guarded = helped(&mut self.wakes, inside, ended);
+        // Most calls wake nobody, and load nothing for that after the lock was given back.
+        let is_idle = self.wakes.is_empty();
         self.lock.put_as::<M>(rt, guarded);
-        self.wakes.fire();
+        self.wakes.fire_unless(is_idle);
     }
 }
 

@@ -24,4 +24,4 @@ pub use looking::{LOOKS, pause};
 pub use round::{Emission, Round, begun_ticket};
 pub use shared::{Admitted, Polled, Released, Shared};
 pub use sleepers::Bed;
-pub use track::Looker;
+pub use track::{Looker, Track};

@@ -195,13 +195,20 @@ impl Wakes {
         }
     }
 
-    /// Calls each waker: one that is let go wakes its task.
-    pub fn fire(&mut self)
+    /// Whether nobody is to be woken.
+    pub fn is_empty(&self) -> bool
+        ensures { result ≡ true → NobodySleeps self.now.subscriptions × (self.now.wakers.items ≡ []) }
+    {
+        self.subscriptions.is_empty() && self.wakers.is_empty()
+    }
+
+    /// Calls each waker, unless there is none: one that is let go wakes its task.
+    pub fn fire_unless(&mut self, is_idle: bool)
+        requires { is_idle ≡ true → NobodySleeps self.old.subscriptions × (self.old.wakers.items ≡ []) }
         ensures none { NobodySleeps self.new.subscriptions × (self.new.wakers.items ≡ []) }
         ensures room { (self.new.subscriptions.capacity ≡ self.old.subscriptions.capacity) × (vec_capacity self.new.wakers ≡ vec_capacity self.old.wakers) }
     {
-        // Most calls wake nobody, and write nothing here.
-        if self.subscriptions.is_empty() && self.wakers.is_empty() {
+        if is_idle {
             return;
         }
         self.subscriptions.clear();

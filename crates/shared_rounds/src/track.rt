@@ -12,7 +12,7 @@ use std::marker::{Brand, Model};
 /// The lane of a flow, and beside it a flag that says whether some emission may have to wait for a receipt. Contracts see which lane
 /// and which flag they are, and whether emissions of the flow may wait.
 #[derive(Drop)]
-pub(crate) struct Track {
+pub struct Track {
     lane: Lane<Global>,
     // Whether emissions of this flow may wait at all.
     may_wait: bool,
@@ -31,7 +31,7 @@ impl Model for Track {
 
 impl Track {
     /// A track of this lane, with this flag. Under a policy that lets emissions wait, `may_wait` says so.
-    pub fn new(lane: Lane<Global>, may_wait: bool, unfinished: Flag) -> Track
+    pub(crate) fn new(lane: Lane<Global>, may_wait: bool, unfinished: Flag) -> Track
         ensures { result ≡ record { lane = lane; flag = unfinished; may_wait = may_wait } }
     {
         Track {
@@ -49,7 +49,7 @@ impl Track {
     }
 
     /// One who looks at the flag, and has not looked yet.
-    pub fn looker(&self, keeper: &mut Keeper) -> Looker
+    pub(crate) fn looker(&self, keeper: &mut Keeper) -> Looker
         requires { keeper.old.table ≡ self.now.flag }
         ensures looker { result ≡ record { table = self.now.flag; looks = [] } }
         ensures same { keeper.new ≡ keeper.old }
@@ -58,7 +58,7 @@ impl Track {
     }
 
     /// Whether who has received has to take the lock, for an emission that may wait for that, as its reader stands now.
-    pub fn has_unfinished<M: Stands>(&self, looker: &mut Looker, reader: &Reader) -> bool
+    pub(crate) fn has_unfinished<M: Stands>(&self, looker: &mut Looker, reader: &Reader) -> bool
         requires table { looker.old.table ≡ self.now.flag }
         requires stands { M.position ≡ at reader.now }
         ensures table { looker.new.table ≡ looker.old.table }
@@ -72,12 +72,12 @@ impl Track {
     }
 
     /// Whether some emission may wait, for one who only passes the time: it tells nothing.
-    pub fn may_have_unfinished(&self) -> bool {
+    pub(crate) fn may_have_unfinished(&self) -> bool {
         self.may_wait && self.unfinished.peek()
     }
 
     /// Says that an emission begins to wait, before the cursors are looked at a last time. Only who holds the lock has the keeper.
-    pub fn raise_unfinished(&self, keeper: &mut Keeper, sequencer: &Sequencer<Global>)
+    pub(crate) fn raise_unfinished(&self, keeper: &mut Keeper, sequencer: &Sequencer<Global>)
         requires { keeper.old.table ≡ self.now.flag }
         ensures { keeper.new ≡ record keeper.old { flag = 1; raised = length sequencer.now.view.loads } }
     {
@@ -85,7 +85,7 @@ impl Track {
     }
 
     /// Says whether an emission may wait. Only who holds the lock has the keeper.
-    pub fn set_unfinished(&self, keeper: &mut Keeper, has: bool)
+    pub(crate) fn set_unfinished(&self, keeper: &mut Keeper, has: bool)
         requires { keeper.old.table ≡ self.now.flag }
         ensures { keeper.new ≡ record keeper.old { flag = number_of has } }
     {

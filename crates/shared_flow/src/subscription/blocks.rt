@@ -112,9 +112,11 @@ impl<T: Word> Subscription<T> {
         ensures missed { ((k : ℕ) → result ≢ taken.Value k) → OnlyLooked self.old self.new }
         ensures capacity { vec_capacity out.new ≡ vec_capacity out.old }
     {
-        let taken = self.reader.try_next_all(self.access.lane(), out);
+        let access = &self.access;
+        let track = access.track();
+        let taken = self.reader.try_next_all(track.lane(), out);
         if let Taken::Value(_) = taken {
-            let waits = self.access.has_unfinished(&mut self.looker, &self.reader);
+            let waits = access.has_unfinished(track, &mut self.looker, &self.reader);
             if waits {
                 self.make_room(rt);
             }
