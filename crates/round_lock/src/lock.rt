@@ -79,6 +79,7 @@ impl<S: Called<E> + Drop, E: Drop> Lock<S, E> {
 
     /// Takes the lock. What lay under it is what one list of calls left. From now on the owner has seen that list: its
     /// own calls are its part, and it begins with what the owner had seen before.
+    #[inline(always)]
     pub fn take(&mut self, rt: &impl Wait) -> Guarded<S>
         ensures taken { self.new ≡ record self.old { log = record self.old.log { held = Some result.state; seen = self.new.log.seen } } }
         ensures saw { Saw S.first S.step self.old.pass self.old.log result.state self.new.log.seen }
@@ -99,6 +100,7 @@ impl<S: Called<E> + Drop, E: Drop> Lock<S, E> {
 
     /// Gives the lock up as `put` does, where the proof picks the entry: for a call whose answer isn't at hand as one
     /// value.
+    #[inline(always)]
     pub fn put_as<M: Made<E>>(&mut self, rt: &impl Wait, guarded: Guarded<S>)
         requires call { (old : S) × (e : E) × (M.entry ≡ Some e) × (self.old.log.held ≡ Some old) × S.step old e guarded.state }
         ensures given { self.new ≡ record self.old { log = called self.old.log (turn_of self.old.pass M.entry guarded.state) } }
@@ -216,8 +218,11 @@ fn look_and_take<S: Called<E> + Drop, E, N: Numbered>(
     false
 }
 
-/// Takes the lock, and sleeps while others have it. An owner that was about to sleep takes it as wanted, since others may sleep.
-fn take<S: Called<E> + Drop, E, N: Numbered, R: Wait>(
+// Not inlined, so that who finds the lock free keeps its registers.
+/// Takes the lock where others may have it, and sleeps while they do. An owner that was about to sleep takes it as wanted, since
+/// others may sleep.
+#[inline(never)]
+fn wait_and_take<S: Called<E> + Drop, E, N: Numbered, R: Wait>(
     rt: &R,
     place: &Place<S, E>,
     seat: &mut Seat<Option<S>, Log<S, E>>,
@@ -227,9 +232,6 @@ fn take<S: Called<E> + Drop, E, N: Numbered, R: Wait>(
     ensures seat { (seat.new.table_id ≡ seat.old.table_id) × (seat.new.id ≡ seat.old.id) }
     ensures taken { HasTaken S.first S.step N.number seat.old.me seat.new.me }
 {
-    if try_take::<S, E, N>(place, seat) {
-        return;
-    }
     if look_and_take::<S, E, N>(place, seat) {
         return;
     }
@@ -240,6 +242,23 @@ fn take<S: Called<E> + Drop, E, N: Numbered, R: Wait>(
         place.shared.park(rt, 0, WANTED as u32);
     }
     unreachable!()
+}
+
+/// Takes the lock, at once where it is free.
+#[inline(always)]
+fn take<S: Called<E> + Drop, E, N: Numbered, R: Wait>(
+    rt: &R,
+    place: &Place<S, E>,
+    seat: &mut Seat<Option<S>, Log<S, E>>,
+)
+    requires number { N.number ≡ seat.old.id }
+    requires at { IsAt place.now.shared.table_id seat.old.table_id seat.old.me }
+    ensures seat { (seat.new.table_id ≡ seat.old.table_id) × (seat.new.id ≡ seat.old.id) }
+    ensures taken { HasTaken S.first S.step N.number seat.old.me seat.new.me }
+{
+    if !try_take::<S, E, N>(place, seat) {
+        wait_and_take::<S, E, N, R>(rt, place, seat);
+    }
 }
 
 /// The state, out of its place.
@@ -254,6 +273,7 @@ fn lift<S: Called<E> + Drop, E>(place: &Place<S, E>, seat: &mut Seat<Option<S>, 
 }
 
 /// Gives the lock up, with the state as a call left it, where the proof picks the call; and wakes one that may sleep.
+#[inline(always)]
 fn give_as<S: Called<E> + Drop, E, M: Turned<S, E>>(
     place: &Place<S, E>,
     seat: &mut Seat<Option<S>, Log<S, E>>,

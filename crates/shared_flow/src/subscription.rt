@@ -101,12 +101,16 @@ impl<T: Word> Subscription<T> {
         }
     }
 
-    // The next value of the prelude, if one is left. It makes no step on the lane, and takes no lock.
+    // The next value of the prelude, if one is left. It makes no step on the lane, and takes no lock. Without one it makes no call.
+    #[inline(always)]
     fn greet(&mut self) -> Option<T>
         ensures same { (self.new.party ≡ self.old.party) × (self.new.number ≡ self.old.number) × (self.new.reader ≡ self.old.reader) × (self.new.looks ≡ self.old.looks) }
         ensures greeted { IfSome result (λ v. IsGreeted self.old v self.new) }
         ensures past { IfNone result (IsPast self.old self.new) }
     {
+        if self.rest.is_empty() {
+            return None;
+        }
         self.rest.give()
     }
 

@@ -55,6 +55,19 @@ impl Model for Reader {
     ghost invariant = { λ r. IsReading r.seat r.place r.start r.at r.cell r.taken };
 }
 
+// Where they are the same, which is nearly always, nothing is written: the exchange that follows would wait for it.
+/// Puts a position and the index of its cell in the place of those before.
+#[inline(always)]
+fn stand_at(position: &mut u64, cell: &mut usize, found: u64, index: usize)
+    requires { position.old ≡ found → cell.old ≡ index }
+    ensures { (position.new ≡ found) × (cell.new ≡ index) }
+{
+    if *position != found {
+        *position = found;
+        *cell = index;
+    }
+}
+
 impl Reader {
     pub(crate) fn at_start(seat: Place, place: usize, start: u64, cell: usize) -> Reader
         requires { IsReading seat place start start cell 0 }
@@ -83,8 +96,7 @@ impl Reader {
         let words = lane.words();
         let at = words.load_own(&mut self.seat, self.place);
         let cell = words.index_from(self.at, self.cell, at);
-        self.at = at;
-        self.cell = cell;
+        stand_at(&mut self.at, &mut self.cell, at, cell);
         let tail = words.load_tail(&mut self.seat);
         if tail == at {
             return Taken::Nothing;

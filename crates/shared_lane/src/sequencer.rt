@@ -455,7 +455,23 @@ impl<A: Allocator> Sequencer<A> {
 
     /// Accepts waiting emissions, the oldest first, while there is room, and returns how many. After it nothing waits, or
     /// a cursor that it loaded stood as far behind the tail as there are places.
+    #[inline(always)]
     pub fn scan<B: Allocator>(&mut self, lane: &Lane<B>) -> u32
+        requires { IsSequencerOf lane.now self.old }
+        ensures same { IsSequencerOf lane.now self.new × IsSameSequencer self.old self.new }
+        ensures settled { Settled result self.old self.new }
+        ensures stuck { self.new.waiting ≢ [] → IsStuck self.old self.new }
+    {
+        if !self.is_waiting() {
+            return 0;
+        }
+        self.let_in(lane)
+    }
+
+    // Not inlined, so that a call beside which none waits keeps its registers.
+    /// Accepts waiting emissions, the oldest first, while there is room, and returns how many.
+    #[inline(never)]
+    fn let_in<B: Allocator>(&mut self, lane: &Lane<B>) -> u32
         requires { IsSequencerOf lane.now self.old }
         ensures same { IsSequencerOf lane.now self.new × IsSameSequencer self.old self.new }
         ensures settled { Settled result self.old self.new }

@@ -154,6 +154,7 @@ impl Access {
 
     /// Takes the lock. What lay under it is the owner's flow, and its next number is above each that the owner was answered.
     /// The owner has seen the list of rounds that left it now.
+    #[inline(always)]
     pub fn enter(&mut self, rt: &impl Wait) -> Inside
         ensures taken { self.new ≡ record self.old { held = Some result.guarded.state.value; seen = self.new.seen } }
         ensures found { Found (party_of self.old) result.guarded.state.value self.new.seen }
@@ -166,7 +167,9 @@ impl Access {
         Inside { guarded, before }
     }
 
+    // Inlined, so that the round, of which contracts alone speak, is never written.
     /// Helps those whom the round that was made has helped, gives the lock back with that round, and then wakes them.
+    #[inline(always)]
     pub fn leave(&mut self, rt: &impl Wait, inside: Inside, round: Round)
         requires round { IsCalled self.old inside.before round inside.guarded.state.value }
         ensures left { Left round inside.guarded.state.value self.old self.new }
@@ -210,6 +213,7 @@ impl Access {
     }
 
     // Leaves with the round that the proof picks, where it can by what the call is shown.
+    #[inline(always)]
     fn leave_as<M: Made<Round>, P>(
         &mut self,
         rt: &impl Wait,

@@ -114,6 +114,7 @@ impl Shared {
     /// Wakes those whom a call helped: the subscriptions that sleep, where something was accepted since the number `before` was the
     /// next one, or else the one that it ended, and the emissions that have to wait no more. The flag is up where one may have to wait
     /// on.
+    #[inline(always)]
     pub(crate) fn help(&mut self, before: u64, ended: Option<u64>, wakes: &mut Wakes)
         requires { NobodySleeps wakes.old.subscriptions }
         ensures { Helps before ended self.old self.new }
@@ -125,6 +126,7 @@ impl Shared {
 
     // Wakes the subscriptions that sleep, where something was accepted since the number `before` was the next one, or else the one
     // that was ended.
+    #[inline(always)]
     fn wake_subscriptions(&mut self, before: u64, ended: Option<u64>, wakes: &mut Wakes)
         requires { NobodySleeps wakes.old.subscriptions }
         ensures same { self.new ≡ record self.old { subscriptions = self.new.subscriptions } }
@@ -152,6 +154,7 @@ impl Shared {
     }
 
     // Sets the flag where an emission is unfinished, and takes it back elsewhere, which the clause doesn't ask for.
+    #[inline(always)]
     fn tie_flag(&mut self)
         ensures same { self.new ≡ record self.old { flag = self.new.flag } }
         ensures tied { IsTied self.new }
@@ -161,6 +164,7 @@ impl Shared {
     }
 
     // Wakes the emissions that sleep and have to wait no more.
+    #[inline(always)]
     fn wake_emissions(&mut self, wakes: &mut Wakes)
         ensures same { (self.new.name ≡ self.old.name) × IsSameSequencer self.old.sequencer self.new.sequencer }
         ensures only { OnlyLoaded self.old.sequencer self.new.sequencer }

@@ -116,7 +116,9 @@ impl Sleepers {
         mem::swap(&mut self.sleeping, &mut wakes.subscriptions);
     }
 
+    // Not inlined, so that a call that wakes nobody keeps its registers.
     /// Wakes the one with this number: it is to sleep no more.
+    #[inline(never)]
     pub fn wake(&mut self, number: u64, wakes: &mut Wakes)
         ensures others { OnlyThese (λ n. n ≢ number) self.old.sleeping self.new.sleeping }
         ensures room { self.new.sleeping.capacity ≡ self.old.sleeping.capacity }
@@ -130,7 +132,9 @@ impl Sleepers {
         });
     }
 
+    // Not inlined, as above.
     /// Wakes those whose emission doesn't have to wait, where each one below a number is finished.
+    #[inline(never)]
     pub fn wake_done(&mut self, sequencer: &Sequencer<Global>, below: u64, wakes: &mut Wakes)
         ensures done { OnlyThese (HasToWait sequencer.now below) self.old.sleeping self.new.sleeping }
         ensures room { self.new.sleeping.capacity ≡ self.old.sleeping.capacity }
@@ -203,14 +207,24 @@ impl Wakes {
     }
 
     /// Calls each waker, unless there is none: one that is let go wakes its task.
+    #[inline(always)]
     pub fn fire_unless(&mut self, is_idle: bool)
         requires { is_idle ≡ true → NobodySleeps self.old.subscriptions × (self.old.wakers.items ≡ []) }
         ensures none { NobodySleeps self.new.subscriptions × (self.new.wakers.items ≡ []) }
         ensures room { (self.new.subscriptions.capacity ≡ self.old.subscriptions.capacity) × (vec_capacity self.new.wakers ≡ vec_capacity self.old.wakers) }
     {
-        if is_idle {
-            return;
+        if !is_idle {
+            self.fire();
         }
+    }
+
+    // Not inlined, as above.
+    /// Calls each waker.
+    #[inline(never)]
+    fn fire(&mut self)
+        ensures none { NobodySleeps self.new.subscriptions × (self.new.wakers.items ≡ []) }
+        ensures room { (self.new.subscriptions.capacity ≡ self.old.subscriptions.capacity) × (vec_capacity self.new.wakers ≡ vec_capacity self.old.wakers) }
+    {
         self.subscriptions.clear();
         self.wakers.clear();
     }

@@ -5,6 +5,7 @@ use Rattle.lane_steps.specs.declared.view.Shape.{Shape}
 use Rattle.lane_steps.specs.Law.{Entry, HasWord, received}
 use Rattle.lane_steps.specs.Layout.{tail_word, cursor_word, cell_word, cell_index}
 use Rattle.lane_steps.specs.Steps.{position, got, found_at, picked_up}
+use Rattle.shared_lane.specs.Kept.{IsReading}
 use Rattle.shared_lane.specs.Views.{LaneSeen, ReaderSeen}
 use Rattle.shared_lane.proofs.Readings.{found_itself}
 use Rattle.shared_lane.proofs.Stories.{position_found, found_twice, received_none, received_one, each_once}
@@ -25,8 +26,9 @@ load_cell-word-requires-clause-cell g c = let r : Reading = c.self.inside.seat.m
 pub invariant_of-self : goal.invariant_of-self
 invariant_of-self g c = let s = c.self.inside in let n : ℕ = c.load_own-at.result in let own = c.load_own-at.ensures in let tail = c.load_tail-tail.ensures in
     let of_lane = ap (λ (z : ReaderSeen). z.shape) c.self.view_is ∙ (c.requires.1 ∙ sym (ap (λ (z : LaneSeen). z.shape) c.words-words.ensures)) in
-    found_itself s.seat c.load_tail-tail.new.seat s.place s.start s.at s.cell s.taken n c.index_from-cell.result c.self.invariant (ap (λ (v : View). v.reading) tail.view.0 ∙ ap (λ (v : View). v.reading) own.view.0)
-    (ap (λ (v : View). v.shape) tail.view.0 ∙ ap (λ (v : View). v.shape) own.view.0) (tail.seat.2 ∙ own.seat.2) own.view.1 (c.index_from-cell.ensures ∙ ap (λ (z : Shape). cell_index z n) (sym of_lane))
+    subst (λ (z : ℕ × ℕ). IsReading c.load_tail-tail.new.seat s.place s.start z.0 z.1 s.taken) (λ i. (sym c.stand_at.ensures.0 i, sym c.stand_at.ensures.1 i))
+    (found_itself s.seat c.load_tail-tail.new.seat s.place s.start s.at s.cell s.taken n c.index_from-cell.result c.self.invariant (ap (λ (v : View). v.reading) tail.view.0 ∙ ap (λ (v : View). v.reading) own.view.0)
+    (ap (λ (v : View). v.shape) tail.view.0 ∙ ap (λ (v : View). v.shape) own.view.0) (tail.seat.2 ∙ own.seat.2) own.view.1 (c.index_from-cell.ensures ∙ ap (λ (z : Shape). cell_index z n) (sym of_lane)))
 
 pub invariant_of-self-then-found-at : goal.invariant_of-self-then-found-at
 invariant_of-self-then-found-at g c = let s = c.self.inside in let inv = c.self.invariant in let r : Reading = s.seat.me.0.reading in let n : ℕ = c.load_own-at.result in let own = c.load_own-at.ensures in let tail = c.load_tail-tail.ensures in

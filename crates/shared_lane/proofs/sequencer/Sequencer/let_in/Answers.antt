@@ -2,7 +2,7 @@ use Rattle.std.proofs.Common.{ℕ, refl, ap, ◌∙◌, ◌<◌, subst}
 use Rattle.shared_lane.specs.Views.{SequencerSeen}
 use Rattle.shared_lane.proofs.Sameness.{same_loaded, same_twice}
 use Rattle.shared_lane.proofs.Settling.{settled_none, settled_more, rounded_later, still_waits}
-use Rattle.shared_lane.proofs.sequencer.Sequencer.scan.Goals as goal
+use Rattle.shared_lane.proofs.sequencer.Sequencer.let_in.Goals as goal
 
 pub settle_one-requires-clause-waits : goal.settle_one-requires-clause-waits
 settle_one-requires-clause-waits g c = let before = c.loop-settled.invariant in let count = c.waiting_count-most.ensures.count in
