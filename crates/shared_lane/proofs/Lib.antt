@@ -14,3 +14,4 @@ pub mod Sameness
 pub mod Soundness
 pub mod Stories
 pub mod Together
+pub mod WholeRounds

@@ -10,7 +10,7 @@ use Rattle.lane_steps.specs.Layout.{cursor_word}
 use Rattle.lane_steps.specs.Law.{closed, shut_place}
 use Rattle.lane_steps.specs.Steps.{known_of, known_at, known_over, with_known, place_over, next_number, IsRoomy, IsRoomyAt, Surveyed}
 use Rattle.lane_steps.proofs.Lists.{not_both, within, index_is}
-use Rattle.shared_lane.specs.Surveys.{cursor_loads, open_count, opening_at, may_be_open, OpensNone, OnlyPlaces, Visit, Round, FoundAt, Cleared, Behind}
+use Rattle.shared_lane.specs.Surveys.{cursor_loads, open_count, opening_at, may_be_open, OpensNone, OnlyPlaces, Visit, Round, WholeRound, FoundAt, Cleared, Behind}
 
 pub loads_more : (p : ℕ) (ns : List ℕ) (n : ℕ) → cursor_loads p (ns ++ n ∷ []) ≡ cursor_loads p ns ++ (cursor_word (p + length ns), n) ∷ []
 loads_more p [] n = ap (λ (z : ℕ). (cursor_word z, n) ∷ []) (omega arith)
@@ -154,22 +154,22 @@ room_cleared tail cells n k k' some_cell c live = dite (ℕ_discrete n closed)
     (λ near. let lt : tail < n + cells = Rattle.std.proofs.Common.lt_of_not-le near in room_at tail cells n n k k' (c.kept (inr lt)) (λ _. lt) live))
 
 -- after a round there is room for the number n
-pub roomy_at : (E : ℕ → Known → Known → Type 0) (cells n : ℕ) (v w : View) (ns : List ℕ) → length ns ≡ length v.sequencing.places → Round E v ns w
+pub roomy_at : (E : ℕ → Known → Known → Type 0) (cells n : ℕ) (v w : View) (ns : List ℕ) → length ns ≡ length v.sequencing.places → WholeRound E v ns w
     → ((p : ℕ) (k k' : Known) → p < length ns → E (get_or ns p 0) k k' → k'.is_open ≡ true → n < k'.floor + cells) → IsRoomyAt cells n w
 roomy_at E cells n v w ns long round one p k at live = let count = round.only.count in let inside = within w.sequencing.places p k at in let here : p < length ns = omega arith in
     let is : known_of w.sequencing p ≡ k = index_is w.sequencing.places p shut_place k at in
     one p (known_of v.sequencing p) k here (subst (E (get_or ns p 0) (known_of v.sequencing p)) is (round.each p here)) live
 
 -- after a round there is room
-roomy : (E : ℕ → Known → Known → Type 0) (cells : ℕ) (v w : View) (ns : List ℕ) → length ns ≡ length v.sequencing.places → Round E v ns w
+roomy : (E : ℕ → Known → Known → Type 0) (cells : ℕ) (v w : View) (ns : List ℕ) → length ns ≡ length v.sequencing.places → WholeRound E v ns w
     → ((p : ℕ) (k k' : Known) → p < length ns → E (get_or ns p 0) k k' → k'.is_open ≡ true → next_number v < k'.floor + cells) → IsRoomy cells w
 roomy E cells v w ns long round one = let same : next_number v ≡ next_number w = (λ i. (sym round.only.shape i).first + length (sym round.only.seen i)) in
     subst (λ (z : ℕ). IsRoomyAt cells z w) same (roomy_at E cells (next_number v) v w ns long round one)
 
-pub roomy_cleared : (tail cells : ℕ) (v w : View) (ns : List ℕ) → 0 < cells → tail ≡ next_number v → length ns ≡ length v.sequencing.places → Round (Cleared tail cells) v ns w → IsRoomy cells w
+pub roomy_cleared : (tail cells : ℕ) (v w : View) (ns : List ℕ) → 0 < cells → tail ≡ next_number v → length ns ≡ length v.sequencing.places → WholeRound (Cleared tail cells) v ns w → IsRoomy cells w
 roomy_cleared tail cells v w ns some_cell is long round = roomy (Cleared tail cells) cells v w ns long round (λ p k k' h c live. let r = room_cleared tail cells (get_or ns p 0) k k' some_cell c live in omega arith)
 
-pub roomy_found : (tail lag cells : ℕ) (v w : View) (ns : List ℕ) → lag ≤ cells → tail ≡ next_number v → length ns ≡ length v.sequencing.places → Round FoundAt v ns w → Behind tail lag ns false → IsRoomy cells w
+pub roomy_found : (tail lag cells : ℕ) (v w : View) (ns : List ℕ) → lag ≤ cells → tail ≡ next_number v → length ns ≡ length v.sequencing.places → WholeRound FoundAt v ns w → Behind tail lag ns false → IsRoomy cells w
 roomy_found tail lag cells v w ns le is long round behind = roomy FoundAt cells v w ns long round
     (λ p k k' h e live. let r = room_at tail cells (get_or ns p 0) 0 k k' e (λ ne. let b = behind.none refl p h ne in omega arith) live in omega arith)
 

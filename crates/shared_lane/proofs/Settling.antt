@@ -22,9 +22,9 @@ begins_twice xs ys zs a b = (b.0 ++ a.0, a.1 ∙ (ap (λ l. l ++ a.0) b.1 ∙ ap
 
 -- a round adds loads
 pub rounded_later : (p : Policy) (lag : ℕ) (q : SequencerSeen) (room : Bool) (v : View) → RoundedBy p lag q room v → Begins v.loads q.view.loads
-rounded_later Suspend lag q room v r = (cursor_loads 0 r.0, r.2.loads)
-rounded_later DropOldest lag q room v r = let x = r.1 in (cursor_loads 0 x.0, x.2.loads)
-rounded_later DropLatest lag q room v r = (cursor_loads 0 r.0, r.2.loads)
+rounded_later Suspend lag q room v r = let l = r.2.loads in (cursor_loads 0 (take l.0 r.0), l.1)
+rounded_later DropOldest lag q room v r = let x = r.1 in let l = x.2.loads in (cursor_loads 0 (take l.0 x.0), l.1)
+rounded_later DropLatest lag q room v r = let l = r.2.loads in (cursor_loads 0 (take l.0 r.0), l.1)
 
 -- before any was accepted
 pub settled_none : (q : SequencerSeen) → Settled 0 q q

@@ -3,7 +3,7 @@ use Rattle.std.proofs.Common.{◌≡◌, ◌≢◌, ℕ, zero, suc, ◌+◌, ◌
 use mathlib.Core.Logic.{dite}
 use native.Mathlib.Decide.{ℕ_discrete}
 use Rattle.std.proofs.lemmas.List.{append-nil, length-drop}
-use Rattle.std.proofs.Math.Seq.{drop-append-add}
+use Rattle.std.proofs.Math.Seq.{drop-append-add, take-length}
 use Rattle.circular_buffer.specs.Buffer.{keep_last}
 use Rattle.flow_terms.specs.declared.policy.Policy.{Policy}
 use Rattle.flow_terms.specs.declared.policy.Policy.TheVariants.{Suspend, DropOldest, DropLatest}
@@ -14,7 +14,7 @@ use Rattle.lane_steps.specs.Steps.{known_of, known_at}
 use Rattle.lane_steps.proofs.Lists.{front}
 use Rattle.shared_lane.specs.Caches.{word_of}
 use Rattle.shared_lane.specs.Views.{SequencerSeen}
-use Rattle.shared_lane.specs.Surveys.{cursor_loads, may_be_open, Round, FoundAt, Cleared, Behind}
+use Rattle.shared_lane.specs.Surveys.{cursor_loads, may_be_open, WholeRound, FoundAt, Cleared, Behind}
 use Rattle.shared_lane.specs.Sequencers.{next, OnlyLoaded, RoundedBy, ByCursors, AcceptedOn, accepted_on}
 use Rattle.shared_lane.specs.Blocks.{FindRoom, RoundedFor, AcceptedTogether, AcceptedEach}
 
@@ -50,10 +50,10 @@ record Stands (ns : List ℕ) (q : SequencerSeen) : Type 0 where
 abbrev looked : List ℕ → SequencerSeen → SequencerSeen
 looked ns q = record q { view = record q.view { loads = q.view.loads ++ cursor_loads 0 ns } }
 
-round_again : (ns : List ℕ) (q : SequencerSeen) → Stands ns q → Round FoundAt q.view ns (looked ns q).view
+round_again : (ns : List ℕ) (q : SequencerSeen) → Stands ns q → WholeRound FoundAt q.view ns (looked ns q).view
 round_again ns q st = record {
   only = record { shape = refl; seen = refl; reading = refl; active = refl; flight = refl; count = refl; none_opened = λ p. refl };
-  loads = refl;
+  loads = (length ns, ap (λ (l : List ℕ). q.view.loads ++ cursor_loads 0 l) (sym (take-length ns)), λ p far near. absurd (omega arith));
   below = st.below;
   shut = st.shut;
   each = st.known;
@@ -110,7 +110,7 @@ again n k = go (eqb n closed)
 found_shut : (n : ℕ) (k : Known) → (known_at n k).is_open ≡ false → n ≢ closed → k.is_open ≡ false
 found_shut n k e ne = sym (ap (λ (b : Bool). (cond b (record k { is_open = false }) (record k { floor = n })).is_open) (Rattle.std.proofs.Common.ne_eqb n closed ne)) ∙ e
 
-stands_after : (ns : List ℕ) (q m : SequencerSeen) (e : Entry) (E : ℕ → Known → Known → Type 0) → OnlyLoaded q m → length ns ≡ q.view.shape.places → Round E q.view ns m.view
+stands_after : (ns : List ℕ) (q m : SequencerSeen) (e : Entry) (E : ℕ → Known → Known → Type 0) → OnlyLoaded q m → length ns ≡ q.view.shape.places → WholeRound E q.view ns m.view
     → ((p : ℕ) → p < length ns → FoundAt (get_or ns p 0) (known_of q.view.sequencing p) (known_of m.view.sequencing p)) → Stands ns (accepted_on e m)
 stands_after ns q m e E only long round found = let longer = length-append m.view.seen (e ∷ []) in let same : next m ≡ next q = (λ i. (only.1 i).first + length (only.2 i)) in record {
   long = long ∙ (λ i. (sym only.1 i).places);

@@ -9,7 +9,7 @@ use Rattle.lane_steps.specs.declared.view.View.{View}
 use Rattle.lane_steps.specs.Law.{Entry, closed}
 use Rattle.shared_lane.specs.Caches.{word_of}
 use Rattle.shared_lane.specs.Views.{SequencerSeen}
-use Rattle.shared_lane.specs.Surveys.{Round, FoundAt, Cleared, Behind}
+use Rattle.shared_lane.specs.Surveys.{WholeRound, FoundAt, Cleared, Behind}
 use Rattle.shared_lane.specs.Sequencers.{next, seen, OnlyLoaded, AcceptedOn, TriedOn, RefusedTry}
 
 -- the emissions of these words, for one emitter
@@ -43,10 +43,10 @@ with_flight es v = record v { sequencing = record v.sequencing { flight = es } }
 -- One round over the cursors found room for k emissions: a try of each of them finds it by what this round found. Under DropOldest the
 -- round is the one that a try of the first of them makes, and tries of the others move no cursor.
 abbrev pub RoundedFor : Policy → ℕ → SequencerSeen → View → Type 0
-RoundedFor DropOldest k q v = (ns : List ℕ) × (length ns ≡ q.view.shape.places) × Round (Cleared (next q) q.view.shape.cells) q.view ns v
+RoundedFor DropOldest k q v = (ns : List ℕ) × (length ns ≡ q.view.shape.places) × WholeRound (Cleared (next q) q.view.shape.cells) q.view ns v
     × FindRoom q.view.shape.cells (next q + 1) (next q + k) ns
-RoundedFor Suspend k q v = (ns : List ℕ) × (length ns ≡ q.view.shape.places) × Round FoundAt q.view ns v × FindRoom q.capacity (next q) (next q + k) ns
-RoundedFor DropLatest k q v = (ns : List ℕ) × (length ns ≡ q.view.shape.places) × Round FoundAt q.view ns v × FindRoom q.capacity (next q) (next q + k) ns
+RoundedFor Suspend k q v = (ns : List ℕ) × (length ns ≡ q.view.shape.places) × WholeRound FoundAt q.view ns v × FindRoom q.capacity (next q) (next q + k) ns
+RoundedFor DropLatest k q v = (ns : List ℕ) × (length ns ≡ q.view.shape.places) × WholeRound FoundAt q.view ns v × FindRoom q.capacity (next q) (next q + k) ns
 
 -- the emissions were accepted together, after one round over the cursors that found room for each of them
 abbrev pub AcceptedTogether : SequencerSeen → List Entry → SequencerSeen → Type 0

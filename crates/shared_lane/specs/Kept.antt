@@ -5,6 +5,7 @@ use Rattle.lane_steps.specs.declared.view.View.{View}
 use Rattle.lane_steps.specs.Law.{received, lost}
 use Rattle.lane_steps.specs.Layout.{cell_index}
 use Rattle.lane_steps.specs.Steps.{position, next_number}
+use Rattle.shared_lane.specs.Surveys.{ShutFrom}
 use Rattle.shared_lane.specs.Views.{SequencerSeen}
 use Rattle.shared_lane.specs.Caches.{drops_values, may_wait, AreAccepted, IsLastOf}
 
@@ -46,11 +47,14 @@ pub record IsSound (q : SequencerSeen) : Type 0 where
   pub stands : AreAccepted q.view.shape.first q.view.seen q.standing
   pub cached : IsLastOf q.view.seen q.cache
 
--- a sequencer's seat, its copy of the tail, the index of the tail's cell, and the room of its tables
-pub record IsSequencing (q : SequencerSeen) (seat : Seat (Unit {0}) View) (tail cell waiting_room standing_room : ℕ) : Type 0 where
+-- a sequencer's seat, its copy of the tail, the index of the tail's cell, the place from which on all are known to be closed, and the room
+-- of its tables
+pub record IsSequencing (q : SequencerSeen) (seat : Seat (Unit {0}) View) (tail cell open_end waiting_room standing_room : ℕ) : Type 0 where
   pub sound : IsSound q
   pub holds_no_slot : seat.me.1 ≡ []
   pub tail_is : tail ≡ next_number q.view
   pub cell_is : cell ≡ cell_index q.view.shape tail
+  pub end_within : open_end ≤ q.view.shape.places
+  pub shut_from : ShutFrom q.view open_end
   pub room_to_wait : q.emits ≤ waiting_room
   pub room_to_stand : q.emits ≤ standing_room

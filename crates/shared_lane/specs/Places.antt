@@ -8,13 +8,13 @@ use Rattle.lane_steps.specs.Law.{closed}
 use Rattle.lane_steps.specs.Steps.{known_of, place_over}
 use Rattle.shared_lane.specs.Headline.{WasLetIn}
 use Rattle.shared_lane.specs.Views.{LaneSeen, ReaderSeen, SequencerSeen}
-use Rattle.shared_lane.specs.Surveys.{Round, FoundAt, FoundAllOpen, cursor_loads, open_count, opening_at, may_be_open}
+use Rattle.shared_lane.specs.Surveys.{WholeRound, FoundAt, FoundAllOpen, cursor_loads, open_count, opening_at, may_be_open}
 use Rattle.shared_lane.specs.Readers.{IsReaderOf}
 use Rattle.shared_lane.specs.Sequencers.{seen, OnlyLoaded}
 
--- every cursor was loaded, and this many were open
+-- every cursor was found, and this many were open
 abbrev pub Counted : SequencerSeen → ℕ → SequencerSeen → Type 0
-Counted q count t = (ns : List ℕ) × (length ns ≡ q.view.shape.places) × Round FoundAt q.view ns t.view × (count ≡ open_count ns)
+Counted q count t = (ns : List ℕ) × (length ns ≡ q.view.shape.places) × WholeRound FoundAt q.view ns t.view × (count ≡ open_count ns)
 
 -- what the sequencer moved past at a place, since it was opened last
 abbrev pub lost_by : SequencerSeen → ℕ → List ℕ

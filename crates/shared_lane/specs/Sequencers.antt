@@ -19,7 +19,7 @@ use Rattle.shared_lane.specs.Caches.{drops_values}
 use Rattle.shared_lane.specs.Views.{LaneSeen, SequencerSeen}
 use Rattle.shared_lane.specs.declared.tickets.Waiting.{Waiting}
 use Rattle.shared_lane.specs.declared.tickets.Standing.{Standing}
-use Rattle.shared_lane.specs.Surveys.{Round, FoundAt, Cleared, Behind, OpensNone}
+use Rattle.shared_lane.specs.Surveys.{WholeRound, FoundAt, Cleared, Behind, OpensNone}
 
 -- what the lane of a flow with this config is made with
 abbrev pub shape_of : Config → Shape
@@ -65,14 +65,14 @@ OnlyLoaded q t = (t ≡ record q { view = t.view }) × (t.view.shape ≡ q.view.
 -- one round over the cursors, which found room or not
 abbrev pub RoundedBy : Policy → ℕ → SequencerSeen → Bool → View → Type 0
 RoundedBy DropOldest lag q room v = (room ≡ true)
-    × ((ns : List ℕ) × (length ns ≡ q.view.shape.places) × Round (Cleared (next q) q.view.shape.cells) q.view ns v)
-RoundedBy Suspend lag q room v = (ns : List ℕ) × (length ns ≡ q.view.shape.places) × Round FoundAt q.view ns v × Behind (next q) lag ns (not room)
-RoundedBy DropLatest lag q room v = (ns : List ℕ) × (length ns ≡ q.view.shape.places) × Round FoundAt q.view ns v × Behind (next q) lag ns (not room)
+    × ((ns : List ℕ) × (length ns ≡ q.view.shape.places) × WholeRound (Cleared (next q) q.view.shape.cells) q.view ns v)
+RoundedBy Suspend lag q room v = (ns : List ℕ) × (length ns ≡ q.view.shape.places) × WholeRound FoundAt q.view ns v × Behind (next q) lag ns (not room)
+RoundedBy DropLatest lag q room v = (ns : List ℕ) × (length ns ≡ q.view.shape.places) × WholeRound FoundAt q.view ns v × Behind (next q) lag ns (not room)
 
 abbrev pub Rounded : ℕ → SequencerSeen → Bool → SequencerSeen → Type 0
 Rounded lag q room t = RoundedBy q.policy lag q room t.view
 
--- From q to t every cursor was loaded, in one round and no other, and by what it found there was room or not. Each answer that tells of
+-- From q to t every cursor was found, by one round and no other, and by what it found there was room or not. Each answer that tells of
 -- room says so by this: the loads that t has and q hasn't are those of the round.
 abbrev pub ByCursors : ℕ → SequencerSeen → Bool → SequencerSeen → Type 0
 ByCursors lag q room t = OnlyLoaded q t × Rounded lag q room t

@@ -1,5 +1,5 @@
 -- One round over the cursors.
-use Rattle.std.specs.Prelude.{◌≡◌, ◌≢◌, ◌⊎◌, ℕ, suc, ◌+◌, ◌<◌, ◌≤◌, List, [], ◌∷◌, ◌++◌, length, cond, eqb, slice_index, Bool, true, false}
+use Rattle.std.specs.Prelude.{◌≡◌, ◌≢◌, ◌⊎◌, ℕ, suc, ◌+◌, ◌<◌, ◌≤◌, List, [], ◌∷◌, ◌++◌, length, take, cond, eqb, slice_index, Bool, true, false}
 use Rattle.lane_steps.specs.declared.view.Shape.{Shape}
 use Rattle.lane_steps.specs.declared.view.Known.{Known}
 use Rattle.lane_steps.specs.declared.view.View.{View}
@@ -28,6 +28,10 @@ OpensNone v v' = (p : ℕ) → opening_at v' p ≡ opening_at v p
 -- the place p may be open, or is known to be closed
 abbrev pub may_be_open : View → ℕ → Bool
 may_be_open v p = (known_of v.sequencing p).is_open
+
+-- each place from this one on is known to be closed
+abbrev pub ShutFrom : View → ℕ → Type 0
+ShutFrom v end = (p : ℕ) → end ≤ p → may_be_open v p ≡ false
 
 -- the view is of a lane of this shape, and knows of each place
 abbrev pub KnowsPlaces : Shape → View → Type 0
@@ -71,6 +75,17 @@ pub record Round (E : ℕ → Known → Known → Type 0) (v : View) (ns : List 
   pub each : (p : ℕ) → p < length ns → E (slice_index ns p) (known_of v.sequencing p) (known_of v'.sequencing p)
   pub rest : (p : ℕ) → length ns ≤ p → known_of v'.sequencing p ≡ known_of v.sequencing p
 
+-- The cursors of all places, found at ns: those before some place were loaded in order, each once, and those from there on are known to be
+-- closed, which is how they count as found.
+pub record WholeRound (E : ℕ → Known → Known → Type 0) (v : View) (ns : List ℕ) (v' : View) : Type 0 where
+  pub only : OnlyPlaces v v'
+  pub loads : (end : ℕ) × (v'.loads ≡ v.loads ++ cursor_loads 0 (take end ns)) × ((p : ℕ) → end ≤ p → p < length ns → may_be_open v p ≡ false)
+  pub below : (p : ℕ) → p < length ns → slice_index ns p ≢ closed → slice_index ns p ≤ next_number v
+  -- those that are known to be closed were found closed
+  pub shut : (p : ℕ) → p < length ns → may_be_open v p ≡ false → slice_index ns p ≡ closed
+  pub each : (p : ℕ) → p < length ns → E (slice_index ns p) (known_of v.sequencing p) (known_of v'.sequencing p)
+  pub rest : (p : ℕ) → length ns ≤ p → known_of v'.sequencing p ≡ known_of v.sequencing p
+
 -- the cursor was left where it was found
 abbrev pub FoundAt : ℕ → Known → Known → Type 0
 FoundAt n k k' = k' ≡ known_at n k
@@ -89,9 +104,9 @@ pub record Behind (tail lag : ℕ) (ns : List ℕ) (flag : Bool) : Type 0 where
   pub some : flag ≡ true → (p : ℕ) × (p < length ns) × (slice_index ns p ≢ closed) × (slice_index ns p + lag ≤ tail)
   pub none : flag ≡ false → (p : ℕ) → p < length ns → slice_index ns p ≢ closed → tail < slice_index ns p + lag
 
--- every cursor was loaded, and the survey says how many were open, and whether one of them stood `lag` or more behind the tail
+-- every cursor was found, and the survey says how many were open, and whether one of them stood `lag` or more behind the tail
 abbrev pub IsSurvey : ℕ → ℕ → ℕ → View → Survey → View → Type 0
-IsSurvey places tail lag v survey v' = (ns : List ℕ) × (length ns ≡ places) × Round FoundAt v ns v'
+IsSurvey places tail lag v survey v' = (ns : List ℕ) × (length ns ≡ places) × WholeRound FoundAt v ns v'
     × Behind tail lag ns survey.behind × (survey.open ≡ open_count ns)
 
 -- every cursor was loaded, and found open

@@ -4,10 +4,10 @@ ghost use Rattle.lane_steps.specs.Law.{closed};
 ghost use Rattle.lane_steps.specs.Layout.{cell_index};
 ghost use Rattle.lane_steps.specs.Seats.{IsSeatOf, IsSameSeat};
 ghost use Rattle.lane_steps.specs.Steps.{next_number, IsRoomyAt};
-ghost use Rattle.shared_lane.specs.Surveys.{KnowsPlaces, MayDrop, Round, FoundAt, Cleared};
+ghost use Rattle.shared_lane.specs.Surveys.{KnowsPlaces, MayDrop, WholeRound, FoundAt, Cleared, ShutFrom};
 ghost use Rattle.shared_lane.specs.Blocks.{HasRoom, LeavesRoom, entries, with_flight};
 
-use crate::sequencer::clear_one;
+use crate::sequencer::{clear_one, end_with};
 use lane_steps::{CLOSED, Place, Words};
 use std::alloc::Allocator;
 
@@ -22,24 +22,31 @@ fn room_left(at: u64, tail: u64, lag: u64, most: u64) -> u64
     lag.saturating_sub(tail - at).min(most)
 }
 
-/// Loads every cursor, and says for how many of `most` emissions they leave room.
+/// Loads every cursor that may be open: those of the places before `open_end`, which becomes the place after the last one that
+/// was found open. It says for how many of `most` emissions they leave room.
 pub(crate) fn load_room<A: Allocator>(
     words: &Words<A>,
     seat: &mut Place,
+    open_end: &mut usize,
     tail: u64,
     lag: u64,
     most: u64,
 ) -> u64
     requires seat { IsSeatOf words.now seat.old × (seat.old.me.0.sequencing.active ≡ true) × (tail ≡ next_number seat.old.me.0) }
     requires sized { KnowsPlaces words.now.shape seat.old.me.0 }
+    requires beyond { (open_end.old ≤ words.now.shape.places) × ShutFrom seat.old.me.0 open_end.old }
     ensures seat { IsSameSeat seat.old seat.new }
-    ensures found { (ns : List ℕ) × (length ns ≡ words.now.shape.places) × Round FoundAt seat.old.me.0 ns seat.new.me.0 × HasRoom tail lag ns most result }
+    ensures found { (ns : List ℕ) × (length ns ≡ words.now.shape.places) × WholeRound FoundAt seat.old.me.0 ns seat.new.me.0 × HasRoom tail lag ns most result }
+    ensures beyond { (open_end.new ≤ open_end.old) × ShutFrom seat.new.me.0 open_end.new }
 {
     let mut room = most;
-    for place in 0..words.shape.places {
+    let mut end = 0;
+    for place in 0..*open_end {
         let at = words.load_cursor(seat, place);
         room = room_left(at, tail, lag, room);
+        end = end_with(end, place, at);
     }
+    *open_end = end;
     room
 }
 
@@ -47,20 +54,26 @@ pub(crate) fn load_room<A: Allocator>(
 pub(crate) fn clear_room<A: Allocator>(
     words: &Words<A>,
     seat: &mut Place,
+    open_end: &mut usize,
     tail: u64,
     most: u64,
 ) -> u64
     requires seat { IsSeatOf words.now seat.old × (seat.old.me.0.sequencing.active ≡ true) × (tail ≡ next_number seat.old.me.0) }
     requires sized { MayDrop words.now.shape seat.old.me.0 }
+    requires beyond { (open_end.old ≤ words.now.shape.places) × ShutFrom seat.old.me.0 open_end.old }
     ensures seat { IsSameSeat seat.old seat.new }
-    ensures found { (ns : List ℕ) × (length ns ≡ words.now.shape.places) × Round (Cleared tail words.now.shape.cells) seat.old.me.0 ns seat.new.me.0
+    ensures found { (ns : List ℕ) × (length ns ≡ words.now.shape.places) × WholeRound (Cleared tail words.now.shape.cells) seat.old.me.0 ns seat.new.me.0
         × HasRoom tail words.now.shape.cells ns most result }
+    ensures beyond { (open_end.new ≤ open_end.old) × ShutFrom seat.new.me.0 open_end.new }
 {
     let mut room = most;
-    for place in 0..words.shape.places {
+    let mut end = 0;
+    for place in 0..*open_end {
         let at = clear_one(words, seat, place, tail);
         room = room_left(at, tail, words.shape.cells as u64, room);
+        end = end_with(end, place, at);
     }
+    *open_end = end;
     room
 }
 

@@ -11,7 +11,7 @@ ghost use Rattle.shared_lane.specs.Places.{IsAccepted};
 ghost use Rattle.shared_lane.specs.Readers.{IsReceiptOf};
 ghost use Rattle.lane_steps.specs.Law.{closed};
 ghost use Rattle.lane_steps.specs.Seats.{IsSeatOf, IsSameSeat};
-ghost use Rattle.shared_lane.specs.Surveys.{KnowsPlaces, MayDrop, MayDropAt, IsSurvey, Round, FoundAllOpen, FoundClosed, Cleared, Visit};
+ghost use Rattle.shared_lane.specs.Surveys.{KnowsPlaces, MayDrop, MayDropAt, IsSurvey, WholeRound, FoundAllOpen, FoundClosed, Cleared, Visit, ShutFrom};
 
 use crate::lane::Lane;
 use crate::receipt::Receipt;
@@ -41,6 +41,8 @@ pub struct Sequencer<A: Allocator> {
     pub(crate) tail: u64,
     // The index of that emission's cell: counted up, so that an emission needs no division.
     cell: usize,
+    // Each place from this one on is known to be closed, so that its cursor needn't be loaded.
+    open_end: usize,
     policy: Policy,
     // How many values a reader may have pending; 0 where emissions are handed over.
     capacity: u64,
@@ -73,7 +75,7 @@ impl<A: Allocator> Model for Sequencer<A> {
         IsSequencing
         (sequencer_of q.seat q.policy q.capacity q.cache.capacity q.emits q.cache.items
         q.waiting.items q.standing.items q.ticket q.subscription)
-        q.seat q.tail q.cell (vec_capacity q.waiting) (vec_capacity q.standing) };
+        q.seat q.tail q.cell q.open_end (vec_capacity q.waiting) (vec_capacity q.standing) };
 }
 
 // By hand: who lets one go proves this call alone, and nothing of what it is made of.
@@ -83,6 +85,7 @@ impl<A: Allocator> Drop for Sequencer<A> {
             seat,
             tail: _,
             cell: _,
+            open_end: _,
             policy: _,
             capacity: _,
             cache,
@@ -334,8 +337,8 @@ impl<A: Allocator> Sequencer<A> {
 
 // How an emission is accepted: a round over the cursors that finds room, a store of the cell, a store of the tail.
 impl<A: Allocator> Sequencer<A> {
-    // Loads every cursor, under DropOldest moves those that stand as far behind as there are places, and says whether
-    // there is room then: no open cursor stands `lag` or more behind the tail.
+    // Loads every cursor that may be open, under DropOldest moves those that stand as far behind as there are places, and says
+    // whether there is room then: no open cursor stands `lag` or more behind the tail.
     fn find_room<B: Allocator>(&mut self, lane: &Lane<B>, lag: u64) -> bool
         requires lane { IsSequencerOf lane.now self.old }
         requires lag { lag ≤ self.old.view.shape.cells }
@@ -346,10 +349,10 @@ impl<A: Allocator> Sequencer<A> {
     {
         let words = lane.words();
         if let Policy::DropOldest = self.policy {
-            make_room(words, &mut self.seat, self.tail);
+            make_room(words, &mut self.seat, &mut self.open_end, self.tail);
             return true;
         }
-        !load_cursors(words, &mut self.seat, self.tail, lag).behind
+        !load_cursors(words, &mut self.seat, &mut self.open_end, self.tail, lag).behind
     }
 
     // Accepts an emission, and returns its number.
@@ -530,26 +533,41 @@ impl Survey {
     }
 }
 
-/// Loads every cursor.
+/// The place after the last open one of those that a round has come past, where it has found the cursor of one more.
+pub(crate) fn end_with(end: usize, place: usize, at: u64) -> usize
+    requires { place < 1024 }
+    ensures { result ≡ cond (eqb at closed) end (place + 1) }
+{
+    if at == CLOSED { end } else { place + 1 }
+}
+
+/// Loads every cursor that may be open: those of the places before `open_end`, which becomes the place after the last one that
+/// was found open.
 pub(crate) fn load_cursors<A: Allocator>(
     words: &Words<A>,
     seat: &mut Place,
+    open_end: &mut usize,
     tail: u64,
     lag: u64,
 ) -> Survey
     requires seat { IsSeatOf words.now seat.old × (seat.old.me.0.sequencing.active ≡ true) }
     requires sized { KnowsPlaces words.now.shape seat.old.me.0 }
+    requires beyond { (open_end.old ≤ words.now.shape.places) × ShutFrom seat.old.me.0 open_end.old }
     ensures seat { IsSameSeat seat.old seat.new }
     ensures found { IsSurvey words.now.shape.places tail lag seat.old.me.0 result seat.new.me.0 }
+    ensures beyond { (open_end.new ≤ open_end.old) × ShutFrom seat.new.me.0 open_end.new }
 {
     let mut found = Survey {
         open: 0,
         behind: false,
     };
-    for place in 0..words.shape.places {
+    let mut end = 0;
+    for place in 0..*open_end {
         let at = words.load_cursor(seat, place);
         found = found.with(at, tail, lag);
+        end = end_with(end, place, at);
     }
+    *open_end = end;
     found
 }
 
@@ -588,14 +606,24 @@ pub(crate) fn clear_one<A: Allocator>(
     at
 }
 
-/// Loads every cursor, and moves those that stand too far behind the tail.
-pub(crate) fn make_room<A: Allocator>(words: &Words<A>, seat: &mut Place, tail: u64)
+/// Loads every cursor that may be open, as above, and moves those that stand too far behind the tail.
+pub(crate) fn make_room<A: Allocator>(
+    words: &Words<A>,
+    seat: &mut Place,
+    open_end: &mut usize,
+    tail: u64,
+)
     requires seat { IsSeatOf words.now seat.old × (seat.old.me.0.sequencing.active ≡ true) × (tail ≡ next_number seat.old.me.0) }
     requires sized { MayDrop words.now.shape seat.old.me.0 }
+    requires beyond { (open_end.old ≤ words.now.shape.places) × ShutFrom seat.old.me.0 open_end.old }
     ensures seat { IsSameSeat seat.old seat.new }
-    ensures found { (ns : List ℕ) × (length ns ≡ words.now.shape.places) × Round (Cleared tail words.now.shape.cells) seat.old.me.0 ns seat.new.me.0 }
+    ensures found { (ns : List ℕ) × (length ns ≡ words.now.shape.places) × WholeRound (Cleared tail words.now.shape.cells) seat.old.me.0 ns seat.new.me.0 }
+    ensures beyond { (open_end.new ≤ open_end.old) × ShutFrom seat.new.me.0 open_end.new }
 {
-    for place in 0..words.shape.places {
-        clear_one(words, seat, place, tail);
+    let mut end = 0;
+    for place in 0..*open_end {
+        let at = clear_one(words, seat, place, tail);
+        end = end_with(end, place, at);
     }
+    *open_end = end;
 }

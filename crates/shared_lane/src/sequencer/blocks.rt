@@ -12,7 +12,7 @@ use flow_terms::{Policy, Refusal};
 use std::alloc::Allocator;
 
 impl<A: Allocator> Sequencer<A> {
-    // Loads every cursor, as a try does, and says for how many of `most` emissions there is room: the first finds it by these
+    // Loads every cursor that may be open, as a try does, and says for how many of `most` emissions there is room: the first finds it by these
     // loads, and each of the others would.
     fn find_room_for<B: Allocator>(&mut self, lane: &Lane<B>, most: u64) -> u64
         requires lane { IsSequencerOf lane.now self.old }
@@ -25,13 +25,20 @@ impl<A: Allocator> Sequencer<A> {
     {
         let words = lane.words();
         if let Policy::DropOldest = self.policy {
-            let room = clear_room(words, &mut self.seat, self.tail, most);
+            let room = clear_room(words, &mut self.seat, &mut self.open_end, self.tail, most);
             if room == 0 {
                 return 1;
             }
             return room;
         }
-        load_room(words, &mut self.seat, self.tail, self.capacity, most)
+        load_room(
+            words,
+            &mut self.seat,
+            &mut self.open_end,
+            self.tail,
+            self.capacity,
+            most,
+        )
     }
 
     // How many of so many words a block may have: as many as there are cells, and numbers left.

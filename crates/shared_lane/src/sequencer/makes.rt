@@ -92,6 +92,7 @@ impl<A: Allocator> Sequencer<A> {
             seat,
             tail: config.first,
             cell,
+            open_end: 0,
             policy: config.policy,
             capacity: config.replay + config.extra,
             cache,

@@ -15,13 +15,20 @@ use flow_terms::Refusal;
 use std::alloc::Allocator;
 
 impl<A: Allocator> Sequencer<A> {
-    /// How many readers there are: the open cursors, as this call loads them. Kotlin's `subscriptionCount`, as a plain number.
+    /// How many readers there are: the open cursors, as this call loads all that may be open. Kotlin's `subscriptionCount`, as a plain number.
     pub fn live<B: Allocator>(&mut self, lane: &Lane<B>) -> u32
         requires { IsSequencerOf lane.now self.old }
         ensures only { OnlyLoaded self.old self.new }
         ensures count { Counted self.old result self.new }
     {
-        load_cursors(lane.words(), &mut self.seat, self.tail, 0).open
+        load_cursors(
+            lane.words(),
+            &mut self.seat,
+            &mut self.open_end,
+            self.tail,
+            0,
+        )
+        .open
     }
 
     /// Lets a reader in, at a place whose cursor this call found closed. It begins at the oldest value of the replay cache,
@@ -44,6 +51,7 @@ impl<A: Allocator> Sequencer<A> {
         let start = self.tail - self.cache.len() as u64;
         words.open(&mut self.seat, place, start);
         let seat = words.hand_out(&mut self.seat, place);
+        self.open_end = self.open_end.max(place + 1);
         self.subscription += 1;
         Ok(Reader::at_start(seat, place, start, words.index_of(start)))
     }

@@ -70,7 +70,7 @@ impl<A: Allocator> Sequencer<A> {
         ensures only { OnlyLoaded self.old self.new }
         ensures round { (ns : List ℕ) × Loaded self.old ns self.new × Behind number 0 ns result }
     {
-        load_cursors(lane.words(), &mut self.seat, number, 0).behind
+        load_cursors(lane.words(), &mut self.seat, &mut self.open_end, number, 0).behind
     }
 
     /// Says whether an emission is done, and takes back the ticket of one that is: what Kotlin's `emit` waits for.

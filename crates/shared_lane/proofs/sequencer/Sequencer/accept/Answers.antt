@@ -1,9 +1,10 @@
-use Rattle.std.proofs.Common.{◌≡◌, ◌<◌, List, take, drop, ◌++◌, ◌∷◌, [], ◌∙◌, ap, subst, sym, ◌+◌, arith, length, length-append}
+use Rattle.std.proofs.Common.{◌≡◌, ◌<◌, ◌≤◌, List, take, drop, ◌++◌, ◌∷◌, [], ◌∙◌, ap, subst, sym, ◌+◌, arith, length, length-append}
 use Rattle.lane_steps.specs.declared.view.View.{View}
 use Rattle.lane_steps.specs.declared.view.Shape.{Shape}
 use Rattle.lane_steps.specs.Layout.{cell_index}
 use Rattle.lane_steps.specs.Law.{Entry}
 use Rattle.lane_steps.specs.Steps.{next_number}
+use Rattle.shared_lane.specs.Surveys.{may_be_open}
 use Rattle.shared_lane.specs.Views.{LaneSeen, SequencerSeen, sequencer_of}
 use Rattle.shared_lane.specs.Kept.{IsSound}
 use Rattle.shared_lane.specs.Sequencers.{next, accepted_on}
@@ -42,6 +43,8 @@ invariant_of-self g c = let s = c.self.inside in let inv = c.self.invariant in l
       holds_no_slot = c.store_tail.ensures.seat.2 ∙ c.store_cell.ensures.seat.2 ∙ inv.holds_no_slot;
       tail_is = omega arith;
       cell_is = c.next_index-self-inside.ensures s.tail (inv.cell_is ∙ ap (λ (z : Shape). cell_index z s.tail) of_lane) ∙ ap (λ (z : Shape). cell_index z (s.tail + 1)) (sym (ap (λ (v : View). v.shape) view ∙ of_lane));
+      end_within = subst (λ (v : View). s.open_end ≤ v.shape.places) (sym view) inv.end_within;
+      shut_from = λ p past. ap (λ (v : View). may_be_open v p) view ∙ inv.shut_from p past;
       room_to_wait = inv.room_to_wait;
       room_to_stand = inv.room_to_stand;
     }

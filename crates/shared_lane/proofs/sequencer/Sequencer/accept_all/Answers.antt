@@ -5,6 +5,7 @@ use Rattle.lane_steps.specs.declared.view.Shape.{Shape}
 use Rattle.lane_steps.specs.Law.{Entry}
 use Rattle.lane_steps.specs.Layout.{cell_index}
 use Rattle.lane_steps.specs.Steps.{next_number, IsRoomyAt}
+use Rattle.shared_lane.specs.Surveys.{may_be_open}
 use Rattle.shared_lane.specs.Views.{LaneSeen, SequencerSeen, sequencer_of}
 use Rattle.shared_lane.specs.Kept.{IsSound}
 use Rattle.shared_lane.specs.Sequencers.{next}
@@ -53,6 +54,8 @@ invariant_of-self g c = let s = c.self.inside in let inv = c.self.invariant in l
       holds_no_slot = tail.seat.2 ∙ (cells.seat.2 ∙ inv.holds_no_slot);
       tail_is = omega arith;
       cell_is = cells.cell ∙ (λ i. cell_index (sym (ap (λ (v : View). v.shape) view ∙ of_lane) i) ((let e : next_number s.seat.me.0 + length c.args.block.now ≡ s.tail + length c.args.block.now = omega arith in e) i));
+      end_within = subst (λ (v : View). s.open_end ≤ v.shape.places) (sym view) inv.end_within;
+      shut_from = λ p past. ap (λ (v : View). may_be_open v p) view ∙ inv.shut_from p past;
       room_to_wait = inv.room_to_wait;
       room_to_stand = inv.room_to_stand;
     }

@@ -6,7 +6,7 @@ use Rattle.flow_terms.specs.declared.policy.Policy.{Policy}
 use Rattle.flow_terms.specs.declared.policy.Policy.TheVariants.{Suspend, DropOldest, DropLatest}
 use Rattle.shared_lane.specs.Views.{LaneSeen, SequencerSeen, sequencer_of}
 use Rattle.shared_lane.specs.Sequencers.{RoundedBy}
-use Rattle.shared_lane.specs.Surveys.{Round, FoundAt, Behind}
+use Rattle.shared_lane.specs.Surveys.{WholeRound, FoundAt, Behind}
 use Rattle.shared_lane.proofs.Rounds.{roomy_cleared, roomy_found}
 use Rattle.atomic_table.specs.Seated.{TableId}
 use Rattle.shared_lane.proofs.Sameness.{loaded_as}
@@ -20,7 +20,7 @@ was_false : (b : Bool) → not b ≡ true → b ≡ false
 was_false true e = sym e
 was_false false e = refl
 
-calm : (p : Policy) (lag : ℕ) (q : SequencerSeen) (room : Bool) (v : View) → (p ≡ DropOldest → ⊥) → ((ns : List ℕ) × (length ns ≡ q.view.shape.places) × Round FoundAt q.view ns v × Behind (next_number q.view) lag ns (not room)) → RoundedBy p lag q room v
+calm : (p : Policy) (lag : ℕ) (q : SequencerSeen) (room : Bool) (v : View) → (p ≡ DropOldest → ⊥) → ((ns : List ℕ) × (length ns ≡ q.view.shape.places) × WholeRound FoundAt q.view ns v × Behind (next_number q.view) lag ns (not room)) → RoundedBy p lag q room v
 calm Suspend lag q room v ne f = f
 calm DropOldest lag q room v ne f = absurd (ne refl)
 calm DropLatest lag q room v ne f = f

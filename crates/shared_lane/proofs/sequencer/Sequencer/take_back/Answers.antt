@@ -15,6 +15,8 @@ invariant_of-self g c = let s = c.self.inside in let inv = c.self.invariant in l
   holds_no_slot = inv.holds_no_slot;
   tail_is = inv.tail_is;
   cell_is = inv.cell_is;
+  end_within = inv.end_within;
+  shut_from = inv.shut_from;
   room_to_wait = inv.room_to_wait;
   room_to_stand = grind (arith, common_steps);
 }
