@@ -1,18 +1,18 @@
 //! How a thread looks on before it sleeps.
-use std::{hint, thread};
+use std::hint;
 
 /// How often a thread looks on before it sleeps. With the pauses in between it looks for some microseconds at most; to sleep and to
 /// be woken takes more, of itself and of who wakes it.
 pub const LOOKS: u32 = 4;
 
-// How many turns a pause has before it yields. In a shorter one fewer values would come, and who emits and who receives would
-// take turns at the same cache lines for each.
-const TURNS: u32 = 32;
+// How many turns a pause has. In a shorter one fewer values would come, and who emits and who receives would take turns at the same
+// cache lines for each.
+const TURNS: u32 = 96;
 
-/// Lets some time pass before the next look, in which other threads may run on this processor.
+/// Lets some time pass before the next look. The thread keeps its processor meanwhile: where others want it, who yields has it back
+/// only after a time slice of theirs, some milliseconds, while a thread that sleeps goes on soon after it was woken.
 pub fn pause() {
     for _ in 0..TURNS {
         hint::spin_loop();
     }
-    thread::yield_now();
 }
