@@ -202,6 +202,22 @@ inline look_on(w) {
 inline count(w) { atomic { sleepers++; printf("        watcher %d lies down\n", w) } }
 inline discount(w) { atomic { sleepers--; is_over = 0; seen = 0; printf("        watcher %d is up\n", w) } }
 
+/* Bell::sleep: it compares the turn as it lays the thread down. */
+inline sleep(w) {
+    atomic {
+        if
+#ifdef WRONG_TURN_NOT_COMPARED
+        :: true -> asleep[w] = 1; printf("        watcher %d sleeps\n", w)
+#else
+        :: turn == seen -> asleep[w] = 1; printf("        watcher %d sleeps\n", w)
+        :: else -> skip
+#endif
+        fi;
+        seen = 0
+    };
+    !asleep[w]
+}
+
 /* Watcher::next with wait, and next_within with wait_within. */
 inline next(w) {
     look_on(w);
@@ -210,6 +226,10 @@ inline next(w) {
     :: else ->
 #ifndef WRONG_COUNTED_LATE
         count(w);
+#endif
+#ifdef WRONG_LOOKS_ARE_THE_LAST     /* who has looked on sleeps once it is counted, and asks only after that */
+        seen = turn;
+        sleep(w);
 #endif
         do
         ::  look(w);
@@ -222,12 +242,7 @@ inline next(w) {
 #ifdef WRONG_COUNTED_LATE           /* after the value is loaded */
                 count(w);
 #endif
-                /* Bell::sleep: it compares the turn as it lays the thread down. */
-                atomic {
-                    if :: turn == seen -> asleep[w] = 1; printf("        watcher %d sleeps\n", w) :: else -> skip fi;
-                    seen = 0
-                };
-                !asleep[w];
+                sleep(w);
 #ifdef WRONG_COUNTED_LATE
                 sleepers--
 #endif
