@@ -1,5 +1,5 @@
 -- A round over the cursors that may be open is one over all, where the others count as found closed.
-use Rattle.std.proofs.Common.{◌≡◌, ◌≢◌, ℕ, zero, suc, ◌+◌, ◌-◌, ◌<◌, ◌≤◌, cond, eqb, Bool, true, false, List, [], ◌∷◌, ◌++◌, length, replicate, take, get_or, sym, refl, ap, ◌∙◌, subst, inl, arith, length-append, eq-eqb, ne_eqb, lt_of_not-le}
+use Rattle.std.proofs.Common.{◌≡◌, ◌≢◌, ℕ, zero, suc, ◌+◌, ◌-◌, ◌<◌, ◌≤◌, cond, eqb, Bool, true, false, List, [], ◌∷◌, ◌++◌, length, replicate, get_or, sym, refl, ap, ◌∙◌, subst, inl, arith, length-append, eq-eqb, ne_eqb, lt_of_not-le}
 use mathlib.Core.Logic.{dite}
 use native.Mathlib.Decide.{ℕ_discrete, dec_le}
 use Rattle.std.proofs.lemmas.List.{get_or_append_left, get_or-append_right, get_or-replicate, length-replicate}
@@ -8,7 +8,7 @@ use Rattle.lane_steps.specs.declared.view.Known.{Known}
 use Rattle.lane_steps.specs.declared.view.View.{View}
 use Rattle.lane_steps.specs.Law.{closed}
 use Rattle.lane_steps.specs.Steps.{known_of, next_number}
-use Rattle.shared_lane.specs.Surveys.{cursor_loads, open_count, may_be_open, ShutFrom, Round, WholeRound, FoundAt, Cleared, Behind}
+use Rattle.shared_lane.specs.Surveys.{cursor_loads, open_count, ShutFrom, Round, WholeRound, FoundAt, Cleared, Behind}
 use Rattle.shared_lane.specs.Blocks.{HasRoom}
 use Rattle.shared_lane.proofs.Rounds.{at_back, shut_at}
 

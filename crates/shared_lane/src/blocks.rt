@@ -7,7 +7,7 @@ ghost use Rattle.lane_steps.specs.Steps.{next_number, IsRoomyAt};
 ghost use Rattle.shared_lane.specs.Surveys.{KnowsPlaces, MayDrop, WholeRound, FoundAt, Cleared, ShutFrom};
 ghost use Rattle.shared_lane.specs.Blocks.{HasRoom, LeavesRoom, entries, with_flight};
 
-use crate::sequencer::{clear_one, end_with};
+use crate::sequencer::{clear_one, end_at, end_with};
 use lane_steps::{CLOSED, Place, Words};
 use std::alloc::Allocator;
 
@@ -46,7 +46,7 @@ pub(crate) fn load_room<A: Allocator>(
         room = room_left(at, tail, lag, room);
         end = end_with(end, place, at);
     }
-    *open_end = end;
+    end_at(open_end, end);
     room
 }
 
@@ -73,7 +73,7 @@ pub(crate) fn clear_room<A: Allocator>(
         room = room_left(at, tail, words.shape.cells as u64, room);
         end = end_with(end, place, at);
     }
-    *open_end = end;
+    end_at(open_end, end);
     room
 }
 

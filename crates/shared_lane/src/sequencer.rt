@@ -541,6 +541,17 @@ pub(crate) fn end_with(end: usize, place: usize, at: u64) -> usize
     if at == CLOSED { end } else { place + 1 }
 }
 
+// Where they are the same, which is nearly always, nothing is written: the store of the cell would wait for it.
+/// Puts the place after the last open one in the place of the one before.
+#[inline(always)]
+pub(crate) fn end_at(open_end: &mut usize, end: usize)
+    ensures { open_end.new ≡ end }
+{
+    if *open_end != end {
+        *open_end = end;
+    }
+}
+
 /// Loads every cursor that may be open: those of the places before `open_end`, which becomes the place after the last one that
 /// was found open.
 pub(crate) fn load_cursors<A: Allocator>(
@@ -567,7 +578,7 @@ pub(crate) fn load_cursors<A: Allocator>(
         found = found.with(at, tail, lag);
         end = end_with(end, place, at);
     }
-    *open_end = end;
+    end_at(open_end, end);
     found
 }
 
@@ -625,5 +636,5 @@ pub(crate) fn make_room<A: Allocator>(
         let at = clear_one(words, seat, place, tail);
         end = end_with(end, place, at);
     }
-    *open_end = end;
+    end_at(open_end, end);
 }

@@ -1,4 +1,4 @@
-use Rattle.std.proofs.Common.{arith, refl, ◌≡◌, ℕ, ◌+◌, ◌-◌, List, [], ◌∷◌, ◌++◌, length, sym, ◌∙◌, subst, length-append}
+use Rattle.std.proofs.Common.{arith, refl, ◌≡◌, ℕ, ◌+◌, ◌-◌, ◌≤◌, List, [], ◌∷◌, ◌++◌, length, sym, ◌∙◌, subst, length-append}
 use Rattle.lane_steps.specs.Steps.{next_number}
 use Rattle.shared_lane.specs.Surveys.{ShutFrom, Cleared, Visit}
 use Rattle.shared_lane.proofs.Rounds.{round_none, round_more}
@@ -32,5 +32,5 @@ returns g c = let inv = c.loop-place.invariant.1 in let ns : List ℕ = inv.0 in
     let is : length ns ≡ c.args.open_end.now = omega arith in let shut = subst (ShutFrom v) (sym is) c.requires.beyond.1 in let ends = inv.4.within in record {
       seat = c.loop-place.invariant.0;
       found = (all_of ns more, omega arith, whole_of (Cleared tail cells) v w ns more (cleared_still tail cells) inv.2 shut, room_all tail cells ns more c.args.most c.loop-place.room inv.3);
-      beyond = (omega arith, shut_after (Cleared tail cells) v w ns c.loop-place.end (cleared_shut tail cells) inv.2 shut inv.4);
+      beyond = subst (λ (z : ℕ). (z ≤ c.args.open_end.now) × ShutFrom w z) (sym c.end_at.ensures) (omega arith, shut_after (Cleared tail cells) v w ns c.loop-place.end (cleared_shut tail cells) inv.2 shut inv.4);
     }

@@ -1,4 +1,4 @@
-use Rattle.std.proofs.Common.{arith, refl, ◌≡◌, ℕ, ◌+◌, ◌-◌, ◌<◌, List, [], ◌∷◌, ◌++◌, length, sym, ◌∙◌, subst, length-append}
+use Rattle.std.proofs.Common.{arith, refl, ◌≡◌, ℕ, ◌+◌, ◌-◌, ◌≤◌, ◌<◌, List, [], ◌∷◌, ◌++◌, length, sym, ◌∙◌, subst, length-append}
 use Rattle.lane_steps.specs.Steps.{next_number, Surveyed}
 use Rattle.shared_lane.specs.Surveys.{ShutFrom, FoundAt}
 use Rattle.shared_lane.proofs.Rounds.{visited, round_none, round_more}
@@ -33,5 +33,5 @@ returns g c = let inv = c.loop-place.invariant.1 in let ns : List ℕ = inv.0 in
     let is : length ns ≡ c.args.open_end.now = omega arith in let shut = subst (ShutFrom v) (sym is) c.requires.beyond.1 in let ends = inv.4.within in record {
       seat = c.loop-place.invariant.0;
       found = (all_of ns more, omega arith, whole_of FoundAt v w ns more found_still inv.2 shut, room_all c.args.tail c.args.lag ns more c.args.most c.loop-place.room inv.3);
-      beyond = (omega arith, shut_after FoundAt v w ns c.loop-place.end found_shut inv.2 shut inv.4);
+      beyond = subst (λ (z : ℕ). (z ≤ c.args.open_end.now) × ShutFrom w z) (sym c.end_at.ensures) (omega arith, shut_after FoundAt v w ns c.loop-place.end found_shut inv.2 shut inv.4);
     }

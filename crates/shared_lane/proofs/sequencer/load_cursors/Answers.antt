@@ -1,4 +1,4 @@
-use Rattle.std.proofs.Common.{arith, ◌≡◌, ℕ, ◌+◌, ◌-◌, ◌<◌, List, [], ◌∷◌, ◌++◌, length, cond, eqb, sym, ap, ◌∙◌, subst, length-append}
+use Rattle.std.proofs.Common.{arith, ◌≡◌, ℕ, ◌+◌, ◌-◌, ◌≤◌, ◌<◌, List, [], ◌∷◌, ◌++◌, length, cond, eqb, sym, ap, ◌∙◌, subst, length-append}
 use Rattle.lane_steps.specs.Law.{closed}
 use Rattle.lane_steps.specs.Steps.{Surveyed}
 use Rattle.shared_lane.proofs.Rounds.{visited, round_more, behind_more, open_more, open_few}
@@ -36,5 +36,5 @@ returns g c = let inv = c.loop-place.invariant.1 in let ns : List ℕ = inv.0 in
         behind_all c.args.tail c.args.lag ns more c.loop-place.found.behind inv.3,
         inv.4 ∙ sym (open_all ns more),
       );
-      beyond = (omega arith, shut_after FoundAt v w ns c.loop-place.end found_shut inv.2 shut inv.5);
+      beyond = subst (λ (z : ℕ). (z ≤ c.args.open_end.now) × ShutFrom w z) (sym c.end_at.ensures) (omega arith, shut_after FoundAt v w ns c.loop-place.end found_shut inv.2 shut inv.5);
     }

@@ -1,7 +1,7 @@
-use Rattle.std.proofs.Common.{arith, ◌≡◌, ℕ, ◌+◌, ◌-◌, List, [], ◌∷◌, ◌++◌, length, sym, ◌∙◌, subst, length-append}
+use Rattle.std.proofs.Common.{arith, ◌≡◌, ℕ, ◌+◌, ◌-◌, ◌≤◌, List, [], ◌∷◌, ◌++◌, length, sym, ◌∙◌, subst, length-append}
 use Rattle.shared_lane.specs.Surveys.{ShutFrom, Cleared, Visit}
-use Rattle.shared_lane.proofs.Rounds.{round_none, round_more}
-use Rattle.shared_lane.proofs.WholeRounds.{all_of, all_long, cleared_still, cleared_shut, whole_of, ends_none, ends_more, shut_after}
+use Rattle.shared_lane.proofs.Rounds.{round_more}
+use Rattle.shared_lane.proofs.WholeRounds.{all_of, all_long, cleared_still, cleared_shut, whole_of, ends_more, shut_after}
 use Rattle.shared_lane.proofs.sequencer.make_room.Goals as goal
 
 pub loop-place-preserved : goal.loop-place-preserved
@@ -22,5 +22,5 @@ returns g c = let inv = c.loop-place.invariant.1 in let ns : List ℕ = inv.0 in
     let is : length ns ≡ c.args.open_end.now = omega arith in let shut = subst (ShutFrom v) (sym is) c.requires.beyond.1 in let ends = inv.3.within in record {
       seat = c.loop-place.invariant.0;
       found = (all_of ns more, omega arith, whole_of (Cleared tail cells) v w ns more (cleared_still tail cells) inv.2 shut);
-      beyond = (omega arith, shut_after (Cleared tail cells) v w ns c.loop-place.end (cleared_shut tail cells) inv.2 shut inv.3);
+      beyond = subst (λ (z : ℕ). (z ≤ c.args.open_end.now) × ShutFrom w z) (sym c.end_at.ensures) (omega arith, shut_after (Cleared tail cells) v w ns c.loop-place.end (cleared_shut tail cells) inv.2 shut inv.3);
     }
