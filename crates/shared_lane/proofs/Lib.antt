@@ -4,6 +4,7 @@ pub mod Entries
 pub mod Finding
 pub mod Lives
 pub mod Makes
+pub mod Ordering
 pub mod Outstanding
 pub mod Policies
 pub mod Readings

@@ -7,6 +7,7 @@ use Rattle.lane_steps.specs.Layout.{cell_index}
 use Rattle.lane_steps.specs.Steps.{position, next_number}
 use Rattle.shared_lane.specs.Surveys.{ShutFrom}
 use Rattle.shared_lane.specs.Views.{SequencerSeen}
+use Rattle.shared_lane.specs.Ordering.{IsInOrder}
 use Rattle.shared_lane.specs.Caches.{drops_values, may_wait, AreAccepted, IsLastOf}
 
 -- a reader's seat, and the numbers that it keeps beside it
@@ -46,6 +47,7 @@ pub record IsSound (q : SequencerSeen) : Type 0 where
   pub waits : may_wait q.policy ≡ false → q.waiting ≡ []
   pub stands : AreAccepted q.view.shape.first q.view.seen q.standing
   pub cached : IsLastOf q.view.seen q.cache
+  pub in_order : IsInOrder q.standing q.waiting q.ticket (next_number q.view)
 
 -- a sequencer's seat, its copy of the tail, the index of the tail's cell, the place from which on all are known to be closed, and the room
 -- of its tables

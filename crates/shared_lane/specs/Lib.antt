@@ -2,6 +2,7 @@ pub mod Blocks
 pub mod Caches
 pub mod Kept
 pub mod Makes
+pub mod Ordering
 pub mod Picks
 pub mod Places
 pub mod Polls

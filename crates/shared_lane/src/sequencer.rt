@@ -6,6 +6,7 @@ ghost use Rattle.shared_lane.specs.Sequencers.{next, HasNumber, HasTicketNumber,
 ghost use Rattle.shared_lane.specs.Sequencers.{BegunOn, RefusedStart, AfterScan, OnlyLoaded, Rounded, seen, accepted_on, stood_on};
 ghost use Rattle.shared_lane.specs.Sequencers.{accepted_with_ticket, waited, Settled, IsStuck};
 ghost use Rattle.lane_steps.specs.Steps.{IsRoomy, next_number};
+ghost use Rattle.shared_lane.specs.Ordering.{StandsLast};
 ghost use Rattle.shared_lane.specs.Caches.{emitter_at};
 ghost use Rattle.shared_lane.specs.Places.{IsAccepted};
 ghost use Rattle.shared_lane.specs.Readers.{IsReceiptOf};
@@ -377,6 +378,7 @@ impl<A: Allocator> Sequencer<A> {
     fn stand(&mut self, ticket: u64, emitter: u32, number: u64)
         requires few { HasFreeTicket self.old }
         requires accepted { emitter_at self.old.view.shape.first (seen self.old) number ≡ Some emitter }
+        requires last { StandsLast self.old ticket number × (number < next self.old) }
         ensures { self.new ≡ stood_on ticket emitter number self.old }
     {
         self.standing.push_reserved(Standing {
@@ -405,11 +407,13 @@ impl<A: Allocator> Sequencer<A> {
         ticket
     }
 
-    // The next ticket's number.
+    // The next ticket's number, where none waits.
     fn take_ticket(&mut self) -> u64
-        requires { HasTicketNumber self.old }
+        requires ticket { HasTicketNumber self.old }
+        requires first { self.old.waiting ≡ [] }
         ensures ticket { result ≡ self.old.ticket }
         ensures counted { self.new ≡ record self.old { ticket = self.old.ticket + 1 } }
+        ensures last { StandsLast self.new result (next self.new) }
     {
         let ticket = self.ticket;
         self.ticket += 1;
@@ -423,6 +427,7 @@ impl<A: Allocator> Sequencer<A> {
         ensures left { self.new ≡ record self.old { waiting = drop 1 self.old.waiting } }
         ensures few { length self.old.waiting + length self.old.standing ≤ self.old.emits }
         ensures number { next self.old + length self.old.waiting ≤ 4611686018427387904 }
+        ensures last { StandsLast self.new result.ticket (next self.new) }
     {
         self.waiting.remove(0)
     }
@@ -447,6 +452,7 @@ impl<A: Allocator> Sequencer<A> {
         requires few { HasFreeTicket self.old }
         requires number { HasNumber self.old }
         requires ticket { HasTicketNumber self.old }
+        requires first { self.old.waiting ≡ [] }
         ensures ticket { result ≡ self.old.ticket }
         ensures stands { self.new ≡ accepted_with_ticket (emitter, word) self.old }
     {

@@ -5,6 +5,7 @@ ghost use Rattle.shared_lane.specs.Sequencers.{IsSequencerOf, IsSameSequencer, O
 ghost use Rattle.shared_lane.specs.Polls.{given_back, withdrawn_from, Loaded, PolledOn, WithdrawnFrom, NoneStands};
 ghost use Rattle.shared_lane.specs.Polls.{NoneWaits, StandsAt, WaitsAt, IsNotOut, IsOutFor, IsFinishedBelow, stands_below};
 ghost use Rattle.shared_lane.specs.Places.{IsAccepted};
+ghost use Rattle.shared_lane.specs.Ordering.{FirstUnfinished};
 ghost use Rattle.shared_lane.specs.Surveys.{Behind};
 
 use super::{Sequencer, load_cursors};
@@ -14,22 +15,32 @@ use shared_core::{Emit, Ticket, Withdrawn};
 use std::alloc::Allocator;
 
 impl<A: Allocator> Sequencer<A> {
-    // Where the accepted emission with a ticket stands.
+    // Where the accepted emission with a ticket stands: tickets rise.
     fn standing_with(&self, ticket: u64) -> Option<usize>
         ensures { MatchOption result (NoneStands self.now.standing ticket) (StandsAt self.now ticket) }
     {
-        self.standing
-            .iter()
-            .position(|standing| standing.ticket == ticket)
+        let index = self
+            .standing
+            .partition_point(|standing| standing.ticket < ticket);
+        let standing = self.standing.get(index)?;
+        if standing.ticket != ticket {
+            return None;
+        }
+        Some(index)
     }
 
     // Where the emission with a ticket waits.
     fn waiting_with(&self, ticket: u64) -> Option<usize>
         ensures { MatchOption result (NoneWaits self.now.waiting ticket) (WaitsAt self.now ticket) }
     {
-        self.waiting
-            .iter()
-            .position(|waiting| waiting.ticket == ticket)
+        let index = self
+            .waiting
+            .partition_point(|waiting| waiting.ticket < ticket);
+        let waiting = self.waiting.get(index)?;
+        if waiting.ticket != ticket {
+            return None;
+        }
+        Some(index)
     }
 
     // Takes back the ticket of an accepted emission, and returns its number.
@@ -139,6 +150,21 @@ impl<A: Allocator> Sequencer<A> {
             return next - 1;
         }
         next
+    }
+
+    /// The first ticket of an emission that isn't finished, where each accepted one below a number is: those before it are
+    /// finished, or were taken back, and those from it on aren't, unless they were.
+    pub fn first_unfinished(&self, below: u64) -> Option<Ticket>
+        ensures { FirstUnfinished self.now below result }
+    {
+        let index = self
+            .standing
+            .partition_point(|standing| standing.number < below);
+        if index < self.standing.len() {
+            return Some(Ticket(self.standing[index].ticket));
+        }
+        let first = self.waiting.first()?;
+        Some(Ticket(first.ticket))
     }
 
     /// Whether an accepted emission with this ticket is below a number.

@@ -1,8 +1,36 @@
-use Rattle.std.proofs.Common.{◌≡◌, ◌≢◌, rules, tests}
-use Rattle.std.proofs.lemmas.Iterator.{IsFirst-from_position, YieldsList-from_slice}
-use Rattle.shared_lane.proofs.Finding.{a_place}
+use Rattle.std.proofs.Common.{◌≡◌, ◌≤◌, ◌∙◌, Some, length, slice_get, get_or, ltb, ltb-true, ltb-false, rules, tests, ap, subst, sym, refl, arith}
+use Rattle.std.proofs.lemmas.Option.{slice_get_read}
+use Rattle.std.specs.List.Sorted.{IsPartitionedBy}
+use Rattle.std.proofs.lemmas.List.Sorted.{IsPartitionPoint-from_clause, IsPartitionedBy-ltb}
+use Rattle.shared_lane.specs.declared.tickets.Waiting.{Waiting}
+use Rattle.shared_lane.proofs.Ordering.{Parts, never_falls, none_past, none_but, one_there}
 use Rattle.shared_lane.proofs.sequencer.Sequencer.waiting_with.Goals as goal
 
+pub returns-in_err-waiting : goal.returns-in_err-waiting
+returns-in_err-waiting g c = let l = c.self.inside.waiting.items in let at = c.partition_point-index.result in let rises = c.self.invariant.sound.in_order.tickets_wait in
+    let parts : Parts (λ (x : Waiting). x.ticket) l c.args.ticket at = let same : c.deref.result.now ≡ l = search rules in
+    subst (λ z. Parts (λ (x : Waiting). x.ticket) z c.args.ticket at) same
+    (IsPartitionPoint-from_clause (λ (x : Waiting). ltb x.ticket c.args.ticket) _ _ c.partition_point-index.ensures.partitioned
+    (subst (λ z. IsPartitionedBy (λ (x : Waiting). ltb x.ticket c.args.ticket) z) (sym same) (IsPartitionedBy-ltb (λ (x : Waiting). x.ticket) l c.args.ticket (never_falls (λ (x : Waiting). x.ticket) l rises))) (λ a r q k. search rules)) in
+    let end : length l ≤ at = search (rules, tests) in
+    rw (← c.self.view_is, c.from_residual.ensures) (none_past (λ (x : Waiting). x.ticket) l c.args.ticket at parts end)
+
+pub returns-then-waiting-ticket : goal.returns-then-waiting-ticket
+returns-then-waiting-ticket g c = let l = c.self.inside.waiting.items in let at = c.partition_point-index.result in let rises = c.self.invariant.sound.in_order.tickets_wait in
+    let parts : Parts (λ (x : Waiting). x.ticket) l c.args.ticket at = let same : c.deref.result.now ≡ l = search rules in
+    subst (λ z. Parts (λ (x : Waiting). x.ticket) z c.args.ticket at) same
+    (IsPartitionPoint-from_clause (λ (x : Waiting). ltb x.ticket c.args.ticket) _ _ c.partition_point-index.ensures.partitioned
+    (subst (λ z. IsPartitionedBy (λ (x : Waiting). ltb x.ticket c.args.ticket) z) (sym same) (IsPartitionedBy-ltb (λ (x : Waiting). x.ticket) l c.args.ticket (never_falls (λ (x : Waiting). x.ticket) l rises))) (λ a r q k. search rules)) in
+    let found = c.in_ok-waiting.ensures.lookup in let same' : c.deref-2.result.now ≡ l = c.deref-2.ensures.value in
+    let read : slice_get l at ≡ Some c.in_ok-waiting.waiting.now = slice_get_read l (length l) at _ refl (ltb-true at (length l) (sym (ap (λ z. ltb at (length z)) same') ∙ sym found.0)) (found.1 ∙ ap (λ z. get_or z at c.in_ok-waiting.waiting.now) same') in
+    rw (← c.self.view_is) (none_but (λ (x : Waiting). x.ticket) l c.args.ticket at parts rises _ read c.if-waiting-ticket.true)
+
 pub returns : goal.returns
-returns g c = rw (← c.self.view_is) (a_place _ _ c.self.inside.waiting.items c.position.result
-    (IsFirst-from_position _ _ _ (λ w. w.ticket ≡ c.args.ticket) (λ w. w.ticket ≢ c.args.ticket) c.position.ensures.ran (YieldsList-from_slice _ (search rules)) (λ x q k. search (rules, tests)) (λ x q k. search (rules, tests))))
+returns g c = let l = c.self.inside.waiting.items in let at = c.partition_point-index.result in let rises = c.self.invariant.sound.in_order.tickets_wait in
+    let parts : Parts (λ (x : Waiting). x.ticket) l c.args.ticket at = let same : c.deref.result.now ≡ l = search rules in
+    subst (λ z. Parts (λ (x : Waiting). x.ticket) z c.args.ticket at) same
+    (IsPartitionPoint-from_clause (λ (x : Waiting). ltb x.ticket c.args.ticket) _ _ c.partition_point-index.ensures.partitioned
+    (subst (λ z. IsPartitionedBy (λ (x : Waiting). ltb x.ticket c.args.ticket) z) (sym same) (IsPartitionedBy-ltb (λ (x : Waiting). x.ticket) l c.args.ticket (never_falls (λ (x : Waiting). x.ticket) l rises))) (λ a r q k. search rules)) in
+    let found = c.in_ok-waiting.ensures.lookup in let same' : c.deref-2.result.now ≡ l = c.deref-2.ensures.value in
+    let read : slice_get l at ≡ Some c.in_ok-waiting.waiting.now = slice_get_read l (length l) at _ refl (ltb-true at (length l) (sym (ap (λ z. ltb at (length z)) same') ∙ sym found.0)) (found.1 ∙ ap (λ z. get_or z at c.in_ok-waiting.waiting.now) same') in
+    rw (← c.self.view_is) (one_there l c.args.ticket at _ read c.if-waiting-ticket.false)
