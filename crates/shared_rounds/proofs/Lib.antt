@@ -3,6 +3,7 @@ pub mod Rises
 pub mod Receipts
 pub mod Refusals
 pub mod Starting
+pub mod Staying
 pub mod Doing
 pub mod Trying
 pub mod Numbers

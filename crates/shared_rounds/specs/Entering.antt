@@ -6,7 +6,7 @@ use Rattle.shared_rounds.specs.declared.round.Round.{Round}
 use Rattle.shared_rounds.specs.Names.{SharedSeen, IsNew}
 use Rattle.shared_rounds.specs.Reach.{Party, Reach, Rounds, with_round}
 use Rattle.shared_rounds.specs.Rounds.{Comes, Does}
-use Rattle.shared_rounds.specs.Waking.{Lies, ended_by}
+use Rattle.shared_rounds.specs.Waking.{Lies, ended_by, taken_by}
 
 -- what some list of rounds left of a new flow
 abbrev pub IsLeftBy : SharedSeen → Rounds → SharedSeen → Type 0
@@ -25,9 +25,9 @@ pub record Found (p : Party) (found : SharedSeen) (seen : Rounds) : Type 0 where
 abbrev pub IsCalled : Reach → ℕ → Round → SharedSeen → Type 0
 IsCalled r before round called = (found : SharedSeen) × (r.held ≡ Some found) × Comes found round called × Lies found round called × (before ≡ next found.sequencer)
 
--- the same of the round that a step of the lock picks, and which ended this subscription
-abbrev pub IsCalledAs : Reach → ℕ → Option Round → Option ℕ → SharedSeen → Type 0
-IsCalledAs r before picked ended called = (round : Round) × (picked ≡ Some round) × (ended ≡ ended_by round) × IsCalled r before round called
+-- the same of the round that a step of the lock picks, and which ended this subscription, and took this ticket back
+abbrev pub IsCalledAs : Reach → ℕ → Option Round → Option ℕ → Option ℕ → SharedSeen → Type 0
+IsCalledAs r before picked ended taken called = (round : Round) × (picked ≡ Some round) × (ended ≡ ended_by round) × (taken ≡ taken_by round) × IsCalled r before round called
 
 -- the owner has the lock no more: its rounds, and what it has seen, grew by this one, which left this
 abbrev pub left_with : Round → SharedSeen → Reach → Reach

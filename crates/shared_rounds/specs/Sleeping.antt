@@ -1,12 +1,18 @@
 -- Who sleeps where.
-use Rattle.std.specs.Prelude.{◌≡◌, ◌↔◌, ◌⊎◌, ℕ, Option, Some, None}
+use Rattle.std.specs.Prelude.{◌≢◌, ◌≡◌, ◌↔◌, ◌⊎◌, ℕ, Option, Some, None}
 use Rattle.slab.specs.Slab.{Slab, get, slab_len}
+use Rattle.flow_terms.specs.declared.ids.Ticket.{Ticket}
+use Rattle.shared_lane.specs.Ordering.{IsBefore}
 use Rattle.shared_rounds.specs.declared.sleepers.Sleeper.{Sleeper}
 
 -- the one with this number sleeps in the bed with this key
 abbrev pub SleepsAt : Slab Sleeper → Option ℕ → ℕ → Type 0
 SleepsAt sleeping key number =
     (k : ℕ) × (sleeper : Sleeper) × (key ≡ Some k) × (get sleeping k ≡ Some sleeper) × (sleeper.number ≡ number)
+
+-- a ticket isn't before the first of those that have to wait, and isn't the one that is gone
+abbrev pub SleepsOn : Option Ticket → Option ℕ → ℕ → Type 0
+SleepsOn first gone ticket = (IsBefore ticket first → ⊥) × (gone ≢ Some ticket)
 
 abbrev pub NobodySleeps : Slab Sleeper → Type 0
 NobodySleeps sleeping = slab_len sleeping ≡ 0

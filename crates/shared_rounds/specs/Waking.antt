@@ -1,12 +1,15 @@
 -- Whom a round puts to sleep, and whom it wakes. Who leaves a table is woken: a waker that is let go wakes its task, and no owner of the
 -- lock keeps one beyond its call.
-use Rattle.std.specs.Prelude.{◌≡◌, ◌≢◌, ◌⊎◌, ℕ, ◌<◌, ◌≤◌, Option, Some, None, [], false}
+use Rattle.std.specs.Prelude.{⊤, ◌≡◌, ◌≢◌, ◌⊎◌, ℕ, ◌<◌, ◌≤◌, Option, Some, None, [], false}
 use Rattle.flow_terms.specs.declared.answers.Emit.TheVariants as emit
 use Rattle.shared_lane.specs.Views.{SequencerSeen}
 use Rattle.shared_lane.specs.Sequencers.{IsSameSequencer, OnlyLoaded, next}
+use Rattle.slab.specs.Slab.{get}
+use Rattle.shared_lane.specs.Ordering.{IsOut}
 use Rattle.shared_lane.specs.Polls.{IsOutFor, IsFinishedBelow, stands_below}
 use Rattle.shared_rounds.specs.declared.round.Round.{Round}
 use Rattle.shared_rounds.specs.declared.round.Round.TheVariants as round
+use Rattle.shared_rounds.specs.declared.sleepers.Sleeper.{Sleeper}
 use Rattle.shared_rounds.specs.Names.{SharedSeen}
 use Rattle.shared_rounds.specs.Sleeping.{NobodySleeps, OnlyThese, LiesDown}
 
@@ -34,6 +37,23 @@ pub record WakesSubscriptions (before : ℕ) (ended : Option ℕ) (s t : SharedS
 -- an emission has to wait: its ticket is out, and it doesn't stand below this number
 abbrev pub HasToWait : SequencerSeen → ℕ → ℕ → Type 0
 HasToWait q below ticket = (stands_below q.standing ticket below ≡ false) × ((emitter : ℕ) × IsOutFor q ticket emitter)
+
+-- the tickets of the emissions that sleep are out, but for one
+abbrev pub AreOutBut : Option ℕ → SharedSeen → Type 0
+AreOutBut taken s = (key : ℕ) (sleeper : Sleeper) → get s.emissions key ≡ Some sleeper → taken ≢ Some sleeper.number → IsOut s.sequencer sleeper.number
+
+-- the tickets of all are, where an owner has the lock
+abbrev pub AreOutWhereHeld : Option SharedSeen → Type 0
+AreOutWhereHeld None = ⊤
+AreOutWhereHeld (Some s) = AreOutBut None s
+
+-- the ticket that a round takes back: that of an emission which is finished, or is given up
+abbrev pub taken_by : Round → Option ℕ
+taken_by (round.Poll ticket (emit.Done n)) = Some ticket.0
+taken_by (round.StrayPoll ticket emitter last n) = Some ticket.0
+taken_by (round.Withdraw ticket answer) = Some ticket.0
+taken_by (round.StrayWithdraw ticket emitter last n) = Some ticket.0
+taken_by _ = None
 
 -- Those emissions sleep on that have to wait, as the cursors were found then: one that is finished, was taken or was withdrawn doesn't.
 abbrev pub WakesEmissions : SharedSeen → SharedSeen → Type 0

@@ -10,7 +10,7 @@ ghost use Rattle.shared_rounds.specs.Entering.{Found, IsCalled, IsCalledAs, Left
 ghost use Rattle.shared_rounds.specs.Reach.{party_of, reach_of};
 ghost use Rattle.shared_rounds.specs.Rounds.{Below};
 ghost use Rattle.shared_rounds.specs.Sleeping.{NobodySleeps};
-ghost use Rattle.shared_rounds.specs.Waking.{Helps, ended_by as the_ended_by};
+ghost use Rattle.shared_rounds.specs.Waking.{AreOutBut, Helps, ended_by as the_ended_by, taken_by as the_taken_by};
 
 use crate::flag::Stands;
 use crate::looking::{LOOKS, pause};
@@ -20,7 +20,7 @@ use crate::sleepers::Wakes;
 use crate::track::{Looker, Track};
 use flow_terms::{Refusal, Word};
 use round_lock::{Guarded, Lock, Made};
-use shared_core::Config;
+use shared_core::{Config, Emit};
 use shared_lane::{Lane, Reader};
 use std::alloc::{AllocError, Global};
 use std::marker::{Brand, Model};
@@ -44,12 +44,13 @@ impl Model for Access {
     ghost use Rattle.shared_rounds.specs.Reach.{Reach, reach_of};
     ghost use Rattle.shared_rounds.specs.Names.{KnowsFlow};
     ghost use Rattle.shared_rounds.specs.Sleeping.{NobodySleeps};
+    ghost use Rattle.shared_rounds.specs.Waking.{AreOutWhereHeld};
 
     ghost Value = { Reach };
 
     ghost view = { λ a. reach_of (λ s. s.value) a.lock };
 
-    ghost invariant = { λ a. KnowsFlow a.config (reach_of (λ s. s.value) a.lock).flow (arc_value a.track) × NobodySleeps a.wakes.subscriptions × (a.wakes.wakers.items ≡ []) };
+    ghost invariant = { λ a. KnowsFlow a.config (reach_of (λ s. s.value) a.lock).flow (arc_value a.track) × NobodySleeps a.wakes.subscriptions × (a.wakes.wakers.items ≡ []) × AreOutWhereHeld (reach_of (λ s. s.value) a.lock).held };
 }
 
 // By hand: who lets one go proves this call alone, and nothing of what it is made of.
@@ -174,7 +175,9 @@ impl Access {
         requires round { IsCalled self.old inside.before round inside.guarded.state.value }
         ensures left { Left round inside.guarded.state.value self.old self.new }
     {
-        self.leave_as::<Brand, _>(rt, inside, ended_by(&round), &round);
+        let ended = ended_by(&round);
+        let taken = taken_by(&round);
+        self.leave_as::<Brand, _>(rt, inside, ended, taken, &round);
     }
 
     /// Who has the lock meets another owner of it: both have seen the same rounds then, and the other's own are its part of them.
@@ -201,7 +204,7 @@ impl Access {
         requires round { IsCalled self.old inside.before (round.TryAll emitter (map T.word values.now) answer) inside.guarded.state.value }
         ensures left { Left (round.TryAll emitter (map T.word values.now) answer) inside.guarded.state.value self.old self.new }
     {
-        self.leave_as::<M, _>(rt, inside, None, &());
+        self.leave_as::<M, _>(rt, inside, None, None, &());
     }
 
     /// Leaves as `leave` does, after the replay cache was read: the round has the words that it had.
@@ -209,7 +212,7 @@ impl Access {
         requires round { IsCalled self.old inside.before (round.Cache (Ok inside.guarded.state.value.sequencer.cache)) inside.guarded.state.value }
         ensures left { Left (round.Cache (Ok inside.guarded.state.value.sequencer.cache)) inside.guarded.state.value self.old self.new }
     {
-        self.leave_as::<Brand, _>(rt, inside, None, &());
+        self.leave_as::<Brand, _>(rt, inside, None, None, &());
     }
 
     // Leaves with the round that the proof picks, where it can by what the call is shown.
@@ -219,12 +222,13 @@ impl Access {
         rt: &impl Wait,
         inside: Inside,
         ended: Option<u64>,
+        taken: Option<u64>,
         _shown: &P,
     )
-        requires round { IsCalledAs self.old inside.before M.entry ended inside.guarded.state.value }
+        requires round { IsCalledAs self.old inside.before M.entry ended taken inside.guarded.state.value }
         ensures left { LeftAs M.entry inside.guarded.state.value self.old self.new }
     {
-        let guarded = helped(&mut self.wakes, inside, ended);
+        let guarded = helped(&mut self.wakes, inside, ended, taken);
         // Most calls wake nobody, and load nothing for that after the lock was given back.
         let is_idle = self.wakes.is_empty();
         self.lock.put_as::<M>(rt, guarded);
@@ -251,15 +255,21 @@ fn looked<M: Stands>(
 
 // Takes those whom a round has helped, or ended, out from under the lock.
 #[inline(always)]
-fn helped(wakes: &mut Wakes, inside: Inside, ended: Option<u64>) -> Guarded<Box<Shared>>
-    requires { NobodySleeps wakes.old.subscriptions }
+fn helped(
+    wakes: &mut Wakes,
+    inside: Inside,
+    ended: Option<u64>,
+    taken: Option<u64>,
+) -> Guarded<Box<Shared>>
+    requires nobody { NobodySleeps wakes.old.subscriptions }
+    requires out { AreOutBut taken inside.guarded.state.value }
     ensures { Helps inside.before ended inside.guarded.state.value result.state.value }
 {
     let Inside {
         mut guarded,
         before,
     } = inside;
-    guarded.state.help(before, ended, wakes);
+    guarded.state.help(before, ended, taken, wakes);
     guarded
 }
 
@@ -269,6 +279,19 @@ fn ended_by(round: &Round) -> Option<u64>
 {
     match round {
         Round::Cancel(number) => Some(*number),
+        _ => None,
+    }
+}
+
+// The ticket that a round takes back.
+fn taken_by(round: &Round) -> Option<u64>
+    ensures { result ≡ the_taken_by round.now }
+{
+    match round {
+        Round::Poll(ticket, Emit::Done(_)) => Some(ticket.0),
+        Round::StrayPoll(ticket, _, _, _) => Some(ticket.0),
+        Round::Withdraw(ticket, _) => Some(ticket.0),
+        Round::StrayWithdraw(ticket, _, _, _) => Some(ticket.0),
         _ => None,
     }
 }

@@ -7,7 +7,8 @@ ghost use Rattle.shared_rounds.specs.Rounds.{Does, Comes, MakesAfterScan, Raised
 ghost use Rattle.shared_rounds.specs.Rounds.{HasReceipt, IsLastAccepted, IsReceiptFor, IsReceiptOfOne, numbers_tried, poll_round, withdraw_round};
 ghost use Rattle.shared_rounds.specs.Rounds.{number_done as the_number_done, number_left as the_number_left};
 ghost use Rattle.shared_rounds.specs.Sleeping.{NobodySleeps, OnlyThese, LiesDown};
-ghost use Rattle.shared_rounds.specs.Waking.{Helps, IsTied, WakesEmissions, SleepOn};
+ghost use Rattle.shared_lane.specs.Ordering.{IsOut};
+ghost use Rattle.shared_rounds.specs.Waking.{AreOutBut, Helps, IsTied, WakesEmissions, SleepOn};
 ghost use Rattle.flow_terms.specs.declared.refusal.Refusal.TheVariants.{Spent, EmitsFull};
 ghost use Rattle.futures.specs.Task.{IsArmed, Keeps};
 ghost use Rattle.shared_lane.specs.Places.{IsAccepted};
@@ -113,15 +114,22 @@ impl Shared {
 
     /// Wakes those whom a call helped: the subscriptions that sleep, where something was accepted since the number `before` was the
     /// next one, or else the one that it ended, and the emissions that have to wait no more. The flag is up where one may have to wait
-    /// on.
+    /// on. Who sleeps has a ticket that is out, but for one at most, which the call took back.
     #[inline(always)]
-    pub(crate) fn help(&mut self, before: u64, ended: Option<u64>, wakes: &mut Wakes)
-        requires { NobodySleeps wakes.old.subscriptions }
+    pub(crate) fn help(
+        &mut self,
+        before: u64,
+        ended: Option<u64>,
+        taken: Option<u64>,
+        wakes: &mut Wakes,
+    )
+        requires nobody { NobodySleeps wakes.old.subscriptions }
+        requires out { AreOutBut taken self.old }
         ensures { Helps before ended self.old self.new }
     {
         self.wake_subscriptions(before, ended, wakes);
         self.tie_flag();
-        self.wake_emissions(wakes);
+        self.wake_emissions(taken, wakes);
     }
 
     // Wakes the subscriptions that sleep, where something was accepted since the number `before` was the next one, or else the one
@@ -163,9 +171,11 @@ impl Shared {
         self.track.set_unfinished(&mut self.keeper, has);
     }
 
-    // Wakes the emissions that sleep and have to wait no more.
+    // Wakes the emissions that sleep and have to wait no more: those whose tickets are out still have to wait from one ticket on, and
+    // but for the ticket that a round took back all are.
     #[inline(always)]
-    fn wake_emissions(&mut self, wakes: &mut Wakes)
+    fn wake_emissions(&mut self, taken: Option<u64>, wakes: &mut Wakes)
+        requires { AreOutBut taken self.old }
         ensures same { (self.new.name ≡ self.old.name) × IsSameSequencer self.old.sequencer self.new.sequencer }
         ensures only { OnlyLoaded self.old.sequencer self.new.sequencer }
         ensures flag { (self.new.flag ≡ self.old.flag) × (self.new.raised ≡ self.old.raised) }
@@ -176,7 +186,24 @@ impl Shared {
             return;
         }
         let below = self.sequencer.finished_below(self.track.lane());
-        self.emissions.wake_done(&self.sequencer, below, wakes);
+        let first = self.sequencer.first_unfinished(below);
+        let gone = self.gone(taken);
+        self.emissions.wake_done(first, gone, wakes);
+    }
+
+    // The ticket that a round took back, where it is out no more.
+    #[tactic(auto, using(crate::proofs::Staying::out_for))]
+    fn gone(&self, taken: Option<u64>) -> Option<u64>
+        ensures gone { IfSome result (λ ticket. IsNotOut self.now.sequencer ticket) }
+        ensures out { (ticket : ℕ) → taken ≡ Some ticket → result ≢ Some ticket → IsOut self.now.sequencer ticket }
+    {
+        let Some(ticket) = taken else {
+            return None;
+        };
+        match self.sequencer.emitter_of(Ticket(ticket)) {
+            None => Some(ticket),
+            Some(_) => None,
+        }
     }
 }
 

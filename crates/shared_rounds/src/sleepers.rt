@@ -2,12 +2,10 @@
 ghost use Rattle.std.specs.Prelude.{◌≡◌, ◌≢◌, ◌≤◌, ◌<◌, ◌↔◌, true, false, None, IfOk, ◌+◌, ◌++◌, [], ◌∷◌, Some, length, vec_capacity};
 ghost use Rattle.slab.specs.Slab.{slab_len};
 ghost use Rattle.futures.specs.Task.{IsArmed, Keeps};
-ghost use Rattle.shared_rounds.specs.Sleeping.{SleepsAt, NobodySleeps, OnlyThese, LiesDown};
-ghost use Rattle.shared_rounds.specs.Waking.{HasToWait};
+ghost use Rattle.shared_rounds.specs.Sleeping.{SleepsAt, NobodySleeps, OnlyThese, LiesDown, SleepsOn};
 
 use futures::task::{Context, Poll, Source, Waker};
 use shared_core::{Config, Ticket};
-use shared_lane::Sequencer;
 use slab::Slab;
 use std::alloc::{AllocError, Global};
 use std::mem;
@@ -133,31 +131,45 @@ impl Sleepers {
     }
 
     // Not inlined, as above.
-    /// Wakes those whose emission doesn't have to wait, where each one below a number is finished.
+    /// Wakes those before the first ticket of an emission that has to wait, or all where none has to, and the one whose ticket is
+    /// gone.
     #[inline(never)]
-    pub fn wake_done(&mut self, sequencer: &Sequencer<Global>, below: u64, wakes: &mut Wakes)
-        ensures done { OnlyThese (HasToWait sequencer.now below) self.old.sleeping self.new.sleeping }
+    pub fn wake_done(&mut self, first: Option<Ticket>, gone: Option<u64>, wakes: &mut Wakes)
+        ensures done { OnlyThese (SleepsOn first gone) self.old.sleeping self.new.sleeping }
         ensures room { self.new.sleeping.capacity ≡ self.old.sleeping.capacity }
     {
         self.sleeping.retain(|_, sleeper| {
-            let has_to_wait = has_to_wait(sequencer, Ticket(sleeper.number), below);
-            if !has_to_wait {
+            let sleeps_on = sleeps_on(sleeper.number, first, gone);
+            if !sleeps_on {
                 wakes.add(sleeper.waker.take());
             }
-            has_to_wait
+            sleeps_on
         });
     }
 }
 
-// Whether the emission with this ticket has to wait: the ticket is out, and doesn't stand below the number.
-fn has_to_wait(sequencer: &Sequencer<Global>, ticket: Ticket, below: u64) -> bool
-    ensures waits { result ≡ true → HasToWait sequencer.now below ticket.0 }
-    ensures done { result ≡ false → HasToWait sequencer.now below ticket.0 → ⊥ }
+// Whether the emission with this ticket sleeps on: it isn't before the first that has to wait, nor is it gone.
+fn sleeps_on(ticket: u64, first: Option<Ticket>, gone: Option<u64>) -> bool
+    ensures stays { result ≡ true → SleepsOn first gone ticket }
+    ensures goes { result ≡ false → SleepsOn first gone ticket → ⊥ }
 {
-    if sequencer.is_below(ticket, below) {
+    if is_gone(ticket, gone) {
         return false;
     }
-    sequencer.emitter_of(ticket).is_some()
+    match first {
+        None => false,
+        Some(first) => first.0 <= ticket,
+    }
+}
+
+fn is_gone(ticket: u64, gone: Option<u64>) -> bool
+    ensures is { result ≡ true → gone ≡ Some ticket }
+    ensures other { result ≡ false → gone ≢ Some ticket }
+{
+    match gone {
+        None => false,
+        Some(gone) => gone == ticket,
+    }
 }
 
 /// The subscriptions, as they slept, and the wakers of others that a call wakes, kept until the lock is given back: a task that is

@@ -5,6 +5,8 @@ use Rattle.shared_rounds.specs.Entering.{Found}
 use Rattle.shared_rounds.specs.Names.{KnowsFlow}
 use Rattle.shared_rounds.specs.Reach.{Reach, name_in, party_of, reach_of}
 use Rattle.shared_rounds.specs.Rounds.{Below}
+use Rattle.shared_rounds.specs.Waking.{AreOutWhereHeld}
+use Rattle.shared_rounds.proofs.Staying.{left_out}
 use Rattle.shared_rounds.proofs.Boxes.{found_by}
 use Rattle.shared_rounds.proofs.Numbers.{same_name, rounds_below}
 use Rattle.shared_rounds.proofs.access.Access.enter.Goals as goal
@@ -17,7 +19,12 @@ returns-clause-taken g c =
 pub invariant_of-self : goal.invariant_of-self
 invariant_of-self g c =
     let taken = ap (reach_of (λ s. s.value)) c.take-guarded.ensures.taken in
-    (subst (λ known. KnowsFlow c.self.inside.config known (arc_value c.self.inside.track)) (sym (ap (λ (r : Reach). r.flow) taken)) c.self.invariant.0, c.self.invariant.1, c.self.invariant.2)
+    let saw = c.take-guarded.ensures.saw in (
+      subst (λ known. KnowsFlow c.self.inside.config known (arc_value c.self.inside.track)) (sym (ap (λ (r : Reach). r.flow) taken)) c.self.invariant.0,
+      c.self.invariant.1,
+      c.self.invariant.2,
+      subst (λ (r : Reach). AreOutWhereHeld r.held) (sym taken) (left_out (λ s. s.value) saw.made c.take-guarded.new.self.log.seen c.take-guarded.result.state saw.after),
+    )
 
 pub returns-clause-found : goal.returns-clause-found
 returns-clause-found g c =

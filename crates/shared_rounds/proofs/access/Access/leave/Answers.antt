@@ -5,4 +5,4 @@ pub returns : goal.returns
 returns g c = record { left = c.leave_as.ensures.left c.args.round refl }
 
 pub leave_as-requires : goal.leave_as-requires
-leave_as-requires g c = record { round = (c.args.round, refl, c.ended_by.ensures, c.requires.round) }
+leave_as-requires g c = record { round = (c.args.round, refl, c.ended_by-ended.ensures, c.taken_by-taken.ensures, c.requires.round) }

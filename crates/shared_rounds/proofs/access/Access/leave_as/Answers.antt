@@ -1,9 +1,12 @@
 use Rattle.std.proofs.Common.{◌≡◌, sym, ap, subst, ◌∙◌}
 use Rattle.round_lock.specs.History.{called, turn_of}
 use Rattle.shared_rounds.specs.Entering.{left_with}
-use Rattle.shared_rounds.specs.Names.{SharedSeen}
+use Rattle.std.specs.Arc.{arc_value}
+use Rattle.shared_rounds.specs.Names.{SharedSeen, KnowsFlow}
+use Rattle.shared_rounds.specs.Waking.{AreOutWhereHeld}
 use Rattle.shared_rounds.specs.Reach.{Reach}
 use Rattle.shared_rounds.specs.Rounds.{Does}
+use Rattle.shared_rounds.proofs.Staying.{asleep_out}
 use Rattle.shared_rounds.proofs.Boxes.{gave_back}
 use Rattle.shared_rounds.proofs.Doing.{as_picked, does_on, helped_by}
 use Rattle.shared_rounds.proofs.Reaching.{seen_is}
@@ -12,7 +15,7 @@ use Rattle.shared_rounds.proofs.access.Access.leave_as.Goals as goal
 pub returns : goal.returns
 returns g c =
     let asked = c.requires.round in
-    let call = asked.3 in
+    let call = asked.4 in
     let came : SharedSeen = c.args.inside.guarded.state.value in
     let helped : SharedSeen = c.helped-guarded.result.state.value in
     let helps = helped_by c.args.inside.before call.0 came helped asked.0 c.args.ended call.4 asked.2 c.helped-guarded.ensures in
@@ -31,7 +34,7 @@ returns g c =
 pub put_as-requires : goal.put_as-requires
 put_as-requires g c =
     let asked = c.requires.round in
-    let call = asked.3 in
+    let call = asked.4 in
     let came : SharedSeen = c.args.inside.guarded.state.value in
     let helped : SharedSeen = c.helped-guarded.result.state.value in
     let helps = helped_by c.args.inside.before call.0 came helped asked.0 c.args.ended call.4 asked.2 c.helped-guarded.ensures in
@@ -46,3 +49,22 @@ put_as-requires g c =
             (does_on call.0 came helped asked.0 call.2 call.3 helps),
       );
     }
+
+pub helped-guarded-requires-clause-out : goal.helped-guarded-requires-clause-out
+helped-guarded-requires-clause-out g c =
+    let asked = c.requires.round in
+    let call = asked.4 in
+    let came : SharedSeen = c.args.inside.guarded.state.value in
+    let out = subst AreOutWhereHeld (ap (λ (r : Reach). r.held) c.self.view_is ∙ call.1) c.self.invariant.3 in
+    asleep_out call.0 came asked.0 c.args.taken asked.3 out call.2 call.3
+
+pub invariant_of-self : goal.invariant_of-self
+invariant_of-self g c =
+    let asked = c.requires.round in
+    let given = subst (λ e. c.put_as.new.self ≡ record c.self.inside.lock { log = called c.self.inside.lock.log (turn_of c.self.inside.lock.pass e c.helped-guarded.result.state) }) asked.1 c.put_as.ensures.given in
+    let back = gave_back (λ s. s.value) c.self.inside.lock c.put_as.new.self asked.0 _ given in (
+      subst (λ (r : Reach). KnowsFlow c.self.inside.config r.flow (arc_value c.self.inside.track)) (sym back) c.self.invariant.0,
+      c.fire_unless.ensures.none.0,
+      c.fire_unless.ensures.none.1,
+      subst (λ (r : Reach). AreOutWhereHeld r.held) (sym back) tt,
+    )

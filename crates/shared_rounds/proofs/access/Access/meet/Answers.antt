@@ -3,6 +3,7 @@ use Rattle.std.specs.Arc.{arc_value}
 use Rattle.round_lock.specs.History.{own_of}
 use Rattle.shared_rounds.specs.Names.{KnowsFlow}
 use Rattle.shared_rounds.specs.Reach.{Reach, Rounds, reach_of, rounds_in, seen_in}
+use Rattle.shared_rounds.specs.Waking.{AreOutWhereHeld}
 use Rattle.shared_rounds.proofs.Boxes.{same_own}
 use Rattle.shared_rounds.proofs.access.Access.meet.Goals as goal
 
@@ -31,5 +32,9 @@ meet-requires c = record {
 
 pub invariant_of-other : goal.invariant_of-other
 invariant_of-other c =
-    let met = ap (reach_of (λ s. s.value)) c.meet.ensures.met in
-    (subst (λ known. KnowsFlow c.other.inside.config known (arc_value c.other.inside.track)) (sym (ap (λ (r : Reach). r.flow) met)) c.other.invariant.0, c.other.invariant.1, c.other.invariant.2)
+    let met = ap (reach_of (λ s. s.value)) c.meet.ensures.met in (
+      subst (λ known. KnowsFlow c.other.inside.config known (arc_value c.other.inside.track)) (sym (ap (λ (r : Reach). r.flow) met)) c.other.invariant.0,
+      c.other.invariant.1,
+      c.other.invariant.2,
+      subst AreOutWhereHeld (sym (ap (λ (r : Reach). r.held) met)) c.other.invariant.3,
+    )

@@ -1,8 +1,17 @@
 use Rattle.std.proofs.Common.{◌≢◌, Some, ap, sym, subst, ◌∙◌}
 use Rattle.shared_rounds.specs.Names.{SharedSeen}
 use Rattle.shared_rounds.specs.Sleeping.{NobodySleeps, OnlyThese}
+use Rattle.shared_rounds.proofs.Staying.{still_out}
 use Rattle.shared_rounds.proofs.Doing.{helped_on, still_tied}
 use Rattle.shared_rounds.proofs.shared.Shared.help.Goals as goal
+
+pub wake_emissions-requires : goal.wake_emissions-requires
+wake_emissions-requires c =
+    let old : SharedSeen = c.args.self.now in
+    let tied : SharedSeen = c.tie_flag.new.self in
+    let subs = ap (λ (s : SharedSeen). s.subscriptions) c.tie_flag.ensures.same in
+    let same = c.tie_flag.ensures.same ∙ ap (λ (s : SharedSeen). record s { flag = tied.flag }) c.wake_subscriptions.ensures.same ∙ ap (λ l. record old { subscriptions = l; flag = tied.flag }) (sym subs) in
+    still_out c.args.taken old tied (ap (λ (s : SharedSeen). s.emissions) same) (ap (λ (s : SharedSeen). s.sequencer) same) c.requires.out
 
 pub returns : goal.returns
 returns c =
