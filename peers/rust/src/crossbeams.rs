@@ -20,6 +20,15 @@ fn open(capacity: usize, readers: usize) -> (Senders, Vec<Receiver<u64>>) {
     (Senders { all, next: 0 }, receivers)
 }
 
+impl Senders {
+    /// Gives the value to each, and waits for room.
+    pub fn send(&self, value: u64) {
+        for sender in &self.all {
+            sender.send(value).unwrap();
+        }
+    }
+}
+
 impl Polled for Channels {
     type Emitter = Senders;
     type Reader = Receiver<u64>;
@@ -58,9 +67,7 @@ impl Blocked for Channels {
 
     fn emit_all(senders: Senders, count: u64) {
         for value in 0..count {
-            for sender in &senders.all {
-                sender.send(value).unwrap();
-            }
+            senders.send(value);
         }
     }
 

@@ -32,7 +32,7 @@ struct FanOut {
 }
 
 pub fn measure() {
-    for readers in [1, 2, 4] {
+    for readers in [1, 2, 4, 16, 32] {
         let fan_out = FanOut {
             scenario: format!("fan-out-n{readers}"),
             readers,

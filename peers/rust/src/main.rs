@@ -1,8 +1,11 @@
 //! `peers SCENARIO..` measures Rust's peers in these scenarios.
 
+mod asleep;
 mod async_broadcasts;
 mod blocked;
 mod blocks;
+mod busy;
+mod churn;
 mod cold;
 mod crossbeams;
 mod fan_out;
@@ -17,6 +20,7 @@ mod mutex_queue;
 mod orders;
 mod padded;
 mod pause;
+mod ping_pong;
 mod pipes;
 mod polled;
 mod race;
@@ -25,9 +29,11 @@ mod ring;
 mod split;
 mod state;
 mod states;
+mod talks;
 mod tokio_broadcast;
+mod wake;
 
-const SCENARIOS: [(&str, fn()); 9] = [
+const SCENARIOS: [(&str, fn()); 13] = [
     ("receipts", receipts::measure),
     ("receipts-by16", receipts::measure_by_block),
     ("fan-out", fan_out::measure),
@@ -36,6 +42,10 @@ const SCENARIOS: [(&str, fn()); 9] = [
     ("state", state::measure),
     ("split", split::measure),
     ("cold", cold::measure),
+    ("ping-pong", ping_pong::measure),
+    ("wake", wake::measure),
+    ("asleep", asleep::measure),
+    ("churn", churn::measure),
     ("machine", machine::measure),
 ];
 
