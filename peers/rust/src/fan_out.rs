@@ -5,7 +5,7 @@ use crate::crossbeams::Channels;
 use crate::figures::{rate, sum_below, Figure};
 #[cfg(feature = "hillgauze")]
 use crate::hillgauze_rust::{RustLane, RustLaneBy};
-use crate::lane_model::Lane;
+use crate::lane_model::{Lane, LookingLane};
 use crate::mutex_queue::MutexQueue;
 use crate::orders::{Strong, Weak};
 use crate::race::{race, Job};
@@ -47,6 +47,7 @@ pub fn measure() {
         #[cfg(feature = "hillgauze")]
         fan_out.by_waits::<RustLane>();
         fan_out.by_polls::<Lane>();
+        fan_out.by_polls::<LookingLane>();
         fan_out.by_polls::<Ring<Strong>>();
         fan_out.by_polls::<Ring<Weak>>();
     }

@@ -4,6 +4,9 @@
 //!
 //! By the block: a look at the cursors, a store of each cell and one of the tail, and a compare_exchange for all that a
 //! reader found.
+//!
+//! `lane-model-look` makes a lane's other steps too: a look at the cursors at each emission, and a load of the reader's
+//! own cursor at each receipt.
 
 use crate::blocks::Blocks;
 use crate::padded::Padded;
@@ -154,6 +157,36 @@ impl Polled for Lane {
 
     #[inline]
     fn try_next(reader: &mut Reader) -> Option<u64> {
+        reader.try_next()
+    }
+}
+
+/// The same with a look at each emission, and at the reader's own cursor at each receipt.
+pub struct LookingLane;
+
+impl Polled for LookingLane {
+    type Emitter = Sequencer;
+    type Reader = Reader;
+
+    const NAME: &'static str = "lane-model-look";
+
+    fn open(capacity: usize, readers: usize) -> (Sequencer, Vec<Reader>) {
+        open(capacity, readers)
+    }
+
+    #[inline]
+    fn try_emit(sequencer: &mut Sequencer, value: u64) -> bool {
+        sequencer.look();
+        if sequencer.seems_full() {
+            return false;
+        }
+        sequencer.accept(value);
+        true
+    }
+
+    #[inline]
+    fn try_next(reader: &mut Reader) -> Option<u64> {
+        reader.cursor = reader.words.cursors[reader.which].0.load(SeqCst);
         reader.try_next()
     }
 }
