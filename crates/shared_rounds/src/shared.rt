@@ -113,8 +113,8 @@ impl Shared {
     }
 
     /// Wakes those whom a call helped: the subscriptions that sleep, where something was accepted since the number `before` was the
-    /// next one, or else the one that it ended, and the emissions that have to wait no more. The flag is up where one may have to wait
-    /// on. Who sleeps has a ticket that is out, but for one at most, which the call took back.
+    /// next one, or else the one that it ended, and the emissions that have to wait no more; it took back one ticket at most. The
+    /// flag is up where one may have to wait on.
     #[inline(always)]
     pub(crate) fn help(
         &mut self,

@@ -15,7 +15,8 @@ use flow_terms::Refusal;
 use std::alloc::Allocator;
 
 impl<A: Allocator> Sequencer<A> {
-    /// How many readers there are: the open cursors, as this call loads all that may be open. Kotlin's `subscriptionCount`, as a plain number.
+    /// How many readers there are: the open cursors, as this call loads all that may be open. Kotlin's `subscriptionCount`, as a
+    /// plain number.
     pub fn live<B: Allocator>(&mut self, lane: &Lane<B>) -> u32
         requires { IsSequencerOf lane.now self.old }
         ensures only { OnlyLoaded self.old self.new }
