@@ -1,13 +1,14 @@
 //! A picture in characters, in strips of at most 120 columns.
 //!
-//! Each row has a track: the marks that no strip has come to yet, and its line there. A strip takes up the rows whose line
-//! goes on, and those whose next mark it has. A row without a line whose next mark stands beyond the next strip waits in a
-//! heap by the strip of that mark. So each mark is written once.
+//! Each row has a track: the marks that no strip has come to yet, and its line there. A strip takes up the rows whose next
+//! mark it has, and says how many others there are whose line goes on. A row whose next mark stands beyond the next strip
+//! waits in a heap by the strip of that mark. So each mark is written once, and there are at most as many lines of rows as
+//! there are marks.
 
 ghost use Rattle.std.specs.Prelude.{◌≤◌, length};
 ghost use Rattle.std.specs.List.Sorted.{IsPermutation};
 
-use crate::caption::{Part, push_words, sign};
+use crate::caption::{Part, push_numbered, push_words, sign};
 use crate::line::Line;
 use crate::widths::Widths;
 use marble_marks::Mark;
@@ -32,7 +33,7 @@ const DASHED_LINE: &str = "~~~~~~~~~~~~~~~~~~~~~~~~~~~~~~~~";
 struct Pen {
     text: String,
     line: Line,
-    /// Whether there is something to be seen in this strip.
+    /// Whether it has a mark in this strip.
     is_seen: bool,
 }
 
@@ -60,10 +61,12 @@ struct Strip {
 /// Rows that have more in them, each by its track's index, in the order of rows.
 #[derive(Drop)]
 struct Queue {
-    /// Those that the next strip has: with a line there, or their next mark.
+    /// Those whose next mark the next strip has.
     next: VecDeque<usize>,
     /// The others, after the index of the strip that has their next mark.
     later: BinaryHeap<Reverse<(usize, usize)>>,
+    /// How many rows have a line here, those without a further mark among them.
+    lasting: usize,
 }
 
 /// Adds so many characters of a line, `PIECE` of which are given.
@@ -92,7 +95,6 @@ impl Pen {
             Line::Solid => SOLID_LINE,
             Line::Dashed => DASHED_LINE,
         };
-        self.is_seen = self.is_seen || self.line.is_there();
         push_line(&mut self.text, piece, missing)
     }
 
@@ -152,7 +154,7 @@ impl Pen {
         Ok(left)
     }
 
-    /// Adds a row to a strip of the picture, if there is something of it.
+    /// Adds a row to a strip of the picture, if it has a mark there.
     fn row<'m, 'a>(
         &mut self,
         strip: Strip,
@@ -226,11 +228,13 @@ impl Queue {
         index: usize,
         track: &Track<'_, '_>,
     ) -> Result<(), AllocError> {
-        let found = match track.left.first() {
-            _ if track.line.is_there() => strip,
-            Some(mark) => mark.column.saturating_sub(1) / columns.max(1),
-            None => return Ok(()),
+        if track.line.is_there() {
+            self.lasting = self.lasting.saturating_add(1);
+        }
+        let Some(mark) = track.left.first() else {
+            return Ok(());
         };
+        let found = mark.column.saturating_sub(1) / columns.max(1);
         if found <= strip {
             self.next.push_back(index)?;
         } else {
@@ -244,6 +248,7 @@ impl Queue {
         let mut queue = Queue {
             next: VecDeque::new(alloc),
             later: BinaryHeap::new(alloc),
+            lasting: 0,
         };
         for (index, track) in tracks.iter().enumerate() {
             queue.put(columns, 0, index, track)?;
@@ -316,30 +321,66 @@ impl<'m, 'a> Rows<'m, 'a> {
         })
     }
 
-    /// Adds the strip with this index to the picture.
+    /// Adds a row to the strip with this index. Gives whether a line that goes on from before is seen by it.
+    fn push_row(
+        &mut self,
+        picture: &mut String,
+        (number, strip): (usize, Strip),
+        index: usize,
+    ) -> Result<bool, AllocError> {
+        let Some(track) = self.tracks.get_mut(index) else {
+            return Ok(false);
+        };
+        let goes_on = track.line.is_there();
+        *track = self.pen.row(strip, picture, *track)?;
+        if goes_on {
+            self.queue.lasting = self.queue.lasting.saturating_sub(1);
+        }
+        self.queue
+            .put(self.columns, number.saturating_add(1), index, track)?;
+        Ok(goes_on && self.pen.is_seen)
+    }
+
+    /// Adds the rows of the strip with this index. Gives how many others have a line there.
+    fn push_rows(
+        &mut self,
+        picture: &mut String,
+        number: usize,
+        strip: Strip,
+    ) -> Result<usize, AllocError> {
+        let mut left = self.queue.next.len();
+        let mut left_out = self.queue.lasting;
+        for _ in 0..self.tracks.len() {
+            let Some(index) = self.queue.take(number, &mut left) else {
+                return Ok(left_out);
+            };
+            if self.push_row(picture, (number, strip), index)? {
+                left_out = left_out.saturating_sub(1);
+            }
+        }
+        Ok(left_out)
+    }
+
+    /// Adds the strip with this index to the picture, and says how many rows that go on are left out of it, if any.
     fn push_strip(
         &mut self,
         picture: &mut String,
         number: usize,
         strip: Strip,
     ) -> Result<(), AllocError> {
-        let mut left = self.queue.next.len();
-        for _ in 0..self.tracks.len() {
-            let Some(index) = self.queue.take(number, &mut left) else {
-                return Ok(());
-            };
-            let Some(track) = self.tracks.get_mut(index) else {
-                return Ok(());
-            };
-            *track = self.pen.row(strip, picture, *track)?;
-            self.queue
-                .put(self.columns, number.saturating_add(1), index, track)?;
+        let left_out = self.push_rows(picture, number, strip)?;
+        if left_out > 0 {
+            push_numbered(picture, "(rows that only go on, left out: ", left_out)?;
+            picture.push_str(")\n")?;
         }
         Ok(())
     }
 }
 
 /// The picture of these marks in characters, at most 120 in a line, and then broken into strips.
+///
+/// A row stands in each strip in which it has a mark, so where it begins and ends, too. Behind the rows of a strip it is
+/// said of how many others the line goes on there: they are left out, so that a picture grows with its marks.
 pub fn text_picture(alloc: Global, marks: &mut Vec<Mark<'_>>) -> Result<String, AllocError>
     ensures kept { IsPermutation marks.old.items marks.new.items }
 {

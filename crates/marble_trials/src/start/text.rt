@@ -14,8 +14,10 @@ struct Pen {
     text: String,
     row: usize,
     line: Line,
-    /// Whether there is something to be seen in this strip.
+    /// Whether the row has a mark in this strip.
     is_seen: bool,
+    /// How many rows of this strip have a line there, and no mark.
+    left_out: usize,
 }
 
 /// Which columns a strip has, and how wide they are.
@@ -49,7 +51,6 @@ impl Pen {
             Line::Solid => '-',
             Line::Dashed => '~',
         };
-        self.is_seen = self.is_seen || self.line.is_there();
         repeat(&mut self.text, letter, missing)
     }
 
@@ -61,6 +62,8 @@ impl Pen {
         if self.is_seen {
             picture.push_str(self.text.as_str().trim_end())?;
             picture.push('\n')?;
+        } else if self.line.is_there() {
+            self.left_out = self.left_out.saturating_add(1);
         }
         self.text.clear();
         self.row = row;
@@ -102,6 +105,7 @@ fn push_strip(
         row: 0,
         line: Line::None,
         is_seen: false,
+        left_out: 0,
     };
     for mark in marks {
         if mark.row != pen.row {
@@ -109,7 +113,14 @@ fn push_strip(
         }
         pen.mark(alloc, strip, mark)?;
     }
-    pen.end(strip, picture, 0)
+    pen.end(strip, picture, 0)?;
+    if pen.left_out > 0 {
+        let left_out = pen.left_out;
+        picture.push_str(format!(in alloc;
+            "(rows that only go on, left out: {left_out})\n"
+        )?.as_str())?;
+    }
+    Ok(())
 }
 
 /// The picture of these marks in characters, at most 120 in a line, and then broken into strips.
