@@ -1,4 +1,4 @@
-//! A fan-out between threads, where no value is lost: one emits, and one, two or four others take every value.
+//! A fan-out between threads, where no value is lost: one emits, and one to 32 others take every value.
 
 use crate::config::config_of;
 use crate::elapsed::{nanoseconds_since, now};
@@ -17,10 +17,12 @@ use std::sync::Wait;
 use std::thread::{Threads, for_each_mut, join_mut};
 
 /// Each scenario, with its number of readers.
-const SCENARIOS: [(&'static str, u32); 3] = [
+const SCENARIOS: [(&'static str, u32); 5] = [
     ("fan-out-n1", 1),
     ("fan-out-n2", 2),
     ("fan-out-n4", 4),
+    ("fan-out-n16", 16),
+    ("fan-out-n32", 32),
 ];
 
 /// How many values a block has.
@@ -85,10 +87,10 @@ impl Engine {
     }
 
     /// Each scenario, with its number of readers.
-    fn scenarios(self) -> [(&'static str, u32); 3] {
+    fn scenarios(self) -> &'static [(&'static str, u32)] {
         match self {
-            Engine::Lane | Engine::Shared => SCENARIOS,
-            Engine::LaneByBlock | Engine::SharedByBlock => BY_BLOCK,
+            Engine::Lane | Engine::Shared => SCENARIOS.as_slice(),
+            Engine::LaneByBlock | Engine::SharedByBlock => BY_BLOCK.as_slice(),
         }
     }
 
@@ -124,13 +126,13 @@ where
     measure_by(rt, Engine::SharedByBlock, size)
 }
 
-/// Makes it with 1, 2 and 4 readers.
+/// Makes it with each number of readers.
 fn measure_by<R>(rt: &R, engine: Engine, size: Size) -> Result<(), Fault>
 where
     R: Clock + Print + AllocGlobal + RandomSource + Threads + Wait + Sync,
 {
     let values = size.of(engine.values());
-    for (scenario, readers) in engine.scenarios() {
+    for (scenario, readers) in engine.scenarios().iter().copied() {
         let config = config_of(readers, 1024, Policy::Suspend);
         let fanned_out = engine.fanned_out(rt, config, values)?;
         let figure = Figure {
