@@ -1,10 +1,14 @@
-//! Calls at the edges of what other workloads make: slow subscriptions among many, gaps, one place, none, nobody.
+//! Calls at the edges of what other workloads make: slow subscriptions among many, gaps, one place, none, nobody, emissions that
+//! sleep, subscriptions that come and go.
 
 use crate::edge_calls::attempt_all;
 use crate::fault::Fault;
+use crate::for_threads::Company;
 use crate::{laggards, lookups, narrow, rows};
 use shared_core::{Config, Policy, SharedState};
-use std::alloc::Global;
+use std::alloc::{AllocGlobal, Global};
+use std::random::RandomSource;
+use std::sync::Wait;
 use workload_inputs::{Digest, Scale};
 
 /// What is called once on a flow.
@@ -42,6 +46,8 @@ enum Work {
     NewFlows(Config, Once),
     /// It makes these on one flow.
     OneFlow(Config, Often),
+    /// It makes these on one flow for threads, from one thread.
+    ForThreads(Config, Company),
     /// It draws a picture, with a row for each.
     TextRows,
 }
@@ -72,7 +78,7 @@ const LARGEST: Config = Config {
 };
 
 /// Each case.
-const EDGES: [Edge; 15] = [
+const EDGES: [Edge; 22] = [
     Edge {
         name: "laggard_1024",
         work: Work::NewFlows(LARGEST, Once::Laggard),
@@ -208,6 +214,84 @@ const EDGES: [Edge; 15] = [
         rounds: 20_000_000,
     },
     Edge {
+        name: "asleep_10",
+        work: Work::ForThreads(
+            Config {
+                emits: 1024,
+                ..ONE_PLACE
+            },
+            Company::Emitters(10),
+        ),
+        rounds: 1_000_000,
+    },
+    Edge {
+        name: "asleep_100",
+        work: Work::ForThreads(
+            Config {
+                emits: 1024,
+                ..ONE_PLACE
+            },
+            Company::Emitters(100),
+        ),
+        rounds: 20_000,
+    },
+    Edge {
+        name: "asleep_1000",
+        work: Work::ForThreads(
+            Config {
+                emits: 1024,
+                ..ONE_PLACE
+            },
+            Company::Emitters(1000),
+        ),
+        rounds: 500,
+    },
+    Edge {
+        name: "lone_reader",
+        work: Work::ForThreads(
+            Config {
+                extra: 64,
+                subscribers: 1024,
+                ..ONE_PLACE
+            },
+            Company::Emitters(1),
+        ),
+        rounds: 1_000_000,
+    },
+    Edge {
+        name: "churn_1",
+        work: Work::ForThreads(
+            Config {
+                subscribers: 1024,
+                ..ONE_PLACE
+            },
+            Company::Subscriptions(1),
+        ),
+        rounds: 1_000_000,
+    },
+    Edge {
+        name: "churn_64",
+        work: Work::ForThreads(
+            Config {
+                subscribers: 1024,
+                ..ONE_PLACE
+            },
+            Company::Subscriptions(64),
+        ),
+        rounds: 1_000_000,
+    },
+    Edge {
+        name: "churn_512",
+        work: Work::ForThreads(
+            Config {
+                subscribers: 1024,
+                ..ONE_PLACE
+            },
+            Company::Subscriptions(512),
+        ),
+        rounds: 1_000_000,
+    },
+    Edge {
         name: "text_rows",
         work: Work::TextRows,
         rounds: 400_000,
@@ -304,7 +388,11 @@ impl Edge {
     }
 
     /// Makes its calls, each emission with this value.
-    pub(crate) fn run(self, alloc: Global, value: u64, scale: Scale) -> Result<Digest, Fault> {
+    pub(crate) fn run<R>(self, rt: &R, value: u64, scale: Scale) -> Result<Digest, Fault>
+    where
+        R: AllocGlobal + RandomSource + Wait,
+    {
+        let alloc = rt.alloc();
         let mut digest = Digest::new();
         let rounds = scale.of(self.rounds);
         match self.work {
@@ -314,6 +402,9 @@ impl Edge {
             Work::OneFlow(config, often) => {
                 often.on_flow(alloc, config, (value, rounds), &mut digest)?;
             }
+            Work::ForThreads(config, company) => {
+                company.on_flow(rt, config, (value, rounds), &mut digest)?;
+            }
             Work::TextRows => rows::text_rows(alloc, rounds, &mut digest)?,
         }
         Ok(digest)
@@ -321,10 +412,13 @@ impl Edge {
 }
 
 /// Runs each case.
-pub(crate) fn run(alloc: Global, value: u64, scale: Scale) -> Result<Digest, Fault> {
+pub(crate) fn run<R>(rt: &R, value: u64, scale: Scale) -> Result<Digest, Fault>
+where
+    R: AllocGlobal + RandomSource + Wait,
+{
     let mut digest = Digest::new();
     for edge in EDGES {
-        digest.number(edge.run(alloc, value, scale)?.value());
+        digest.number(edge.run(rt, value, scale)?.value());
     }
     Ok(digest)
 }

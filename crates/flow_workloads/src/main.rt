@@ -1,4 +1,4 @@
-//! Workloads of flows: `flow_workloads [events|threads|chains|edges|CASE SEED]`, where CASE is one of the cases of `edges`.
+//! Workloads of flows: `flow_workloads [events|threads|chains|waits|edges|CASE SEED]`, where CASE is one of the cases of `edges`.
 //!
 //! With a name and a number below 2^32 it makes that workload's own inputs from the number, runs them, and writes a digest of all
 //! results. Without words it does a thousandth of each, for the number 1. The status is 0 where all was run, 1 for a fault, which is
@@ -6,6 +6,7 @@
 #![tactic(auto)]
 
 mod actions;
+mod answering;
 mod chains;
 mod course;
 mod crowd;
@@ -14,6 +15,7 @@ mod edges;
 mod events;
 mod fan_out;
 mod fault;
+mod for_threads;
 mod halves;
 mod laggards;
 mod listeners;
@@ -29,6 +31,7 @@ mod tally;
 mod threads;
 mod tickets;
 mod values;
+mod waits;
 mod workload;
 
 use fault::Fault;

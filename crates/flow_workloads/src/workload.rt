@@ -2,7 +2,7 @@
 
 use crate::edges::Edge;
 use crate::fault::Fault;
-use crate::{chains, edges, events, threads};
+use crate::{chains, edges, events, threads, waits};
 use std::alloc::AllocGlobal;
 use std::random::RandomSource;
 use std::sync::Wait;
@@ -18,6 +18,8 @@ pub(crate) enum Workload {
     Threads,
     /// Cold flows through operators, and shared ones.
     Chains,
+    /// Threads that wait for each other, beside busy ones too.
+    Waits,
     /// Calls that the others don't make: each case.
     Edges,
     /// One case of them.
@@ -33,10 +35,11 @@ pub(crate) struct Order {
 
 impl Workload {
     /// Each of them.
-    pub(crate) const ALL: [Workload; 4] = [
+    pub(crate) const ALL: [Workload; 5] = [
         Workload::Events,
         Workload::Threads,
         Workload::Chains,
+        Workload::Waits,
         Workload::Edges,
     ];
 
@@ -46,6 +49,7 @@ impl Workload {
             Workload::Events => "events",
             Workload::Threads => "threads",
             Workload::Chains => "chains",
+            Workload::Waits => "waits",
             Workload::Edges => "edges",
             Workload::Edge(edge) => edge.name(),
         }
@@ -57,6 +61,7 @@ impl Workload {
             "events" => Some(Workload::Events),
             "threads" => Some(Workload::Threads),
             "chains" => Some(Workload::Chains),
+            "waits" => Some(Workload::Waits),
             "edges" => Some(Workload::Edges),
             _ => Edge::named(name).map(Workload::Edge),
         }
@@ -71,8 +76,9 @@ impl Workload {
             Workload::Events => events::run(rt.alloc(), seed, scale),
             Workload::Threads => threads::run(rt, seed, scale),
             Workload::Chains => chains::run(rt, seed, scale),
-            Workload::Edges => edges::run(rt.alloc(), seed, scale),
-            Workload::Edge(edge) => edge.run(rt.alloc(), seed, scale),
+            Workload::Waits => waits::run(rt, seed, scale),
+            Workload::Edges => edges::run(rt, seed, scale),
+            Workload::Edge(edge) => edge.run(rt, seed, scale),
         }
     }
 }
