@@ -1,5 +1,5 @@
 -- Who sleeps where.
-use Rattle.std.specs.Prelude.{◌≢◌, ◌≡◌, ◌↔◌, ◌⊎◌, ℕ, Option, Some, None}
+use Rattle.std.specs.Prelude.{◌≢◌, ◌≡◌, ◌≤◌, ◌↔◌, ◌⊎◌, ℕ, Option, Some, None}
 use Rattle.slab.specs.Slab.{Slab, get, slab_len}
 use Rattle.flow_terms.specs.declared.ids.Ticket.{Ticket}
 use Rattle.shared_lane.specs.Ordering.{IsBefore}
@@ -17,9 +17,17 @@ SleepsOn first gone ticket = (IsBefore ticket first → ⊥) × (gone ≢ Some t
 abbrev pub NobodySleeps : Slab Sleeper → Type 0
 NobodySleeps sleeping = slab_len sleeping ≡ 0
 
+-- nobody sleeps under a number below this one
+abbrev pub NoneSleepsBelow : ℕ → Slab Sleeper → Type 0
+NoneSleepsBelow number sleeping = (key : ℕ) (sleeper : Sleeper) → get sleeping key ≡ Some sleeper → number ≤ sleeper.number
+
 -- those of whom this holds sleep on where they slept, by the same wakers, and nobody else sleeps
 abbrev pub OnlyThese : (ℕ → Type 0) → Slab Sleeper → Slab Sleeper → Type 0
 OnlyThese Stays old new = (key : ℕ) (sleeper : Sleeper) → (get new key ≡ Some sleeper) ↔ ((get old key ≡ Some sleeper) × Stays sleeper.number)
+
+-- each that sleeps has to sleep on
+abbrev pub AllSleepOn : Option Ticket → Option ℕ → Slab Sleeper → Type 0
+AllSleepOn first gone sleeping = (key : ℕ) (sleeper : Sleeper) → get sleeping key ≡ Some sleeper → SleepsOn first gone sleeper.number
 
 -- in the bed lies the one with this number
 abbrev pub HasNumber : Option Sleeper → ℕ → Type 0
