@@ -6,8 +6,8 @@ use std::hint;
 pub const LOOKS: u32 = 4;
 
 // How many turns a pause has. In a shorter one fewer values would come, and who emits and who receives would take turns at the same
-// cache lines for each.
-const TURNS: u32 = 96;
+// cache lines for each; a longer one costs more where none comes.
+const TURNS: u32 = 64;
 
 /// Lets some time pass before the next look. The thread keeps its processor meanwhile: where others want it, who yields has it back
 /// only after a time slice of theirs, some milliseconds, while a thread that sleeps goes on soon after it was woken.

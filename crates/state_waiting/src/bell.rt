@@ -7,7 +7,7 @@ use std::sync::{Arc, Wait};
 use std::time::Duration;
 
 /// How many turns a pause has.
-const PAUSE: u32 = 96;
+const PAUSE: u32 = 64;
 
 /// Lets some time pass before the next ask. The thread keeps its processor meanwhile: where others want it, who yields has it back
 /// only after a time slice of theirs, some milliseconds, while a thread that sleeps goes on soon after it was woken.
