@@ -102,7 +102,8 @@ class Tab:
             time.sleep(0.01)
 
     def press(self, key, modifiers=0):
-        codes = {"Tab": 9, "Enter": 13, "Escape": 27, "End": 35, "Home": 36, "ArrowLeft": 37, "ArrowUp": 38, "ArrowRight": 39, "ArrowDown": 40}
+        codes = {"Backspace": 8, "Tab": 9, "Enter": 13, "Escape": 27, "End": 35, "Home": 36, "ArrowLeft": 37, "ArrowUp": 38}
+        codes |= {"ArrowRight": 39, "ArrowDown": 40, "Insert": 45, "Delete": 46}
         code = codes.get(key) or ord(key.upper())
         wish = {"key": key, "code": key, "windowsVirtualKeyCode": code, "modifiers": modifiers}
         more = {"text": "\r"} if key == "Enter" else {}

@@ -15,7 +15,9 @@ class Editor {
     /** The line that is being typed: it was edited, and the caret is in it. 0 where there is none. */
     this.typed = 0;
     this.lineStarts = [0];
+    this.edits = new Edits(field.value);
     field.addEventListener("input", (event) => this.change(event));
+    field.addEventListener("beforeinput", (event) => this.undoByMenu(event));
     field.addEventListener("scroll", () => this.draw());
     field.addEventListener("keydown", (event) => this.pressKey(event));
     field.addEventListener("blur", () => this.setTyped(0));
@@ -31,35 +33,45 @@ class Editor {
 
   set script(script) {
     this.field.value = script;
+    this.edits.clear(script);
     this.showFront();
   }
 
   /** Puts another script in place of this one, by an edit that can be undone. The focus stays where it is. */
   replace(script) {
-    const focused = document.activeElement;
-    this.isQuiet = true;
-    this.field.focus({ preventScroll: true });
-    this.field.select();
-    const isDone = document.execCommand(script === "" ? "delete" : "insertText", false, script);
-    if (!isDone || this.script !== script) this.field.value = script;
+    this.field.value = script;
+    this.edits.note(script);
     this.showFront();
-    this.handBack(focused);
-    this.isQuiet = false;
   }
 
-  /** Undoes or redoes the last edit, also where the focus is elsewhere. */
+  /** Puts other words in place of a line, by an edit that can be undone. Edits of the same group are undone as one. */
+  writeLine(line, words, group) {
+    const from = this.lineStarts[line - 1];
+    const end = (this.lineStarts[line] ?? this.script.length + 1) - 1;
+    this.field.setRangeText(words, from, end, "preserve");
+    this.edits.note(this.script, group);
+    this.readLines();
+    this.setTyped(0);
+    this.onInput();
+  }
+
+  /** Undoes or redoes the last step, also where the focus is elsewhere. */
   undo(isRedo) {
-    const focused = document.activeElement;
-    this.field.focus({ preventScroll: true });
-    document.execCommand(isRedo ? "redo" : "undo");
-    this.handBack(focused);
+    const found = isRedo ? this.edits.redo() : this.edits.undo();
+    if (!found) return;
+    this.field.value = found.text;
+    this.readLines();
+    this.setTyped(0);
+    this.field.setSelectionRange(found.caret, found.caret);
+    if (document.activeElement === this.field) this.reveal(this.lineOf(found.caret));
+    this.onInput();
   }
 
-  /** Gives the focus back to what had it. */
-  handBack(focused) {
-    if (focused === this.field) return;
-    this.field.blur();
-    focused?.focus({ preventScroll: true });
+  /** By a menu, or by shaking a telephone. */
+  undoByMenu(event) {
+    if (event.inputType !== "historyUndo" && event.inputType !== "historyRedo") return;
+    event.preventDefault();
+    this.undo(event.inputType === "historyRedo");
   }
 
   showFront() {
@@ -77,9 +89,9 @@ class Editor {
   }
 
   change({ inputType }) {
-    if (this.isQuiet) return;
     this.readLines();
     const isTyping = document.activeElement === this.field && TYPING.test(inputType);
+    this.edits.note(this.script, isTyping ? TYPED : undefined);
     this.setTyped(isTyping ? this.lineOf(this.field.selectionStart) : 0);
     this.onInput();
   }
@@ -116,7 +128,7 @@ class Editor {
   }
 
   followCaret() {
-    if (document.activeElement !== this.field || this.isQuiet) return;
+    if (document.activeElement !== this.field) return;
     const line = this.lineOf(this.field.selectionStart);
     if (line !== this.typed) this.setTyped(0);
     this.onPoint(line);
@@ -139,11 +151,13 @@ class Editor {
     const end = this.lineStarts[upper + 1] ?? value.length + 1;
     const [first, second] = [value.slice(from, middle - 1), value.slice(middle, end - 1)];
     const inLine = selectionStart - (followsDown ? from : middle);
-    this.field.setSelectionRange(from, end - 1);
-    document.execCommand("insertText", false, `${second}\n${first}`);
+    this.field.setRangeText(`${second}\n${first}`, from, end - 1);
+    this.edits.note(this.script);
     const caret = (followsDown ? from + second.length + 1 : from) + inLine;
     this.field.setSelectionRange(caret, caret);
+    this.readLines();
     this.setTyped(0);
+    this.onInput();
   }
 
   /** Puts the caret on a line. */

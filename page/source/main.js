@@ -30,6 +30,11 @@ const editor = new Editor(byId("script"), byId("gutter"), byId("backdrop"), {
 const answers = new AnswersView(byId("answers"), (turn) => pointAt(turn), ({ number }) => editor.goTo(number));
 const programs = new Programs(showLoadTrouble, showLongRun);
 const prober = new Prober();
+const pipes = new PipesView(byId("pipes"), (script) => prober.answer(script), {
+  onPoint: pointAtPipe,
+  onWrite: (line, words, group) => editor.writeLine(line, words, group),
+  onSave: savePipe,
+});
 const reasons = new Reasons(
   JSON.parse(blockOfData("command-forms")),
   JSON.parse(blockOfData("reasons")),
@@ -111,7 +116,7 @@ function pressKey(event) {
   if (event.key === "Escape") say("note", "");
   const isCommand = (event.ctrlKey || event.metaKey) && !event.altKey;
   const key = event.key.toLowerCase();
-  if (!isCommand || (key !== "z" && key !== "y") || event.target === editor.field) return;
+  if (!isCommand || (key !== "z" && key !== "y")) return;
   event.preventDefault();
   editor.undo(key === "y" || event.shiftKey);
 }
@@ -180,6 +185,7 @@ function showResults(script, results) {
   showStatus();
   showPictures(script);
   answers.show(page.turns, answerColumns());
+  pipes.show(page.turns);
   reasons.explain(script, page.turns.filter(({ answer }) => isBad(answer)).slice(0, MOST_NAMED_LINES));
   pointAtLine(editor.pointed);
   setBusy(false);

@@ -19,6 +19,7 @@ function showTrouble(text) {
   Object.assign(page, { runs: [], turns: [], byLine: new Map() });
   reasons.explain("", []);
   for (const { figure } of page.views.splice(0)) figure.remove();
+  pipes.show([]);
   say("trouble", text);
   say("status", "");
   say("agreement", "");
@@ -85,6 +86,7 @@ function showPictures(script) {
     shown.run = runs[index];
     figure.querySelector(".engines").textContent = agree() ? engines.join(" and ") : engines[index];
     figure.querySelector(".empty").textContent = whyEmpty(shown.run.picture, page.turns, script);
+    figure.hidden = isEmpty(shown.run.picture) && page.turns.some(runsPipe);
     view.show(shown.run.picture, shown.run.turns);
     view.markTyped(editor.typed);
   });
@@ -181,4 +183,16 @@ function markAll(line, turn, cell) {
   editor.mark(line);
   answers.mark(line, turn);
   for (const { view } of page.views) view.mark(turn?.column ?? 0, cell);
+  pipes.point(line);
+}
+
+/** Points at a pipe's line, and goes there where that is chosen. */
+function pointAtPipe(turn, isChosen = false) {
+  if (isChosen) editor.goTo(turn.number);
+  else if (editor.pointed !== turn.number) pointAt(page.byLine.get(turn.number) ?? turn);
+}
+
+function savePipe({ turn, drawing }) {
+  saveFile(`${page.example.name}_line${turn.number}.svg`, "image/svg+xml", pipeSvg(drawing, turn.text, false, `<style>\n${PIPE_STYLE}\n</style>\n`));
+  say("note", "The picture is saved.");
 }

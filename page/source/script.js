@@ -38,6 +38,14 @@ function turnsOf(script, output) {
   return turns;
 }
 
+/** A longer text stands cut where it is only told of. */
+const MOST_TOLD_CHARACTERS = 200;
+
+function shortened(text) {
+  if (text.length <= MOST_TOLD_CHARACTERS) return text;
+  return `${text.slice(0, MOST_TOLD_CHARACTERS)}… (${text.length.toLocaleString("en")} characters)`;
+}
+
 function byteCount(script) {
   return new TextEncoder().encode(script).length;
 }

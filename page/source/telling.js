@@ -2,7 +2,7 @@
 
 const ROLE_VERBS = { flow: "is made", state: "is made", buffer: "is made", sub: "subscribes", collector: "collects" };
 /** Why a column has nothing in it. */
-const COLD_LINE = "nothing: pictures of cold flows come later";
+const COLD_LINE = "a pipe, drawn by itself";
 const REFUSED_LINE = "nothing: the line was refused";
 const BAD_LINE = "its number is crossed out";
 
@@ -88,7 +88,7 @@ function whyEmpty(picture, turns, script) {
   const cold = turns.filter(({ words, answer }) => words[0] === "cold" && !isBad(answer)).length;
   const refused = turns.length - bad - cold;
   const reasons = ["Nothing is drawn but the numbers of lines."];
-  if (cold > 0) reasons.push("Cold flows have no row yet: pictures of them come later, and their values stand in the answers.");
+  if (cold > 0) reasons.push(`${plural(cold, "pipe has a picture", "pipes have pictures")} of ${cold === 1 ? "its" : "their"} own.`);
   if (bad > 0) reasons.push(`${plural(bad, "line is bad", "lines are bad")}.`);
   if (refused > 0) reasons.push(`${plural(refused, "line was refused", "lines were refused")}.`);
   return reasons.join(" ");
