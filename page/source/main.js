@@ -35,6 +35,8 @@ const pipes = new PipesView(byId("pipes"), (script) => prober.answer(script), {
   onWrite: (line, words, group) => editor.writeLine(line, words, group),
   onSave: savePipe,
 });
+const pending = new PendingView(byId("pending"), (script) => prober.answer(script));
+const taken = new TakenFinder((script) => prober.answer(script), showTaken);
 const reasons = new Reasons(
   JSON.parse(blockOfData("command-forms")),
   JSON.parse(blockOfData("reasons")),
@@ -186,6 +188,8 @@ function showResults(script, results) {
   showPictures(script);
   answers.show(page.turns, answerColumns());
   pipes.show(page.turns);
+  pending.take(script, page.turns);
+  taken.find(script, page.turns);
   reasons.explain(script, page.turns.filter(({ answer }) => isBad(answer)).slice(0, MOST_NAMED_LINES));
   pointAtLine(editor.pointed);
   setBusy(false);

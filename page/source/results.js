@@ -20,6 +20,8 @@ function showTrouble(text) {
   reasons.explain("", []);
   for (const { figure } of page.views.splice(0)) figure.remove();
   pipes.show([]);
+  pending.take("", []);
+  taken.find("", []);
   say("trouble", text);
   say("status", "");
   say("agreement", "");
@@ -54,6 +56,18 @@ function reasonAt(number, before = "") {
 /** Shows why a line is bad in all places that tell of it. */
 function showReason(turn) {
   markBadLines();
+  answers.retell(turn);
+  if (editor.pointed === turn.number) pointAt(turn);
+}
+
+/** Shows what was taken at a tick, in all places that tell of it. */
+function showTaken(turn, taken) {
+  for (const { view } of page.views) {
+    const cell = view.picture.columns[turn.column]?.find(({ elements }) => elements.some(({ tag }) => tag === "path"));
+    if (!cell) continue;
+    Object.assign(cell, { taken, sentence: undefined });
+    view.addTo(cell, wordsOfTaken(taken));
+  }
   answers.retell(turn);
   if (editor.pointed === turn.number) pointAt(turn);
 }
@@ -184,6 +198,7 @@ function markAll(line, turn, cell) {
   answers.mark(line, turn);
   for (const { view } of page.views) view.mark(turn?.column ?? 0, cell);
   pipes.point(line);
+  pending.point(line);
 }
 
 /** Points at a pipe's line, and goes there where that is chosen. */

@@ -68,9 +68,15 @@ function sentenceOn(cell) {
   if (looks.includes("lost")) return `lost ${value}${number}`;
   if (looks.includes("dropped")) return `dropped ${value}`;
   if (looks.includes("full")) return `was full: ${value} isn't emitted`;
-  if (looks.includes("path")) return `answers ${cell.turn?.answer ?? value} to a tick: it takes what its upstream gives, if anything`;
+  if (looks.includes("path")) return tickSentence(cell, value);
   if (looks.includes("before")) return `begins to wait with ${value}`;
   return `answers ${cell.turn?.answer ?? value}`;
+}
+
+/** What was taken at a tick is known later than its answer. */
+function tickSentence({ turn, taken }, value) {
+  const answers = `answers ${turn?.answer ?? value} to a tick`;
+  return taken ? `${answers}, and ${sentenceOfTaken(taken)}` : `${answers}: it takes what its upstream gives, if anything`;
 }
 
 function stateSentence(cell, value) {

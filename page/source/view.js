@@ -17,8 +17,8 @@ function makeSvg({ left, top, width, height }, zoom, elements) {
 }
 
 /** What stands in one place of a picture, as a group. */
-function groupOf(look, { elements }) {
-  return [`<g class="${look}">`, ...elements.map(({ markup }) => markup), "</g>"].join("");
+function groupOf(look, { elements, more = "" }) {
+  return [`<g class="${look}">`, ...elements.map(({ markup }) => markup), more, "</g>"].join("");
 }
 
 function clamp(number, least, most) {
@@ -205,6 +205,14 @@ class PictureView {
       element.setAttribute("aria-label", `Line ${cell.line}: ${sentenceOf(cell)}`);
     }
     for (const { element } of this.heads) element.setAttribute("aria-hidden", "true");
+  }
+
+  /** Writes more to a cell, below what stands there. */
+  addTo(cell, words) {
+    const { columnsFrom, columnWidth } = this.picture;
+    const x = columnsFrom + (cell.column - 0.5) * columnWidth;
+    cell.more = `<text class="taken" x="${x}" y="${cell.row * ROW_HEIGHT + 41}">${words}</text>`;
+    if (this.elementOf(cell)) this.make(this.made);
   }
 
   elementOf(cell) {
