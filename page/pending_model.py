@@ -135,7 +135,7 @@ def sentence(host):
     full = ", ".join(name for name, (_, pending) in host.parties.items() if len(pending) >= host.places)
     became, lost = copy.deepcopy(host).emit(0)
     if lost:
-        return f"Full: the next emission takes {' and '.join(f'{value} from {name}' for name, value in lost.items())} away."
+        return f"Full: the next emission takes {' and '.join(f'{value} away from {name}' for name, value in lost.items())}."
     if became == "accepted":
         return "There is room: the next emission is accepted." if host.parties else "Nobody receives: the next emission is accepted, and waits for nobody."
     if became == "dropped":

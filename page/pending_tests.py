@@ -73,7 +73,7 @@ def test_what_is_pending_stands_below_the_picture(browser, folder):
     for line, wanted in (
         (5, flow("wait", [], [one("a", ["1"], 0)], [["second", "2"]], full)),
         (6, flow("wait", [], [one("a", ["2"], 0)], [], full)),
-        (12, flow("old", [], [one("b", ["1"], 0)], [], "Full: the next emission takes 1 from b away.")),
+        (12, flow("old", [], [one("b", ["1"], 0)], [], "Full: the next emission takes 1 away from b.")),
         (14, flow("old", [], [one("b", [], 1)], [], "There is room: the next emission is accepted.")),
         (18, flow("new", [], [one("c", ["1"], 0)], [], "Full for c: the next emission is dropped.")),
     ):

@@ -8,6 +8,12 @@ function textElement(tag, text, attributes = {}) {
   return element;
 }
 
+/** Writes a text into a cell of a table. A long one scrolls, so that the rows stay low. */
+function tellIn(cell, text) {
+  cell.replaceChildren(text.length > MOST_TOLD_CHARACTERS ? textElement("div", text, { class: "long" }) : text);
+  return cell;
+}
+
 let lastPlace = "";
 
 /** Whether the pointer moved, and not what is under it: a view that scrolls by itself isn't pointed at. */
@@ -79,8 +85,8 @@ class AnswersView {
     const attributes = { type: "button", tabindex, "aria-label": `Line ${turn.number}`, title: "Go to this line of the script" };
     heading.append(textElement("button", turn.number, attributes));
     const script = document.createElement("td");
-    script.append(textElement("code", turn.text));
-    const cells = this.columns.map(({ textOf, look }) => textElement("td", textOf(turn), { class: look }));
+    script.append(tellIn(textElement("code", ""), turn.text));
+    const cells = this.columns.map(({ textOf, look }) => tellIn(textElement("td", "", { class: look }), textOf(turn)));
     row.append(heading, script, ...cells);
     row.turn = turn;
     this.dress(row);
@@ -90,7 +96,7 @@ class AnswersView {
   /** Writes the row of a turn anew, of which more is known. */
   retell(turn) {
     const row = this.rowAt(turn.column - 1);
-    this.columns.forEach(({ textOf }, index) => row && (row.cells[index + 2].textContent = textOf(turn)));
+    this.columns.forEach(({ textOf }, index) => row && tellIn(row.cells[index + 2], textOf(turn)));
   }
 
   dress(row) {

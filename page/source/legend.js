@@ -8,7 +8,7 @@ function sampleOf(picture, { line, row }) {
   const heads = picture.cells.filter((cell) => cell.row === 0);
   const column = 1 + heads.findIndex(({ elements }) => elements.some(({ words }) => words === String(line)));
   const cell = cellAt(picture, column, rowIndex);
-  const middle = picture.columnsFrom + (column - 1) * picture.columnWidth + Math.floor(picture.columnWidth / 2);
+  const middle = middleAsDrawn(picture, column);
   const [left, top] = [middle - SAMPLE_WIDTH / 2, rowIndex * ROW_HEIGHT];
   const ways = [picture.guides[column - 1], ...waysBetween(picture, rowIndex, left, left + SAMPLE_WIDTH)].map(({ markup }) => markup);
   return { box: { left, top, width: SAMPLE_WIDTH, height: ROW_HEIGHT }, elements: [...ways, groupOf("mark", cell)] };

@@ -56,7 +56,7 @@ function setEngine(engine) {
 }
 
 function changeScript() {
-  say("note", "");
+  showNote("");
   showExample();
   runScript();
   keepSoon();
@@ -84,7 +84,7 @@ function chooseExample(example) {
   page.left.set(script, page.example);
   page.example = example;
   editor.replace(example.script);
-  say("note", leaves ? "Your script comes back with Ctrl+Z, or with the browser's Back." : "");
+  showNote(leaves ? "Your script comes back with Ctrl+Z, or with the browser's Back." : "");
   showExample();
   keepNow(true);
   runScript();
@@ -115,7 +115,7 @@ function takeFromAddress() {
 
 /** Undoes and redoes by the keys of the field, where the focus is elsewhere on the page. The key to leave lets a note go. */
 function pressKey(event) {
-  if (event.key === "Escape") say("note", "");
+  if (event.key === "Escape") showNote("");
   const isCommand = (event.ctrlKey || event.metaKey) && !event.altKey;
   const key = event.key.toLowerCase();
   if (!isCommand || (key !== "z" && key !== "y")) return;
@@ -184,7 +184,6 @@ function showResults(script, results) {
   page.turns = page.runs[0].turns;
   page.byLine = new Map(page.turns.map((turn) => [turn.number, turn]));
   markBadLines();
-  showStatus();
   showPictures(script);
   answers.show(page.turns, answerColumns());
   pipes.show(page.turns);
@@ -235,9 +234,9 @@ function listen() {
   }
   byId("copy").addEventListener("click", async () => {
     keepNow();
-    say("note", await copyLink(editor.script, engineWish()));
+    showNote(await copyLink(editor.script, engineWish()));
   });
-  byId("note").addEventListener("click", () => say("note", ""));
+  byId("note").addEventListener("click", () => showNote(""));
   byId("stop").addEventListener("click", stopRun);
   byId("to-commands").addEventListener("click", () => byId("commands-title").focus());
   byId("to-engines").addEventListener("click", () => byId("engines-title").focus());
@@ -245,13 +244,7 @@ function listen() {
   addEventListener("popstate", takeFromAddress);
 }
 
-/** Leaves room for the longest hint, so that no other moves the script. */
-function makeRoomForHints() {
-  byId("look-room").append(...[OWN, ...examples].map(({ look }) => textElement("p", look, { "aria-hidden": "true" })));
-}
-
 fillExamples();
-makeRoomForHints();
 showLegend(byId("legend"));
 listen();
 takeFromAddress();

@@ -116,8 +116,8 @@ function nextOf(host) {
   if (host.kind === "state") return "";
   const full = host.parties.filter(({ pending, prelude }) => pending.length - prelude >= host.places).map(({ name }) => name);
   if (!host.isShared) return full.length > 0 ? `Full for ${full.join(", ")}: ${FED_NEXT[host.policy]}.` : "";
-  const losses = host.parties.filter(({ loss }) => loss !== undefined).map(({ name, loss }) => `${loss} from ${name}`);
-  if (losses.length > 0) return `Full: the next emission takes ${losses.join(" and ")} away.`;
+  const losses = host.parties.filter(({ loss }) => loss !== undefined).map(({ name, loss }) => `${loss} away from ${name}`);
+  if (losses.length > 0) return `Full: the next emission takes ${losses.join(" and ")}.`;
   if (host.tried === "dropped") return `Full for ${full.join(", ")}: the next emission is dropped.`;
   if (host.tried === "full" && host.capacity === 0 && full.length === 0) return "No places: the next emission is handed over, and done once all have taken it.";
   if (host.tried === "full") return `${full.length > 0 ? `Full for ${full.join(", ")}` : "Others wait"}: the next emission waits; a try is refused.`;

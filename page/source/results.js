@@ -11,6 +11,17 @@ function say(id, text) {
   if (element.textContent !== text) element.textContent = text;
 }
 
+/** So long a note stands there. */
+const NOTE_MILLISECONDS = 12000;
+let noteTimer = 0;
+
+/** Shows a note over the page, for a while. */
+function showNote(text) {
+  clearTimeout(noteTimer);
+  say("note", text);
+  if (text !== "") noteTimer = setTimeout(() => say("note", ""), NOTE_MILLISECONDS);
+}
+
 function plural(count, one, many) {
   return `${count.toLocaleString("en")} ${count === 1 ? one : many}`;
 }
@@ -23,9 +34,9 @@ function showTrouble(text) {
   pending.take("", []);
   taken.find("", []);
   say("trouble", text);
+  markBadLines();
   say("status", "");
   say("agreement", "");
-  markBadLines();
   byId("pointed").replaceChildren();
   answers.show([], answerColumns());
   setBusy(false);
@@ -45,6 +56,7 @@ function markBadLines() {
   say("typed-line", typed);
   say("bad-reason", bad.length > 0 && reasonAt(bad[0]) ? `Of line ${bad[0]}: ${reasonAt(bad[0])}.` : "");
   byId("script").setAttribute("aria-invalid", String(bad.length > 0));
+  showStatus(bad.length);
 }
 
 /** Why a line is bad, where that is known, with these words before it. */
@@ -72,10 +84,9 @@ function showTaken(turn, taken) {
   if (editor.pointed === turn.number) pointAt(turn);
 }
 
-function showStatus() {
-  const bad = page.turns.filter(({ answer }) => isBad(answer));
+function showStatus(bad) {
   const count = plural(page.turns.length, "line is answered", "lines are answered");
-  say("status", `${count}${bad.length ? `, ${plural(bad.length, "of them is bad", "of them are bad")}` : ""}.`);
+  say("status", `${count}${bad > 0 ? `, ${plural(bad, "of them is bad", "of them are bad")}` : ""}.`);
   say("agreement", page.runs.length > 1 ? agreementNote() : "");
   byId("agreement").classList.toggle("bad", !agree());
 }
@@ -149,7 +160,7 @@ function showSight(figure, view) {
 
 function savePicture({ svg, engine }) {
   saveFile(`${page.example.name}_${engine}.svg`, "image/svg+xml", svg);
-  say("note", "The picture is saved, as the program wrote it.");
+  showNote("The picture is saved, as the program wrote it.");
 }
 
 /** The columns of the table: one of answers, or one for each engine where they differ; and what the picture shows. */
@@ -182,13 +193,13 @@ function pointAtLine(line) {
 function pointAt(turn, cell) {
   markAll(turn.number, turn, cell);
   if (isBad(turn.answer)) reasons.explainFirst(turn);
-  const told = cell ? sentenceOf(cell) : tellTurn(turn);
+  const told = shortened(cell ? sentenceOf(cell) : tellTurn(turn));
   const joint = hasMarks(turn) ? ". " : "; ";
   byId("pointed").replaceChildren(
     `Line ${turn.number} `,
-    textElement("code", turn.text),
+    textElement("code", shortened(turn.text)),
     " answers ",
-    textElement("strong", turn.answer ?? "nothing"),
+    textElement("strong", shortened(turn.answer ?? "nothing")),
     `${joint}${told}.`,
   );
 }
@@ -209,5 +220,5 @@ function pointAtPipe(turn, isChosen = false) {
 
 function savePipe({ turn, drawing }) {
   saveFile(`${page.example.name}_line${turn.number}.svg`, "image/svg+xml", pipeSvg(drawing, turn.text, false, `<style>\n${PIPE_STYLE}\n</style>\n`));
-  say("note", "The picture is saved.");
+  showNote("The picture is saved.");
 }

@@ -6,10 +6,21 @@ const COLD_LINE = "a pipe, drawn by itself";
 const REFUSED_LINE = "nothing: the line was refused";
 const BAD_LINE = "its number is crossed out";
 
+/** Which flow or state a subscription, a collector or a ticket is of, by the name of its row. */
+function hostsOf(turns) {
+  const hosts = new Map();
+  const roles = { sub: "sub", collect: "collector", emit: "ticket" };
+  for (const { words: [command, host, name], answer } of turns) {
+    if (Object.hasOwn(roles, command) && answer !== undefined && !isBad(answer)) hosts.set(`${roles[command]} ${name}`, host);
+  }
+  return hosts;
+}
+
 /** Tells each cell of a picture its line, the name of its row, and whether it is the first there. */
 function tellCells(picture, turns) {
   const numbers = emissionNumbers(turns);
   const begun = new Set();
+  picture.hosts = hostsOf(turns);
   for (const cell of picture.cells) {
     cell.turn = turns[cell.column - 1];
     cell.line = cell.turn?.number;

@@ -17,14 +17,13 @@ class Tip {
     this.place();
   }
 
-  /** Below the mark; above it where it would stand outside of the window there. */
+  /** Above the mark; below it where it would stand outside of the window there. */
   place() {
     const mark = this.placeOf();
     const frame = this.frame.getBoundingClientRect();
     const { offsetWidth, offsetHeight } = this.element;
-    const below = mark.bottom + TIP_GAP;
     const above = mark.top - TIP_GAP - offsetHeight;
-    const top = below + offsetHeight > innerHeight && above >= 0 ? above : below;
+    const top = above >= 0 ? above : mark.bottom + TIP_GAP;
     const left = clamp((mark.left + mark.right - offsetWidth) / 2, frame.left, frame.right - offsetWidth);
     this.element.style.left = `${left - frame.left}px`;
     this.element.style.top = `${top - frame.top}px`;

@@ -4,7 +4,9 @@
 const SVG_NAMESPACE = "http://www.w3.org/2000/svg";
 /** A browser lays nothing out that is much longer. A longer picture is shown in parts. */
 const MOST_PIXELS = 12000000;
-const ZOOMS = [0.5, 0.65, 0.8, 1, 1.25, 1.5, 2, 3];
+const ZOOMS = [0.5, 0.65, 0.72, 0.8, 0.9, 1, 1.25, 1.5, 2, 3];
+/** A picture that is fitted to its frame is never smaller, nor larger than it is drawn. */
+const LEAST_FITTED = 0.65;
 
 /** An SVG of these elements, which shows a box of a picture, so many times as large. Its style is the picture's. */
 function makeSvg({ left, top, width, height }, zoom, elements) {
@@ -16,9 +18,10 @@ function makeSvg({ left, top, width, height }, zoom, elements) {
   return svg;
 }
 
-/** What stands in one place of a picture, as a group. */
-function groupOf(look, { elements, more = "" }) {
-  return [`<g class="${look}">`, ...elements.map(({ markup }) => markup), more, "</g>"].join("");
+/** What stands in one place of a picture, as a group, moved so far to the right. */
+function groupOf(look, { elements, more = "" }, shift = 0) {
+  const moved = shift === 0 ? "" : ` transform="translate(${shift} 0)"`;
+  return [`<g class="${look}"${moved}>`, ...elements.map(({ markup }) => markup), more, "</g>"].join("");
 }
 
 function clamp(number, least, most) {
@@ -31,7 +34,7 @@ class PictureView {
    * `onSight` when other columns come in sight.
    */
   constructor(figure, style, { onPoint, onChoose, onSight }) {
-    Object.assign(this, { figure, onPoint, onChoose, onSight, zoom: 1, typed: 0, marks: [], heads: [] });
+    Object.assign(this, { figure, onPoint, onChoose, onSight, zoom: 1, isFitted: true, typed: 0, marks: [], heads: [] });
     this.host = figure.querySelector(".picture");
     this.tip = new Tip(figure.querySelector(".tip"), figure);
     this.root = this.host.attachShadow({ mode: "open" });
@@ -54,6 +57,8 @@ class PictureView {
   /** Shows a picture whose cells have been told. What was in sight stays. */
   show(picture, turns) {
     Object.assign(this, { picture, turns, marked: 0, aimed: undefined, part: 0 });
+    this.layout = new PictureLayout(picture, picture.hosts);
+    if (this.isFitted) this.zoom = this.fittedZoom;
     this.stop = picture.cells.find(({ row }) => row > 0);
     if (this.style.textContent !== picture.style) this.style.textContent = picture.style;
     this.tip.hide();
@@ -64,7 +69,7 @@ class PictureView {
 
   /** So many columns are laid out at once. */
   get columnsOfPart() {
-    return Math.max(1, Math.floor(MOST_PIXELS / (this.picture.columnWidth * this.zoom || 1)));
+    return Math.max(1, Math.floor(MOST_PIXELS / (this.layout.widest * this.zoom || 1)));
   }
 
   /** The first and the last column that are laid out. */
@@ -75,29 +80,32 @@ class PictureView {
 
   /** Where a column begins in the part that is laid out, before it is enlarged. */
   placeOfColumn(column) {
-    return this.picture.columnsFrom + (column - this.span.first) * this.picture.columnWidth;
+    const { namesWidth, lefts } = this.layout;
+    return namesWidth + lefts[column] - lefts[this.span.first];
   }
 
   /** Keeps how large the frame is, and how far it is scrolled: a browser that is asked lays the page out first. */
   measure() {
     const { clientWidth, clientHeight, scrollLeft, scrollTop } = this.host;
+    const isOther = this.frame?.width !== clientWidth;
     this.frame = { width: clientWidth, height: clientHeight, left: scrollLeft, top: scrollTop };
-    this.follow();
+    if (isOther && this.isFitted && this.picture && this.fittedZoom !== this.zoom) this.fit();
+    else this.follow();
   }
 
   scrollTo(left, top) {
     const { frame } = this;
-    if (left !== frame.left) this.host.scrollLeft = left;
-    if (top !== frame.top) this.host.scrollTop = top;
-    if (left !== frame.left || top !== frame.top) this.measure();
+    const isElsewhere = (place, old) => Math.abs(place - old) >= 1;
+    if (isElsewhere(left, frame.left)) this.host.scrollLeft = Math.ceil(left);
+    if (isElsewhere(top, frame.top)) this.host.scrollTop = Math.ceil(top);
+    if (isElsewhere(left, frame.left) || isElsewhere(top, frame.top)) this.measure();
   }
 
   /** How wide the part that is laid out is. Behind the last column the lines of rows go on a little. */
   get width() {
     const { picture, span } = this;
     if (picture.columnCount === 0) return picture.width;
-    const behind = picture.width - picture.columnsFrom - picture.columnCount * picture.columnWidth;
-    return this.placeOfColumn(span.last + 1) + (span.last === picture.columnCount ? behind : 0);
+    return this.placeOfColumn(span.last + 1) + (span.last === picture.columnCount ? BEHIND : 0);
   }
 
   layOut() {
@@ -114,14 +122,13 @@ class PictureView {
 
   /** The columns and rows that are in sight, with so many times as many around them. */
   inSight(around) {
-    const { frame, picture, zoom, span } = this;
-    const wide = Math.max(picture.columnWidth, 1) * zoom;
+    const { frame, picture, layout, zoom, span } = this;
     const high = ROW_HEIGHT * zoom;
-    const [from, sight] = [frame.left / wide, (frame.width - picture.columnsFrom * zoom) / wide];
+    const [from, sight] = [layout.lefts[span.first] + frame.left / zoom, frame.width / zoom - layout.namesWidth];
     const [above, rows] = [frame.top / high, frame.height / high];
     return {
-      first: clamp(span.first + Math.floor(from - around * sight), span.first, span.last),
-      last: clamp(span.first + Math.floor(from + (1 + around) * sight), span.first, span.last),
+      first: clamp(layout.columnAt(from - around * sight), span.first, span.last),
+      last: clamp(layout.columnAt(from + (1 + around) * sight), span.first, span.last),
       top: clamp(Math.floor(above - around * rows), 0, picture.rowCount - 1),
       bottom: clamp(Math.floor(above + (1 + around) * rows), 0, picture.rowCount - 1),
     };
@@ -153,10 +160,10 @@ class PictureView {
 
   /** The names. Each mark's label begins with its row's name, so they need no reading here. */
   namesSvg() {
-    const { picture, made, zoom } = this;
-    const box = { left: 0, top: made.top * ROW_HEIGHT, width: picture.columnsFrom, height: (made.bottom - made.top + 1) * ROW_HEIGHT };
+    const { picture, layout, made, zoom } = this;
+    const box = { left: 0, top: made.top * ROW_HEIGHT, width: layout.namesWidth, height: (made.bottom - made.top + 1) * ROW_HEIGHT };
     const names = picture.names.slice(made.top, made.bottom + 1).filter(Boolean);
-    const svg = makeSvg(box, zoom, names.map(({ markup }) => markup));
+    const svg = makeSvg(box, zoom, names.map((name) => name.markup + hostMarkup(name, picture.hosts)));
     svg.style.top = `${box.top * zoom}px`;
     this.names.style.width = `${box.width * zoom}px`;
     this.names.style.height = `${picture.height * zoom}px`;
@@ -164,18 +171,18 @@ class PictureView {
   }
 
   columnsSvg() {
-    const { picture, made, zoom } = this;
-    const { columnWidth, columnsFrom } = picture;
-    const left = columnsFrom + (made.first - 1) * columnWidth;
-    const end = made.last === picture.columnCount ? picture.width : columnsFrom + made.last * columnWidth;
+    const { picture, layout, made, zoom } = this;
+    const left = layout.lefts[made.first];
+    const end = made.last === picture.columnCount ? layout.width : layout.lefts[made.last + 1];
     this.box = { left, top: made.top * ROW_HEIGHT, width: end - left, height: (made.bottom - made.top + 1) * ROW_HEIGHT };
     const isMade = ({ row, column }) => row >= made.top && row <= made.bottom && column >= made.first && column <= made.last;
     const cells = picture.columns.slice(made.first, made.last + 1).flat().filter(isMade);
     if (this.stop && !isMade(this.stop)) cells.push(this.stop);
     const [heads, marked] = [cells.filter(({ row }) => row === 0), cells.filter(({ row }) => row > 0)];
-    const groups = [...heads.map((cell) => groupOf("heading", cell)), ...marked.map((cell) => groupOf("mark", cell))];
-    const band = `<rect class="band" y="0" width="${columnWidth}" height="100%" display="none"/>`;
-    const svg = makeSvg(this.box, zoom, [band, ...this.waysIn(end), ...groups]);
+    const group = (look) => (cell) => groupOf(look, cell, layout.shiftOf(cell.column));
+    const groups = [...heads.map(group("heading")), ...marked.map(group("mark"))];
+    const band = `<rect class="band" y="0" width="0" height="100%" display="none"/>`;
+    const svg = makeSvg(this.box, zoom, [band, ...this.ways(), ...groups]);
     this.marks = [...svg.querySelectorAll(".mark")].map((element, index) => ({ element, cell: marked[index] }));
     this.heads = [...svg.querySelectorAll(".heading")].map((element, index) => ({ element, cell: heads[index] }));
     this.nameSvg(svg);
@@ -185,11 +192,13 @@ class PictureView {
   }
 
   /** The lines under the marks that are made. */
-  waysIn(end) {
-    const { picture, made, box } = this;
+  ways() {
+    const { picture, layout, made } = this;
     const ways = picture.guides.slice(made.first - 1, made.last);
-    for (let row = made.top; row <= made.bottom; row++) ways.push(...waysBetween(picture, row, box.left, end));
-    return ways.map(({ markup }) => markup);
+    const [from, to] = [leftAsDrawn(picture, made.first), leftAsDrawn(picture, made.last + 1)];
+    const end = made.last === picture.columnCount ? picture.width : to;
+    for (let row = made.top; row <= made.bottom; row++) ways.push(...waysBetween(picture, row, from, end));
+    return ways.map((way) => layout.wayMarkup(way));
   }
 
   /** One mark of all is in the order of the tab key; the arrow keys lead to the others. */
@@ -209,8 +218,7 @@ class PictureView {
 
   /** Writes more to a cell, below what stands there. */
   addTo(cell, words) {
-    const { columnsFrom, columnWidth } = this.picture;
-    const x = columnsFrom + (cell.column - 0.5) * columnWidth;
+    const x = middleAsDrawn(this.picture, cell.column);
     cell.more = `<text class="taken" x="${x}" y="${cell.row * ROW_HEIGHT + 41}">${words}</text>`;
     if (this.elementOf(cell)) this.make(this.made);
   }
@@ -224,18 +232,17 @@ class PictureView {
   /** What is at a place of the window: a turn, and a cell where a mark is there. */
   placeOf({ clientX, clientY }) {
     const frame = this.columns.getBoundingClientRect();
-    const column = columnAt(this.picture, (clientX - frame.left) / this.zoom + this.box.left);
+    const column = this.layout.columnAt((clientX - frame.left) / this.zoom + this.box.left);
     const row = rowAt((clientY - frame.top) / this.zoom + this.box.top);
     return { turn: this.turns[column - 1], cell: row > 0 ? cellAt(this.picture, column, row) : undefined };
   }
 
   /** Where a cell stands in the window. */
   frameOf({ column, row }) {
-    const { columnsFrom, columnWidth } = this.picture;
     const frame = this.columns.getBoundingClientRect();
-    const left = frame.left + (columnsFrom + (column - 1) * columnWidth - this.box.left) * this.zoom;
+    const left = frame.left + (this.layout.lefts[column] - this.box.left) * this.zoom;
     const top = frame.top + (row * ROW_HEIGHT - this.box.top) * this.zoom;
-    return { left, top, right: left + columnWidth * this.zoom, bottom: top + ROW_HEIGHT * this.zoom };
+    return { left, top, right: left + this.layout.widthOf(column) * this.zoom, bottom: top + ROW_HEIGHT * this.zoom };
   }
 
   /** What the pointer is on is in sight, and stays where it is. */
@@ -246,7 +253,8 @@ class PictureView {
     this.isStill = true;
     this.onPoint(turn, cell);
     this.isStill = false;
-    if (cell) this.showTip(cell);
+    // With a mouse the sentence below the picture is enough: beside the mark it would cover others of the same emission.
+    if (cell && event.pointerType !== "mouse") this.showTip(cell);
     else this.tip.hide();
   }
 
@@ -344,10 +352,13 @@ class PictureView {
 
   drawMarked() {
     if (!this.columns) return;
-    const { picture, marked, aimed } = this;
+    const { layout, marked, aimed } = this;
     const aimedAt = aimed && emissionOf(aimed);
     const band = this.columns.querySelector(".band");
-    band.setAttribute("x", picture.columnsFrom + (marked - 1) * picture.columnWidth);
+    if (marked > 0) {
+      band.setAttribute("x", layout.lefts[marked]);
+      band.setAttribute("width", layout.widthOf(marked));
+    }
     band.setAttribute("display", marked > 0 ? "inline" : "none");
     for (const { element, cell } of this.heads) element.classList.toggle("typed", cell.line === this.typed);
     for (const { element, cell } of this.marks) {
@@ -363,13 +374,12 @@ class PictureView {
   reveal(column, wished) {
     const part = Math.floor((column - 1) / this.columnsOfPart);
     if (part !== this.part) this.showPart(part);
-    const { columnsFrom, columnWidth } = this.picture;
-    const { frame, zoom } = this;
-    const from = (this.placeOfColumn(column) - columnsFrom) * zoom;
-    const inSight = frame.width - columnsFrom * zoom;
+    const { frame, zoom, layout } = this;
+    const from = (this.placeOfColumn(column) - layout.namesWidth) * zoom;
+    const inSight = frame.width - layout.namesWidth * zoom;
     const row = wished ?? this.hiddenRow(column);
     const above = row === undefined ? frame.top : clamp(frame.top, (row + 1) * ROW_HEIGHT * zoom - frame.height, row * ROW_HEIGHT * zoom);
-    this.scrollTo(clamp(frame.left, from + columnWidth * zoom - inSight, from), above);
+    this.scrollTo(clamp(frame.left, from + layout.widthOf(column) * zoom - inSight, from), above);
   }
 
   /** The first row on which a column has a mark, where none of its marks is in sight. */
@@ -392,20 +402,45 @@ class PictureView {
 
   /** Scrolls by what is in sight, to earlier or later columns. */
   scrollBy(step) {
-    const { first, last } = this.inSight(0);
-    const column = clamp(step < 0 ? first - Math.max(1, last - first) : last + Math.max(1, last - first), 1, this.picture.columnCount);
-    this.reveal(column);
+    const { frame, layout, zoom, span } = this;
+    const [from, sight] = [layout.lefts[span.first] + frame.left / zoom, frame.width / zoom - layout.namesWidth];
+    const column = layout.columnAt(step < 0 ? from - sight - layout.widest : from + 2 * sight);
+    this.reveal(clamp(column, 1, this.picture.columnCount));
   }
 
-  /** Zooms by so many steps, or back where none are named. The marked column, or else the first in sight, stays in sight. */
+  /** How large the picture is where it fits into its frame, as far as it may be. */
+  get fittedZoom() {
+    const fits = (zoom) => zoom <= 1 && zoom >= LEAST_FITTED && this.layout.width * zoom <= this.frame.width;
+    return ZOOMS.findLast(fits) ?? LEAST_FITTED;
+  }
+
+  fit() {
+    this.isFitted = true;
+    this.zoomTo(this.fittedZoom);
+  }
+
+  /** Zooms by so many steps; where none are named, as large as it is drawn, or fitted where it is that already. */
   zoomBy(steps) {
-    const { first, last } = this.inSight(0);
+    if (steps === undefined && this.zoom === 1) return this.fit();
+    this.isFitted = false;
     const at = steps === undefined ? ZOOMS.indexOf(1) : clamp(ZOOMS.indexOf(this.zoom) + steps, 0, ZOOMS.length - 1);
-    this.zoom = ZOOMS[at];
+    this.zoomTo(ZOOMS[at]);
+  }
+
+  /** The marked column, or else the first in sight, stays in sight. */
+  zoomTo(zoom) {
+    const { first, last } = this.inSight(0);
+    this.zoom = zoom;
     this.part = Math.floor((first - 1) / this.columnsOfPart);
     this.layOut();
     this.reveal(this.marked >= first && this.marked <= last ? this.marked : first);
   }
+}
+
+/** Which flow or state a row is of, under its name. */
+function hostMarkup({ row, words }, hosts) {
+  const host = hosts?.get(words);
+  return host === undefined ? "" : `<text class="of" x="${NAMES_MARGIN}" y="${row * ROW_HEIGHT + 39}">of ${host}</text>`;
 }
 
 function isSameEmission(one, other) {

@@ -1,0 +1,99 @@
+// Where the page puts the columns of a picture. The program draws all of them as wide as the widest; here each has the width that it
+// needs, so that more are seen at once. What stands in a column is moved as a whole, and what leads along a row is cut to measure.
+
+/** What is least to both sides of a column's middle. */
+const LEAST_HALF = 17;
+const COLUMN_GAP = 6;
+/** How wide a letter is, by the size that the picture gives it. */
+const LETTERS = { head: 6.7, number: 6.1, taken: 6.1 };
+const WIDE_LETTER = 7.9;
+const HOST_LETTER = 6.1;
+const NAMES_MARGIN = 8;
+/** So far the lines of rows go on behind the last column. */
+const BEHIND = 24;
+
+/** How far an element reaches to both sides of its column's middle. */
+function reachOf({ markup, tag, look, words }) {
+  if (tag === "rect") return halves(numberOf(markup, "width") / 2);
+  if (tag !== "text") return halves(0);
+  const width = words.length * (LETTERS[look] ?? WIDE_LETTER);
+  return look === "value" ? { left: 0, right: VALUE_SHIFT + width } : halves(width / 2);
+}
+
+function halves(half) {
+  return { left: half, right: half };
+}
+
+class PictureLayout {
+  /** Of a picture whose rows may be of a flow or a state: `hosts` says of which, by the words of the row's name. */
+  constructor(picture, hosts = new Map()) {
+    this.picture = picture;
+    const named = picture.names.map((name) => (hosts.has(name?.words) ? NAMES_MARGIN * 2 + (hosts.get(name.words).length + 3) * HOST_LETTER : 0));
+    this.namesWidth = named.reduce((most, one) => Math.max(most, one ?? 0), picture.columnsFrom);
+    const count = picture.columnCount;
+    this.lefts = new Float64Array(count + 2);
+    this.middles = new Float64Array(count + 2);
+    this.widest = 0;
+    this.lefts[1] = this.namesWidth;
+    for (let column = 1; column <= count; column++) this.measure(column);
+    this.middles[count + 1] = this.lefts[count + 1] + picture.columnWidth / 2;
+    this.width = count === 0 ? picture.width : this.lefts[count + 1] + BEHIND;
+  }
+
+  measure(column) {
+    let [left, right] = [LEAST_HALF, LEAST_HALF];
+    for (const { elements } of this.picture.columns[column]) {
+      for (const element of elements) {
+        const reach = reachOf(element);
+        left = Math.max(left, reach.left + COLUMN_GAP);
+        right = Math.max(right, reach.right + COLUMN_GAP);
+      }
+    }
+    this.middles[column] = this.lefts[column] + left;
+    this.lefts[column + 1] = this.lefts[column] + left + right;
+    this.widest = Math.max(this.widest, left + right);
+  }
+
+  widthOf(column) {
+    return this.lefts[column + 1] - this.lefts[column];
+  }
+
+  /** How far what stands in a column is moved. */
+  shiftOf(column) {
+    return this.middles[column] - middleAsDrawn(this.picture, column);
+  }
+
+  /** The column at a place of the page's own. */
+  columnAt(x) {
+    let [low, high] = [1, this.picture.columnCount + 1];
+    while (high - low > 1) {
+      const middle = Math.floor((low + high) / 2);
+      if (this.lefts[middle] <= x) low = middle;
+      else high = middle;
+    }
+    return x < this.lefts[1] ? 0 : x >= this.lefts[this.picture.columnCount + 1] ? this.picture.columnCount + 1 : low;
+  }
+
+  /** Where a place of the program's stands here. */
+  placeOf(x) {
+    const { picture } = this;
+    const column = clamp(columnAt(picture, x), 1, picture.columnCount + 1);
+    const most = column > picture.columnCount ? [0, BEHIND - 4] : [this.lefts[column], this.lefts[column + 1]];
+    const place = this.middles[column] + x - middleAsDrawn(picture, column);
+    return column > picture.columnCount ? this.lefts[column] + clamp(x - leftAsDrawn(picture, column), ...most) : clamp(place, ...most);
+  }
+
+  /** A line along a row or down a column, from and to where it belongs here. */
+  wayMarkup({ markup, left, right }) {
+    const [from, to] = [this.placeOf(left), this.placeOf(right)];
+    return markup.replace(/ x1="\d+"/, ` x1="${from}"`).replace(/ x2="\d+"/, ` x2="${to}"`);
+  }
+}
+
+function leftAsDrawn({ columnsFrom, columnWidth }, column) {
+  return columnsFrom + (column - 1) * columnWidth;
+}
+
+function middleAsDrawn(picture, column) {
+  return leftAsDrawn(picture, column) + Math.floor(picture.columnWidth / 2);
+}
