@@ -1,6 +1,8 @@
 """What the tests of the page stand on: the page in a tab, by what a reader sees and does, and the native programs beside it."""
 
+import base64
 import functools
+import hashlib
 import http.server
 import itertools
 import json
@@ -156,6 +158,10 @@ def changed_page(folder, name, *changes):
     for old, new in changes:
         same(f"{old[:60]} stands once", text.count(old), 1)
         text = text.replace(old, new)
+    # The browser runs no script of another sum.
+    script = re.search(r'<script type="module">(.*?)</script>', text, flags=re.DOTALL)[1]
+    sum_of_script = base64.b64encode(hashlib.sha256(script.encode()).digest()).decode()
+    text = re.sub(r"'sha256-[^']*'", f"'sha256-{sum_of_script}'", text, count=1)
     file = pathlib.Path(folder) / f"{name}.html"
     file.write_text(text)
     return file.as_uri()

@@ -8,10 +8,28 @@ function textElement(tag, text, attributes = {}) {
   return element;
 }
 
+/** A sentence as parts of an element: its foreign words stand by themselves, whatever direction they have. */
+function partsOfSentence(text) {
+  return text.split(/(\u2068[^\u2069]*\u2069)/).map((part) => (part.startsWith(FOREIGN_BEGIN) ? textElement("bdi", part.slice(1, -1)) : part));
+}
+
 /** Writes a text into a cell of a table. A long one scrolls, so that the rows stay low. */
 function tellIn(cell, text) {
-  cell.replaceChildren(text.length > MOST_TOLD_CHARACTERS ? textElement("div", text, { class: "long" }) : text);
+  const parts = partsOfSentence(text);
+  if (text.length <= MOST_TOLD_CHARACTERS) cell.replaceChildren(...parts);
+  else {
+    const long = textElement("div", "", { class: "long" });
+    long.append(...parts);
+    cell.replaceChildren(long);
+  }
   return cell;
+}
+
+/** Words of a script, as they stand there. */
+function codeElement(words) {
+  const code = document.createElement("code");
+  code.append(tellIn(document.createElement("bdi"), words));
+  return code;
 }
 
 let lastPlace = "";
@@ -85,7 +103,7 @@ class AnswersView {
     const attributes = { type: "button", tabindex, "aria-label": `Line ${turn.number}`, title: "Go to this line of the script" };
     heading.append(textElement("button", turn.number, attributes));
     const script = document.createElement("td");
-    script.append(tellIn(textElement("code", ""), turn.text));
+    script.append(codeElement(turn.text));
     const cells = this.columns.map(({ textOf, look }) => tellIn(textElement("td", "", { class: look }), textOf(turn)));
     row.append(heading, script, ...cells);
     row.turn = turn;

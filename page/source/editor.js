@@ -5,11 +5,11 @@ const TYPING = /^(insertText|insertCompositionText|deleteContent\w+)$/;
 
 class Editor {
   /**
-   * Tells `onInput` a change, `onPoint` the number of a line that the pointer or the caret is on, and `onTyped` that the
-   * line that is being typed is another.
+   * Tells `onInput` a change, `onPoint` the number of a line that the pointer or the caret is on, `onTyped` that the line that is
+   * being typed is another, and `onRefuse` why a text isn't put in.
    */
-  constructor(field, gutter, backdrop, { onInput, onPoint, onTyped }) {
-    Object.assign(this, { field, gutter, backdrop, onInput, onPoint, onTyped });
+  constructor(field, gutter, backdrop, { onInput, onPoint, onTyped, onRefuse }) {
+    Object.assign(this, { field, gutter, backdrop, onInput, onPoint, onTyped, onRefuse });
     this.bad = new Set();
     this.pointed = 0;
     /** The line that is being typed: it was edited, and the caret is in it. 0 where there is none. */
@@ -18,6 +18,7 @@ class Editor {
     this.edits = new Edits(field.value);
     field.addEventListener("input", (event) => this.change(event));
     field.addEventListener("beforeinput", (event) => this.undoByMenu(event));
+    field.addEventListener("beforeinput", (event) => this.refuseLong(event));
     field.addEventListener("scroll", () => this.draw());
     field.addEventListener("keydown", (event) => this.pressKey(event));
     field.addEventListener("blur", () => this.setTyped(0));
@@ -65,6 +66,14 @@ class Editor {
     this.field.setSelectionRange(found.caret, found.caret);
     if (document.activeElement === this.field) this.reveal(this.lineOf(found.caret));
     this.onInput();
+  }
+
+  /** A text with which the script would have too many lines isn't put in. */
+  refuseLong(event) {
+    const why = tooManyLines(this.lineStarts.length + (event.data ?? "").split("\n").length - 1);
+    if (!why || !event.data?.includes("\n")) return;
+    event.preventDefault();
+    this.onRefuse(why);
   }
 
   /** By a menu, or by shaking a telephone. */

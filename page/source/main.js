@@ -26,9 +26,10 @@ const editor = new Editor(byId("script"), byId("gutter"), byId("backdrop"), {
   onInput: changeScript,
   onPoint: pointAtLine,
   onTyped: markBadLines,
+  onRefuse: (why) => showNote(`That text isn't put in: with it ${why.replace("it", "the script")}.`),
 });
 const answers = new AnswersView(byId("answers"), (turn) => pointAt(turn), ({ number }) => editor.goTo(number));
-const programs = new Programs(showLoadTrouble, showLongRun);
+const programs = new Programs(showLoadTrouble, showLongRun, showTooLongRun);
 const prober = new Prober();
 const pipes = new PipesView(byId("pipes"), (script) => prober.answer(script), {
   onPoint: pointAtPipe,
@@ -105,7 +106,9 @@ function showExample() {
 function takeFromAddress() {
   const asked = wishInAddress();
   const kept = history.state;
-  const script = asked.script ?? kept?.script ?? examples[0].script;
+  const why = tooManyLines(linesOf(asked.script ?? "").length);
+  if (why) showNote(`The script of this link isn't shown: ${why}.`);
+  const script = (why ? undefined : asked.script) ?? kept?.script ?? examples[0].script;
   setEngine(asked.engine ?? kept?.engine ?? "core");
   page.example = (kept?.script === script && examples.find(({ name }) => name === kept.example)) || OWN;
   if (script !== editor.script) editor.script = script;
@@ -133,6 +136,8 @@ function setBusy(isBusy) {
 function runScript() {
   setBusy(true);
   const { script } = editor;
+  const why = tooManyLines(editor.lineStarts.length);
+  if (why) return refuseLong(why);
   programs.run(script, ENGINES[engineWish()], (results) => {
     try {
       showResults(script, results);
@@ -152,14 +157,28 @@ function showLongRun() {
   byId("status").textContent = "The program is still running.";
 }
 
-function stopRun() {
+function stopRun(why = "The run was broken off. The script is kept.") {
   programs.stop();
   byId("stop").hidden = true;
-  showTrouble("The run was broken off. The script is kept.");
+  showTrouble(why);
+}
+
+function showTooLongRun() {
+  stopRun(`The run took longer than ${MOST_RUN_SECONDS} seconds, and was broken off. The script is kept.`);
+}
+
+/** Says that a script has more lines than the page takes. A run that is under way is let go. */
+function refuseLong(why) {
+  programs.leave();
+  byId("stop").hidden = true;
+  showTrouble(`The script is too long: ${why}. The script is kept.`);
 }
 
 /** What went wrong in a run, in a line; nothing where it came to the script's end. */
 function troubleIn({ engine, picture, answers: said }, script) {
+  if (said.isTooMuch || picture.isTooMuch) {
+    return `The ${said.isTooMuch ? "answers have" : "picture has"} more than 48 MiB, and the run was broken off there. The script is kept.`;
+  }
   const ended = [picture, said].find(({ trap, status }) => trap || status !== 0);
   if (!ended) return undefined;
   const { trap, status, errors } = ended;
@@ -237,7 +256,7 @@ function listen() {
     showNote(await copyLink(editor.script, engineWish()));
   });
   byId("note").addEventListener("click", () => showNote(""));
-  byId("stop").addEventListener("click", stopRun);
+  byId("stop").addEventListener("click", () => stopRun());
   byId("to-commands").addEventListener("click", () => byId("commands-title").focus());
   byId("to-engines").addEventListener("click", () => byId("engines-title").focus());
   document.addEventListener("keydown", pressKey);

@@ -3,6 +3,7 @@
 /** So many are kept as they were drawn. */
 const MOST_KEPT_PIPES = 400;
 const TOO_LONG_PIPE = `A row has more than ${MOST_ROW_VALUES} values, or its numbers are too long: it isn't drawn.`;
+const TOO_SLOW_PIPE = "The program took too long to say how it is to be drawn.";
 const CONTRADICTION = "What the runner said of its parts contradicts its answer, so nothing is drawn.";
 
 function runsPipe({ words, answer }) {
@@ -34,6 +35,7 @@ class PipeDrawings {
     const left = turns.filter((turn) => !this.refuse(turn));
     const parts = left.map(({ words }) => partsOf(words));
     const fronts = await this.answers(parts.map(questionsOfPipe));
+    if (fronts.some((those, index) => those.length < parts[index].length)) return this.keep(left, TOO_SLOW_PIPE);
     const pipes = parts.map((those, index) => readPipe(those, fronts[index]));
     const asked = pipes.map((pipe) => (pipe ? questionsOfParents(pipe) : undefined));
     const answers = await this.answers(asked.map((lines) => lines ?? []));
@@ -42,6 +44,10 @@ class PipeDrawings {
       const shown = asked[index] ? isTold && tieParents(pipes[index], answers[index]) && drawPipe(pipes[index]) : TOO_LONG_PIPE;
       this.kept.set(turn.text, shown || CONTRADICTION);
     });
+  }
+
+  keep(turns, sentence) {
+    for (const { text } of turns) this.kept.set(text, sentence);
   }
 
   /** Keeps why nothing is drawn, where the answer says it; whether it does. */

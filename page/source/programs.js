@@ -1,7 +1,11 @@
 // The programs, as the page sees them: a script and engines go in, and what the programs wrote comes out.
 
 /** A run that takes this long says so; one that is overtaken by another script after so long is broken off. */
-const LONG_RUN_MILLISECONDS = 1000;
+const LONG_RUN_MILLISECONDS = 800;
+/** A run that takes this long is broken off by itself. */
+const MOST_RUN_SECONDS = 20;
+/** What is asked beside the script is given up after so long. */
+const MOST_PROBE_MILLISECONDS = 4000;
 
 /** Modules with a memory, and with a table, of 64-bit addresses: the least that the programs need of a browser. */
 const NEEDED = [
@@ -41,8 +45,19 @@ class Prober {
     this.worker ??= this.start();
     const worker = await this.worker;
     this.number += 1;
-    worker.postMessage({ number: this.number, script, isProbe: true });
-    return new Promise((settle) => this.waiting.set(this.number, settle));
+    const { number } = this;
+    worker.postMessage({ number, script, isProbe: true });
+    const timer = setTimeout(() => this.giveUp(), MOST_PROBE_MILLISECONDS);
+    return new Promise((settle) => this.waiting.set(number, settle)).finally(() => clearTimeout(timer));
+  }
+
+  /** Leaves a worker that takes too long. Nobody who waits for it gets an answer. */
+  async giveUp() {
+    const left = [...this.waiting.values()];
+    const worker = this.worker;
+    Object.assign(this, { worker: null, waiting: new Map() });
+    (await worker)?.terminate();
+    for (const settle of left) settle({ output: "" });
   }
 
   async start() {
@@ -57,10 +72,9 @@ class Prober {
 }
 
 class Programs {
-  /** Tells `onTrouble` why the modules don't load, and `onLong` that a run takes long. */
-  constructor(onTrouble, onLong) {
-    this.onTrouble = onTrouble;
-    this.onLong = onLong;
+  /** Tells `onTrouble` why the modules don't load, `onLong` that a run takes long, and `onTooLong` that it was broken off. */
+  constructor(onTrouble, onLong, onTooLong) {
+    Object.assign(this, { onTrouble, onLong, onTooLong });
     this.modules = null;
     this.worker = null;
     this.failure = null;
@@ -124,8 +138,9 @@ class Programs {
   }
 
   isLong() {
-    if (this.waiting) this.stop();
-    else this.onLong();
+    if (this.waiting) return this.stop();
+    this.onLong();
+    this.timer = setTimeout(() => this.onTooLong(), MOST_RUN_SECONDS * 1000 - LONG_RUN_MILLISECONDS);
   }
 
   end(results) {
@@ -134,6 +149,12 @@ class Programs {
     this.begun = null;
     if (this.waiting) this.begin();
     else onResults(results);
+  }
+
+  /** Lets a run go, if one is under way, and what waits for it. */
+  leave() {
+    this.waiting = null;
+    if (this.begun) this.stop();
   }
 
   /** Breaks the run off. A worker can't be asked to stop, so it is left and another one begins. */

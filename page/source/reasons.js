@@ -53,7 +53,7 @@ class Reasons {
     const [asked, made] = this.namesIn(words);
     const { NoCommand, Unbound, Bound, OtherKind } = this.sentences;
     const word = { [NoCommand]: words[0], [Unbound]: asked, [Bound]: made, [OtherKind]: asked }[reason];
-    return word === undefined ? reason : `${reason} (“${word}”)`;
+    return word === undefined ? reason : `${reason} (“${foreign(word)}”)`;
   }
 
   formOf(first) {
@@ -109,10 +109,10 @@ class Reasons {
     for (const [index, kind] of form.words.entries()) {
       const word = rest[index];
       if (word === undefined) return `a word is missing: “${wanted}”`;
-      if (await this.isBad(PROBES[kind](word))) return `“${word}” is no ${kind}`;
+      if (await this.isBad(PROBES[kind](word))) return `“${foreign(word)}” is no ${kind}`;
     }
     const more = rest.slice(form.words.length);
-    if (!form.goes_on) return more.length > 0 ? `“${more[0]}” is a word too many for “${wanted}”` : undefined;
+    if (!form.goes_on) return more.length > 0 ? `“${foreign(more[0])}” is a word too many for “${wanted}”` : undefined;
     const isBad = await this.isBad(scriptWith(first, form, rest));
     return isBad ? `what follows “${wanted.slice(0, -2)}” is no ${FOLLOWS[first] ?? "end of the command"}` : undefined;
   }

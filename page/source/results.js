@@ -8,7 +8,9 @@ const MOST_NAMED_LINES = 8;
 /** Sets a text only where it is another one, so that a screen reader doesn't say it again. */
 function say(id, text) {
   const element = byId(id);
-  if (element.textContent !== text) element.textContent = text;
+  if (element.said === text) return;
+  element.said = text;
+  element.replaceChildren(...partsOfSentence(text));
 }
 
 /** So long a note stands there. */
@@ -197,10 +199,10 @@ function pointAt(turn, cell) {
   const joint = hasMarks(turn) ? ". " : "; ";
   byId("pointed").replaceChildren(
     `Line ${turn.number} `,
-    textElement("code", shortened(turn.text)),
+    codeElement(shortened(turn.text)),
     " answers ",
     textElement("strong", shortened(turn.answer ?? "nothing")),
-    `${joint}${told}.`,
+    ...partsOfSentence(`${joint}${told}.`),
   );
 }
 

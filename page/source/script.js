@@ -1,6 +1,8 @@
 // Scripts as text: their lines, and which answer belongs to which line.
 
 const MOST_SCRIPT_BYTES = 1048576;
+/** The page takes at most so many lines: a browser's own field takes a second for each key in a longer text. */
+const MOST_LINES = 20000;
 
 function linesOf(script) {
   const lines = script.split("\n");
@@ -17,6 +19,13 @@ function wordsOf(line) {
 function hasAnswer(line) {
   const first = wordsOf(line)[0];
   return first !== undefined && !first.startsWith("#");
+}
+
+/** Why a script isn't taken; nothing where it is. */
+function tooManyLines(count) {
+  if (count <= MOST_LINES) return undefined;
+  const [lines, most] = [count, MOST_LINES].map((number) => number.toLocaleString("en"));
+  return `it has ${lines} lines, and this page takes at most ${most}`;
 }
 
 function isBad(answer) {
@@ -36,6 +45,17 @@ function turnsOf(script, output) {
     turns.push({ number: index + 1, column, words: wordsOf(text), text: text.replace(/^ +| +$/g, ""), answer });
   });
   return turns;
+}
+
+/** Marks around words that aren't the page's own: they are shown by themselves, and turn nothing around them. */
+const [FOREIGN_BEGIN, FOREIGN_END] = ["\u2068", "\u2069"];
+/** What turns the direction of a text, or says so. */
+const TURNING = /[\u061c\u200e\u200f\u202a-\u202e\u2066-\u2069]/g;
+
+/** Foreign words for a sentence. What would turn the sentence's direction is named instead. */
+function foreign(words) {
+  const named = words.replace(TURNING, (it) => `U+${it.charCodeAt(0).toString(16).toUpperCase().padStart(4, "0")}`);
+  return `${FOREIGN_BEGIN}${named}${FOREIGN_END}`;
 }
 
 /** A longer text stands cut where it is only told of. */

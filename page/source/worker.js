@@ -7,6 +7,11 @@
 /** What a browser gives in one call. */
 const MOST_RANDOM_BYTES = 65536;
 
+/** A program that writes more is ended: the page would hold it all in memory, more than once. */
+const MOST_WRITTEN_BYTES = 48 << 20;
+
+class TooMuchWritten extends Error {}
+
 /** The compiled modules by the names of their programs. */
 const programs = new Map();
 
@@ -31,8 +36,8 @@ async function answer({ number, script, engines, isProbe }) {
   const results = [];
   if (isProbe) return self.postMessage({ number, results: [await run("flow_runner", "core", input)] });
   for (const engine of engines) {
-    const picture = await run("flow_marbles", engine, input);
     const answers = await run("flow_runner", engine, input);
+    const picture = answers.isTooMuch ? answers : await run("flow_marbles", engine, input);
     results.push({ engine, picture, answers });
   }
   self.postMessage({ number, results });
@@ -47,7 +52,7 @@ async function run(name, engine, input) {
     const status = instance.exports.run();
     return { status, output: host.text(1), errors: host.text(2) };
   } catch (trap) {
-    return { trap: String(trap) };
+    return trap instanceof TooMuchWritten ? { isTooMuch: true } : { trap: String(trap) };
   }
 }
 
@@ -58,6 +63,7 @@ class Host {
     this.input = input;
     this.readSoFar = 0;
     this.written = [[], [], []];
+    this.writtenBytes = 0;
     this.memory = null;
   }
 
@@ -83,6 +89,8 @@ class Host {
   }
 
   write(file, from, count) {
+    this.writtenBytes += Number(count);
+    if (this.writtenBytes > MOST_WRITTEN_BYTES) throw new TooMuchWritten();
     this.written[file].push(this.bytes(from, count).slice());
     return count;
   }
