@@ -66,7 +66,7 @@ class AnswersView {
 
   /** Shows these turns. Each column has a title, and a function from a turn to its text. */
   show(turns, columns) {
-    const heads = [{ title: "Line", look: "line" }, { title: "Script", look: "script" }, ...columns];
+    const heads = [{ title: "Line", look: "line" }, { title: this.wordsOf ? "In Kotlin" : "Script", look: "script" }, ...columns];
     this.head.replaceChildren(...heads.map(({ title, look }) => textElement("th", title, { scope: "col", class: look })));
     Object.assign(this, { turns, columns, stop: clamp(this.stop, 0, Math.max(0, turns.length - 1)) });
     this.table.setAttribute("aria-rowcount", turns.length + 1);
@@ -103,7 +103,7 @@ class AnswersView {
     const attributes = { type: "button", tabindex, "aria-label": `Line ${turn.number}`, title: "Go to this line of the script" };
     heading.append(textElement("button", turn.number, attributes));
     const script = document.createElement("td");
-    script.append(codeElement(turn.text));
+    script.append(codeElement(this.wordsOf?.(turn) ?? turn.text));
     const cells = this.columns.map(({ textOf, look }) => tellIn(textElement("td", "", { class: look }), textOf(turn)));
     row.append(heading, script, ...cells);
     row.turn = turn;

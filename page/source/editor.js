@@ -6,10 +6,10 @@ const TYPING = /^(insertText|insertCompositionText|deleteContent\w+)$/;
 class Editor {
   /**
    * Tells `onInput` a change, `onPoint` the number of a line that the pointer or the caret is on, `onTyped` that the line that is
-   * being typed is another, and `onRefuse` why a text isn't put in.
+   * being typed is another, `onRefuse` why a text isn't put in, and `onKotlin` which lines were put in for Kotlin's.
    */
-  constructor(field, gutter, backdrop, { onInput, onPoint, onTyped, onRefuse }) {
-    Object.assign(this, { field, gutter, backdrop, onInput, onPoint, onTyped, onRefuse });
+  constructor(field, gutter, backdrop, { onInput, onPoint, onTyped, onRefuse, onKotlin }) {
+    Object.assign(this, { field, gutter, backdrop, onInput, onPoint, onTyped, onRefuse, onKotlin });
     this.bad = new Set();
     this.pointed = 0;
     /** The line that is being typed: it was edited, and the caret is in it. 0 where there is none. */
@@ -19,6 +19,7 @@ class Editor {
     field.addEventListener("input", (event) => this.change(event));
     field.addEventListener("beforeinput", (event) => this.undoByMenu(event));
     field.addEventListener("beforeinput", (event) => this.refuseLong(event));
+    field.addEventListener("beforeinput", (event) => this.translate(event));
     field.addEventListener("scroll", () => this.draw());
     field.addEventListener("keydown", (event) => this.pressKey(event));
     field.addEventListener("blur", () => this.setTyped(0));
@@ -74,6 +75,19 @@ class Editor {
     if (!why || !event.data?.includes("\n")) return;
     event.preventDefault();
     this.onRefuse(why);
+  }
+
+  /** Constructors of Kotlin become lines of the script. */
+  translate(event) {
+    const lines = event.defaultPrevented || !event.data ? undefined : scriptOfKotlin(event.data);
+    if (!lines) return;
+    event.preventDefault();
+    const { selectionStart, selectionEnd } = this.field;
+    this.field.setRangeText(event.data.endsWith("\n") ? `${lines}\n` : lines, selectionStart, selectionEnd, "end");
+    this.edits.note(this.script);
+    this.readLines();
+    this.onInput();
+    this.onKotlin(lines);
   }
 
   /** By a menu, or by shaking a telephone. */

@@ -11,6 +11,10 @@ function longLiteral(word) {
   return number <= MOST_LONG ? `${number}L` : `${number}uL.toLong()`;
 }
 
+function flowBuilder(write) {
+  return write === LONG ? "flow<Long>" : "flow";
+}
+
 /** The numbers of a list. A pending answer has no counterpart: there a flow suspends. */
 function numbersOf(list) {
   return (list ?? "").split(",").filter((word) => word !== "" && word !== "p");
@@ -21,7 +25,7 @@ const KOTLIN_SOURCES = {
   range: ([from, to], write) => `(${write.number(from)}..<${write.number(to)}).asFlow()`,
   fail: ([fault, list], write) => {
     const emits = numbersOf(list).map((word) => `emit(${write.number(word)}); `);
-    return `flow${write === LONG ? "<Long>" : ""} { ${emits.join("")}throw Fault(${write.fault(fault)}) }`;
+    return `${flowBuilder(write)} { ${emits.join("")}throw Fault(${write.fault(fault)}) }`;
   },
 };
 
@@ -38,7 +42,7 @@ const KOTLIN_STAGES = {
   },
   done: ([number], write) => `onCompletion { if (it == null) emit(${write.number(number)}) }`,
   concat: ([fault], write) =>
-    fault === undefined ? "flatMapConcat { flowOf(it, it + 1) }" : `flatMapConcat { flow { emit(it); throw Fault(${write.fault(fault)}) } }`,
+    fault === undefined ? "flatMapConcat { flowOf(it, it + 1) }" : `flatMapConcat { ${flowBuilder(write)} { emit(it); throw Fault(${write.fault(fault)}) } }`,
   zip: (source, write) => `zip(${kotlinSource(source, write)}) { a, b -> a + b }`,
   combine: (source, write) => `combine(${kotlinSource(source, write)}) { a, b -> a + b }`,
 };

@@ -47,6 +47,16 @@ function linkNote(link) {
   return notes.join(" ");
 }
 
+/** Copies a text; what to say of it. */
+async function copyText(text, done) {
+  try {
+    await navigator.clipboard.writeText(text);
+    return `${done}: ${text.length.toLocaleString("en")} characters.`;
+  } catch {
+    return "This browser doesn't let the page copy.";
+  }
+}
+
 /** Copies the link: of a page that is a file, only what leads to the script in it. */
 async function copyLink(script, engine) {
   const part = partWith(script, engine);

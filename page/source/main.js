@@ -20,12 +20,13 @@ const examples = JSON.parse(blockOfData("examples")).flatMap(({ examples }) => e
  * What is shown: the example whose hint stands there, the hints of scripts that were left, the script's runs by the engines
  * asked for, the lines that have an answer, also by their numbers, and views of the pictures.
  */
-const page = { example: examples[0], left: new Map(), runs: [], turns: [], byLine: new Map(), views: [], timer: 0, keptAt: -Infinity };
+const page = { example: examples[0], left: new Map(), runs: [], turns: [], byLine: new Map(), fed: new Set(), views: [], timer: 0, keptAt: -Infinity };
 
 const editor = new Editor(byId("script"), byId("gutter"), byId("backdrop"), {
   onInput: changeScript,
   onPoint: pointAtLine,
   onTyped: markBadLines,
+  onKotlin: (lines) => showNote(`Kotlin's constructor became ${lines.includes("\n") ? "lines" : "a line"} of the script: ${lines.replaceAll("\n", ", ")}.`),
   onRefuse: (why) => showNote(`That text isn't put in: with it ${why.replace("it", "the script")}.`),
 });
 const answers = new AnswersView(byId("answers"), (turn) => pointAt(turn), ({ number }) => editor.goTo(number));
@@ -116,9 +117,19 @@ function takeFromAddress() {
   runScript();
 }
 
-/** Undoes and redoes by the keys of the field, where the focus is elsewhere on the page. The key to leave lets a note go. */
+/** A menu is closed once something of it is chosen, or something else. */
+function closeMenus({ target }) {
+  for (const menu of document.querySelectorAll(".menu[open]")) {
+    if (!menu.contains(target) || target.closest(".choices button")) menu.open = false;
+  }
+}
+
+/** Undoes and redoes, wherever the focus is. The key to leave lets a note go. */
 function pressKey(event) {
-  if (event.key === "Escape") showNote("");
+  if (event.key === "Escape") {
+    showNote("");
+    closeMenus({ target: document.body });
+  }
   const isCommand = (event.ctrlKey || event.metaKey) && !event.altKey;
   const key = event.key.toLowerCase();
   if (!isCommand || (key !== "z" && key !== "y")) return;
@@ -201,6 +212,7 @@ function showResults(script, results) {
   page.runs = [];
   for (const result of results) page.runs.push(readRun(script, result));
   page.turns = page.runs[0].turns;
+  page.fed = fedHosts(page.turns);
   page.byLine = new Map(page.turns.map((turn) => [turn.number, turn]));
   markBadLines();
   showPictures(script);
@@ -255,11 +267,14 @@ function listen() {
     keepNow();
     showNote(await copyLink(editor.script, engineWish()));
   });
+  byId("copy-kotlin").addEventListener("click", async () => showNote(await copyText(kotlinProgram(page.turns), "The program is copied")));
+  byId("in-kotlin").addEventListener("change", showInKotlin);
   byId("note").addEventListener("click", () => showNote(""));
   byId("stop").addEventListener("click", () => stopRun());
   byId("to-commands").addEventListener("click", () => byId("commands-title").focus());
   byId("to-engines").addEventListener("click", () => byId("engines-title").focus());
   document.addEventListener("keydown", pressKey);
+  document.addEventListener("click", closeMenus);
   addEventListener("popstate", takeFromAddress);
 }
 

@@ -175,6 +175,14 @@ function answerColumns() {
   return [...columns, { title: "In the picture", look: "told", textOf: tellTurn }];
 }
 
+/** Shows each line as Kotlin writes it, or as it stands in the script. */
+function showInKotlin() {
+  const isWished = byId("in-kotlin").checked;
+  answers.wordsOf = isWished ? (turn) => kotlinOf(turn, page.fed) : undefined;
+  answers.show(page.turns, answerColumns());
+  pointAtLine(editor.pointed);
+}
+
 function answerTo(run, { column }) {
   return run.turns[column - 1].answer ?? "none";
 }
@@ -200,6 +208,7 @@ function pointAt(turn, cell) {
   byId("pointed").replaceChildren(
     `Line ${turn.number} `,
     codeElement(shortened(turn.text)),
+    ...(byId("in-kotlin").checked ? [", in Kotlin ", codeElement(shortened(kotlinOf(turn, page.fed) ?? "nothing"))] : []),
     " answers ",
     textElement("strong", shortened(turn.answer ?? "nothing")),
     ...partsOfSentence(`${joint}${told}.`),
