@@ -49,7 +49,7 @@ def test_foreign_words_turn_no_sentence_around(browser, folder):
 
 
 def test_a_run_is_broken_off_by_itself(browser, folder):
-    old = "const host = new Host([name, engine], input);"
+    old = "const host = new Host([name, engine].flat(), input);"
     changes = ((old, f"while (input[0] === 33);\n{old}"), ("const MOST_RUN_SECONDS = 20;", "const MOST_RUN_SECONDS = 2;"))
     page = Page(browser, changed_page(folder, "bound", *changes))
     begun = time.time()

@@ -104,17 +104,25 @@ class AnswersView {
     heading.append(textElement("button", turn.number, attributes));
     const script = document.createElement("td");
     script.append(codeElement(this.wordsOf?.(turn) ?? turn.text));
-    const cells = this.columns.map(({ textOf, look }) => tellIn(textElement("td", "", { class: look }), textOf(turn)));
+    const cells = this.columns.map((column) => this.cellOf(column, turn));
     row.append(heading, script, ...cells);
     row.turn = turn;
     this.dress(row);
     return row;
   }
 
+  cellOf({ textOf, elementOf, look }, turn) {
+    const cell = textElement("td", "", { class: look });
+    const element = elementOf?.(turn);
+    if (!element) return tellIn(cell, textOf(turn));
+    cell.append(element);
+    return cell;
+  }
+
   /** Writes the row of a turn anew, of which more is known. */
   retell(turn) {
     const row = this.rowAt(turn.column - 1);
-    this.columns.forEach(({ textOf }, index) => row && tellIn(row.cells[index + 2], textOf(turn)));
+    this.columns.forEach((column, index) => row?.cells[index + 2].replaceWith(this.cellOf(column, turn)));
   }
 
   dress(row) {

@@ -57,6 +57,15 @@ class Editor {
     this.onInput();
   }
 
+  /** Puts a word in place of what stands between two places of a line that is being typed. */
+  insert(word, from, end, line) {
+    this.field.setRangeText(word, from, end, "end");
+    this.edits.note(this.script);
+    this.readLines();
+    this.setTyped(line);
+    this.onInput();
+  }
+
   /** Undoes or redoes the last step, also where the focus is elsewhere. */
   undo(isRedo) {
     const found = isRedo ? this.edits.redo() : this.edits.undo();

@@ -9,17 +9,37 @@ function partBehindHash(script, engine) {
   return new URLSearchParams({ script, engine }).toString();
 }
 
-/** What an address asks for: { script, engine }, each null where it says nothing of it. */
+/** What an address asks for: { script, engine }, each null where it says nothing of it, and whether it is for a frame. */
 function wishInAddress() {
   const asked = new URLSearchParams(location.hash.slice(1));
-  return { script: asked.get("script"), engine: asked.get("engine") };
+  return { script: asked.get("script"), engine: asked.get("engine"), isFrame: asked.has("embed") };
 }
 
 /** The part of an address with this script, from the # on, or null where it would be too long. */
-function partWith(script, engine) {
+function partWith(script, engine, isFrame = wishInAddress().isFrame) {
   if (script.length > MOST_LINK_CHARACTERS) return null;
-  const part = `#${partBehindHash(script, engine)}`;
+  const part = `#${isFrame ? "embed&" : ""}${partBehindHash(script, engine)}`;
   return part.length > MOST_LINK_CHARACTERS ? null : part;
+}
+
+/** The address of this page with a script in it, or null where it would be too long. */
+function addressWith(script, engine, isFrame) {
+  const part = partWith(script, engine, isFrame);
+  return part && location.href.split("#")[0] + part;
+}
+
+/** The words by which another page shows this one in a frame, with field and picture alone. */
+function frameWords(script, engine) {
+  const address = addressWith(script, engine, true);
+  return address && `<iframe src="${address.replaceAll("&", "&amp;")}" title="Flows to play with" width="900" height="420" loading="lazy"></iframe>`;
+}
+
+/** A script and its picture in characters, as Markdown. */
+function markdownWords(script, picture, address) {
+  const longest = Math.max(2, ...(script.match(/`+/g) ?? []).map((ticks) => ticks.length));
+  const fence = "`".repeat(longest + 1);
+  const block = (text) => `${fence}\n${text.replace(/\n?$/, "\n")}${fence}\n`;
+  return `${block(script)}\n${block(picture)}${address ? `\n[Play with it](${address})\n` : ""}`;
 }
 
 /**
@@ -59,7 +79,7 @@ async function copyText(text, done) {
 
 /** Copies the link: of a page that is a file, only what leads to the script in it. */
 async function copyLink(script, engine) {
-  const part = partWith(script, engine);
+  const part = partWith(script, engine, false);
   if (!part) return "The script is too long for a link. Send it as a text.";
   const link = location.protocol === "file:" ? part : location.href.split("#")[0] + part;
   try {

@@ -39,12 +39,17 @@ const pipes = new PipesView(byId("pipes"), (script) => prober.answer(script), {
 });
 const pending = new PendingView(byId("pending"), (script) => prober.answer(script));
 const taken = new TakenFinder((script) => prober.answer(script), showTaken);
+const steps = new Steps(showSteps);
 const reasons = new Reasons(
   JSON.parse(blockOfData("command-forms")),
   JSON.parse(blockOfData("reasons")),
   async (script) => endsBad(await prober.answer(script)),
   showReason,
 );
+
+const completion = new Completion(byId("offered"), editor, (words, line) => {
+  return wordsToCome(words, reasons.forms, page.turns.filter(({ number }) => number < line));
+});
 
 // ---- What the reader does ----
 
@@ -106,6 +111,7 @@ function showExample() {
 /** Takes the script from the address, or from the browser's memory of a step; without either, the first example. */
 function takeFromAddress() {
   const asked = wishInAddress();
+  document.body.classList.toggle("frame", asked.isFrame);
   const kept = history.state;
   const why = tooManyLines(linesOf(asked.script ?? "").length);
   if (why) showNote(`The script of this link isn't shown: ${why}.`);
@@ -215,9 +221,10 @@ function showResults(script, results) {
   page.fed = fedHosts(page.turns);
   page.byLine = new Map(page.turns.map((turn) => [turn.number, turn]));
   markBadLines();
+  steps.take(page.turns);
   showPictures(script);
   answers.show(page.turns, answerColumns());
-  pipes.show(page.turns);
+  pipes.show(page.turns.filter((turn) => steps.isShown(turn)));
   pending.take(script, page.turns);
   taken.find(script, page.turns);
   reasons.explain(script, page.turns.filter(({ answer }) => isBad(answer)).slice(0, MOST_NAMED_LINES));
@@ -256,6 +263,19 @@ function fillExamples() {
   });
 }
 
+async function copyMarkdown() {
+  const [engine] = ENGINES[engineWish()];
+  const { output, trap } = await prober.draw(editor.script, engine);
+  if (trap || output === "") return "The program drew no picture in characters.";
+  const address = location.protocol === "file:" ? "" : addressWith(editor.script, engineWish(), false);
+  return copyText(markdownWords(editor.script, output, address), "Script and picture are copied as Markdown");
+}
+
+async function copyFrame() {
+  const words = frameWords(editor.script, engineWish());
+  return words ? copyText(words, "The words for a frame are copied") : "The script is too long for a link.";
+}
+
 function listen() {
   for (const choice of document.querySelectorAll("input[name=engine]")) {
     choice.addEventListener("change", () => {
@@ -267,7 +287,11 @@ function listen() {
     keepNow();
     showNote(await copyLink(editor.script, engineWish()));
   });
+  byId("copy-markdown").addEventListener("click", async () => showNote(await copyMarkdown()));
+  byId("copy-frame").addEventListener("click", async () => showNote(await copyFrame()));
+  byId("whole").addEventListener("click", () => open(addressWith(editor.script, engineWish(), false), "_blank", "noopener"));
   byId("copy-kotlin").addEventListener("click", async () => showNote(await copyText(kotlinProgram(page.turns), "The program is copied")));
+  byId("predict").addEventListener("change", ({ target }) => steps.setGuessing(target.checked));
   byId("in-kotlin").addEventListener("change", showInKotlin);
   byId("note").addEventListener("click", () => showNote(""));
   byId("stop").addEventListener("click", () => stopRun());

@@ -20,7 +20,8 @@ class PipeFigure {
     this.root.addEventListener("focusin", ({ target }) => this.focus(target));
     this.figure.addEventListener("pointermove", (event) => hasMoved(event) && !view.drag && view.onPoint(this.turn));
     this.line.addEventListener("click", () => view.onPoint(this.turn, true));
-    find(".save").addEventListener("click", () => view.onSave(this));
+    find(".save").addEventListener("click", () => view.onSave(this, false));
+    find(".save-png").addEventListener("click", () => view.onSave(this, true));
   }
 
   show(turn, shown) {
@@ -30,7 +31,7 @@ class PipeFigure {
     this.code.textContent = turn.text;
     this.why.textContent = isDrawn ? "" : shown;
     this.host.hidden = !isDrawn;
-    this.figure.querySelector(".save").hidden = !isDrawn;
+    this.figure.querySelector(".tools").hidden = !isDrawn;
     const markup = isDrawn ? pipeSvg(shown, `Line ${turn.number} as marbles`, true) : "";
     if (markup === this.markup) return;
     this.hadFocus = this.root.activeElement !== null;

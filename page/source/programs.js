@@ -51,6 +51,16 @@ class Prober {
     return new Promise((settle) => this.waiting.set(number, settle)).finally(() => clearTimeout(timer));
   }
 
+  /** The picture in characters that `flow_marbles` draws of a script. */
+  async draw(script, engine) {
+    this.worker ??= this.start();
+    const worker = await this.worker;
+    worker.postMessage({ modules: [["flow_marbles", await moduleBytes("module-flow-marbles")]] });
+    this.number += 1;
+    worker.postMessage({ number: this.number, script, words: ["flow_marbles", engine, "--text"] });
+    return new Promise((settle) => this.waiting.set(this.number, settle));
+  }
+
   /** Leaves a worker that takes too long. Nobody who waits for it gets an answer. */
   async giveUp() {
     const left = [...this.waiting.values()];
@@ -63,7 +73,7 @@ class Prober {
   async start() {
     const worker = newWorker();
     worker.onmessage = ({ data: { number, results } }) => {
-      this.waiting.get(number)?.(results[0]);
+      this.waiting.get(number)?.(results?.[0]);
       this.waiting.delete(number);
     };
     worker.postMessage({ modules: [["flow_runner", await moduleBytes("module-flow-runner")]] });

@@ -114,7 +114,7 @@ function showPictures(script) {
     figure.querySelector(".engines").textContent = agree() ? engines.join(" and ") : engines[index];
     figure.querySelector(".empty").textContent = whyEmpty(shown.run.picture, page.turns, script);
     figure.hidden = isEmpty(shown.run.picture) && page.turns.some(runsPipe);
-    view.show(shown.run.picture, shown.run.turns);
+    view.show(shown.run.picture, shown.run.turns, steps.shownTo);
     view.markTyped(editor.typed);
   });
 }
@@ -128,22 +128,27 @@ function makeFigure() {
   const shown = { figure, view };
   const tools = {
     save: () => savePicture(shown.run),
+    "save-png": async () => showNote(await savePng(shown.run.svg, `${page.example.name}_${shown.run.engine}`)),
     earlier: () => view.scrollBy(-1),
     later: () => view.scrollBy(1),
     smaller: () => view.zoomBy(-1),
     larger: () => view.zoomBy(1),
     "as-drawn": () => view.zoomBy(),
+    step: () => steps.stepBy(1),
   };
   for (const [name, use] of Object.entries(tools)) figure.querySelector(`.${name}`).addEventListener("click", use);
   figure.addEventListener("keydown", (event) => zoomByKey(event, view));
   return shown;
 }
 
+/** Zooms, or shows one line more or less. */
 function zoomByKey(event, view) {
-  const steps = { "+": 1, "=": 1, "-": -1, 0: 0 }[event.key];
-  if (steps === undefined || event.ctrlKey || event.metaKey || event.altKey) return;
+  const zoom = { "+": 1, "=": 1, "-": -1, 0: 0 }[event.key];
+  const step = { ".": 1, ",": -1 }[event.key];
+  if ((zoom ?? step) === undefined || event.ctrlKey || event.metaKey || event.altKey) return;
   event.preventDefault();
-  view.zoomBy(steps || undefined);
+  if (step) steps.stepBy(step);
+  else view.zoomBy(zoom || undefined);
 }
 
 /** Says which lines are in sight, and how large they are. A button that leads nowhere is none. */
@@ -170,9 +175,9 @@ function answerColumns() {
   const { runs } = page;
   const isOne = runs.length < 2 || runs.every(({ output }) => output === runs[0].output);
   const columns = isOne
-    ? [{ title: "Answer", look: "answer", textOf: ({ answer }) => answer ?? "none" }]
-    : runs.map((run) => ({ title: run.engine, look: "answer", textOf: (turn) => answerTo(run, turn) }));
-  return [...columns, { title: "In the picture", look: "told", textOf: tellTurn }];
+    ? [{ title: "Answer", look: "answer", textOf: (turn) => steps.textOf(turn, turn.answer ?? "none"), elementOf: (turn) => steps.fieldFor(turn) }]
+    : runs.map((run) => ({ title: run.engine, look: "answer", textOf: (turn) => steps.textOf(turn, answerTo(run, turn)) }));
+  return [...columns, { title: "In the picture", look: "told", textOf: (turn) => (steps.isShown(turn) ? tellTurn(turn) : "") }];
 }
 
 /** Shows each line as Kotlin writes it, or as it stands in the script. */
@@ -202,6 +207,7 @@ function pointAtLine(line) {
 /** Points at a line with an answer, and maybe at one mark of it: all views mark it, and a sentence tells it. */
 function pointAt(turn, cell) {
   markAll(turn.number, turn, cell);
+  if (!steps.isShown(turn)) return tellHidden(turn);
   if (isBad(turn.answer)) reasons.explainFirst(turn);
   const told = shortened(cell ? sentenceOf(cell) : tellTurn(turn));
   const joint = hasMarks(turn) ? ". " : "; ";
@@ -215,12 +221,32 @@ function pointAt(turn, cell) {
   );
 }
 
+/** Of a line that isn't shown yet nothing is told. */
+function tellHidden(turn) {
+  byId("pointed").replaceChildren(`Line ${turn.number} `, codeElement(shortened(turn.text)), turn === steps.asked ? ": what does it answer?" : " comes later.");
+}
+
+/** More or less of the script is shown. */
+function showSteps() {
+  const { asked, shownTo } = steps;
+  document.body.classList.toggle("predicting", steps.isGuessing);
+  for (const { view } of page.views) view.showUpTo(shownTo);
+  answers.show(page.turns, answerColumns());
+  pipes.show(page.turns.filter((turn) => steps.isShown(turn)));
+  say("agreement", steps.guesses.size > 0 ? steps.score : page.runs.length > 1 ? agreementNote() : "");
+  const last = page.turns[Math.min(shownTo, page.turns.length) - 1];
+  if (shownTo !== Infinity && (last ?? asked)) pointAt(last ?? asked);
+  if (!asked) return;
+  answers.reveal(asked.column - 1);
+  document.querySelector(".guess")?.focus({ preventScroll: true });
+}
+
 function markAll(line, turn, cell) {
   editor.mark(line);
   answers.mark(line, turn);
   for (const { view } of page.views) view.mark(turn?.column ?? 0, cell);
   pipes.point(line);
-  pending.point(line);
+  pending.point(steps.isShown(turn ?? { column: 0 }) ? line : (page.turns[steps.shownTo - 1]?.number ?? 0));
 }
 
 /** Points at a pipe's line, and goes there where that is chosen. */
@@ -229,7 +255,11 @@ function pointAtPipe(turn, isChosen = false) {
   else if (editor.pointed !== turn.number) pointAt(page.byLine.get(turn.number) ?? turn);
 }
 
-function savePipe({ turn, drawing }) {
-  saveFile(`${page.example.name}_line${turn.number}.svg`, "image/svg+xml", pipeSvg(drawing, turn.text, false, `<style>\n${PIPE_STYLE}\n</style>\n`));
+/** Saves a pipe's picture, as an SVG or as a PNG. */
+async function savePipe({ turn, drawing }, isPng) {
+  const name = `${page.example.name}_line${turn.number}`;
+  const svg = pipeSvg(drawing, turn.text, false, `<style>\n${PIPE_STYLE}\n</style>\n`);
+  if (isPng) return showNote(await savePng(svg, name));
+  saveFile(`${name}.svg`, "image/svg+xml", svg);
   showNote("The picture is saved.");
 }

@@ -55,14 +55,26 @@ class PictureView {
   }
 
   /** Shows a picture whose cells have been told. What was in sight stays. */
-  show(picture, turns) {
-    Object.assign(this, { picture, turns, marked: 0, aimed: undefined, part: 0 });
+  show(picture, turns, shownTo = Infinity) {
+    Object.assign(this, { picture, turns, marked: 0, aimed: undefined, part: 0, shownTo });
     this.layout = new PictureLayout(picture, picture.hosts);
     if (this.isFitted) this.zoom = this.fittedZoom;
-    this.stop = picture.cells.find(({ row }) => row > 0);
+    this.stop = this.shownMarks[0];
     if (this.style.textContent !== picture.style) this.style.textContent = picture.style;
     this.tip.hide();
     this.layOut();
+  }
+
+  /** The marks of the columns that are shown, in their order. */
+  get shownMarks() {
+    return this.picture.cells.filter(({ row, column }) => row > 0 && column <= this.shownTo);
+  }
+
+  /** Shows the columns up to one, and nothing of those behind. */
+  showUpTo(column) {
+    this.shownTo = column;
+    if (!this.stop || this.stop.column > column) this.stop = this.shownMarks.at(-1);
+    this.make(this.inSight(0.6));
   }
 
   // ---- What is in sight ----
@@ -176,19 +188,26 @@ class PictureView {
     const end = made.last === picture.columnCount ? layout.width : layout.lefts[made.last + 1];
     this.box = { left, top: made.top * ROW_HEIGHT, width: end - left, height: (made.bottom - made.top + 1) * ROW_HEIGHT };
     const isMade = ({ row, column }) => row >= made.top && row <= made.bottom && column >= made.first && column <= made.last;
-    const cells = picture.columns.slice(made.first, made.last + 1).flat().filter(isMade);
+    const cells = picture.columns.slice(made.first, made.last + 1).flat().filter((cell) => isMade(cell) && cell.column <= this.shownTo);
     if (this.stop && !isMade(this.stop)) cells.push(this.stop);
     const [heads, marked] = [cells.filter(({ row }) => row === 0), cells.filter(({ row }) => row > 0)];
     const group = (look) => (cell) => groupOf(look, cell, layout.shiftOf(cell.column));
     const groups = [...heads.map(group("heading")), ...marked.map(group("mark"))];
     const band = `<rect class="band" y="0" width="0" height="100%" display="none"/>`;
-    const svg = makeSvg(this.box, zoom, [band, ...this.ways(), ...groups]);
+    const svg = makeSvg(this.box, zoom, [band, ...this.ways(), this.coverMarkup(end), ...groups]);
     this.marks = [...svg.querySelectorAll(".mark")].map((element, index) => ({ element, cell: marked[index] }));
     this.heads = [...svg.querySelectorAll(".heading")].map((element, index) => ({ element, cell: heads[index] }));
     this.nameSvg(svg);
     svg.style.left = `${this.placeOfColumn(made.first) * zoom}px`;
     svg.style.top = `${this.box.top * zoom}px`;
     return svg;
+  }
+
+  /** What hides the columns that aren't shown. */
+  coverMarkup(end) {
+    const { lefts } = this.layout;
+    const from = this.shownTo < this.picture.columnCount ? lefts[this.shownTo + 1] : end;
+    return from < end ? `<rect class="sheet" x="${from}" y="0" width="${end - from}" height="100%"/>` : "";
   }
 
   /** The lines under the marks that are made. */
@@ -249,7 +268,7 @@ class PictureView {
   pointAt(event) {
     if (event.target.closest(".names") || !this.columns) return this.tip.hide();
     const { turn, cell } = this.placeOf(event);
-    if (!turn) return this.tip.hide();
+    if (!turn || turn.column > this.shownTo) return this.tip.hide();
     this.isStill = true;
     this.onPoint(turn, cell);
     this.isStill = false;
@@ -266,7 +285,7 @@ class PictureView {
   chooseAt(event) {
     if (event.target.closest(".names")) return;
     const { turn, cell } = this.placeOf(event);
-    if (!turn) return;
+    if (!turn || turn.column > this.shownTo) return;
     if (event.pointerType !== "touch") return this.onChoose(turn);
     this.onPoint(turn, cell);
     if (cell) this.showTip(cell);
@@ -307,12 +326,11 @@ class PictureView {
 
   /** Which cell a key leads to: left and right in the order of the lines, up and down to the nearest of the next row. */
   cellAfter(cell, key) {
-    const isMark = ({ row }) => row > 0;
-    const { cells } = this.picture;
-    if (key === "ArrowRight") return cells.slice(cells.indexOf(cell) + 1).find(isMark) ?? cell;
-    if (key === "ArrowLeft") return cells.slice(0, cells.indexOf(cell)).findLast(isMark) ?? cell;
-    if (key === "Home") return cells.find(isMark);
-    if (key === "End") return cells.findLast(isMark);
+    const marks = this.shownMarks;
+    if (key === "ArrowRight") return marks[marks.indexOf(cell) + 1] ?? cell;
+    if (key === "ArrowLeft") return marks[marks.indexOf(cell) - 1] ?? cell;
+    if (key === "Home") return marks[0];
+    if (key === "End") return marks.at(-1);
     if (key === "ArrowDown") return this.cellOnRow(cell, 1);
     if (key === "ArrowUp") return this.cellOnRow(cell, -1);
     if (key === "PageDown") return this.cellAway(cell, 1);
@@ -322,7 +340,7 @@ class PictureView {
 
   cellOnRow(cell, step) {
     const distance = (other) => (other.row - cell.row) * step * 1e9 + Math.abs(other.column - cell.column);
-    const beyond = this.picture.cells.filter((other) => other.row > 0 && (other.row - cell.row) * step > 0);
+    const beyond = this.shownMarks.filter((other) => (other.row - cell.row) * step > 0);
     return beyond.reduce((best, other) => (distance(other) < distance(best) ? other : best), beyond[0] ?? cell);
   }
 
@@ -330,14 +348,14 @@ class PictureView {
   cellAway(cell, step) {
     const { first, last } = this.inSight(0);
     const column = cell.column + step * Math.max(1, last - first);
-    const marks = this.picture.cells.filter(({ row }) => row > 0);
+    const marks = this.shownMarks;
     return step > 0 ? marks.find((one) => one.column >= column) ?? marks.at(-1) : marks.findLast((one) => one.column <= column) ?? marks[0];
   }
 
   /** Marks a column, the cell that is pointed at, and every mark of the same emission. The tab key leads to the column. */
   mark(column, aimed) {
     Object.assign(this, { marked: column, aimed });
-    const first = this.picture?.columns[column]?.find(({ row }) => row > 0);
+    const first = column <= this.shownTo ? this.picture?.columns[column]?.find(({ row }) => row > 0) : undefined;
     if (first && !this.root.activeElement && this.stop?.column !== column) this.setStop(first);
     if (column > 0 && !this.isStill) this.reveal(column, aimed?.row);
     if (!this.root.activeElement && aimed === undefined && !this.isStill) this.tip.hide();

@@ -1,7 +1,7 @@
 // Runs the programs in a thread of their own, so that a long script never holds up the page.
 //
-// Messages in: { modules } once, then { number, script, engines }, or { number, script, isProbe } where answers are all that is
-// asked for. Messages out: { loaded } or { failed }, then { number, results }.
+// Messages in: { modules }, then { number, script, engines }, or { number, script, isProbe } where answers are all that is asked for, or
+// { number, script, words } for a command line of one's own. Messages out: { loaded } or { failed }, then { number, results }.
 "use strict";
 
 /** What a browser gives in one call. */
@@ -31,10 +31,11 @@ async function load(modules) {
   }
 }
 
-async function answer({ number, script, engines, isProbe }) {
+async function answer({ number, script, engines, isProbe, words }) {
   const input = new TextEncoder().encode(script);
   const results = [];
   if (isProbe) return self.postMessage({ number, results: [await run("flow_runner", "core", input)] });
+  if (words) return self.postMessage({ number, results: [await run(words[0], words.slice(1), input)] });
   for (const engine of engines) {
     const answers = await run("flow_runner", engine, input);
     const picture = answers.isTooMuch ? answers : await run("flow_marbles", engine, input);
@@ -43,9 +44,9 @@ async function answer({ number, script, engines, isProbe }) {
   self.postMessage({ number, results });
 }
 
-/** Runs a program on an input: what it wrote and its status, or the trap that it met. */
+/** Runs a program on an input, by the words behind its name: what it wrote and its status, or the trap that it met. */
 async function run(name, engine, input) {
-  const host = new Host([name, engine], input);
+  const host = new Host([name, engine].flat(), input);
   try {
     const instance = await WebAssembly.instantiate(programs.get(name), { page: host.calls() });
     host.memory = instance.exports.memory;
