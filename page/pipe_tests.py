@@ -1,7 +1,7 @@
 """Tests of pipes as marbles: what is drawn, and that their sources are changed by hand."""
 
 import json
-import random
+import re
 
 from harness import ALT, CONTROL, ROOT, SHIFT, Page, same
 from pipe_model import rows_of
@@ -95,6 +95,27 @@ def test_a_value_keeps_the_colour_of_what_it_came_of(browser, folder):
         same("kept through two stages", seen["5, place 3 of 3 of the source"], seen["15, came of 15"])
         same("none of an end", seen["9, came of the end"], plain)
     page.close()
+
+
+def fronts_of(line):
+    """The front parts of a pipe, each as a line."""
+    parts = line.removeprefix("cold ").split(" | ")
+    return [f"cold {' | '.join(parts[: count + 1])}" for count in range(len(parts))]
+
+
+def compare_pipes_with_native(page, seed, count, answers_to):
+    """Holds each row that is drawn of random pipes against a native program's answer to that front part of the pipe."""
+    lines = random_pipes(seed, count)
+    answers, rows = iter(answers_to("\n".join(front for line in lines for front in fronts_of(line))).splitlines()), 0
+    for at in range(0, count, 8):
+        page.write("\n".join(lines[at : at + 8]))
+        for line, shown in zip(lines[at : at + 8], drawn(page), strict=True):
+            wanted = [next(answers) for _ in fronts_of(line)]
+            is_side = [False] + [side for front in fronts_of(line)[1:] for side in ([True] * bool(re.search(r"\| (zip|combine) [^|]*$", front)) + [False])]
+            for row, answer in zip((it for it, side in zip(shown.get("rows", []), is_side, strict="rows" in shown) if not side), wanted):
+                same(line, f"[{','.join(value for value, _ in row['values'])}] {row['end']}", answer)
+                rows += 1
+    return rows
 
 
 STAGES = (

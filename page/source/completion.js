@@ -63,6 +63,8 @@ class Completion {
   pressKey(event) {
     if (this.offered.length === 0 || event.altKey || event.ctrlKey || event.metaKey) return;
     const step = { ArrowDown: 1, ArrowUp: -1 }[event.key];
+    // Up leads to the line above, as ever, before one was chosen.
+    if (step === -1 && !this.isMoved) return this.close();
     if (step) this.chosen = (this.chosen + step + this.offered.length) % this.offered.length;
     else if (event.key === "Escape") this.close();
     else if ((event.key === "Tab" && !event.shiftKey) || (event.key === "Enter" && this.isMoved)) this.take(this.offered[this.chosen]);
