@@ -9,7 +9,8 @@ import subprocess
 import tempfile
 import time
 
-PATIENCE_SECONDS = 60
+# So long it is waited for anything: more on a machine that has much else to do.
+PATIENCE_SECONDS = float(os.environ.get("PATIENCE", "60"))
 
 
 class Chromium:

@@ -1,7 +1,6 @@
 """What the tests of the page stand on: the page in a tab, by what a reader sees and does, and the native programs beside it."""
 
 import base64
-import functools
 import hashlib
 import http.server
 import itertools

@@ -1,9 +1,8 @@
 """Tests of what is in sight, and of what must not mislead."""
 
-import json
 import re
 
-from harness import CONTROL, Page, examples, same
+from harness import Page, examples, same
 
 FRAME = """(() => {
   const picture = document.querySelector('.picture'), figure = document.querySelector('#pictures figure');

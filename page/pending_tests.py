@@ -1,6 +1,5 @@
 """Tests of what is pending after a line, and of what was taken at a tick."""
 
-import json
 import random
 
 from harness import Page, same

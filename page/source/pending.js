@@ -109,7 +109,7 @@ class Pending {
       host.parties = host.parties.slice(0, MOST_PARTIES);
     }
     const front = this.lines.slice(0, turn.number).join("\n");
-    // One is enough for most: nobody is asked for what an emission would do where there is no flow.
+    // Where there is no flow, nothing is asked of an emission.
     for (const questions of [askWhatIsThere(told), askNextEmission(told)]) {
       if (questions.lines.length === 0) continue;
       const { output } = await this.ask(`${front}\n${questions.lines.join("\n")}`);

@@ -6,6 +6,7 @@ const DIGIT_MILLISECONDS = 1500;
 /** What a key does to the marble that has the focus, or to the end. */
 function pressPipeKey(event, shown) {
   const { view } = shown;
+  if (event.key === "Escape") return view.leave();
   if (!view.chosen || event.ctrlKey || event.metaKey) return;
   const moves = event.altKey || event.shiftKey;
   const step = { ArrowLeft: -1, ArrowRight: 1 }[event.key];

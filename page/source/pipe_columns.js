@@ -19,6 +19,12 @@ class Columns {
     return column;
   }
 
+  before(other) {
+    const column = {};
+    this.list.splice(this.list.indexOf(other), 0, column);
+    return column;
+  }
+
   later(one, other) {
     return this.list.indexOf(one) < this.list.indexOf(other) ? other : one;
   }
@@ -50,18 +56,12 @@ function placeSide(columns, { words, input, side }) {
   let last;
   for (const one of [...side.marbles, side.end]) {
     const beside = asked[next];
-    if (one.value === null) one.column = last ? columns.after(last) : beside ? columnBefore(columns, beside.column) : columns.append();
+    if (one.value === null) one.column = last ? columns.after(last) : beside ? columns.before(beside.column) : columns.append();
     else if (!beside) one.column = columns.after(last);
     else one.column = isZip && !(one.value !== undefined && beside === input.end) ? beside.column : columns.after(beside.column);
     if (one.value !== null) next += 1;
     last = one.column;
   }
-}
-
-function columnBefore(columns, other) {
-  const column = {};
-  columns.list.splice(columns.list.indexOf(other), 0, column);
-  return column;
 }
 
 function placeRow(columns, { input, side, row }) {

@@ -1,6 +1,6 @@
 // What can be done to the source of a pipe: each change gives the words of the source anew, and the place that is held after it.
 
-/** A list of a source that is longer takes no more values by hand. */
+/** The greatest number of a script. */
 const MOST_NUMBER = (1n << 64n) - 1n;
 
 /** A source as it is changed: its values as they are written, and its fault, null where it finishes. A range becomes a list. */

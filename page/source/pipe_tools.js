@@ -1,14 +1,12 @@
 // The buttons that change the marble that is chosen, for those who have no keys.
 
-const TOOLS = { earlier: "earlier", later: "later", less: "less", more: "more", insert: "insert", remove: "remove" };
-
 class PipeTools {
-  /** A row of buttons. It tells `onChange` which change is asked for. */
+  /** A row of buttons, each of which has the name of a change. It tells `onChange` which one is asked for. */
   constructor(row, onChange) {
     Object.assign(this, { row, says: row.querySelector(".says") });
     this.hint = this.says.textContent;
     this.buttons = [...row.querySelectorAll("button")];
-    for (const button of this.buttons) button.addEventListener("click", () => onChange(CHANGES[TOOLS[button.className]]));
+    for (const button of this.buttons) button.addEventListener("click", () => onChange(CHANGES[button.className]));
     this.show(undefined);
   }
 
