@@ -75,8 +75,8 @@ private fun summing(channel: ReceiveChannel<Long>) = job {
 }
 
 @ExperimentalCoroutinesApi
-private fun fanOut(peer: String, scenario: String) {
-    for (readers in listOf(1, 2, 4)) {
+private fun fanOut(peer: String, scenario: String, vararg all: Int) {
+    for (readers in all) {
         val once = LongFunction<Long> { count ->
             val channel = BroadcastChannel<Long>(1024)
             val summing = List(readers) { summing(channel.openSubscription()) }
@@ -150,6 +150,28 @@ private fun asking(subscription: ReceiveChannel<Long>, over: AtomicBoolean) = jo
     asks
 }
 
+@ExperimentalCoroutinesApi
+private fun churn() {
+    for (live in listOf(1, 64, 512)) {
+        cost("kotlin-broadcast", "churn-n$live", "turn", 1_000_000L, 1) { count -> cameAndWent(live, count) }
+    }
+}
+
+/** A reader comes and goes beside so many that stay, so often. */
+@ExperimentalCoroutinesApi
+private fun cameAndWent(live: Int, count: Long): Long {
+    val channel = BroadcastChannel<Long>(1)
+    val all = List(live) { channel.openSubscription() }
+    val time = timed {
+        for (i in 0 until count) channel.openSubscription().cancel()
+    }
+    for (value in 1L..2L) {
+        Figures.check(channel.offer(value), "kotlin: a guest stayed")
+        Figures.check(all.all { it.poll() == value }, "kotlin: a value was lost")
+    }
+    return time
+}
+
 private fun split() {
     for (capacity in listOf(4, 64, 1024)) {
         cost("kotlin-channel-wait", "split-k$capacity", "value", 5_000_000L, 1) { count ->
@@ -193,11 +215,15 @@ fun main(words: Array<String>) {
     val scenarios = mapOf(
         "receipts" to Runnable { receipts() },
         "receipts-by16" to Runnable { receiptsOfBlocks() },
-        "fan-out" to Runnable { fanOut("kotlin-broadcast-wait", "fan-out-n") },
-        "fan-out-by64" to Runnable { fanOut("kotlin-broadcast-wait-by1", "fan-out-by64-n") },
+        "fan-out" to Runnable { fanOut("kotlin-broadcast-wait", "fan-out-n", 1, 2, 4, 16, 32) },
+        "fan-out-by64" to Runnable { fanOut("kotlin-broadcast-wait-by1", "fan-out-by64-n", 1, 2, 4) },
         "state" to Runnable { state() },
         "split" to Runnable { split() },
-        "cold" to Runnable { cold() }
+        "cold" to Runnable { cold() },
+        "ping-pong" to Runnable { pingPong() },
+        "wake" to Runnable { wake() },
+        "asleep" to Runnable { asleep() },
+        "churn" to Runnable { churn() }
     )
     Figures.main(words, scenarios)
 }

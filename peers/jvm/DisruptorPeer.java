@@ -12,6 +12,7 @@ import java.util.Map;
 import java.util.concurrent.CountDownLatch;
 import java.util.concurrent.ThreadFactory;
 import java.util.stream.IntStream;
+import java.util.stream.Stream;
 
 /** The Disruptor: one sequencer and a cursor for each reader. */
 final class DisruptorPeer {
@@ -60,7 +61,10 @@ final class DisruptorPeer {
                         "receipts-by16", DisruptorPeer::receiptsByBlock,
                         "fan-out", DisruptorPeer::fanOut,
                         "fan-out-by64", DisruptorPeer::fanOutByBlock,
-                        "split", DisruptorPeer::split));
+                        "split", DisruptorPeer::split,
+                        "ping-pong", DisruptorPeer::pingPong,
+                        "wake", () -> Wake.measure(Map.of("disruptor-wait", Wake.by(new DisruptorTalks()))),
+                        "churn", DisruptorPeer::churn));
     }
 
     private static void receipts() {
@@ -128,14 +132,14 @@ final class DisruptorPeer {
         ring.publish(first, last);
     }
 
-    private static void publish(RingBuffer<Cell> ring, long value) {
+    static void publish(RingBuffer<Cell> ring, long value) {
         long number = ring.next();
         ring.get(number).value = value;
         ring.publish(number);
     }
 
     private static void fanOut() {
-        for (int readers : new int[] {1, 2, 4}) {
+        for (int readers : new int[] {1, 2, 4, 16, 32}) {
             String scenario = "fan-out-n" + readers;
             Figures.rate("disruptor", scenario, "values", VALUES, count ->
                     handled(new YieldingWaitStrategy(), CAPACITY, readers, 1, count));
@@ -152,6 +156,29 @@ final class DisruptorPeer {
             Figures.rate("disruptor-wait", scenario, "values", VALUES_BY_BLOCK, count ->
                     handled(new BlockingWaitStrategy(), CAPACITY, readers, FAN_OUT_BLOCK, count));
         }
+    }
+
+    private static void pingPong() {
+        PingPong.measure(Map.of("disruptor-wait", count -> PingPong.turns(new DisruptorTalks(), count)));
+    }
+
+    private static void churn() {
+        for (int live : new int[] {1, 64, 512}) {
+            Figures.cost("disruptor", "churn-n" + live, "turn", 1_000_000, 1, count -> cameAndWent(live, count));
+        }
+    }
+
+    /** A reader comes and goes beside so many that stay, so often. */
+    private static long cameAndWent(int live, long count) {
+        RingBuffer<Cell> ring = RingBuffer.createSingleProducer(Cell::new, 1);
+        Stream.generate(ring::newPoller).limit(live).forEach(poller -> ring.addGatingSequences(poller.getSequence()));
+        long start = System.nanoTime();
+        for (long i = 0; i < count; i++) {
+            EventPoller<Cell> guest = ring.newPoller();
+            ring.addGatingSequences(guest.getSequence());
+            Figures.check(ring.removeGatingSequence(guest.getSequence()), "disruptor: no guest");
+        }
+        return System.nanoTime() - start;
     }
 
     private static void split() {

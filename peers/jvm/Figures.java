@@ -19,8 +19,12 @@ final class Figures {
     /** The results of the repeats, and the number of values that each had. */
     record Runs<R>(long count, List<R> results) {}
 
-    /** Measures the scenarios that the command line names, and ends the program. */
+    /** Measures the scenarios that the command line names, and ends the program. A fault of any thread ends it, too. */
     static void main(String[] words, Map<String, Runnable> scenarios) {
+        Thread.setDefaultUncaughtExceptionHandler((thread, fault) -> {
+            fault.printStackTrace();
+            System.exit(1);
+        });
         for (String word : words) {
             if (scenarios.containsKey(word)) {
                 scenarios.get(word).run();

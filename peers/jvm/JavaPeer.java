@@ -2,19 +2,44 @@ import java.util.List;
 import java.util.Map;
 import java.util.concurrent.ArrayBlockingQueue;
 import java.util.stream.LongStream;
+import java.util.stream.Stream;
 
 /** Java's own: a bounded queue that blocks, and streams of numbers. */
 final class JavaPeer {
+    private static final String QUEUE = "java-queue-wait";
+
     private JavaPeer() {}
 
     public static void main(String[] words) {
-        Figures.main(words, Map.of("split", JavaPeer::split, "cold", JavaPeer::cold));
+        Figures.main(
+                words,
+                Map.of(
+                        "split", JavaPeer::split,
+                        "cold", JavaPeer::cold,
+                        "ping-pong", () -> PingPong.measure(Map.of(QUEUE, count -> PingPong.turns(talks(), count))),
+                        "wake", () -> Wake.measure(Map.of(QUEUE, Wake.by(talks())))));
+    }
+
+    /** A queue with one place for each reader. */
+    private static Talks talks() {
+        return readers -> {
+            List<ArrayBlockingQueue<Long>> queues =
+                    Stream.generate(() -> new ArrayBlockingQueue<Long>(1)).limit(readers).toList();
+            List<Talks.Ear> ears = queues.stream().map(queue -> (Talks.Ear) queue::take).toList();
+            return new Talks.Party(value -> putInto(queues, value), ears);
+        };
+    }
+
+    private static void putInto(List<ArrayBlockingQueue<Long>> queues, long value) throws InterruptedException {
+        for (ArrayBlockingQueue<Long> queue : queues) {
+            queue.put(value);
+        }
     }
 
     private static void split() {
         for (int capacity : new int[] {4, 64, 1024}) {
             String scenario = "split-k" + capacity;
-            Figures.cost("java-queue-wait", scenario, "value", 5_000_000, 1, count -> queued(capacity, count));
+            Figures.cost(QUEUE, scenario, "value", 5_000_000, 1, count -> queued(capacity, count));
         }
     }
 

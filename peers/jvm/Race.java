@@ -62,6 +62,14 @@ final class Race {
         }
     }
 
+    static void join(Thread thread) {
+        try {
+            thread.join();
+        } catch (InterruptedException fault) {
+            throw new IllegalStateException(fault);
+        }
+    }
+
     /** The sum of what all jobs but the first gave. */
     long sumOfOthers() {
         return Arrays.stream(results).skip(1).sum();

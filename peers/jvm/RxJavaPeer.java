@@ -53,12 +53,15 @@ final class RxJavaPeer {
                 words,
                 Map.of(
                         "receipts", RxJavaPeer::receipts,
-                        "fan-out", () -> fanOut("rxjava-observeOn", "fan-out-n"),
-                        "fan-out-by64", () -> fanOut("rxjava-observeOn-by1", "fan-out-by64-n"),
+                        "fan-out", () -> fanOut("rxjava-observeOn", "fan-out-n", 1, 2, 4, 16, 32),
+                        "fan-out-by64", () -> fanOut("rxjava-observeOn-by1", "fan-out-by64-n", 1, 2, 4),
                         "lossy", RxJavaPeer::lossy,
                         "state", RxJavaPeer::state,
                         "split", RxJavaPeer::split,
-                        "cold", RxJavaPeer::cold));
+                        "cold", RxJavaPeer::cold,
+                        "ping-pong", () -> PingPong.measure(Map.of("rxjava-observeOn", RxJavaTalks::turns)),
+                        "wake", () -> Wake.measure(Map.of("rxjava-observeOn", RxJavaTalks::audience)),
+                        "churn", RxJavaPeer::churn));
     }
 
     private static List<Adder> adders(int readers) {
@@ -94,8 +97,8 @@ final class RxJavaPeer {
         });
     }
 
-    private static void fanOut(String peer, String scenario) {
-        for (int readers : new int[] {1, 2, 4}) {
+    private static void fanOut(String peer, String scenario, int... all) {
+        for (int readers : all) {
             Figures.rate(peer, scenario + readers, "values", VALUES, count -> observed(readers, count));
         }
     }
@@ -119,6 +122,29 @@ final class RxJavaPeer {
         adders.forEach(adder -> Race.await(adder.ended));
         long time = System.nanoTime() - start;
         checkSums(adders, count);
+        return time;
+    }
+
+    private static void churn() {
+        for (int live : new int[] {1, 64, 512}) {
+            Figures.cost("rxjava-publish", "churn-n" + live, "turn", 1_000_000, 1, count -> cameAndWent(live, count));
+        }
+    }
+
+    /** A subscriber comes and goes beside so many that stay, so often. */
+    private static long cameAndWent(int live, long count) {
+        PublishProcessor<Long> processor = PublishProcessor.create();
+        List<Adder> adders = adders(live);
+        adders.forEach(processor::subscribe);
+        long[] heard = new long[1];
+        long start = System.nanoTime();
+        for (long i = 0; i < count; i++) {
+            processor.subscribe(value -> heard[0]++).dispose();
+        }
+        long time = System.nanoTime() - start;
+        processor.onNext(1L);
+        Figures.check(heard[0] == 0, "rxjava: a guest stayed");
+        Figures.check(adders.stream().allMatch(adder -> adder.count == 1), "rxjava: a value was lost");
         return time;
     }
 
