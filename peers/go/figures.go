@@ -31,6 +31,12 @@ func report(f figure, samples []float64, count int64) {
 // result, without that of the first run.
 func repeats[R any](most int64, once func(count int64) R) (int64, []R) {
 	few := most / 100
+	if few < 1_000 {
+		few = 1_000
+	}
+	if few > most {
+		few = most
+	}
 	start := time.Now()
 	once(few)
 	projected := time.Since(start).Seconds() * float64(most) / float64(few)

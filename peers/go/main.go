@@ -16,10 +16,13 @@ func main() {
 	scenarios := map[string]func(){
 		"receipts":      func() { receipts(peer, "receipts-n", 1) },
 		"receipts-by16": func() { receipts(peer+"-by1", "receipts-by16-n", 16) },
-		"fan-out":       func() { fanOut(peer, "fan-out-n") },
-		"fan-out-by64":  func() { fanOut(peer+"-by1", "fan-out-by64-n") },
+		"fan-out":       func() { fanOut(peer, "fan-out-n", 1, 2, 4, 16, 32) },
+		"fan-out-by64":  func() { fanOut(peer+"-by1", "fan-out-by64-n", 1, 2, 4) },
 		"lossy":         lossy,
 		"split":         split,
+		"ping-pong":     pingPong,
+		"wake":          wake,
+		"asleep":        asleep,
 	}
 	for _, word := range os.Args[1:] {
 		if measure, known := scenarios[word]; known {
@@ -91,8 +94,8 @@ func sumOf(channel chan uint64, sums chan uint64) {
 	sums <- sum
 }
 
-func fanOut(peer, name string) {
-	for _, readers := range []int{1, 2, 4} {
+func fanOut(peer, name string, all ...int) {
+	for _, readers := range all {
 		scenario := fmt.Sprintf("%s%d", name, readers)
 		rate(peer, scenario, "values", values, func(count int64) time.Duration { return timeOf(readers, 1024, count) })
 	}
