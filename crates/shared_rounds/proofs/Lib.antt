@@ -1,5 +1,6 @@
 pub mod Flags
 pub mod Rises
+pub mod Lying
 pub mod Receipts
 pub mod Refusals
 pub mod Starting

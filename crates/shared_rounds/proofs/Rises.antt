@@ -4,12 +4,12 @@ use Rattle.std.specs.Borrow.{MutBor}
 use Rattle.std.proofs.lemmas.Bool.{cases_eq}
 use Rattle.std.proofs.lemmas.Option.{none-some, same_Some}
 use Rattle.futures.specs.declared.task.waker.Waker.{Waker}
-use Rattle.slab.specs.Slab.{Slab, RetainsFrom, CalledAt, Updates, get, with_value}
+use Rattle.slab.specs.Slab.{Slab, RetainsFrom, CalledAt, get, with_value}
 use Rattle.slab.proofs.SlabLemmas.{Updates-with_value}
 use Rattle.shared_lane.specs.Polls.{IsNotOut, IsOutFor}
 use Rattle.shared_lane.specs.Views.{SequencerSeen}
 use Rattle.shared_rounds.specs.declared.sleepers.Sleeper.{Sleeper}
-use Rattle.shared_rounds.specs.Sleeping.{SleepsAt, HasNumber, OnlyThese, LiesDown}
+use Rattle.shared_rounds.specs.Sleeping.{SleepsAt, HasNumber, OnlyThese, LiesDown, StayBut}
 
 -- who sleeps in a bed sleeps there still with another waker
 pub sleeps_still : (sleeping : Slab Sleeper) (bed : Option ℕ) (number key : ℕ) (sleeper : Sleeper) (waker : Option Waker)
@@ -21,34 +21,21 @@ sleeps_still sleeping bed number key sleeper waker at is read =
     let after : Sleeper = record { number = sleeper.number; waker = waker } in
     (key, after, is, (Updates-with_value sleeping key after (subst IsSome (sym read) refl)).changed, ap (λ s. s.number) (sym found) ∙ at.4)
 
--- who sleeps in a bed has its number
-pub own_bed : (sleeping : Slab Sleeper) (bed : Option ℕ) (number key : ℕ) (sleeper : Sleeper) → SleepsAt sleeping bed number → bed ≡ Some key → get sleeping key ≡ Some sleeper → sleeper.number ≡ number
-own_bed sleeping bed number key sleeper at is read =
-    let same : at.0 ≡ key = same_Some _ _ (sym at.2 ∙ is) in
-    ap (λ s. s.number) (sym (same_Some _ _ (sym at.3 ∙ ap (get sleeping) same ∙ read))) ∙ at.4
+-- the bed with this key, or another
+pub same_bed : (bed : Option ℕ) (key : ℕ) → (bed ≡ Some key) ⊎ (bed ≢ Some key)
+same_bed None key = inr (λ is. none-some key is)
+same_bed (Some own) key = ⊎_elim (λ is. inl (ap Some is)) (λ other. inr (λ is. other (same_Some own key is))) (cases_eq own key)
 
--- one lies down in a bed that was free
-pub lies_in : (old new : Slab Sleeper) (bed number : ℕ) (waker : Option Waker) → get old bed ≡ None
-    → Updates old new bed (Some (record { number = number; waker = waker })) → LiesDown number old new
-lies_in old new bed number waker free updates key =
-    elim (cases_eq key bed) [
-      | inl is ↦ inr ((record { number = number; waker = waker }, ap (get new) is ∙ updates.changed, refl), inl (ap (get old) is ∙ free))
-      | inr differs ↦ inl (updates.others key differs)
-    ]
-
--- and is given another waker there
-pub lies_still : (old mid : Slab Sleeper) (number bed : ℕ) (sleeper : Sleeper) (waker : Option Waker) → LiesDown number old mid → get mid bed ≡ Some sleeper → sleeper.number ≡ number
-    → LiesDown number old (with_value mid bed (record { number = sleeper.number; waker = waker }))
-lies_still old mid number bed sleeper waker lies read own key =
-    let after : Sleeper = record { number = sleeper.number; waker = waker } in
-    let updates = Updates-with_value mid bed after (subst IsSome (sym read) refl) in
-    let was : (get old bed ≡ None) ⊎ HasNumber (get old bed) number =
-    ⊎_elim (λ same. inr (sleeper, sym same ∙ read, own)) (λ lay. lay.1) (lies bed) in
-    elim (cases_eq key bed) [
-      | inl is ↦ inr ((after, ap (get (with_value mid bed after)) is ∙ updates.changed, own), subst (λ k. (get old k ≡ None) ⊎ HasNumber (get old k) number) (sym is) was)
-      | inr differs ↦ let others = updates.others key differs in
-          ⊎_elim (λ same. inl (others ∙ same)) (λ lay. inr ((lay.0.0, others ∙ lay.0.1, lay.0.2), lay.1)) (lies key)
-    ]
+-- and stays there
+pub lies_still : (old mid new : Slab Sleeper) (number : ℕ) (bed : Option ℕ) → LiesDown number old mid → SleepsAt mid bed number → SleepsAt new bed number → StayBut bed mid new → LiesDown number old new
+lies_still old mid new number bed lies was is others key =
+    ⊎_elim
+    (λ own. let same = same_Some _ _ (sym was.2 ∙ own) in let still = same_Some _ _ (sym is.2 ∙ own) in
+    let before : HasNumber (get mid key) number = (was.1, ap (get mid) (sym same) ∙ was.3, was.4) in
+    let after : HasNumber (get new key) number = (is.1, ap (get new) (sym still) ∙ is.3, is.4) in
+    inr (after, ⊎_elim (λ there. inr (before.0, sym there ∙ before.1, before.2)) (λ lay. lay.1) (lies key)))
+    (λ other. let stays = others key other in ⊎_elim (λ same. inl (stays ∙ same)) (λ lay. inr ((lay.0.0, stays ∙ lay.0.1, lay.0.2), lay.1)) (lies key))
+    (same_bed bed key)
 
 -- all sleep on but the one that was ended
 pub ended_only : (ended : Option ℕ) (number : ℕ) (old new : Slab Sleeper) → ended ≡ Some number → OnlyThese (λ n. n ≢ number) old new → OnlyThese (λ n. ended ≢ Some n) old new

@@ -1,5 +1,5 @@
 -- A ticket that is out stays out through a round, but for the one that the round takes back.
-use Rattle.std.proofs.Common.{◌≡◌, ◌≢◌, ◌⊎◌, ℕ, zero, suc, ◌+◌, ◌<◌, ◌≤◌, Option, Some, None, MatchOption, List, [], ◌∷◌, ◌++◌, Ok, Err, IfSome, is_some, cond, count_by, slice_index_or, length, take, drop, slice_get, refl, sym, ap, ◌∙◌, subst, ⊎_elim, inl, inr, arith}
+use Rattle.std.proofs.Common.{◌≡◌, ◌≢◌, ◌⊎◌, ℕ, zero, suc, ◌+◌, ◌<◌, ◌≤◌, Option, Some, None, List, [], ◌∷◌, ◌++◌, Ok, Err, IfSome, is_some, cond, count_by, slice_index_or, length, take, drop, slice_get, refl, sym, ap, ◌∙◌, subst, ⊎_elim, inl, inr, arith}
 use Rattle.std.proofs.lemmas.Bool.{cases_eq, cases_lt}
 use Rattle.std.proofs.lemmas.List.Sums.{sum_by-cons}
 use Rattle.std.proofs.lemmas.Option.{none-some, same_Some, slice_get_within}
@@ -29,7 +29,7 @@ use Rattle.shared_rounds.specs.declared.round.Round.TheVariants as round
 use Rattle.shared_rounds.specs.declared.sleepers.Sleeper.{Sleeper}
 use Rattle.shared_rounds.specs.Names.{SharedSeen}
 use Rattle.shared_rounds.specs.Rounds.{Makes, Rests, Scanned, Comes}
-use Rattle.shared_rounds.specs.Sleeping.{NoneSleepsBelow, OnlyThese, LiesDown, SleepsOn, AllSleepOn}
+use Rattle.shared_rounds.specs.Sleeping.{OnlyThese, LiesDown, SleepsOn}
 use Rattle.shared_rounds.specs.Waking.{AreOutBut, HasToWait, Lies, taken_by}
 use Rattle.shared_rounds.proofs.Numbers.{Left}
 use Rattle.shared_rounds.proofs.Rises.{not_out}
@@ -291,15 +291,3 @@ who_waits q t below first gone taken old later loaded from not_out_if out asleep
     ),
   ),
 )
-
--- ---- who is not asked
-
--- where all sleep on, those that sleep on are all
-pub all_on : (first : Option Ticket) (over : Option ℕ) (sleeping : Slab Sleeper) → AllSleepOn first over sleeping → OnlyThese (SleepsOn first over) sleeping sleeping
-all_on first over sleeping all key sleeper = (λ gets. (gets, all key sleeper gets), λ was. was.0)
-
-pub none_below : (first : Option Ticket) (over : Option ℕ) (before after : ℕ) (old later : Slab Sleeper) → OnlyThese (SleepsOn first over) old later → NoneSleepsBelow before old
-    → MatchOption first (after ≡ before) (λ ticket. after ≡ ticket.0) → NoneSleepsBelow after later
-none_below None over before after old later only above is key sleeper gets = let was = (only key sleeper).0 gets in let low = above key sleeper was.0 in omega (arith, low, is)
-none_below (Some first) over before after old later only above is key sleeper gets = let was = (only key sleeper).0 gets in
-    ⊎_elim (λ (low : sleeper.number < first.0). absurd (was.1.0 low)) (λ (high : first.0 ≤ sleeper.number). omega (arith, high, is)) (cases_lt sleeper.number first.0)

@@ -1,5 +1,7 @@
 -- Who sleeps where.
-use Rattle.std.specs.Prelude.{◌≢◌, ◌≡◌, ◌≤◌, ◌↔◌, ◌⊎◌, ℕ, Option, Some, None}
+use Rattle.std.specs.Prelude.{◌≢◌, ◌≡◌, ◌↔◌, ◌⊎◌, ℕ, List, Option, Some, None, Contains}
+use Rattle.std.specs.BinaryHeap.{IsHeap}
+use Rattle.std.specs.Ordering.{nat_cmp, ordering_then}
 use Rattle.slab.specs.Slab.{Slab, get, slab_len}
 use Rattle.flow_terms.specs.declared.ids.Ticket.{Ticket}
 use Rattle.shared_lane.specs.Ordering.{IsBefore}
@@ -17,17 +19,17 @@ SleepsOn first gone ticket = (IsBefore ticket first → ⊥) × (gone ≢ Some t
 abbrev pub NobodySleeps : Slab Sleeper → Type 0
 NobodySleeps sleeping = slab_len sleeping ≡ 0
 
--- nobody sleeps under a number below this one
-abbrev pub NoneSleepsBelow : ℕ → Slab Sleeper → Type 0
-NoneSleepsBelow number sleeping = (key : ℕ) (sleeper : Sleeper) → get sleeping key ≡ Some sleeper → number ≤ sleeper.number
-
 -- those of whom this holds sleep on where they slept, by the same wakers, and nobody else sleeps
 abbrev pub OnlyThese : (ℕ → Type 0) → Slab Sleeper → Slab Sleeper → Type 0
 OnlyThese Stays old new = (key : ℕ) (sleeper : Sleeper) → (get new key ≡ Some sleeper) ↔ ((get old key ≡ Some sleeper) × Stays sleeper.number)
 
--- each that sleeps has to sleep on
-abbrev pub AllSleepOn : Option Ticket → Option ℕ → Slab Sleeper → Type 0
-AllSleepOn first gone sleeping = (key : ℕ) (sleeper : Sleeper) → get sleeping key ≡ Some sleeper → SleepsOn first gone sleeper.number
+-- each bed but this one is as it was
+abbrev pub StayBut : Option ℕ → Slab Sleeper → Slab Sleeper → Type 0
+StayBut bed old new = (key : ℕ) → bed ≢ Some key → get new key ≡ get old key
+
+-- all sleep on but the one with this number in the bed with this key
+abbrev pub AllBut : ℕ → ℕ → Slab Sleeper → Slab Sleeper → Type 0
+AllBut number bed old new = (key : ℕ) (sleeper : Sleeper) → (get new key ≡ Some sleeper) ↔ ((get old key ≡ Some sleeper) × (key ≡ bed → sleeper.number ≢ number))
 
 -- in the bed lies the one with this number
 abbrev pub HasNumber : Option Sleeper → ℕ → Type 0
@@ -36,3 +38,15 @@ HasNumber bed number = (sleeper : Sleeper) × (bed ≡ Some sleeper) × (sleeper
 -- each bed is as it was, or the one with this number lies in it now, and it was free or its own
 abbrev pub LiesDown : ℕ → Slab Sleeper → Slab Sleeper → Type 0
 LiesDown lies old new = (key : ℕ) → (get new key ≡ get old key) ⊎ (HasNumber (get new key) lies × ((get old key ≡ None) ⊎ HasNumber (get old key) lies))
+
+-- the ticket of each that sleeps stands in a list with the key of its bed
+abbrev pub AreListed : List (ℕ × ℕ) → Slab Sleeper → Type 0
+AreListed lain sleeping = (key : ℕ) (sleeper : Sleeper) → get sleeping key ≡ Some sleeper → Contains lain (sleeper.number, key)
+
+-- the lowest ticket is on top
+abbrev pub IsTicketHeap : {X : Type 0} → (X → ℕ × ℕ) → List X → Type 0
+IsTicketHeap pair heap = IsHeap (λ x y. ordering_then (nat_cmp (pair y).0 (pair x).0) (nat_cmp (pair y).1 (pair x).1)) heap
+
+-- none of the tickets in a list is before this one
+abbrev pub NoneBefore : Option Ticket → List (ℕ × ℕ) → Type 0
+NoneBefore first lain = (ticket key : ℕ) → Contains lain (ticket, key) → IsBefore ticket first → ⊥

@@ -12,6 +12,7 @@
 #![tactic(auto)]
 
 mod access;
+mod emissions;
 mod flag;
 mod looking;
 mod round;

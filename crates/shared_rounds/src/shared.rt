@@ -6,7 +6,7 @@ ghost use Rattle.shared_rounds.specs.Names.{HasRoom, IsNew};
 ghost use Rattle.shared_rounds.specs.Rounds.{Does, Comes, MakesAfterScan, RaisedFor, Watched, IsAfter, IsNotAfter, IsReceiptAfter, HasSeenUpTo};
 ghost use Rattle.shared_rounds.specs.Rounds.{HasReceipt, IsLastAccepted, IsReceiptFor, IsReceiptOfOne, numbers_tried, poll_round, withdraw_round};
 ghost use Rattle.shared_rounds.specs.Rounds.{number_done as the_number_done, number_left as the_number_left};
-ghost use Rattle.shared_rounds.specs.Sleeping.{NobodySleeps, OnlyThese, LiesDown, SleepsOn, AllSleepOn};
+ghost use Rattle.shared_rounds.specs.Sleeping.{NobodySleeps, OnlyThese, LiesDown};
 ghost use Rattle.shared_lane.specs.Ordering.{IsOut};
 ghost use Rattle.shared_rounds.specs.Waking.{AreOutBut, Helps, IsTied, WakesEmissions, SleepOn};
 ghost use Rattle.flow_terms.specs.declared.refusal.Refusal.TheVariants.{Spent, EmitsFull};
@@ -18,6 +18,7 @@ ghost use Rattle.flow_terms.specs.declared.answers.Emit.TheVariants as emit;
 ghost use Rattle.flow_terms.specs.declared.answers.Withdrawn.TheVariants as withdrawn;
 ghost use Rattle.shared_rounds.specs.declared.round.Round.TheVariants as round;
 
+use crate::emissions::SleepingEmissions;
 use crate::round::{Emission, Round, begun_ticket};
 use crate::sleepers::{Bed, Sleepers, Wakes};
 use crate::track::{Flag, Keeper, Track};
@@ -46,23 +47,20 @@ pub struct Shared {
     keeper: Keeper,
     /// The subscriptions that sleep.
     subscriptions: Sleepers,
-    /// The emissions that sleep, by their tickets.
-    emissions: Sleepers,
-    /// No emission sleeps under a ticket below this one.
-    asleep_from: u64,
+    /// The emissions that sleep.
+    emissions: SleepingEmissions,
 }
 
 impl Model for Shared {
     ghost use Rattle.std.specs.Arc.{arc_value};
     ghost use Rattle.std.specs.Prelude.{◌≡◌};
     ghost use Rattle.shared_rounds.specs.Names.{SharedSeen, IsGuarded, MayWait};
-    ghost use Rattle.shared_rounds.specs.Sleeping.{NoneSleepsBelow};
 
     ghost Value = { SharedSeen };
 
-    ghost view = { λ s. record { name = record { config = s.config; lane = (arc_value s.track).lane; flag = (arc_value s.track).flag }; sequencer = s.sequencer; flag = s.keeper.flag; raised = s.keeper.raised; subscriptions = s.subscriptions.sleeping; emissions = s.emissions.sleeping } };
+    ghost view = { λ s. record { name = record { config = s.config; lane = (arc_value s.track).lane; flag = (arc_value s.track).flag }; sequencer = s.sequencer; flag = s.keeper.flag; raised = s.keeper.raised; subscriptions = s.subscriptions.sleeping; emissions = s.emissions } };
 
-    ghost invariant = { λ s. IsGuarded s.config (arc_value s.track).lane s.sequencer × (s.keeper.table ≡ (arc_value s.track).flag) × MayWait s.config (arc_value s.track) × NoneSleepsBelow s.asleep_from s.emissions.sleeping };
+    ghost invariant = { λ s. IsGuarded s.config (arc_value s.track).lane s.sequencer × (s.keeper.table ≡ (arc_value s.track).flag) × MayWait s.config (arc_value s.track) };
 }
 
 // It lies under the lock in a box, so that a call moves no more than a pointer.
@@ -97,7 +95,7 @@ impl Shared {
         let (flag, keeper) = Flag::new(alloc)?;
         let track = Arc::new(alloc, Track::new(lane, may_wait, flag))?;
         let subscriptions = Sleepers::new(alloc, config.subscribers as usize)?;
-        let emissions = Sleepers::new(alloc, config.emits as usize)?;
+        let emissions = SleepingEmissions::new(alloc, config.emits as usize)?;
         Ok(Shared {
             config,
             track,
@@ -105,7 +103,6 @@ impl Shared {
             keeper,
             subscriptions,
             emissions,
-            asleep_from: 0,
         })
     }
 
@@ -192,30 +189,7 @@ impl Shared {
         let below = self.sequencer.finished_below(self.track.lane());
         let first = self.sequencer.first_unfinished(below);
         let gone = self.gone(taken);
-        self.wake_before(first, gone, wakes);
-    }
-
-    // Wakes those before the first ticket of an emission that has to wait, or all where none has to, and the one whose ticket is
-    // gone. Where there is none of either, which is known of the last time that all were asked, nobody is asked.
-    fn wake_before(&mut self, first: Option<Ticket>, gone: Option<u64>, wakes: &mut Wakes)
-        ensures same { self.new ≡ record self.old { emissions = self.new.emissions } }
-        ensures done { OnlyThese (SleepsOn first gone) self.old.emissions self.new.emissions }
-    {
-        if self.all_sleep_on(first, gone) {
-            return;
-        }
         self.emissions.wake_done(first, gone, wakes);
-        self.asleep_from = asleep_after(self.asleep_from, first);
-    }
-
-    // Whether it is known that each emission which sleeps has to sleep on.
-    fn all_sleep_on(&self, first: Option<Ticket>, gone: Option<u64>) -> bool
-        ensures { result ≡ true → AllSleepOn first gone self.now.emissions }
-    {
-        match (first, gone) {
-            (Some(first), None) => first.0 <= self.asleep_from,
-            _ => false,
-        }
     }
 
     // The ticket that a round took back, where it is out no more.
@@ -440,21 +414,10 @@ impl Shared {
         ensures kept { Keeps cx.old cx.new }
     {
         if let Emit::Waiting = answer {
-            self.asleep_from = self.asleep_from.min(ticket.0);
-            self.emissions.sleep(ticket.0, bed, cx);
+            self.emissions.sleep(ticket, bed, cx);
             return;
         }
         let _again: Poll<()> = cx.yield_now();
-    }
-}
-
-// The ticket below which no emission sleeps, once those before `first` were woken, where none slept below another.
-fn asleep_after(before: u64, first: Option<Ticket>) -> u64
-    ensures { MatchOption first (result ≡ before) (λ ticket. result ≡ ticket.0) }
-{
-    match first {
-        None => before,
-        Some(first) => first.0,
     }
 }
 

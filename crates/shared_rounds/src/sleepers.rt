@@ -2,10 +2,10 @@
 ghost use Rattle.std.specs.Prelude.{◌≡◌, ◌≢◌, ◌≤◌, ◌<◌, ◌↔◌, true, false, None, IfOk, ◌+◌, ◌++◌, [], ◌∷◌, Some, length, vec_capacity};
 ghost use Rattle.slab.specs.Slab.{slab_len};
 ghost use Rattle.futures.specs.Task.{IsArmed, Keeps};
-ghost use Rattle.shared_rounds.specs.Sleeping.{SleepsAt, NobodySleeps, OnlyThese, LiesDown, SleepsOn};
+ghost use Rattle.shared_rounds.specs.Sleeping.{SleepsAt, NobodySleeps, OnlyThese, LiesDown, StayBut, AllBut};
 
 use futures::task::{Context, Poll, Source, Waker};
-use shared_core::{Config, Ticket};
+use shared_core::Config;
 use slab::Slab;
 use std::alloc::{AllocError, Global};
 use std::mem;
@@ -20,7 +20,7 @@ pub struct Sleeper {
 /// Where a subscription or an emission slept last. Somebody else may sleep there by now.
 #[derive(Clone, Copy, Drop)]
 pub struct Bed {
-    key: Option<usize>,
+    pub(crate) key: Option<usize>,
 }
 
 impl Bed {
@@ -32,7 +32,7 @@ impl Bed {
     }
 }
 
-/// The subscriptions, or the emissions, that sleep. Room for each of them is reserved.
+/// Those that sleep, each under its number. Room for each of them is reserved.
 #[derive(Drop)]
 pub(crate) struct Sleepers {
     source: Source,
@@ -53,10 +53,12 @@ impl Sleepers {
     }
 
     /// The task of this poll sleeps until the one with this number is woken. Without a place for it, which no flow comes to,
-    /// the task yields.
+    /// the task yields. Who slept there stays in its bed.
     pub fn sleep(&mut self, number: u64, bed: &mut Bed, cx: &mut Context<'_>)
         ensures sleeps { slab_len self.old.sleeping < self.old.sleeping.capacity → SleepsAt self.new.sleeping bed.new.key number }
+        ensures stays { SleepsAt self.old.sleeping bed.old.key number → bed.new.key ≡ bed.old.key }
         ensures lies { LiesDown number self.old.sleeping self.new.sleeping }
+        ensures others { StayBut bed.new.key self.old.sleeping self.new.sleeping }
         ensures armed { IsArmed cx.new }
         ensures kept { Keeps cx.old cx.new }
     {
@@ -64,6 +66,17 @@ impl Sleepers {
             let _again: Poll<()> = cx.yield_now();
             return;
         }
+        self.register(number, bed, cx);
+    }
+
+    /// The task of this poll sleeps on in its bed, where the one with this number lies.
+    pub fn register(&mut self, number: u64, bed: &Bed, cx: &mut Context<'_>)
+        requires { SleepsAt self.old.sleeping bed.now.key number }
+        ensures sleeps { SleepsAt self.new.sleeping bed.now.key number }
+        ensures others { StayBut bed.now.key self.old.sleeping self.new.sleeping }
+        ensures armed { IsArmed cx.new }
+        ensures kept { Keeps cx.old cx.new }
+    {
         let Some(key) = bed.key else { unreachable!() };
         let Some(sleeper) = self.sleeping.get_mut(key) else {
             unreachable!()
@@ -72,7 +85,7 @@ impl Sleepers {
     }
 
     /// Whether the one with this number sleeps there.
-    fn is_in(&self, number: u64, bed: &Bed) -> bool
+    pub fn is_in(&self, number: u64, bed: &Bed) -> bool
         ensures { (result ≡ true) ↔ SleepsAt self.now.sleeping bed.now.key number }
     {
         match bed.key {
@@ -85,8 +98,9 @@ impl Sleepers {
     }
 
     /// Takes a place, where one is left, and says whether it did.
-    fn lie_down(&mut self, number: u64, bed: &mut Bed) -> bool
+    pub fn lie_down(&mut self, number: u64, bed: &mut Bed) -> bool
         ensures lies { result ≡ true → SleepsAt self.new.sleeping bed.new.key number }
+        ensures stay { StayBut bed.new.key self.old.sleeping self.new.sleeping }
         ensures full { result ≡ false → (self.new ≡ self.old) × (self.old.sleeping.capacity ≤ slab_len self.old.sleeping) }
         ensures others { LiesDown number self.old.sleeping self.new.sleeping }
         ensures room { self.new.sleeping.capacity ≡ self.old.sleeping.capacity }
@@ -115,7 +129,7 @@ impl Sleepers {
     }
 
     // Not inlined, so that a call that wakes nobody keeps its registers.
-    /// Wakes the one with this number: it is to sleep no more.
+    /// Wakes the one with this number, in whichever bed: it is to sleep no more.
     #[inline(never)]
     pub fn wake(&mut self, number: u64, wakes: &mut Wakes)
         ensures others { OnlyThese (λ n. n ≢ number) self.old.sleeping self.new.sleeping }
@@ -130,45 +144,17 @@ impl Sleepers {
         });
     }
 
-    // Not inlined, as above.
-    /// Wakes those before the first ticket of an emission that has to wait, or all where none has to, and the one whose ticket is
-    /// gone.
-    #[inline(never)]
-    pub fn wake_done(&mut self, first: Option<Ticket>, gone: Option<u64>, wakes: &mut Wakes)
-        ensures done { OnlyThese (SleepsOn first gone) self.old.sleeping self.new.sleeping }
+    /// Wakes who sleeps in the bed with this key, if it is the one with this number.
+    pub fn wake_in(&mut self, number: u64, key: usize, wakes: &mut Wakes)
+        ensures others { AllBut number key self.old.sleeping self.new.sleeping }
         ensures room { self.new.sleeping.capacity ≡ self.old.sleeping.capacity }
     {
-        self.sleeping.retain(|_, sleeper| {
-            let sleeps_on = sleeps_on(sleeper.number, first, gone);
-            if !sleeps_on {
-                wakes.add(sleeper.waker.take());
-            }
-            sleeps_on
-        });
-    }
-}
-
-// Whether the emission with this ticket sleeps on: it isn't before the first that has to wait, nor is it gone.
-fn sleeps_on(ticket: u64, first: Option<Ticket>, gone: Option<u64>) -> bool
-    ensures stays { result ≡ true → SleepsOn first gone ticket }
-    ensures goes { result ≡ false → SleepsOn first gone ticket → ⊥ }
-{
-    if is_gone(ticket, gone) {
-        return false;
-    }
-    match first {
-        None => false,
-        Some(first) => first.0 <= ticket,
-    }
-}
-
-fn is_gone(ticket: u64, gone: Option<u64>) -> bool
-    ensures is { result ≡ true → gone ≡ Some ticket }
-    ensures other { result ≡ false → gone ≢ Some ticket }
-{
-    match gone {
-        None => false,
-        Some(gone) => gone == ticket,
+        if !self.is_in(number, &Bed { key: Some(key) }) {
+            return;
+        }
+        if let Some(sleeper) = self.sleeping.try_remove(key) {
+            wakes.add(sleeper.waker);
+        }
     }
 }
 

@@ -98,6 +98,25 @@ const ROWS: &[Row<'_>] = &[
         ],
     },
     Row {
+        name: "emissions are woken in their own order, and not in that in which they fell asleep",
+        config: Config { extra: 1, ..PLAIN },
+        lines: &[
+            ((A, Subscribe, Subscribed), [0, 0, 0, 0, 0]),
+            ((First, Try(0), Accepted(0)), [0, 0, 0, 0, 0]),
+            ((First, Emit(1), Waiting), [0, 0, 0, 0, 0]),
+            ((Second, Emit(2), Waiting), [0, 0, 0, 0, 0]),
+            ((Third, Emit(3), Waiting), [0, 0, 0, 0, 0]),
+            ((Third, Ask, Pending), [0, 0, 0, 0, 0]),
+            ((Second, Ask, Pending), [0, 0, 0, 0, 0]),
+            ((First, Ask, Pending), [0, 0, 0, 0, 0]),
+            ((Second, TakeBack, Removed), [0, 0, 0, 1, 0]),
+            ((A, Next, Value(0)), [0, 0, 1, 1, 0]),
+            ((A, Next, Value(1)), [0, 0, 1, 1, 1]),
+            ((Third, Ask, Done(2)), [0, 0, 1, 1, 1]),
+            ((First, Ask, Done(1)), [0, 0, 1, 1, 1]),
+        ],
+    },
+    Row {
         name: "a hand over wakes its emission at the last receipt",
         config: PLAIN,
         lines: &[

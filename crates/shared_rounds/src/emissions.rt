@@ -1,0 +1,147 @@
+//! The emissions that sleep, by their tickets, and those of them that a call wakes.
+ghost use Rattle.std.specs.Prelude.{◌≡◌, ◌≢◌, ◌≤◌, ◌+◌, ◌↔◌, ◌∷◌, true, false, map, IfOk, IfSome, IfNone, IsPermutation};
+ghost use Rattle.std.specs.BinaryHeap.{heap_items, heap_len};
+ghost use Rattle.futures.specs.Task.{IsArmed, Keeps};
+ghost use Rattle.shared_lane.specs.Ordering.{IsBefore};
+ghost use Rattle.shared_rounds.specs.Sleeping.{SleepsAt, NobodySleeps, OnlyThese, LiesDown, SleepsOn, IsTicketHeap, NoneBefore};
+
+use crate::sleepers::{Bed, Sleepers, Wakes};
+use futures::task::{Context, Poll};
+use shared_core::Ticket;
+use std::alloc::{AllocError, Global};
+use std::cmp::Reverse;
+use std::collections::BinaryHeap;
+use std::marker::Model;
+
+/// The ticket of an emission that sleeps, and the key of its bed. The lowest ticket is on top of a heap.
+type Lain = Reverse<(u64, usize)>;
+
+/// The emissions that sleep. Room for each of them is reserved. Contracts see who sleeps in which bed.
+#[derive(Drop)]
+pub(crate) struct SleepingEmissions {
+    sleepers: Sleepers,
+    /// The tickets of those that sleep, so that a call looks at those alone which it wakes.
+    tickets: BinaryHeap<Lain>,
+}
+
+impl Model for SleepingEmissions {
+    ghost use Rattle.std.specs.Prelude.{map};
+    ghost use Rattle.std.specs.BinaryHeap.{heap_items};
+    ghost use Rattle.slab.specs.Slab.{Slab};
+    ghost use Rattle.shared_rounds.specs.declared.sleepers.Sleeper.{Sleeper};
+    ghost use Rattle.shared_rounds.specs.Sleeping.{AreListed, IsTicketHeap};
+
+    ghost Value = { Slab Sleeper };
+
+    ghost view = { λ e. e.sleepers.sleeping };
+
+    ghost invariant = { λ e. AreListed (map (λ lain. lain.0) (heap_items e.tickets)) e.sleepers.sleeping × IsTicketHeap (λ lain. lain.0) (heap_items e.tickets) };
+}
+
+impl SleepingEmissions {
+    /// Nobody sleeps, and so many may.
+    pub fn new(alloc: Global, count: usize) -> Result<SleepingEmissions, AllocError>
+        ensures nobody { IfOk result (λ made. NobodySleeps made) }
+        ensures room { IfOk result (λ made. count ≤ made.capacity) }
+    {
+        let sleepers = Sleepers::new(alloc, count)?;
+        let tickets = BinaryHeap::with_capacity(alloc, count)?;
+        Ok(SleepingEmissions { sleepers, tickets })
+    }
+
+    /// Whether nobody sleeps.
+    pub fn is_empty(&self) -> bool
+        ensures { (result ≡ true) ↔ NobodySleeps self.now }
+    {
+        self.sleepers.is_empty()
+    }
+
+    /// The task of this poll sleeps until the emission with this ticket is woken. Without a place for it, which no flow comes to,
+    /// the task yields.
+    pub fn sleep(&mut self, ticket: Ticket, bed: &mut Bed, cx: &mut Context<'_>)
+        ensures lies { LiesDown ticket.0 self.old self.new }
+        ensures armed { IsArmed cx.new }
+        ensures kept { Keeps cx.old cx.new }
+    {
+        if !self.sleepers.is_in(ticket.0, bed) && !self.lie_down(ticket, bed) {
+            let _again: Poll<()> = cx.yield_now();
+            return;
+        }
+        self.sleepers.register(ticket.0, bed, cx);
+    }
+
+    // Takes a place, where one is left, and says whether it did.
+    fn lie_down(&mut self, ticket: Ticket, bed: &mut Bed) -> bool
+        ensures lies { result ≡ true → SleepsAt self.new bed.new.key ticket.0 }
+        ensures others { LiesDown ticket.0 self.old self.new }
+    {
+        if self.tickets.len() >= self.tickets.capacity() || !self.sleepers.lie_down(ticket.0, bed) {
+            return false;
+        }
+        let Some(key) = bed.key else { unreachable!() };
+        self.tickets.push(Reverse((ticket.0, key))).is_ok()
+    }
+
+    // Not inlined, so that a call that wakes nobody keeps its registers.
+    /// Wakes those before the first ticket of an emission that has to wait, or all where none has to, and the one whose ticket is
+    /// gone.
+    #[inline(never)]
+    pub fn wake_done(&mut self, first: Option<Ticket>, gone: Option<u64>, wakes: &mut Wakes)
+        ensures done { OnlyThese (SleepsOn first gone) self.old self.new }
+        ensures room { self.new.capacity ≡ self.old.capacity }
+    {
+        self.wake_before(first, wakes);
+        if let Some(gone) = gone {
+            if !is_before(gone, first) {
+                self.wake(gone, wakes);
+            }
+        }
+    }
+
+    // Wakes those before this ticket, or all.
+    fn wake_before(&mut self, first: Option<Ticket>, wakes: &mut Wakes)
+        ensures others { OnlyThese (λ ticket. IsBefore ticket first → ⊥) self.old self.new }
+        ensures room { self.new.capacity ≡ self.old.capacity }
+    {
+        while let Some((ticket, key)) = take_before(&mut self.tickets, first) {
+            self.sleepers.wake_in(ticket, key, wakes);
+        }
+    }
+
+    // Wakes the one with this ticket, which was given up. Who gives up an emission waits for none, so this may go through all.
+    fn wake(&mut self, ticket: u64, wakes: &mut Wakes)
+        ensures others { OnlyThese (λ other. other ≢ ticket) self.old self.new }
+        ensures room { self.new.capacity ≡ self.old.capacity }
+    {
+        self.sleepers.wake(ticket, wakes);
+        self.tickets.retain(|lain| lain.0.0 != ticket);
+    }
+}
+
+// Takes out the lowest ticket with its bed, if it is before this one, or where there is no such bound.
+fn take_before(tickets: &mut BinaryHeap<Lain>, first: Option<Ticket>) -> Option<(u64, usize)>
+    requires { IsTicketHeap (λ lain. lain.0) (heap_items tickets.old) }
+    ensures heap { IsTicketHeap (λ lain. lain.0) (heap_items tickets.new) }
+    ensures none { IfNone result ((heap_items tickets.new ≡ heap_items tickets.old) × NoneBefore first (map (λ lain. lain.0) (heap_items tickets.new))) }
+    ensures before { IfSome result (λ lain. IsBefore lain.0 first) }
+    ensures out { IfSome result (λ taken. IsPermutation (map (λ lain. lain.0) (heap_items tickets.old)) (taken ∷ map (λ lain. lain.0) (heap_items tickets.new))) }
+    ensures fewer { IfSome result (λ lain. heap_len tickets.new + 1 ≡ heap_len tickets.old) }
+{
+    let Reverse((lowest, _)) = *tickets.peek()?;
+    if !is_before(lowest, first) {
+        return None;
+    }
+    let Reverse(lain) = tickets.pop()?;
+    Some(lain)
+}
+
+// Whether a ticket is before another, or there is no other.
+fn is_before(ticket: u64, first: Option<Ticket>) -> bool
+    ensures before { result ≡ true → IsBefore ticket first }
+    ensures after { result ≡ false → IsBefore ticket first → ⊥ }
+{
+    match first {
+        None => true,
+        Some(first) => ticket < first.0,
+    }
+}
