@@ -25,6 +25,13 @@ function tellIn(cell, text) {
   return cell;
 }
 
+/** Writes a text into a cell that says something else. */
+function tellOnce(cell, text) {
+  if (cell.told === text) return;
+  cell.told = text;
+  tellIn(cell, text);
+}
+
 /** Words of a script, as they stand there. */
 function codeElement(words) {
   const code = document.createElement("code");
@@ -56,7 +63,7 @@ class AnswersView {
     this.head = table.tHead.rows[0];
     this.body = table.tBodies[0];
     this.frame = table.parentElement;
-    Object.assign(this, { turns: [], columns: [], first: 0, last: 0, stop: 0, pointed: 0, typed: 0 });
+    Object.assign(this, { turns: [], columns: [], rows: new Map(), first: 0, last: 0, stop: 0, pointed: 0, typed: 0 });
     table.addEventListener("pointermove", (event) => hasMoved(event) && this.pointAt(event.target, onPoint));
     table.addEventListener("focusin", ({ target }) => this.pointAt(target, onPoint));
     table.addEventListener("click", ({ target }) => this.pointAt(target, target.matches("button") ? onChoose : onPoint));
@@ -67,11 +74,24 @@ class AnswersView {
   /** Shows these turns. Each column has a title, and a function from a turn to its text. */
   show(turns, columns) {
     const heads = [{ title: "Line", look: "line" }, { title: this.wordsOf ? "In Kotlin" : "Script", look: "script" }, ...columns];
-    this.head.replaceChildren(...heads.map(({ title, look }) => textElement("th", title, { scope: "col", class: look })));
+    this.showHeads(heads);
     Object.assign(this, { turns, columns, stop: clamp(this.stop, 0, Math.max(0, turns.length - 1)) });
-    this.table.setAttribute("aria-rowcount", turns.length + 1);
-    this.table.style.setProperty("--digits", Math.max(2, String(turns.at(-1)?.number ?? "").length));
+    setAttribute(this.table, "aria-rowcount", turns.length + 1);
+    this.setStyle("--digits", String(Math.max(2, String(turns.at(-1)?.number ?? "").length)));
     this.make(this.isWhole ? 0 : clamp(this.first, 0, turns.length - ROWS_AT_ONCE));
+  }
+
+  /** With other columns no row stays. */
+  showHeads(heads) {
+    const titles = heads.map(({ title, look }) => `${look} ${title}`).join("\n");
+    if (titles === this.titles) return;
+    this.titles = titles;
+    this.head.replaceChildren(...heads.map(({ title, look }) => textElement("th", title, { scope: "col", class: look })));
+    this.rows = new Map();
+  }
+
+  setStyle(name, value) {
+    if (this.table.style.getPropertyValue(name) !== value) this.table.style.setProperty(name, value);
   }
 
   get isWhole() {
@@ -83,46 +103,61 @@ class AnswersView {
     return Math.min(ROW_PIXELS, MOST_TABLE_PIXELS / Math.max(1, this.turns.length));
   }
 
-  /** Makes the rows from a place in the list on, and leaves room for the others. */
+  /** Makes the rows from a place in the list on, and leaves room for the others. What is shown already stays. */
   make(first) {
     const hadFocus = this.body.contains(document.activeElement);
     this.first = first;
     this.last = this.isWhole ? this.turns.length : Math.min(first + ROWS_AT_ONCE, this.turns.length);
-    this.table.style.marginTop = `${first * this.rowPixels}px`;
-    this.table.style.marginBottom = `${(this.turns.length - this.last) * this.rowPixels}px`;
-    this.body.replaceChildren(...this.turns.slice(first, this.last).map((turn, index) => this.rowOf(turn, first + index)));
+    this.setStyle("margin-top", `${first * this.rowPixels}px`);
+    this.setStyle("margin-bottom", `${(this.turns.length - this.last) * this.rowPixels}px`);
+    const made = this.turns.slice(first, this.last).map((turn, index) => [first + index, this.rowOf(turn, first + index)]);
+    this.rows = new Map(made);
+    putElements(this.body, [...this.rows.values()]);
     if (!hadFocus) return;
     const button = this.rowAt(this.stop)?.querySelector("button") ?? this.frame;
     button.focus({ preventScroll: true });
   }
 
+  /** The row of a place in the list, as it is there or a new one, with what it is to say. */
   rowOf(turn, index) {
-    const row = textElement("tr", "", { "aria-rowindex": index + 2 });
-    const heading = textElement("th", "", { scope: "row" });
-    const tabindex = index === this.stop ? "0" : "-1";
-    const attributes = { type: "button", tabindex, "aria-label": `Line ${turn.number}`, title: "Go to this line of the script" };
-    heading.append(textElement("button", turn.number, attributes));
-    const script = document.createElement("td");
-    script.append(codeElement(this.wordsOf?.(turn) ?? turn.text));
-    const cells = this.columns.map((column) => this.cellOf(column, turn));
-    row.append(heading, script, ...cells);
+    const row = this.rows.get(index) ?? this.newRow();
+    const [button, code] = [row.cells[0].firstElementChild, row.cells[1].firstElementChild.firstElementChild];
     row.turn = turn;
+    setAttribute(row, "aria-rowindex", index + 2);
+    setAttribute(button, "tabindex", index === this.stop ? "0" : "-1");
+    setAttribute(button, "aria-label", `Line ${turn.number}`);
+    setText(button, turn.number);
+    tellOnce(code, this.wordsOf?.(turn) ?? turn.text);
+    this.retellRow(row);
     this.dress(row);
     return row;
   }
 
-  cellOf({ textOf, elementOf, look }, turn) {
-    const cell = textElement("td", "", { class: look });
-    const element = elementOf?.(turn);
-    if (!element) return tellIn(cell, textOf(turn));
-    cell.append(element);
-    return cell;
+  newRow() {
+    const row = document.createElement("tr");
+    const heading = textElement("th", "", { scope: "row" });
+    heading.append(textElement("button", "", { type: "button", title: "Go to this line of the script" }));
+    const script = document.createElement("td");
+    script.append(codeElement(""));
+    row.append(heading, script, ...this.columns.map(({ look }) => textElement("td", "", { class: look })));
+    return row;
+  }
+
+  /** Writes into the cells of a row what another text stands for, and elements, of which each is a new one. */
+  retellRow(row) {
+    this.columns.forEach(({ textOf, elementOf }, index) => {
+      const cell = row.cells[index + 2];
+      const element = elementOf?.(row.turn);
+      if (!element) return tellOnce(cell, textOf(row.turn));
+      cell.told = undefined;
+      cell.replaceChildren(element);
+    });
   }
 
   /** Writes the row of a turn anew, of which more is known. */
   retell(turn) {
     const row = this.rowAt(turn.column - 1);
-    this.columns.forEach((column, index) => row?.cells[index + 2].replaceWith(this.cellOf(column, turn)));
+    if (row) this.retellRow(row);
   }
 
   dress(row) {
@@ -132,7 +167,7 @@ class AnswersView {
 
   /** The row of a place in the list, where it is made. */
   rowAt(index) {
-    return this.body.rows[index - this.first];
+    return this.rows.get(index);
   }
 
   /** Makes other rows where those in sight aren't made. The row that is at the top stays there. */
@@ -178,7 +213,7 @@ class AnswersView {
   /** Lets the tab key lead to the button of this row of all. */
   setStop(index) {
     this.stop = index;
-    for (const row of this.body.rows) row.querySelector("button").tabIndex = row.turn.column - 1 === index ? 0 : -1;
+    for (const row of this.body.rows) setAttribute(row.querySelector("button"), "tabindex", row.turn.column - 1 === index ? "0" : "-1");
   }
 
   /** Marks the row of a line, and shows it. */

@@ -233,17 +233,22 @@ class Editor {
       const top = padding + (line - 1) * lineHeight - scrollTop;
       const isBad = this.bad.has(line) && line !== this.typed;
       const looks = [isBad ? "bad" : "", line === this.pointed ? "pointed" : ""].join(" ").trim();
-      numbers.push(this.strip(line, looks, top));
-      if (looks) bands.push(this.strip("", looks, top));
+      numbers.push({ text: String(line), looks, top });
+      if (looks) bands.push({ text: "", looks, top });
     }
     this.gutter.style.width = `${String(this.lineStarts.length).length + 3}ch`;
-    this.gutter.replaceChildren(...numbers);
-    this.backdrop.replaceChildren(...bands);
+    putStrips(this.gutter, numbers);
+    putStrips(this.backdrop, bands);
   }
+}
 
-  strip(text, looks, top) {
-    const strip = textElement("div", text, { class: looks });
-    strip.style.top = `${top}px`;
-    return strip;
-  }
+/** Makes these strips the only ones in a room. What is drawn as it was stays. */
+function putStrips(room, strips) {
+  while (room.children.length > strips.length) room.lastChild.remove();
+  strips.forEach(({ text, looks, top }, index) => {
+    const strip = room.children[index] ?? room.appendChild(document.createElement("div"));
+    setText(strip, text);
+    setAttribute(strip, "class", looks);
+    setAttribute(strip, "style", `top: ${top}px`);
+  });
 }

@@ -10,13 +10,13 @@ function sampleOf(picture, { line, row }) {
   const cell = cellAt(picture, column, rowIndex);
   const middle = middleAsDrawn(picture, column);
   const [left, top] = [middle - SAMPLE_WIDTH / 2, rowIndex * ROW_HEIGHT];
-  const ways = [picture.guides[column - 1], ...waysBetween(picture, rowIndex, left, left + SAMPLE_WIDTH)].map(({ markup }) => markup);
+  const ways = [picture.guides[column - 1], ...waysBetween(picture, rowIndex, left, left + SAMPLE_WIDTH).map(({ markup }) => markup)];
   return { box: { left, top, width: SAMPLE_WIDTH, height: ROW_HEIGHT }, elements: [...ways, groupOf("mark", cell)] };
 }
 
 function sampleSvg(picture, entry) {
   const { box, elements } = sampleOf(picture, entry);
-  const svg = makeSvg(box, 1, elements);
+  const svg = new KeptSvg().show(box, 1, elements);
   for (const title of svg.querySelectorAll("title")) title.remove();
   return svg;
 }

@@ -215,6 +215,7 @@ function showResults(script, results) {
   const trouble = results.map((result) => troubleIn(result, script)).find(Boolean);
   if (trouble) return showTrouble(trouble);
   say("trouble", "");
+  taken.take(script);
   page.runs = [];
   for (const result of results) page.runs.push(readRun(script, result));
   page.turns = page.runs[0].turns;
@@ -226,7 +227,7 @@ function showResults(script, results) {
   answers.show(page.turns, answerColumns());
   pipes.show(page.turns.filter((turn) => steps.isShown(turn)));
   pending.take(script, page.turns);
-  taken.find(script, page.turns);
+  taken.find(page.turns);
   reasons.explain(script, page.turns.filter(({ answer }) => isBad(answer)).slice(0, MOST_NAMED_LINES));
   pointAtLine(editor.pointed);
   setBusy(false);
@@ -237,7 +238,10 @@ function readRun(script, { engine, picture, answers: said }) {
   const turns = turnsOf(script, said.output);
   const same = page.runs.find(({ svg, output }) => svg === picture.output && output === said.output);
   const drawn = same?.picture ?? readPicture(picture.output);
-  if (!same) tellCells(drawn, turns);
+  if (!same) {
+    tellCells(drawn, turns);
+    taken.tell(drawn, turns);
+  }
   reasons.takeFrom(drawn, turns);
   return { engine, turns, svg: picture.output, output: said.output, picture: drawn };
 }

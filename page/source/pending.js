@@ -84,19 +84,22 @@ function mainHosts({ hosts, tickets }, { words }) {
 class Pending {
   /** Asks by `ask` the answers to a script. */
   constructor(ask) {
-    Object.assign(this, { ask, script: "", turns: [], kept: new Map() });
+    Object.assign(this, { ask, lines: [], turns: [], kept: new Map() });
   }
 
-  /** Takes a script with its lines that have an answer. */
+  /** Takes a script with its lines that have an answer. What is pending before the first line that is another is known still. */
   take(script, turns) {
-    Object.assign(this, { script, lines: linesOf(script), turns, kept: new Map() });
+    const lines = linesOf(script);
+    const same = sameLines(lines, this.lines);
+    for (const number of [...this.kept.keys()]) if (number > same) this.kept.delete(number);
+    Object.assign(this, { lines, turns });
   }
 
   /** What there is after a line with an answer, as { hosts, tickets, more }; nothing where the script is too long for that. */
   async after(turn) {
     if (turn.number > MOST_ASKED_LINES) return undefined;
-    if (!this.kept.has(turn.column)) this.kept.set(turn.column, this.find(turn));
-    return this.kept.get(turn.column);
+    if (!this.kept.has(turn.number)) this.kept.set(turn.number, this.find(turn));
+    return this.kept.get(turn.number);
   }
 
   async find(turn) {
@@ -113,6 +116,7 @@ class Pending {
     for (const questions of [askWhatIsThere(told), askNextEmission(told)]) {
       if (questions.lines.length === 0) continue;
       const { output } = await this.ask(`${front}\n${questions.lines.join("\n")}`);
+      if (!output) this.kept.delete(turn.number);
       questions.answer(linesOf(output ?? "").slice(turn.column));
     }
     for (const host of told.hosts) for (const party of host.parties) party.loss = lossOf(party);

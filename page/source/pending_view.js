@@ -51,6 +51,8 @@ class PendingView {
     this.list.style.minHeight = this.isFresh ? "" : `${this.list.offsetHeight}px`;
     this.isFresh = false;
     this.title.textContent = turn ? `after line ${turn.number}` : "before the first line";
+    if (told && told === this.told) return;
+    this.told = told;
     if (!told) return this.list.replaceChildren(textElement("p", turn ? "The script is too long to say what is pending." : "Nothing is there yet."));
     const more = told.more > 0 ? [textElement("p", `${told.more} more, which this line isn't about.`, { class: "help" })] : [];
     this.list.replaceChildren(...told.hosts.map((host) => hostElement(host, told.tickets.filter(({ flow }) => flow === host.name))), ...more);

@@ -8,7 +8,10 @@
 const ROW_HEIGHT = 44;
 /** A value of a state stands so much to the right of its column's middle. */
 const VALUE_SHIFT = 4;
-const WAYS = new Set(["guide", "row", "dashed", "step"]);
+/** How the lines begin that lead down a column or along a row. */
+const WAY = /^<line class="(?:row|dashed|step)"/;
+const GUIDE = '<line class="guide"';
+const TAGS = { l: "line", t: "text", r: "rect", c: "circle", p: "path" };
 
 const QUOTE = '"';
 
@@ -30,12 +33,8 @@ function lookOf(markup, tag) {
 class Shape {
   constructor(markup) {
     this.markup = markup;
-    this.tag = markup.slice(1, markup.indexOf(" "));
+    this.tag = TAGS[markup[1]];
     this.look = lookOf(markup, this.tag);
-  }
-
-  get isWay() {
-    return this.tag === "line" && WAYS.has(this.look);
   }
 
   get middle() {
@@ -94,21 +93,25 @@ function readPicture(svg) {
   const lines = svg.split("\n");
   const sheetAt = lines.findIndex((line) => line.startsWith('<rect class="sheet"'));
   const styleAt = lines.indexOf("<style>");
-  const elements = lines.slice(sheetAt + 1, lines.lastIndexOf("</svg>")).map((markup) => new Shape(markup));
   const [width, height] = [numberOf(lines[0], "width"), numberOf(lines[0], "height")];
   const picture = { width, height, names: [], guides: [], ways: [] };
   [picture.title, picture.about] = lines.slice(1, styleAt).map(wordsIn);
   picture.style = lines.slice(styleAt + 1, sheetAt).join("\n").replace("</style>", "");
-  const marks = elements.filter((element) => !element.isWay);
-  for (const element of elements) if (element.isWay) addWay(picture, element);
+  const marks = marksBehindWays(picture, lines.slice(sheetAt + 1, lines.lastIndexOf("</svg>")));
   measureColumns(picture, marks.filter(({ look }) => look === "head"));
   fillCells(picture, marks);
   return picture;
 }
 
-function addWay(picture, element) {
-  if (element.look === "guide") picture.guides.push(element);
-  else (picture.ways[element.row] ??= []).push(element);
+/** Sorts the lines that lead down columns and along rows, as they are written; the others as shapes. */
+function marksBehindWays(picture, elements) {
+  const marks = [];
+  for (const markup of elements) {
+    if (markup.startsWith(GUIDE)) picture.guides.push(markup);
+    else if (WAY.test(markup)) (picture.ways[new Shape(markup).row] ??= []).push(markup);
+    else marks.push(new Shape(markup));
+  }
+  return marks;
 }
 
 /** A picture ends 8 behind the column that follows its last one. */
@@ -155,12 +158,11 @@ function waysBetween(picture, row, left, right) {
   let [low, high] = [0, ways.length];
   while (low < high) {
     const middle = Math.floor((low + high) / 2);
-    if (ways[middle].right < left) low = middle + 1;
+    if (new Shape(ways[middle]).right < left) low = middle + 1;
     else high = middle;
   }
-  const seen = [];
-  for (let at = low; at < ways.length && ways[at].left <= right; at++) seen.push(ways[at]);
-  return seen;
+  const end = ways.findIndex((way, at) => at >= low && new Shape(way).left > right);
+  return ways.slice(low, end < 0 ? ways.length : end).map((way) => new Shape(way));
 }
 
 /** Whether a picture has nothing but the numbers of lines. */

@@ -24,9 +24,13 @@ class PipeFigure {
     find(".save-png").addEventListener("click", () => view.onSave(this, true));
   }
 
+  /** Shows a turn by its drawing, or by a sentence that says why there is none. */
   show(turn, shown) {
+    const isSame = this.shown === shown && this.turn?.number === turn.number && this.turn?.text === turn.text;
+    Object.assign(this, { turn, shown });
+    if (isSame) return;
     const isDrawn = typeof shown !== "string";
-    Object.assign(this, { turn, drawing: isDrawn ? shown : undefined, parts: partsOf(turn.words) });
+    Object.assign(this, { drawing: isDrawn ? shown : undefined, parts: partsOf(turn.words) });
     this.line.textContent = `Line ${turn.number}`;
     this.code.textContent = turn.text;
     this.why.textContent = isDrawn ? "" : shown;

@@ -34,7 +34,7 @@ function showTrouble(text) {
   for (const { figure } of page.views.splice(0)) figure.remove();
   pipes.show([]);
   pending.take("", []);
-  taken.find("", []);
+  taken.take("");
   say("trouble", text);
   markBadLines();
   say("status", "");
@@ -77,10 +77,8 @@ function showReason(turn) {
 /** Shows what was taken at a tick, in all places that tell of it. */
 function showTaken(turn, taken) {
   for (const { view } of page.views) {
-    const cell = view.picture.columns[turn.column]?.find(({ elements }) => elements.some(({ tag }) => tag === "path"));
-    if (!cell) continue;
-    Object.assign(cell, { taken, sentence: undefined });
-    view.addTo(cell, wordsOfTaken(taken));
+    const cell = tellTaken(view.picture, turn, taken);
+    if (cell) view.remake(cell);
   }
   answers.retell(turn);
   if (editor.pointed === turn.number) pointAt(turn);
@@ -111,8 +109,8 @@ function showPictures(script) {
   page.views.forEach((shown, index) => {
     const { figure, view } = shown;
     shown.run = runs[index];
-    figure.querySelector(".engines").textContent = agree() ? engines.join(" and ") : engines[index];
-    figure.querySelector(".empty").textContent = whyEmpty(shown.run.picture, page.turns, script);
+    setText(figure.querySelector(".engines"), agree() ? engines.join(" and ") : engines[index]);
+    setText(figure.querySelector(".empty"), whyEmpty(shown.run.picture, page.turns, script));
     figure.hidden = isEmpty(shown.run.picture) && page.turns.some(runsPipe);
     view.show(shown.run.picture, shown.run.turns, steps.shownTo);
     view.markTyped(editor.typed);
@@ -157,8 +155,8 @@ function showSight(figure, view) {
   const count = view.turns.length;
   const tool = (name) => figure.querySelector(`.${name}`);
   const number = (column) => view.turns[column - 1]?.number.toLocaleString("en");
-  tool("sight").textContent = count === 0 ? "" : `Lines ${number(first)}–${number(last)} of ${number(count)}`;
-  tool("as-drawn").textContent = `${Math.round(view.zoom * 100)} %`;
+  setText(tool("sight"), count === 0 ? "" : `Lines ${number(first)}–${number(last)} of ${number(count)}`);
+  setText(tool("as-drawn"), `${Math.round(view.zoom * 100)} %`);
   tool("earlier").disabled = first <= 1 && view.frame.left === 0;
   tool("later").disabled = last >= count && view.isAtEnd;
   tool("smaller").disabled = view.zoom === ZOOMS[0];

@@ -10,15 +10,20 @@ function linesOf(script) {
   return lines;
 }
 
+/** How many lines two scripts begin with that are the same. */
+function sameLines(lines, others) {
+  const other = lines.findIndex((line, index) => line !== others[index]);
+  return other < 0 ? lines.length : other;
+}
+
 /** The words of a line. Only spaces part words: a tab is part of one. */
 function wordsOf(line) {
   return line.split(" ").filter((word) => word !== "");
 }
 
-/** Whether a line asks for something. Empty lines and comments don't. */
-function hasAnswer(line) {
-  const first = wordsOf(line)[0];
-  return first !== undefined && !first.startsWith("#");
+/** Whether a line of these words asks for something. Empty lines and comments don't. */
+function askSomething(words) {
+  return words.length > 0 && !words[0].startsWith("#");
 }
 
 /** Why a script isn't taken; nothing where it is. */
@@ -40,9 +45,10 @@ function turnsOf(script, output) {
   const answers = linesOf(output);
   const turns = [];
   linesOf(script).forEach((text, index) => {
-    if (!hasAnswer(text)) return;
+    const words = wordsOf(text);
+    if (!askSomething(words)) return;
     const [column, answer] = [turns.length + 1, answers[turns.length]];
-    turns.push({ number: index + 1, column, words: wordsOf(text), text: text.replace(/^ +| +$/g, ""), answer });
+    turns.push({ number: index + 1, column, words, text: text.replace(/^ +| +$/g, ""), answer });
   });
   return turns;
 }

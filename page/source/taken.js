@@ -16,7 +16,7 @@ function addedTo(before, after, isAll) {
   return after.length > 0 ? { values: after.slice(-1), isAll: false } : undefined;
 }
 
-/** What is there for one host after so many lines. */
+/** What is there for one host after so many lines; nothing where the runner doesn't say it. */
 async function listsOf(ask, front, column, host) {
   const questions = new Questions();
   const told = { cache: [], lists: host.parties.map(() => []) };
@@ -28,7 +28,8 @@ async function listsOf(ask, front, column, host) {
     }
   });
   const { output } = await ask(`${front}\n${questions.lines.join("\n")}`);
-  questions.answer(linesOf(output ?? "").slice(column));
+  if (!output) return undefined;
+  questions.answer(linesOf(output).slice(column));
   return told;
 }
 
@@ -53,29 +54,53 @@ function sentenceOfTaken({ values, isAll }) {
   return isAll ? `takes ${values.join(", ")}` : `takes ${values.join(", ")} at last`;
 }
 
+/** Writes into a picture what was taken at a tick, below its mark; the cell of that mark, if it has one. */
+function tellTaken(picture, { column }, taken) {
+  const cell = picture.columns[column]?.find(({ elements }) => elements.some(({ tag }) => tag === "path"));
+  if (!cell) return undefined;
+  const place = `x="${middleAsDrawn(picture, column)}" y="${cell.row * ROW_HEIGHT + 41}"`;
+  return Object.assign(cell, { taken, sentence: undefined, more: `<text class="taken" ${place}>${wordsOfTaken(taken)}</text>` });
+}
+
 /** Finds what was taken at each tick of a script, one after another. Tells `onTaken` a turn of which it is known. */
 class TakenFinder {
   constructor(ask, onTaken) {
-    Object.assign(this, { ask, onTaken, round: 0 });
+    Object.assign(this, { ask, onTaken, round: 0, lines: [], known: new Map() });
   }
 
-  async find(script, turns) {
-    this.round += 1;
+  /** Takes another script. What was taken before the first line that is another is known still. */
+  take(script) {
+    const lines = linesOf(script);
+    const same = sameLines(lines, this.lines);
+    for (const number of [...this.known.keys()]) if (number > same) this.known.delete(number);
+    Object.assign(this, { lines, round: this.round + 1 });
+  }
+
+  /** Writes into a picture what is known. */
+  tell(picture, turns) {
+    for (const turn of this.known.size > 0 ? turns : []) if (this.known.has(turn.number)) tellTaken(picture, turn, this.known.get(turn.number));
+  }
+
+  /** Finds what isn't known yet. */
+  async find(turns) {
     const { round } = this;
     const isTick = ({ words, answer }) => words[0] === "tick" && answer !== undefined && (answer === "on" || answer.startsWith("failed "));
-    const lines = linesOf(script);
     for (const turn of turns.filter(isTick).slice(0, MOST_TICKS)) {
       if (turn.number > MOST_ASKED_LINES) return;
-      const taken = await this.takenAt(lines, turns, turn);
+      const taken = this.known.has(turn.number) ? undefined : await this.takenAt(turns, turn);
       if (round !== this.round) return;
-      if (taken) this.onTaken(turn, taken);
+      if (!taken) continue;
+      this.known.set(turn.number, taken);
+      this.onTaken(turn, taken);
     }
   }
 
-  async takenAt(lines, turns, turn) {
+  async takenAt(turns, turn) {
     const host = partiesAfter(turns.slice(0, turn.column)).hosts.find(({ name }) => name === turn.words[1]);
     if (!host) return undefined;
-    const look = (count, column) => listsOf(this.ask, lines.slice(0, count).join("\n"), column, host);
-    return takenBetween(host, await look(turn.number - 1, turn.column - 1), await look(turn.number, turn.column));
+    const { ask, lines } = this;
+    const look = (count, column) => listsOf(ask, lines.slice(0, count).join("\n"), column, host);
+    const [before, after] = [await look(turn.number - 1, turn.column - 1), await look(turn.number, turn.column)];
+    return before && after && takenBetween(host, before, after);
   }
 }

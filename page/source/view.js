@@ -1,22 +1,13 @@
 // Shows one picture: the names of its rows, which stay in sight, beside its columns, which scroll. The program's SVG brings
 // its own style, so a picture stands in a shadow tree. Only what is in sight, and a little around it, is made.
 
-const SVG_NAMESPACE = "http://www.w3.org/2000/svg";
 /** A browser lays nothing out that is much longer. A longer picture is shown in parts. */
 const MOST_PIXELS = 12000000;
 const ZOOMS = [0.5, 0.65, 0.72, 0.8, 0.9, 1, 1.25, 1.5, 2, 3];
 /** A picture that is fitted to its frame is never smaller, nor larger than it is drawn. */
 const LEAST_FITTED = 0.65;
-
-/** An SVG of these elements, which shows a box of a picture, so many times as large. Its style is the picture's. */
-function makeSvg({ left, top, width, height }, zoom, elements) {
-  const svg = document.createElementNS(SVG_NAMESPACE, "svg");
-  svg.setAttribute("width", width * zoom);
-  svg.setAttribute("height", height * zoom);
-  svg.setAttribute("viewBox", `${left} ${top} ${width} ${height}`);
-  svg.innerHTML = [`<rect class="sheet" x="${left}" y="${top}" width="${width}" height="${height}"/>`, ...elements].join("");
-  return svg;
-}
+/** What the columns are to the style and to a screen reader. */
+const COLUMNS_ARE = { class: "columns", role: "group", "aria-roledescription": "marble diagram" };
 
 /** What stands in one place of a picture, as a group, moved so far to the right. */
 function groupOf(look, { elements, more = "" }, shift = 0) {
@@ -40,7 +31,11 @@ class PictureView {
     this.root = this.host.attachShadow({ mode: "open" });
     this.sheet = textElement("div", "", { class: "whole" });
     this.names = textElement("div", "", { class: "names", "aria-hidden": "true" });
-    this.sheet.append(this.names);
+    Object.assign(this, { namesDrawn: new KeptSvg(), drawn: new KeptSvg() });
+    this.columns = this.drawn.svg;
+    for (const [name, value] of Object.entries(COLUMNS_ARE)) this.columns.setAttribute(name, value);
+    this.names.append(this.namesDrawn.svg);
+    this.sheet.append(this.names, this.columns);
     this.style = document.createElement("style");
     this.root.append(this.style, textElement("style", style), this.sheet);
     this.root.addEventListener("keydown", (event) => this.pressKey(event));
@@ -161,59 +156,61 @@ class PictureView {
     const hadFocus = this.root.activeElement !== null;
     this.made = box;
     this.isMaking = true;
-    this.columns?.remove();
-    this.names.replaceChildren(this.namesSvg());
-    this.columns = this.columnsSvg();
-    this.sheet.append(this.columns);
+    this.drawNames();
+    this.drawColumns();
     if (hadFocus) this.elementOf(this.stop)?.focus({ preventScroll: true });
     this.isMaking = false;
     this.drawMarked();
   }
 
   /** The names. Each mark's label begins with its row's name, so they need no reading here. */
-  namesSvg() {
+  drawNames() {
     const { picture, layout, made, zoom } = this;
     const box = { left: 0, top: made.top * ROW_HEIGHT, width: layout.namesWidth, height: (made.bottom - made.top + 1) * ROW_HEIGHT };
     const names = picture.names.slice(made.top, made.bottom + 1).filter(Boolean);
-    const svg = makeSvg(box, zoom, names.map((name) => name.markup + hostMarkup(name, picture.hosts)));
+    const svg = this.namesDrawn.show(box, zoom, names.map((name) => `<g>${name.markup}${hostMarkup(name, picture.hosts)}</g>`));
     svg.style.top = `${box.top * zoom}px`;
     this.names.style.width = `${box.width * zoom}px`;
     this.names.style.height = `${picture.height * zoom}px`;
-    return svg;
   }
 
-  columnsSvg() {
+  drawColumns() {
     const { picture, layout, made, zoom } = this;
     const left = layout.lefts[made.first];
     const end = made.last === picture.columnCount ? layout.width : layout.lefts[made.last + 1];
     this.box = { left, top: made.top * ROW_HEIGHT, width: end - left, height: (made.bottom - made.top + 1) * ROW_HEIGHT };
-    const isMade = ({ row, column }) => row >= made.top && row <= made.bottom && column >= made.first && column <= made.last;
-    const cells = picture.columns.slice(made.first, made.last + 1).flat().filter((cell) => isMade(cell) && cell.column <= this.shownTo);
-    if (this.stop && !isMade(this.stop)) cells.push(this.stop);
-    const [heads, marked] = [cells.filter(({ row }) => row === 0), cells.filter(({ row }) => row > 0)];
-    const group = (look) => (cell) => groupOf(look, cell, layout.shiftOf(cell.column));
-    const groups = [...heads.map(group("heading")), ...marked.map(group("mark"))];
+    const cells = this.cellsToMake();
+    const part = (cell) => ({ cell, markup: groupOf(cell.row === 0 ? "heading" : "mark", cell, layout.shiftOf(cell.column)) });
+    const [heads, marks] = [cells.filter(({ row }) => row === 0).map(part), cells.filter(({ row }) => row > 0).map(part)];
     const band = `<rect class="band" y="0" width="0" height="100%" display="none"/>`;
-    const svg = makeSvg(this.box, zoom, [band, ...this.ways(), this.coverMarkup(end), ...groups]);
-    this.marks = [...svg.querySelectorAll(".mark")].map((element, index) => ({ element, cell: marked[index] }));
-    this.heads = [...svg.querySelectorAll(".heading")].map((element, index) => ({ element, cell: heads[index] }));
-    this.nameSvg(svg);
+    const groups = [...heads, ...marks].map(({ markup }) => markup);
+    const svg = this.drawn.show(this.box, zoom, [band, ...this.ways(), ...this.coverMarkup(end), ...groups]);
+    const drawn = ({ cell, markup }) => ({ element: this.drawn.elementOf(markup), cell });
+    Object.assign(this, { heads: heads.map(drawn), marks: marks.map(drawn) });
+    this.nameColumns();
     svg.style.left = `${this.placeOfColumn(made.first) * zoom}px`;
     svg.style.top = `${this.box.top * zoom}px`;
-    return svg;
+  }
+
+  /** The cells that are made; the one that the tab key leads to is, wherever it stands. */
+  cellsToMake() {
+    const { picture, made, stop } = this;
+    const isMade = ({ row, column }) => row >= made.top && row <= made.bottom && column >= made.first && column <= made.last;
+    const cells = picture.columns.slice(made.first, made.last + 1).flat().filter((cell) => isMade(cell) && cell.column <= this.shownTo);
+    return stop && !isMade(stop) ? [...cells, stop] : cells;
   }
 
   /** What hides the columns that aren't shown. */
   coverMarkup(end) {
     const { lefts } = this.layout;
     const from = this.shownTo < this.picture.columnCount ? lefts[this.shownTo + 1] : end;
-    return from < end ? `<rect class="sheet" x="${from}" y="0" width="${end - from}" height="100%"/>` : "";
+    return from < end ? [`<rect class="sheet" x="${from}" y="0" width="${end - from}" height="100%"/>`] : [];
   }
 
   /** The lines under the marks that are made. */
   ways() {
     const { picture, layout, made } = this;
-    const ways = picture.guides.slice(made.first - 1, made.last);
+    const ways = picture.guides.slice(made.first - 1, made.last).map((markup) => new Shape(markup));
     const [from, to] = [leftAsDrawn(picture, made.first), leftAsDrawn(picture, made.last + 1)];
     const end = made.last === picture.columnCount ? picture.width : to;
     for (let row = made.top; row <= made.bottom; row++) ways.push(...waysBetween(picture, row, from, end));
@@ -221,24 +218,19 @@ class PictureView {
   }
 
   /** One mark of all is in the order of the tab key; the arrow keys lead to the others. */
-  nameSvg(svg) {
-    const { picture } = this;
-    svg.setAttribute("class", "columns");
-    svg.setAttribute("role", "group");
-    svg.setAttribute("aria-roledescription", "marble diagram");
-    svg.setAttribute("aria-label", `${picture.title}. ${picture.about}`);
+  nameColumns() {
+    const { picture, columns } = this;
+    setAttribute(columns, "aria-label", `${picture.title}. ${picture.about}`);
     for (const { element, cell } of this.marks) {
-      element.setAttribute("role", "img");
-      element.setAttribute("tabindex", cell === this.stop ? "0" : "-1");
-      element.setAttribute("aria-label", `Line ${cell.line}: ${sentenceOf(cell)}`);
+      setAttribute(element, "role", "img");
+      setAttribute(element, "tabindex", cell === this.stop ? "0" : "-1");
+      setAttribute(element, "aria-label", `Line ${cell.line}: ${sentenceOf(cell)}`);
     }
-    for (const { element } of this.heads) element.setAttribute("aria-hidden", "true");
+    for (const { element } of this.heads) setAttribute(element, "aria-hidden", "true");
   }
 
-  /** Writes more to a cell, below what stands there. */
-  addTo(cell, words) {
-    const x = middleAsDrawn(this.picture, cell.column);
-    cell.more = `<text class="taken" x="${x}" y="${cell.row * ROW_HEIGHT + 41}">${words}</text>`;
+  /** Makes a cell anew of which more is known. */
+  remake(cell) {
     if (this.elementOf(cell)) this.make(this.made);
   }
 
@@ -266,7 +258,7 @@ class PictureView {
 
   /** What the pointer is on is in sight, and stays where it is. */
   pointAt(event) {
-    if (event.target.closest(".names") || !this.columns) return this.tip.hide();
+    if (event.target.closest(".names") || !this.made) return this.tip.hide();
     const { turn, cell } = this.placeOf(event);
     if (!turn || turn.column > this.shownTo) return this.tip.hide();
     this.isStill = true;
@@ -369,7 +361,7 @@ class PictureView {
   }
 
   drawMarked() {
-    if (!this.columns) return;
+    if (!this.made) return;
     const { layout, marked, aimed } = this;
     const aimedAt = aimed && emissionOf(aimed);
     const band = this.columns.querySelector(".band");
