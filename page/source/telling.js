@@ -16,9 +16,8 @@ function hostsOf(turns) {
   return hosts;
 }
 
-/** Why a value is lost, by who lost it; why one is dropped; and what `off` says. */
-const LOST_SINCE = { sub: "no place was free, so the oldest made way", collector: "a newer value came before it was taken" };
-const DROPPED_SINCE = "a subscription had no place free";
+/** Why a value is lost, by who lost it; and what `off` says. */
+const LOST_SINCE = { sub: ": no place was free, so the oldest made way", collector: " to a newer value" };
 const OFF_TICK = "answers off to a tick: its source isn't being collected";
 
 /** Tells each cell of a picture its line, the name of its row, and whether it is the first there. */
@@ -81,8 +80,8 @@ function sentenceOn(cell) {
   if (looks.includes("accepted")) return `accepted ${value}${number}`;
   if (looks.includes("received prelude")) return `received ${value} of its prelude`;
   if (looks.includes("received")) return `${role === "buffer" ? "gave" : "received"} ${value}${number}`;
-  if (looks.includes("lost")) return `lost ${value}${number}: ${LOST_SINCE[role]}`;
-  if (looks.includes("dropped")) return `dropped ${value}: ${DROPPED_SINCE}`;
+  if (looks.includes("lost")) return `lost ${value}${number}${LOST_SINCE[role]}`;
+  if (looks.includes("dropped")) return `dropped ${value}: no place was free`;
   if (looks.includes("full")) return `was full: ${value} isn't emitted`;
   if (looks.includes("path")) return tickSentence(cell, value);
   if (looks.includes("before")) return `begins to wait with ${value}`;
