@@ -181,6 +181,21 @@ def test_of_many_pipes_those_around_the_line_are_drawn(browser, folder):
     page.close()
 
 
+def test_the_pipe_that_is_typed_is_in_sight(browser, folder):
+    page = Page(browser)
+    page.tab.show_as(1280, 800)
+    page.write("")
+    page.caret(0)
+    page.tab.type("\n".join(f"cold of {it} | add 1" for it in range(6)))
+    in_sight = """(() => {
+      const [frame, pipe] = ['.pipes', '.pipe.pointed'].map((it) => document.querySelector(it)?.getBoundingClientRect());
+      return document.querySelectorAll('.pipe').length === 6 && pipe !== undefined && pipe.top >= frame.top - 1 && pipe.bottom <= frame.bottom + 1;
+    })()"""
+    page.tab.wait_for(in_sight)
+    same("it is the last", page.read(".pipe.pointed .line"), "Line 6")
+    page.close()
+
+
 # The pictures of docs/operators, each of a line.
 OPERATORS = {
     "map": "cold of 1,2,3 | add 10",

@@ -33,6 +33,7 @@ class PipesView {
     if (unknown.length > 0) await this.drawings.draw(unknown);
     if (round !== this.round) return;
     this.draw(shown);
+    this.reveal(this.pointed);
     this.section.setAttribute("aria-busy", "false");
   }
 
@@ -55,7 +56,7 @@ class PipesView {
     const index = this.turns.findIndex(({ number }) => number === line);
     if (index >= 0 && (index < this.first || index >= this.first + MOST_PIPES)) {
       this.first = clamp(index - Math.floor(MOST_PIPES / 2), 0, Math.max(0, this.turns.length - MOST_PIPES));
-      this.showWindow().then(() => this.reveal(line));
+      this.showWindow();
     }
     this.mark(line);
     this.reveal(line);
