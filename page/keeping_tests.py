@@ -21,13 +21,15 @@ SHOWN = """(() => {
 IS_BUSY = "document.querySelectorAll('[aria-busy=true]').length > 0"
 
 
-def shown(page):
-    """What is shown, once nothing more comes to it."""
-    seen, now = None, page.tab.ask(SHOWN)
-    while seen != now or page.tab.ask(IS_BUSY):
+def shown(page, looks=1):
+    """What is shown, once it was the same at so many looks: nothing says that no more will be known of a tick."""
+    seen, same_looks = page.tab.ask(SHOWN), 0
+    while same_looks < looks:
         time.sleep(0.25)
-        seen, now = now, page.tab.ask(SHOWN)
-    return now
+        now = page.tab.ask(SHOWN)
+        same_looks = same_looks + 1 if now == seen and not page.tab.ask(IS_BUSY) else 0
+        seen = now
+    return seen
 
 
 def edited(script, scripts, pick):
@@ -52,10 +54,10 @@ def test_what_stays_is_what_would_be_made_anew(browser, folder):
             shown(page)
             script = edited(script, scripts, pick)
             page.write(script)
-        kept = shown(page)
+        kept = shown(page, 6)
         page.write("")
         page.write(script)
-        same(f"after edits:\n{script}\n", kept, shown(page))
+        same(f"after edits:\n{script}\n", kept, shown(page, 6))
     page.close()
 
 

@@ -7,6 +7,10 @@ function setAttribute(element, name, value) {
   if (element.getAttribute(name) !== String(value)) element.setAttribute(name, value);
 }
 
+function setAttributes(element, attributes) {
+  for (const [name, value] of Object.entries(attributes)) setAttribute(element, name, value);
+}
+
 /** Sets the text of an element that has nothing else, only where it is another one. */
 function setText(element, text) {
   if (element.textContent !== String(text)) element.textContent = text;
@@ -26,38 +30,42 @@ function dropOthers(parent, wanted) {
   for (const element of [...parent.children]) if (!wanted.has(element)) element.remove();
 }
 
-/** An SVG of elements that are given as markup. One whose markup it had before stays. */
+/** An element of an SVG, as markup, with those of its attributes that may come to be others. The same key is the same element. */
+class Part {
+  constructor(key, markup, attributes = {}) {
+    Object.assign(this, { key: `${key} ${markup}`, markup, attributes });
+  }
+}
+
+/** An SVG whose parts stay where they are shown again. */
 class KeptSvg {
   constructor() {
     this.svg = document.createElementNS(SVG_NAMESPACE, "svg");
     this.kept = new Map();
   }
 
-  /** Shows a box of a picture, so many times as large, with these elements on its sheet. */
-  show(box, zoom, markups) {
+  /** Shows a box of a picture, so many times as large, with these parts on its sheet. */
+  show(box, zoom, parts) {
     const { left, top, width, height } = box;
-    const size = { width: width * zoom, height: height * zoom, viewBox: `${left} ${top} ${width} ${height}` };
-    for (const [name, value] of Object.entries(size)) setAttribute(this.svg, name, value);
-    const sheet = `<rect class="sheet" x="${left}" y="${top}" width="${width}" height="${height}"/>`;
-    const wanted = [...new Set([sheet, ...markups])];
-    const fresh = wanted.filter((markup) => !this.kept.has(markup));
-    const made = elementsOf(fresh);
-    fresh.forEach((markup, index) => this.kept.set(markup, made[index]));
-    this.kept = new Map(wanted.map((markup) => [markup, this.kept.get(markup)]));
+    setAttributes(this.svg, { width: width * zoom, height: height * zoom, viewBox: `${left} ${top} ${width} ${height}` });
+    const all = [new Part("sheet", '<rect class="sheet"/>', { x: left, y: top, width, height }), ...parts];
+    this.make(all.filter(({ key }) => !this.kept.has(key)));
+    this.kept = new Map(all.map(({ key }) => [key, this.kept.get(key)]));
+    for (const part of all) setAttributes(this.elementOf(part), part.attributes);
     putElements(this.svg, [...this.kept.values()]);
     return this.svg;
   }
 
-  /** The element of this markup. */
-  elementOf(markup) {
-    return this.kept.get(markup);
+  make(parts) {
+    if (parts.length === 0) return;
+    const svg = document.createElementNS(SVG_NAMESPACE, "svg");
+    svg.innerHTML = parts.map(({ markup }) => markup).join("");
+    const made = [...svg.children];
+    parts.forEach(({ key }, index) => this.kept.set(key, made[index]));
   }
-}
 
-/** SVG elements, each of its own markup. */
-function elementsOf(markups) {
-  if (markups.length === 0) return [];
-  const svg = document.createElementNS(SVG_NAMESPACE, "svg");
-  svg.innerHTML = markups.join("");
-  return [...svg.children];
+  /** The element of a part that is shown. */
+  elementOf({ key }) {
+    return this.kept.get(key);
+  }
 }

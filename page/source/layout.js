@@ -58,9 +58,11 @@ class PictureLayout {
     return this.lefts[column + 1] - this.lefts[column];
   }
 
-  /** How far what stands in a column is moved. */
-  shiftOf(column) {
-    return this.middles[column] - middleAsDrawn(this.picture, column);
+  /** What stands in a column on a row, as a group: as seen from the column's middle, and moved there as a whole. */
+  groupOf(look, { column, row, elements, more = "" }) {
+    const middle = middleAsDrawn(this.picture, column);
+    const markup = `<g class="${look}">${elements.map((element) => movedLeft(element.markup, middle)).join("")}${more}</g>`;
+    return new Part(`${column} ${row}`, markup, { transform: `translate(${this.middles[column]} 0)` });
   }
 
   /** The column at a place of the page's own. */
@@ -84,10 +86,16 @@ class PictureLayout {
   }
 
   /** A line along a row or down a column, from and to where it belongs here. */
-  wayMarkup({ markup, left, right }) {
-    const [from, to] = [this.placeOf(left), this.placeOf(right)];
-    return markup.replace(/ x1="\d+"/, ` x1="${from}"`).replace(/ x2="\d+"/, ` x2="${to}"`);
+  wayOf(key, { markup, left, right }) {
+    return new Part(key, markup.replace(/ x[12]="\d+"/g, ""), { x1: this.placeOf(left), x2: this.placeOf(right) });
   }
+}
+
+/** An element as it is written, so far to the left. What stands in it has no place of its own. */
+function movedLeft(markup, by) {
+  const end = markup.indexOf(">");
+  const moved = markup.slice(0, end).replace(/ (x|x1|x2|cx)="(\d+)"/g, (_, name, x) => ` ${name}="${x - by}"`).replace(/ d="M(\d+)/, (_, x) => ` d="M${x - by}`);
+  return moved + markup.slice(end);
 }
 
 function leftAsDrawn({ columnsFrom, columnWidth }, column) {

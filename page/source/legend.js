@@ -11,12 +11,13 @@ function sampleOf(picture, { line, row }) {
   const middle = middleAsDrawn(picture, column);
   const [left, top] = [middle - SAMPLE_WIDTH / 2, rowIndex * ROW_HEIGHT];
   const ways = [picture.guides[column - 1], ...waysBetween(picture, rowIndex, left, left + SAMPLE_WIDTH).map(({ markup }) => markup)];
-  return { box: { left, top, width: SAMPLE_WIDTH, height: ROW_HEIGHT }, elements: [...ways, groupOf("mark", cell)] };
+  const mark = `<g class="mark">${cell.elements.map(({ markup }) => markup).join("")}</g>`;
+  return { box: { left, top, width: SAMPLE_WIDTH, height: ROW_HEIGHT }, parts: [...ways, mark].map((markup, index) => new Part(index, markup)) };
 }
 
 function sampleSvg(picture, entry) {
-  const { box, elements } = sampleOf(picture, entry);
-  const svg = new KeptSvg().show(box, 1, elements);
+  const { box, parts } = sampleOf(picture, entry);
+  const svg = new KeptSvg().show(box, 1, parts);
   for (const title of svg.querySelectorAll("title")) title.remove();
   return svg;
 }

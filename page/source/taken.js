@@ -58,8 +58,8 @@ function sentenceOfTaken({ values, isAll }) {
 function tellTaken(picture, { column }, taken) {
   const cell = picture.columns[column]?.find(({ elements }) => elements.some(({ tag }) => tag === "path"));
   if (!cell) return undefined;
-  const place = `x="${middleAsDrawn(picture, column)}" y="${cell.row * ROW_HEIGHT + 41}"`;
-  return Object.assign(cell, { taken, sentence: undefined, more: `<text class="taken" ${place}>${wordsOfTaken(taken)}</text>` });
+  const more = `<text class="taken" x="0" y="${cell.row * ROW_HEIGHT + 41}">${wordsOfTaken(taken)}</text>`;
+  return Object.assign(cell, { taken, sentence: undefined, more });
 }
 
 /** Finds what was taken at each tick of a script, one after another. Tells `onTaken` a turn of which it is known. */

@@ -9,12 +9,6 @@ const LEAST_FITTED = 0.65;
 /** What the columns are to the style and to a screen reader. */
 const COLUMNS_ARE = { class: "columns", role: "group", "aria-roledescription": "marble diagram" };
 
-/** What stands in one place of a picture, as a group, moved so far to the right. */
-function groupOf(look, { elements, more = "" }, shift = 0) {
-  const moved = shift === 0 ? "" : ` transform="translate(${shift} 0)"`;
-  return [`<g class="${look}"${moved}>`, ...elements.map(({ markup }) => markup), more, "</g>"].join("");
-}
-
 function clamp(number, least, most) {
   return Math.max(least, Math.min(number, most));
 }
@@ -168,7 +162,7 @@ class PictureView {
     const { picture, layout, made, zoom } = this;
     const box = { left: 0, top: made.top * ROW_HEIGHT, width: layout.namesWidth, height: (made.bottom - made.top + 1) * ROW_HEIGHT };
     const names = picture.names.slice(made.top, made.bottom + 1).filter(Boolean);
-    const svg = this.namesDrawn.show(box, zoom, names.map((name) => `<g>${name.markup}${hostMarkup(name, picture.hosts)}</g>`));
+    const svg = this.namesDrawn.show(box, zoom, names.map((name) => new Part(name.row, `<g>${name.markup}${hostMarkup(name, picture.hosts)}</g>`)));
     svg.style.top = `${box.top * zoom}px`;
     this.names.style.width = `${box.width * zoom}px`;
     this.names.style.height = `${picture.height * zoom}px`;
@@ -179,13 +173,11 @@ class PictureView {
     const left = layout.lefts[made.first];
     const end = made.last === picture.columnCount ? layout.width : layout.lefts[made.last + 1];
     this.box = { left, top: made.top * ROW_HEIGHT, width: end - left, height: (made.bottom - made.top + 1) * ROW_HEIGHT };
-    const cells = this.cellsToMake();
-    const part = (cell) => ({ cell, markup: groupOf(cell.row === 0 ? "heading" : "mark", cell, layout.shiftOf(cell.column)) });
-    const [heads, marks] = [cells.filter(({ row }) => row === 0).map(part), cells.filter(({ row }) => row > 0).map(part)];
-    const band = `<rect class="band" y="0" width="0" height="100%" display="none"/>`;
-    const groups = [...heads, ...marks].map(({ markup }) => markup);
-    const svg = this.drawn.show(this.box, zoom, [band, ...this.ways(), ...this.coverMarkup(end), ...groups]);
-    const drawn = ({ cell, markup }) => ({ element: this.drawn.elementOf(markup), cell });
+    const cells = this.cellsToMake().map((cell) => ({ cell, part: layout.groupOf(cell.row === 0 ? "heading" : "mark", cell) }));
+    const [heads, marks] = [cells.filter(({ cell }) => cell.row === 0), cells.filter(({ cell }) => cell.row > 0)];
+    const band = new Part("band", '<rect class="band" y="0" width="0" height="100%" display="none"/>');
+    const svg = this.drawn.show(this.box, zoom, [band, ...this.ways(), ...this.cover(end), ...[...heads, ...marks].map(({ part }) => part)]);
+    const drawn = ({ cell, part }) => ({ element: this.drawn.elementOf(part), cell });
     Object.assign(this, { heads: heads.map(drawn), marks: marks.map(drawn) });
     this.nameColumns();
     svg.style.left = `${this.placeOfColumn(made.first) * zoom}px`;
@@ -201,20 +193,22 @@ class PictureView {
   }
 
   /** What hides the columns that aren't shown. */
-  coverMarkup(end) {
+  cover(end) {
     const { lefts } = this.layout;
     const from = this.shownTo < this.picture.columnCount ? lefts[this.shownTo + 1] : end;
-    return from < end ? [`<rect class="sheet" x="${from}" y="0" width="${end - from}" height="100%"/>`] : [];
+    return from < end ? [new Part("cover", '<rect class="sheet" y="0" height="100%"/>', { x: from, width: end - from })] : [];
   }
 
   /** The lines under the marks that are made. */
   ways() {
     const { picture, layout, made } = this;
-    const ways = picture.guides.slice(made.first - 1, made.last).map((markup) => new Shape(markup));
+    const ways = picture.guides.slice(made.first - 1, made.last).map((markup, index) => layout.wayOf(made.first + index, new Shape(markup)));
     const [from, to] = [leftAsDrawn(picture, made.first), leftAsDrawn(picture, made.last + 1)];
     const end = made.last === picture.columnCount ? picture.width : to;
-    for (let row = made.top; row <= made.bottom; row++) ways.push(...waysBetween(picture, row, from, end));
-    return ways.map((way) => layout.wayMarkup(way));
+    for (let row = made.top; row <= made.bottom; row++) {
+      ways.push(...waysBetween(picture, row, from, end).map((way, index) => layout.wayOf(`${row} ${index}`, way)));
+    }
+    return ways;
   }
 
   /** One mark of all is in the order of the tab key; the arrow keys lead to the others. */
