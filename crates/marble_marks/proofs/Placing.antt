@@ -1,18 +1,18 @@
--- The emissions that get numbers, by the rows of their flows.
-use Rattle.std.proofs.Common.{◌≡◌, ◌≤◌, ◌<◌, ◌+◌, ◌==◌, ◌≢◌, ◌++◌, ◌∷◌, ◌∙◌, if◌then◌else◌, ℕ, zero, suc, Bool, true, false, not, List, [], map, drop, drop-cons, length, set, get_or, Some, None, Vec, refl, sym, ap, ap₂, subst, bytes_eq, arith, inl, inr, eq-eqb, ne_eqb, le_refl, append_assoc, add-one}
+-- What comes to flows, by their rows.
+use Rattle.std.proofs.Common.{◌≡◌, ◌≤◌, ◌<◌, ◌+◌, ◌==◌, ◌≢◌, ◌++◌, ◌∷◌, ◌∙◌, if◌then◌else◌, ℕ, zero, suc, Bool, true, false, List, [], map, drop, drop-cons, length, set, get_or, Vec, refl, sym, ap, subst, bytes_eq, arith, inl, inr, eq-eqb, le_refl, append_assoc, add-one}
 use denote.Ref.{Bor}
 use Rattle.std.specs.List.{flat_map}
 use Rattle.std.proofs.lemmas.Bool.Decides.{eqb_tells}
 use Rattle.std.proofs.lemmas.Slice.Eq.{bytes_eq-Decides}
-use Rattle.marble_marks.specs.declared.places.Place.{Place}
-use Rattle.marble_marks.specs.declared.places.Place.TheVariants as places
+use Rattle.marble_marks.specs.declared.moves.Move.{Move}
 use Rattle.marble_marks.specs.declared.deed.Act.{Act}
 use Rattle.marble_marks.specs.Deeds.{Doing, Done, doing_in, done_in}
 use Rattle.marble_marks.specs.Deeds as deeds
 use Rattle.marble_marks.specs.Marks.{Seen, row_after, row_of}
-use Rattle.marble_marks.specs.Numbers.{is_removed, finished_at, takes_place, place_marks, number_mark, late_marks, numbered_from, numbered_on}
+use Rattle.marble_marks.specs.Numbers.{moves_seen, numbered_on}
+use Rattle.marble_marks.specs.Standings.{begun}
 use Rattle.marble_marks.specs.Waiting.{waits_as, is_waiting, is_met}
-use Rattle.marble_marks.specs.Places.{if_row, row_places, places_on, on_row, put_at, place_seen, seen_from, has_row}
+use Rattle.marble_marks.specs.Moves.{row_moves, moves_on, on_row, put_at, has_row}
 
 -- ---- rows and names
 
@@ -38,33 +38,6 @@ after_most row (known ∷ names) name has =
 pub row_within : (names : List (List ℕ)) (name : List ℕ) → has_row names name ≡ true → row_of names name ≤ length names
 row_within names name has = let last = after_most 1 names name has in omega arith
 
-one_row : (is_host is_name : Bool) (row host_row name_row : ℕ) (same has : Bool) → row + 1 ≤ host_row → row + 1 ≤ name_row
-    → (is_host ≡ true → is_name ≡ true → same ≡ true) → (is_host ≡ true → is_name ≡ false → same ≡ false) → (is_host ≡ false → is_name ≡ true → same ≡ false)
-    → (has ≡ true → (host_row == name_row) ≡ same) → (if is_name then true else has) ≡ true
-    → ((if is_host then row else host_row) == (if is_name then row else name_row)) ≡ same
-one_row true true row host_row name_row same has host_after name_after both host name later told = eq-eqb row row refl ∙ sym (both refl refl)
-one_row true false row host_row name_row same has host_after name_after both host name later told = ne_eqb row name_row (λ is. omega arith) ∙ sym (host refl refl)
-one_row false true row host_row name_row same has host_after name_after both host name later told = ne_eqb host_row row (λ is. omega arith) ∙ sym (name refl refl)
-one_row false false row host_row name_row same has host_after name_after both host name later told = later told
-
-other_text : (xs ys : List ℕ) → (xs ≡ ys → bytes_eq xs ys ≡ false) → bytes_eq xs ys ≡ false
-other_text xs ys other =
-    (elim (bytes_eq xs ys) as (λ b. bytes_eq xs ys ≡ b → b ≡ false) [ true ↦ λ e. sym e ∙ other ((bytes_eq-Decides xs ys).0 e) | false ↦ λ e. refl ]) refl
-
--- a name that has a row shares it with no other
-row_shared : (row : ℕ) (names : List (List ℕ)) (host name : List ℕ) → has_row names name ≡ true → (row_after row names host == row_after row names name) ≡ bytes_eq host name
-row_shared row [] host name has = absurd (cc)
-row_shared row (known ∷ names) host name has =
-    one_row (bytes_eq known host) (bytes_eq known name) row (row_after (row + 1) names host) (row_after (row + 1) names name) (bytes_eq host name) (has_row names name)
-    (after_least (row + 1) names host) (after_least (row + 1) names name)
-    (λ is_host is_name. (bytes_eq-Decides host name).1 (sym ((bytes_eq-Decides known host).0 is_host) ∙ (bytes_eq-Decides known name).0 is_name))
-    (λ is_host is_name. other_text host name (λ same. let is = (bytes_eq-Decides known name).1 ((bytes_eq-Decides known host).0 is_host ∙ same) in cc))
-    (λ is_host is_name. other_text host name (λ same. let is = (bytes_eq-Decides known host).1 ((bytes_eq-Decides known name).0 is_name ∙ sym same) in cc))
-    (row_shared (row + 1) names host name) has
-
-pub same_row : (names : List (List ℕ)) (name : List ℕ) → has_row names name ≡ true → (host : List ℕ) → (row_of names host == row_of names name) ≡ bytes_eq host name
-same_row names name has host = row_shared 1 names host name has
-
 pub has_first : (name : List ℕ) (names : List (List ℕ)) → has_row (name ∷ names) name ≡ true
 has_first name names = ap (λ is. if is then true else has_row names name) ((bytes_eq-Decides name name).1 refl)
 
@@ -76,29 +49,29 @@ or_behind false behind told = told
 -- ---- lists by rows
 
 module _ {A : Type 0} where
-  pub on_row_at : (by_row : List (Vec Place A)) (row : ℕ) (held : Vec Place A) → held ≡ get_or by_row row held → row < length by_row → held.items ≡ on_row by_row row
+  pub on_row_at : (by_row : List (Vec Move A)) (row : ℕ) (held : Vec Move A) → held ≡ get_or by_row row held → row < length by_row → held.items ≡ on_row by_row row
   on_row_at [] row held is within = absurd (omega arith)
-  on_row_at (first ∷ rest) zero held is within = ap (λ (v : Vec Place A). v.items) is
+  on_row_at (first ∷ rest) zero held is within = ap (λ (v : Vec Move A). v.items) is
   on_row_at (first ∷ rest) (suc row) held is within = on_row_at rest row held is (omega arith)
 
-  pub on_row_past : (by_row : List (Vec Place A)) (row : ℕ) → length by_row ≤ row → [] ≡ on_row by_row row
+  pub on_row_past : (by_row : List (Vec Move A)) (row : ℕ) → length by_row ≤ row → [] ≡ on_row by_row row
   on_row_past [] row past = refl
   on_row_past (first ∷ rest) zero past = absurd (omega arith)
   on_row_past (first ∷ rest) (suc row) past = on_row_past rest row (omega arith)
 
-  pub none_put : (by_row : List (Vec Place A)) (new : Vec Place A) → ((row : ℕ) → on_row by_row row ≡ []) → new.items ≡ [] → (row : ℕ) → on_row (by_row ++ new ∷ []) row ≡ []
+  pub none_put : (by_row : List (Vec Move A)) (new : Vec Move A) → ((row : ℕ) → on_row by_row row ≡ []) → new.items ≡ [] → (row : ℕ) → on_row (by_row ++ new ∷ []) row ≡ []
   none_put [] new none is zero = is
   none_put [] new none is (suc row) = refl
   none_put (first ∷ rest) new none is zero = none 0
   none_put (first ∷ rest) new none is (suc row) = none_put rest new (λ at. none (suc at)) is row
 
-  put_there : (by_row : List (Vec Place A)) (row : ℕ) (held new : Vec Place A) (place : Place) → held ≡ get_or by_row row held → row < length by_row → new.items ≡ held.items ++ place ∷ []
-      → on_row (set by_row row new) row ≡ on_row by_row row ++ place ∷ []
-  put_there [] row held new place is within made = absurd (omega arith)
-  put_there (first ∷ rest) zero held new place is within made = made ∙ ap (λ (v : Vec Place A). v.items ++ place ∷ []) is
-  put_there (first ∷ rest) (suc row) held new place is within made = put_there rest row held new place is (omega arith) made
+  put_there : (by_row : List (Vec Move A)) (row : ℕ) (held new : Vec Move A) (it : Move) → held ≡ get_or by_row row held → row < length by_row → new.items ≡ held.items ++ it ∷ []
+      → on_row (set by_row row new) row ≡ on_row by_row row ++ it ∷ []
+  put_there [] row held new it is within made = absurd (omega arith)
+  put_there (first ∷ rest) zero held new it is within made = made ∙ ap (λ (v : Vec Move A). v.items ++ it ∷ []) is
+  put_there (first ∷ rest) (suc row) held new it is within made = put_there rest row held new it is (omega arith) made
 
-  put_elsewhere : (by_row : List (Vec Place A)) (row other : ℕ) (new : Vec Place A) → row ≢ other → on_row (set by_row row new) other ≡ on_row by_row other
+  put_elsewhere : (by_row : List (Vec Move A)) (row other : ℕ) (new : Vec Move A) → row ≢ other → on_row (set by_row row new) other ≡ on_row by_row other
   put_elsewhere [] row other new apart = refl
   put_elsewhere (first ∷ rest) zero zero new apart = absurd (apart refl)
   put_elsewhere (first ∷ rest) zero (suc other) new apart = refl
@@ -106,53 +79,14 @@ module _ {A : Type 0} where
   put_elsewhere (first ∷ rest) (suc row) (suc other) new apart = put_elsewhere rest row other new (λ is. apart (ap suc is))
 
   -- what is added to the list of a row comes to it, and to no other
-  pub put_one : (by_row : List (Vec Place A)) (row : ℕ) (held new : Vec Place A) (place : Place) → held ≡ get_or by_row row held → row < length by_row → new.items ≡ held.items ++ place ∷ []
-      → (other : ℕ) → on_row (set by_row row new) other ≡ put_at (on_row by_row other) row place other
-  put_one by_row row held new place is within made other = elim (eqb_tells row other) [
+  pub put_one : (by_row : List (Vec Move A)) (row : ℕ) (held new : Vec Move A) (it : Move) → held ≡ get_or by_row row held → row < length by_row → new.items ≡ held.items ++ it ∷ []
+      → (other : ℕ) → on_row (set by_row row new) other ≡ put_at (on_row by_row other) row it other
+  put_one by_row row held new it is within made other = elim (eqb_tells row other) [
     | inl same ↦
         let here : (row == row) ≡ true = eq-eqb row row refl in
-        subst (λ at. on_row (set by_row row new) at ≡ put_at (on_row by_row at) row place at) same.1 (rw here (put_there by_row row held new place is within made))
+        subst (λ at. on_row (set by_row row new) at ≡ put_at (on_row by_row at) row it at) same.1 (rw here (put_there by_row row held new it is within made))
     | inr apart ↦ rw apart.0 (put_elsewhere by_row row other new apart.1)
   ]
-
--- ---- their marks
-
-at_once : (is_there is_its : Bool) (row number : ℕ) (place : Place) (rest : List Place) (marks after now : List Seen) → is_there ≡ is_its → place_seen row number place ≡ marks
-    → seen_from row (number + 1) rest ≡ after → seen_from row number rest ≡ now
-    → seen_from row number ((if is_there then place ∷ [] else []) ++ rest) ≡ (if is_its then marks ++ after else now)
-at_once true true row number place rest marks after now same its later is = ap₂ (λ xs ys. xs ++ ys) its later
-at_once false false row number place rest marks after now same its later is = is
-at_once true false row number place rest marks after now same its later is = absurd (cc)
-at_once false true row number place rest marks after now same its later is = absurd (cc)
-
-if_any : (is_removed : Bool) (flow_row row : ℕ) (is_its : Bool) (number : ℕ) (place : Place) (rest : List Place) (marks after now : List Seen) → (flow_row == row) ≡ is_its → place_seen row number place ≡ marks
-    → seen_from row (number + 1) rest ≡ after → seen_from row number rest ≡ now
-    → seen_from row number (if_row flow_row row (if is_removed then None else Some place) ++ rest) ≡ (if (if is_its then not is_removed else false) then marks ++ after else now)
-if_any true flow_row row true number place rest marks after now same its later is = is
-if_any true flow_row row false number place rest marks after now same its later is = is
-if_any false flow_row row true number place rest marks after now same its later is = at_once (flow_row == row) true row number place rest marks after now same its later is
-if_any false flow_row row false number place rest marks after now same its later is = at_once (flow_row == row) false row number place rest marks after now same its later is
-
-one_place : (names : List (List ℕ)) (all : List Done) (name : List ℕ) (row number column : ℕ) (doing : Doing) (rest : List Place) (after now : List Seen)
-    → ((host : List ℕ) → (row_of names host == row) ≡ bytes_eq host name) → seen_from row (number + 1) rest ≡ after → seen_from row number rest ≡ now
-    → seen_from row number (row_places names all row (deeds.done column doing) ++ rest) ≡ (if takes_place all name doing then place_marks all column row number doing ++ after else now)
-one_place names all name row number column (deeds.accepts host value) rest after now same later is =
-    at_once (row_of names host == row) (bytes_eq host name) row number (places.Accepted column) rest (number_mark column row number ∷ []) after now (same host) refl later is
-one_place names all name row number column (deeds.waits host ticket value) rest after now same later is =
-    if_any (is_removed ticket all) (row_of names host) row (bytes_eq host name) number (places.Waited (finished_at ticket all) value) rest (late_marks (finished_at ticket all) row value number) after now (same host) refl later is
-one_place names all name row number column _ rest after now same later is = is
-
-all_places : (names : List (List ℕ)) (all : List Done) (name : List ℕ) (row number : ℕ) (acts : List Done) → ((host : List ℕ) → (row_of names host == row) ≡ bytes_eq host name)
-    → seen_from row number (places_on names all row acts) ≡ numbered_from all name row number acts
-all_places names all name row number [] same = refl
-all_places names all name row number (act ∷ acts) same =
-    one_place names all name row number act.column act.doing (places_on names all row acts) _ _ same
-    (all_places names all name row (number + 1) acts same) (all_places names all name row number acts same)
-
--- THE MARKS of the emissions on the row of a name are those of its numbers
-pub row_numbered : (names : List (List ℕ)) (all : List Done) (name : List ℕ) → has_row names name ≡ true →
-    seen_from (row_of names name) 0 (places_on names all (row_of names name) all) ≡ numbered_on names all name
-row_numbered names all name has = all_places names all name (row_of names name) 0 all (same_row names name has)
 
 -- ---- one step of a list
 
@@ -162,12 +96,12 @@ drop_step xs i d within = drop-cons xs i d within ∙ ap (λ k. get_or xs i d �
 one_more : {X Y : Type 0} (f : X → List Y) (x : X) (rest : List X) (before after whole : List Y) → after ≡ before ++ f x → before ++ flat_map f (x ∷ rest) ≡ whole → after ++ flat_map f rest ≡ whole
 one_more f x rest before after whole made was = ap (λ ys. ys ++ flat_map f rest) made ∙ append_assoc before (f x) (flat_map f rest) ∙ was
 
-pub put_more : (names : List (List ℕ)) (all : List Done) (row : ℕ) (acts : List Act) (i : ℕ) (d : Act) (before after whole : List Place) → i < length acts
-    → after ≡ before ++ row_places names all row (done_in (get_or acts i d)) → before ++ places_on names all row (map done_in (drop i acts)) ≡ whole
-    → after ++ places_on names all row (map done_in (drop (i + 1) acts)) ≡ whole
+pub put_more : (names : List (List ℕ)) (all : List Done) (row : ℕ) (acts : List Act) (i : ℕ) (d : Act) (before after whole : List Move) → i < length acts
+    → after ≡ before ++ row_moves names all row (done_in (get_or acts i d)) → before ++ moves_on names all row (map done_in (drop i acts)) ≡ whole
+    → after ++ moves_on names all row (map done_in (drop (i + 1) acts)) ≡ whole
 put_more names all row acts i d before after whole within made was =
-    one_more (row_places names all row) (done_in (get_or acts i d)) (map done_in (drop (i + 1) acts)) before after whole made
-    (ap (λ left. before ++ places_on names all row (map done_in left)) (sym (drop_step acts i d within)) ∙ was)
+    one_more (row_moves names all row) (done_in (get_or acts i d)) (map done_in (drop (i + 1) acts)) before after whole made
+    (ap (λ left. before ++ moves_on names all row (map done_in left)) (sym (drop_step acts i d within)) ∙ was)
 
 met_one : (all : List Done) (doing : Doing) → ((ticket : List ℕ) → waits_as ticket doing ≡ true → is_waiting ticket all ≡ true) → is_met all doing ≡ true
 met_one all (deeds.waits host ticket value) told = told ticket ((bytes_eq-Decides ticket ticket).1 refl)
@@ -212,10 +146,10 @@ row_here known i d within has =
     let name = (get_or known i d).now in
     has name (ap (λ left. has_row (texts left) name) (drop_step known i d within) ∙ has_first name (texts (drop (i + 1) known)))
 
-pub numbers_more : (known : List (Bor (List ℕ))) (i : ℕ) (d : Bor (List ℕ)) (all : List Done) (held : ℕ → List Place) (before after whole : List Seen) → i < length known
+pub numbers_more : (known : List (Bor (List ℕ))) (i : ℕ) (d : Bor (List ℕ)) (all : List Done) (held : ℕ → List Move) (before after whole : List Seen) → i < length known
     → ((name : List ℕ) → has_row (texts (drop i known)) name ≡ true → has_row (texts known) name ≡ true)
-    → ((row : ℕ) → row ≤ length known → held row ≡ places_on (texts known) all row all)
-    → after ≡ before ++ seen_from (row_of (texts known) (get_or known i d).now) 0 (held (row_of (texts known) (get_or known i d).now))
+    → ((row : ℕ) → row ≤ length known → held row ≡ moves_on (texts known) all row all)
+    → after ≡ before ++ moves_seen (row_of (texts known) (get_or known i d).now) begun (held (row_of (texts known) (get_or known i d).now))
     → before ++ flat_map (numbered_on (texts known) all) (texts (drop i known)) ≡ whole
     → after ++ flat_map (numbered_on (texts known) all) (texts (drop (i + 1) known)) ≡ whole
 numbers_more known i d all held before after whole within has placed made was =
@@ -225,5 +159,5 @@ numbers_more known i d all held before after whole within has placed made was =
     let its = row_here known i d within has in
     let low : row ≤ length known = subst (λ n. row ≤ n) (as_many known) (row_within names name its) in
     one_more (numbered_on names all) name (texts (drop (i + 1) known)) before after whole
-    (made ∙ ap (λ ys. before ++ ys) (ap (seen_from row 0) (placed row low) ∙ row_numbered names all name its))
+    (made ∙ ap (λ ys. before ++ ys) (ap (moves_seen row begun) (placed row low)))
     (ap (λ left. before ++ flat_map (numbered_on names all) (texts left)) (sym (drop_step known i d within)) ∙ was)

@@ -1,5 +1,5 @@
 -- The marks of lines show each value that was received, and none besides.
-use Rattle.std.proofs.Common.{◌≡◌, ◌+◌, ◌==◌, ◌++◌, ◌∙◌, sym, ℕ, Bool, true, false, if◌then◌else◌, List, [], ◌∷◌, Option, Some, None, refl, ap, map}
+use Rattle.std.proofs.Common.{◌≡◌, ◌+◌, ◌==◌, ◌++◌, ◌∙◌, sym, ℕ, Bool, true, false, if◌then◌else◌, List, [], ◌∷◌, Option, Some, None, refl, ap, map, length}
 use Rattle.std.specs.Option.{option_map, option_to_list}
 use Rattle.std.specs.List.{filter_map, flat_map, cons_option, slice_get}
 use Rattle.std.proofs.lemmas.List.{append-nil}
@@ -15,8 +15,12 @@ use Rattle.marble_marks.specs.declared.reply.Reply.{Reply}
 use Rattle.marble_marks.specs.declared.reply.Reply.TheVariants as replies
 use Rattle.marble_marks.specs.declared.loss.Loss.{Loss}
 use Rattle.marble_marks.specs.Deeds.{Doing, Done, done_by}
-use Rattle.marble_marks.specs.Deeds as deeds
-use Rattle.marble_marks.specs.Numbers.{finished_at, takes_place, late_marks, place_marks, numbered_from, numbered_on, numbers_of}
+use Rattle.marble_marks.specs.declared.moves.Move.{Move}
+use Rattle.marble_marks.specs.declared.standing.Step.{Step}
+use Rattle.marble_marks.specs.declared.standing.Step.TheVariants as steps
+use Rattle.marble_marks.specs.Standings.{Stand, begun, stepped, let_in_values}
+use Rattle.marble_marks.specs.Moves.{moves_on}
+use Rattle.marble_marks.specs.Numbers.{at_once, late_marks, all_late, move_marks, moved, moves_seen, numbered_on, numbers_of}
 use Rattle.marble_marks.specs.Losses.{host_met, guest_met, value_met, lost_mark, lost_at, lost_by, loss_mark, losses_of}
 use Rattle.marble_marks.specs.Replies.{reply_of}
 use Rattle.marble_marks.specs.Turns.{Asked}
@@ -186,36 +190,34 @@ marks_counted asked = lines_counted (names_in asked) (λ name. None) (λ name. 0
 
 -- ---- what is told besides
 
-none_late : (column : Option ℕ) (row value number : ℕ) → receipts_in (late_marks column row value number) ≡ []
-none_late None row value number = refl
-none_late (Some column) row value number = refl
+none_late : (column row first index count : ℕ) (values : List ℕ) → receipts_in (late_marks column row first index count values) ≡ []
+none_late column row first index count [] = refl
+none_late column row first index count (value ∷ values) = none_late column row first (index + 1) count values
 
-none_placed : (all : List Done) (column row number : ℕ) (doing : Doing) → receipts_in (place_marks all column row number doing) ≡ []
-none_placed all column row number (deeds.accepts host value) = refl
-none_placed all column row number (deeds.waits host ticket value) = none_late (finished_at ticket all) row value number
-none_placed all column row number _ = refl
+none_at_once : (column row number : ℕ) (step : Step) → receipts_in (at_once column row number step) ≡ []
+none_at_once column row number steps.Accepted = refl
+none_at_once column row number _ = refl
 
 both_none : (front back : List Seen) → receipts_in front ≡ [] → receipts_in back ≡ [] → receipts_in (front ++ back) ≡ []
 both_none front back none_front none_back =
     filter_map-append receipt_in front back ∙ ap (λ rs. rs ++ receipts_in back) none_front ∙ none_back
 
-none_chosen : (takes : Bool) (one other : List Seen) → receipts_in one ≡ [] → receipts_in other ≡ [] → receipts_in (if takes then one else other) ≡ []
-none_chosen true one other none_one none_other = none_one
-none_chosen false one other none_one none_other = none_other
+none_moved : (row : ℕ) (stand : Stand) (it : Move) → receipts_in (move_marks row stand it) ≡ []
+none_moved row stand it =
+    let after = stepped it.step stand in
+    both_none (at_once it.column row stand.accepted it.step) (all_late it.column row after.accepted (let_in_values after))
+    (none_at_once it.column row stand.accepted it.step) (none_late it.column row after.accepted 0 (length (let_in_values after)) (let_in_values after))
 
-none_numbered_from : (all : List Done) (name : List ℕ) (row number : ℕ) (acts : List Done) → receipts_in (numbered_from all name row number acts) ≡ []
-none_numbered_from all name row number [] = refl
-none_numbered_from all name row number (act ∷ acts) =
-    none_chosen (takes_place all name act.doing) _ _
-    (both_none (place_marks all act.column row number act.doing) (numbered_from all name row (number + 1) acts)
-    (none_placed all act.column row number act.doing) (none_numbered_from all name row (number + 1) acts))
-    (none_numbered_from all name row number acts)
+none_moves : (row : ℕ) (stand : Stand) (moves : List Move) → receipts_in (moves_seen row stand moves) ≡ []
+none_moves row stand [] = refl
+none_moves row stand (it ∷ rest) =
+    both_none (move_marks row stand it) (moves_seen row (moved stand it) rest) (none_moved row stand it) (none_moves row (moved stand it) rest)
 
 none_numbered : (known : List (List ℕ)) (all : List Done) (names : List (List ℕ)) → receipts_in (flat_map (numbered_on known all) names) ≡ []
 none_numbered known all [] = refl
 none_numbered known all (name ∷ names) =
     both_none (numbered_on known all name) (flat_map (numbered_on known all) names)
-    (none_numbered_from all name (row_of known name) 0 all) (none_numbered known all names)
+    (none_moves (row_of known name) begun (moves_on known all (row_of known name) all)) (none_numbered known all names)
 
 none_lost_mark : (names : List (List ℕ)) (column : ℕ) (guest : Option (List ℕ)) (value : Option ℕ) (rest : List Seen) → receipts_in (cons_option (lost_mark names column guest value) rest) ≡ receipts_in rest
 none_lost_mark names column None value rest = refl

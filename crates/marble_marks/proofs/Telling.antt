@@ -1,5 +1,5 @@
 -- Marks are made line by line, by what earlier lines told of names.
-use Rattle.std.proofs.Common.{◌≡◌, ◌<◌, ◌+◌, ◌++◌, ◌∷◌, ◌∙◌, if◌then◌else◌, ℕ, Bool, true, false, List, [], map, drop, length, get_or, Option, Some, None, refl, sym, ap, ap₂, append_assoc}
+use Rattle.std.proofs.Common.{◌≡◌, ◌<◌, ◌+◌, ◌++◌, ◌∷◌, ◌∙◌, if◌then◌else◌, ℕ, Bool, true, false, List, map, drop, length, get_or, Option, Some, sym, ap, ap₂, append_assoc}
 use Rattle.std.specs.Prelude.{unwrap_or}
 use Rattle.std.specs.Option.{option_map}
 use denote.Ref.{Bor}
@@ -46,12 +46,12 @@ marks_more names home home_then left left_then turns i turn before after whole w
     ∙ was
 
 -- ALL MARKS, as they are added one list after another
-pub all_shown : (asked lines : List Asked) (names guest_names : List (List ℕ)) (acts guest_acts : List Done) (losses : List Loss) (first second third : List Seen)
-    → lines ≡ asked → names ≡ names_in asked → guest_names ≡ names_in asked → acts ≡ map done_by asked → guest_acts ≡ map done_by asked
-    → first ≡ marks_on names lines → second ≡ first ++ numbered_in names acts → third ≡ second ++ filter_map (loss_mark guest_names guest_acts) losses
+pub all_shown : (asked lines : List Asked) (names told_names guest_names : List (List ℕ)) (acts guest_acts : List Done) (losses : List Loss) (first second third : List Seen)
+    → lines ≡ asked → names ≡ names_in asked → told_names ≡ names_in asked → guest_names ≡ names_in asked → acts ≡ map done_by asked → guest_acts ≡ map done_by asked
+    → first ≡ marks_on names lines → second ≡ first ++ numbered_in told_names acts → third ≡ second ++ filter_map (loss_mark guest_names guest_acts) losses
     → third ≡ (marks_of asked ++ numbers_of asked) ++ losses_of asked losses
-all_shown asked lines names guest_names acts guest_acts losses first second third read named guests told brought made numbered lost =
+all_shown asked lines names told_names guest_names acts guest_acts losses first second third read named told_named guests told brought made numbered lost =
     lost
     ∙ ap (λ marks. marks ++ filter_map (loss_mark guest_names guest_acts) losses)
-    (numbered ∙ ap₂ (λ xs ys. xs ++ ys) (made ∙ ap₂ marks_on named read) (ap₂ numbered_in named told))
+    (numbered ∙ ap₂ (λ xs ys. xs ++ ys) (made ∙ ap₂ marks_on named read) (ap₂ numbered_in told_named told))
     ∙ ap₂ (λ known done. (marks_of asked ++ numbers_of asked) ++ filter_map (loss_mark known done) losses) guests brought

@@ -6,9 +6,10 @@ pub mod Preludes
 pub mod Marks
 pub mod Firsts
 pub mod Deeds
-pub mod Numbers
 pub mod Waiting
-pub mod Places
+pub mod Moves
+pub mod Standings
+pub mod Numbers
 pub mod Guests
 pub mod Losses
 pub mod Showing

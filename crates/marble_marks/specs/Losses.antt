@@ -17,7 +17,7 @@ host_met _ = None
 
 -- the guest that a line lets join, if it joins this flow or state
 abbrev pub guest_met : List ℕ → Doing → Option (List ℕ)
-guest_met host (deeds.joins at guest) = if bytes_eq at host then Some guest else None
+guest_met host (deeds.joins at guest prelude) = if bytes_eq at host then Some guest else None
 guest_met host _ = None
 
 -- the value that a line brings to this flow or state, or that it begins with

@@ -1,66 +1,59 @@
--- The numbers of emissions, and where one that had to wait is shown as accepted.
+-- The numbers of emissions, and where one that had to wait was accepted.
 --
--- Emissions are accepted in the order in which they began, less those that were taken back before. So an emission's number
--- is how many of the earlier ones of its flow were accepted at once, or waited and weren't taken back.
-use Rattle.std.specs.Prelude.{ℕ, ◌+◌, Bool, true, false, not, List, [], ◌∷◌, ◌++◌, map, Option, Some, None, bytes_eq, if◌then◌else◌}
+-- An emission's number is how many its flow had accepted before it. One that had to wait is accepted by the first line after which
+-- each live subscription has a place for it: so by the one that made room, and never later.
+use Rattle.std.specs.Prelude.{ℕ, ◌+◌, List, [], ◌∷◌, ◌++◌, map, length}
 use Rattle.std.specs.List.{flat_map}
+use Rattle.marble_marks.specs.declared.moves.Move.{Move}
+use Rattle.marble_marks.specs.declared.standing.Step.{Step}
+use Rattle.marble_marks.specs.declared.standing.Step.TheVariants as steps
 use Rattle.marble_marks.specs.declared.mark.Kind.TheVariants as kinds
+use Rattle.marble_marks.specs.declared.mark.Spot.{Spot}
 use Rattle.marble_marks.specs.Turns.{Asked}
 use Rattle.marble_marks.specs.Marks.{Seen, seen, names_in, row_of}
-use Rattle.marble_marks.specs.Deeds.{Doing, Done, done_by}
-use Rattle.marble_marks.specs.Deeds as deeds
+use Rattle.marble_marks.specs.Deeds.{Done, done_by}
+use Rattle.marble_marks.specs.Standings.{Stand, begun, stepped, settled, let_in_values}
+use Rattle.marble_marks.specs.Moves.{moves_on}
 
--- ---- emissions that had to wait
+abbrev pub spot : ℕ → ℕ → Spot
+spot index count = record { index = index; count = count }
 
-abbrev pub removes : List ℕ → Doing → Bool
-removes ticket (deeds.removes name) = bytes_eq name ticket
-removes ticket _ = false
+abbrev pub number_mark : ℕ → ℕ → ℕ → Spot → Seen
+number_mark column row number at = seen column row (kinds.Number number at) []
 
--- whether an emission is taken back in one of these lines
-abbrev pub is_removed : List ℕ → List Done → Bool
-is_removed ticket [] = false
-is_removed ticket (act ∷ acts) = if removes ticket act.doing then true else is_removed ticket acts
+-- the number of a value that is accepted at once, where so many were before it
+abbrev pub at_once : ℕ → ℕ → ℕ → Step → List Seen
+at_once column row number steps.Accepted = number_mark column row number (spot 0 1) ∷ []
+at_once column row number _ = []
 
-abbrev pub finishes : List ℕ → Doing → Bool
-finishes ticket (deeds.finishes name) = bytes_eq name ticket
-finishes ticket _ = false
+-- the marks of these values, which one line lets in, each with its number, where so many were accepted before the first of so many,
+-- and this many of those come before
+abbrev pub late_marks : ℕ → ℕ → ℕ → ℕ → ℕ → List ℕ → List Seen
+late_marks column row first index count [] = []
+late_marks column row first index count (value ∷ values) =
+    seen column row (kinds.LetIn value (spot index count)) [] ∷ number_mark column row (first + index) (spot index count)
+    ∷ late_marks column row first (index + 1) count values
 
--- the column of the first of these lines that says that an emission was accepted by then
-abbrev pub finished_at : List ℕ → List Done → Option ℕ
-finished_at ticket [] = None
-finished_at ticket (act ∷ acts) = if finishes ticket act.doing then Some act.column else finished_at ticket acts
+abbrev pub all_late : ℕ → ℕ → ℕ → List ℕ → List Seen
+all_late column row first values = late_marks column row first 0 (length values) values
 
--- ---- places
+-- what a line shows of a flow that stands so before it
+abbrev pub move_marks : ℕ → Stand → Move → List Seen
+move_marks row stand it =
+    let after = stepped it.step stand in
+    at_once it.column row stand.accepted it.step ++ all_late it.column row after.accepted (let_in_values after)
 
--- whether this is an emission on the flow of this name that gets a number, where these are all the lines
-abbrev pub takes_place : List Done → List ℕ → Doing → Bool
-takes_place all name (deeds.accepts host value) = bytes_eq host name
-takes_place all name (deeds.waits host ticket value) = if bytes_eq host name then not (is_removed ticket all) else false
-takes_place all name _ = false
+-- how the flow stands after a line
+abbrev pub moved : Stand → Move → Stand
+moved stand it = settled (stepped it.step stand)
 
-abbrev pub number_mark : ℕ → ℕ → ℕ → Seen
-number_mark column row number = seen column row (kinds.Number number) []
-
-abbrev pub late_marks : Option ℕ → ℕ → ℕ → ℕ → List Seen
-late_marks None row value number = []
-late_marks (Some column) row value number = seen column row (kinds.AcceptedBefore value) [] ∷ number_mark column row number ∷ []
-
--- the marks of an emission with this number
-abbrev pub place_marks : List Done → ℕ → ℕ → ℕ → Doing → List Seen
-place_marks all column row number (deeds.accepts host value) = number_mark column row number ∷ []
-place_marks all column row number (deeds.waits host ticket value) = late_marks (finished_at ticket all) row value number
-place_marks all column row number _ = []
-
--- the marks of the emissions in these lines, where so many had a number before
-abbrev pub numbered_from : List Done → List ℕ → ℕ → ℕ → List Done → List Seen
-numbered_from all name row number [] = []
-numbered_from all name row number (act ∷ acts) =
-    if takes_place all name act.doing then place_marks all act.column row number act.doing ++ numbered_from all name row (number + 1) acts
-    else numbered_from all name row number acts
+abbrev pub moves_seen : ℕ → Stand → List Move → List Seen
+moves_seen row stand [] = []
+moves_seen row stand (it ∷ rest) = move_marks row stand it ++ moves_seen row (moved stand it) rest
 
 -- the marks of the emissions on the flow of this name
 abbrev pub numbered_on : List (List ℕ) → List Done → List ℕ → List Seen
-numbered_on names all name = numbered_from all name (row_of names name) 0 all
+numbered_on names all name = moves_seen (row_of names name) begun (moves_on names all (row_of names name) all)
 
 abbrev pub numbered_in : List (List ℕ) → List Done → List Seen
 numbered_in names all = flat_map (numbered_on names all) names

@@ -17,3 +17,12 @@ is_waiting ticket (act ∷ acts) = if waits_as ticket act.doing then true else i
 abbrev pub is_met : List Done → Doing → Bool
 is_met all (deeds.waits host ticket value) = is_waiting ticket all
 is_met all _ = true
+
+abbrev pub removes : List ℕ → Doing → Bool
+removes ticket (deeds.removes name) = bytes_eq name ticket
+removes ticket _ = false
+
+-- whether an emission is taken back in one of these lines
+abbrev pub is_removed : List ℕ → List Done → Bool
+is_removed ticket [] = false
+is_removed ticket (act ∷ acts) = if removes ticket act.doing then true else is_removed ticket acts

@@ -14,6 +14,12 @@ use std::alloc::{AllocError, Global};
 /// What a line does.
 #[derive(Clone, Copy)]
 pub(crate) enum Deed<'a> {
+    /// A shared flow begins, with so many values for newcomers, and so many more that may be pending.
+    Opens {
+        host: &'a [u8],
+        replay: u64,
+        extra: u64,
+    },
     /// A flow accepts a value at once.
     Accepts {
         host: &'a [u8],
@@ -24,10 +30,6 @@ pub(crate) enum Deed<'a> {
         host: &'a [u8],
         ticket: &'a [u8],
         value: u64,
-    },
-    /// An emission that had to wait was accepted by now.
-    Finishes {
-        ticket: &'a [u8],
     },
     /// An emission that had to wait is taken back.
     Removes {
@@ -43,10 +45,23 @@ pub(crate) enum Deed<'a> {
         host: &'a [u8],
         value: u64,
     },
-    /// A subscription or a collector begins.
+    /// A subscription or a collector begins, with a prelude of so many values.
     Joins {
         host: &'a [u8],
         guest: &'a [u8],
+        prelude: usize,
+    },
+    /// A subscription or a collector receives a value.
+    Takes {
+        guest: &'a [u8],
+    },
+    /// A subscription or a collector ends.
+    Ends {
+        guest: &'a [u8],
+    },
+    /// A flow's replay cache is emptied.
+    Empties {
+        host: &'a [u8],
     },
     Nothing,
 }
@@ -78,7 +93,6 @@ fn withdrawing<'a>(ticket: &'a [u8], reply: Reply) -> Deed<'a>
     ensures { doing_in result ≡ withdrawing ticket.now reply }
 {
     match reply {
-        Reply::Left => Deed::Finishes { ticket },
         Reply::Removed => Deed::Removes { ticket },
         _ => Deed::Nothing,
     }
@@ -89,6 +103,14 @@ fn making<'a>(name: &'a [u8], made: Making<'a>, reply: Reply) -> Deed<'a>
     ensures { doing_in result ≡ making name.now (made_in made.entry) reply }
 {
     match made {
+        Making::Shared { replay, extra, .. } => match reply {
+            Reply::Ok => Deed::Opens {
+                host: name,
+                replay,
+                extra,
+            },
+            _ => Deed::Nothing,
+        },
         Making::State { value } => match reply {
             Reply::Ok => Deed::Begins { host: name, value },
             _ => Deed::Nothing,
@@ -102,8 +124,20 @@ fn joining<'a>(host: &'a [u8], name: &'a [u8], party: Party<'a>, reply: Reply) -
     ensures { doing_in result ≡ joining host.now name.now (joining_in party.entry) reply }
 {
     match party {
-        Party::Subscription(_) | Party::Collector => match reply {
-            Reply::Ok => Deed::Joins { host, guest: name },
+        Party::Subscription(prelude) => match reply {
+            Reply::Ok => Deed::Joins {
+                host,
+                guest: name,
+                prelude: prelude.count(),
+            },
+            _ => Deed::Nothing,
+        },
+        Party::Collector => match reply {
+            Reply::Ok => Deed::Joins {
+                host,
+                guest: name,
+                prelude: 0,
+            },
             _ => Deed::Nothing,
         },
         Party::Emission(value) => emitting(host, name, value, reply),
@@ -127,8 +161,16 @@ fn asking<'a>(name: &'a [u8], request: Request, reply: Reply) -> Deed<'a>
             Reply::True => Deed::Sets { host: name, value },
             _ => Deed::Nothing,
         },
-        Request::Poll => match reply {
-            Reply::Done => Deed::Finishes { ticket: name },
+        Request::Next => match reply {
+            Reply::Value(_) => Deed::Takes { guest: name },
+            _ => Deed::Nothing,
+        },
+        Request::Cancel => match reply {
+            Reply::Ok => Deed::Ends { guest: name },
+            _ => Deed::Nothing,
+        },
+        Request::Reset => match reply {
+            Reply::Ok => Deed::Empties { host: name },
             _ => Deed::Nothing,
         },
         Request::Withdraw => withdrawing(name, reply),

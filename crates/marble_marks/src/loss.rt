@@ -39,7 +39,11 @@ impl<'a> Deed<'a> {
         ensures { option_map (λ guest. guest.now) result ≡ guest_met host.now (doing_in self.entry) }
     {
         match self {
-            Deed::Joins { host: at, guest } => { if at == host { Some(guest) } else { None } }
+            Deed::Joins {
+                host: at,
+                guest,
+                ..
+            } => { if at == host { Some(guest) } else { None } }
             _ => None,
         }
     }

@@ -19,6 +19,20 @@ pub enum Row {
     Ticket(u64),
 }
 
+/// Where something stands among all that one line lets in, side by side.
+#[derive(Clone, Copy)]
+pub struct Spot {
+    /// How many stand before it.
+    pub index: usize,
+    /// How many there are.
+    pub count: usize,
+}
+
+impl Spot {
+    /// It is the only one.
+    pub const ALONE: Spot = Spot { index: 0, count: 1 };
+}
+
 /// What a mark shows.
 #[derive(Clone, Copy)]
 pub enum Kind {
@@ -32,10 +46,10 @@ pub enum Kind {
     Begun(Row),
     /// A flow accepted this value.
     Accepted(u64),
-    /// A flow had accepted this value by then, whose emission had to wait.
-    AcceptedBefore(u64),
-    /// The number of the emission whose acceptance stands in the same place.
-    Number(u64),
+    /// A flow accepted this value here, whose emission had to wait until then.
+    LetIn(u64, Spot),
+    /// The number of the emission whose acceptance stands in the same place and spot.
+    Number(u64, Spot),
     /// This value made way before it was taken.
     Lost(u64),
     /// A flow dropped this value.

@@ -22,7 +22,7 @@ use crate::preludes::Preludes;
 use crate::reply::Reply;
 use crate::rows::Rows;
 use crate::said::Said;
-use crate::tickets::Tickets;
+use crate::told::Told;
 use crate::turn::{Turn, turns};
 use script_commands::NameHash;
 use std::alloc::{AllocError, Global};
@@ -146,10 +146,10 @@ pub fn marks<'a>(
     let acts = acts(alloc, &turns)?;
     let losses = losses_in(alloc, hash, &turns)?;
     let rows = Rows::of(alloc, hash, &names)?;
-    let tickets = Tickets::of(alloc, hash, &acts)?;
+    let told = Told::of(alloc, hash, &rows, &acts)?;
     let guests = Guests::of(alloc, &rows, &acts)?;
     let mut marks = marks_in(alloc, hash, &rows, &turns)?;
-    add_numbers(alloc, &mut marks, &rows, &tickets)?;
+    add_numbers(alloc, &mut marks, &told)?;
     add_losses(&mut marks, &guests, &losses)?;
     Ok(marks)
 }

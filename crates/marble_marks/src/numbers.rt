@@ -1,18 +1,19 @@
-//! Marks the numbers of emissions, and where one that had to wait is shown as accepted.
+//! Marks the numbers of emissions, and where one that had to wait was accepted.
 //!
-//! Emissions are accepted in the order in which they began, less those that were taken back before. So an emission's number
-//! is how many of the earlier ones of its flow were accepted at once, or waited and weren't taken back.
+//! An emission's number is how many its flow had accepted before it. One that had to wait is accepted by the line that makes room
+//! for it.
 
-ghost use Rattle.std.specs.Prelude.{◌≡◌, ◌++◌, OnOk, map, []};
+ghost use Rattle.std.specs.Prelude.{◌≡◌, ◌≤◌, ◌<◌, ◌+◌, ◌++◌, OnOk, map, length, []};
 ghost use Rattle.marble_marks.specs.Deeds.{done_in};
 ghost use Rattle.marble_marks.specs.Marks.{mark_in, seen, row_of};
-ghost use Rattle.marble_marks.specs.Numbers.{late_marks, numbered_in};
-ghost use Rattle.marble_marks.specs.Places.{on_row, place_seen, seen_from};
+ghost use Rattle.marble_marks.specs.Standings.{stand_in, begun};
+ghost use Rattle.marble_marks.specs.Moves.{on_row};
+ghost use Rattle.marble_marks.specs.Numbers.{at_once, all_late, move_marks, moved, moves_seen, numbered_in};
 
-use crate::mark::{Kind, Mark};
-use crate::places::{Place, places_by_row, places_of};
-use crate::rows::Rows;
-use crate::tickets::Tickets;
+use crate::mark::{Kind, Mark, Spot};
+use crate::moves::{Move, moves_by_row, moves_of};
+use crate::standing::{Standing, Step};
+use crate::told::Told;
 use std::alloc::{AllocError, Global};
 
 /// A mark without a text.
@@ -27,80 +28,107 @@ fn plain<'a>(column: usize, row: usize, kind: Kind) -> Mark<'a>
     }
 }
 
-/// Adds the marks of an emission that had to wait, where it is shown as accepted.
-fn add_late(
+/// Adds the number of a value that is accepted at once.
+fn add_at_once(
     marks: &mut Vec<Mark<'_>>,
-    column: Option<usize>,
     row: usize,
-    value: u64,
-    number: u64,
+    number: usize,
+    it: Move,
 ) -> Result<(), AllocError>
-    ensures { OnOk result (map mark_in marks.new.items ≡ map mark_in marks.old.items ++ late_marks column row value number) }
+    ensures { OnOk result (map mark_in marks.new.items ≡ map mark_in marks.old.items ++ at_once it.column row number it.step) }
 {
-    let Some(column) = column else {
-        return Ok(());
-    };
-    marks.push(plain(column, row, Kind::AcceptedBefore(value)))?;
-    marks.push(plain(column, row, Kind::Number(number)))?;
+    if let Step::Accepted = it.step {
+        let kind = Kind::Number(number as u64, Spot::ALONE);
+        marks.push(plain(it.column, row, kind))?;
+    }
     Ok(())
 }
 
-/// Adds the marks of an emission with this number.
-fn add_place(
+/// Adds the marks of these values, which a line lets in.
+fn add_late(
     marks: &mut Vec<Mark<'_>>,
+    column: usize,
     row: usize,
-    number: u64,
-    place: Place,
+    first: usize,
+    values: &[u64],
 ) -> Result<(), AllocError>
-    ensures { OnOk result (map mark_in marks.new.items ≡ map mark_in marks.old.items ++ place_seen row number place) }
+    requires { first + length values.now < 18446744073709551616 }
+    ensures { OnOk result (map mark_in marks.new.items ≡ map mark_in marks.old.items ++ all_late column row first values.now) }
 {
-    match place {
-        Place::Accepted { column } => {
-            marks.push(plain(column, row, Kind::Number(number)))?;
-            Ok(())
-        }
-        Place::Waited { column, value } => add_late(marks, column, row, value, number),
+    let count = values.len();
+    let mut index = 0;
+    for value in values {
+        let spot = Spot { index, count };
+        let number = first + index;
+        marks.push(plain(column, row, Kind::LetIn(*value, spot)))?;
+        marks.push(plain(column, row, Kind::Number(number as u64, spot)))?;
+        index += 1;
     }
+    Ok(())
 }
 
-/// Adds the marks of the emissions on a row.
-fn add_numbers_on(marks: &mut Vec<Mark<'_>>, row: usize, places: &[Place]) -> Result<(), AllocError>
-    ensures { OnOk result (map mark_in marks.new.items ≡ map mark_in marks.old.items ++ seen_from row 0 places.now) }
+/// Adds the marks of what a line does to a flow, and lets in what waits.
+fn add_move(
+    alloc: Global,
+    marks: &mut Vec<Mark<'_>>,
+    row: usize,
+    standing: &mut Standing,
+    it: Move,
+) -> Result<(), AllocError>
+    requires { standing.old.accepted + length standing.old.waiting.items < 18446744073709551615 }
+    ensures added { OnOk result (map mark_in marks.new.items ≡ map mark_in marks.old.items ++ move_marks row (stand_in standing.old) it) }
+    ensures moved { OnOk result (stand_in standing.new ≡ moved (stand_in standing.old) it) }
+    ensures few { OnOk result (standing.new.accepted + length standing.new.waiting.items ≤ standing.old.accepted + length standing.old.waiting.items + 1) }
 {
-    let mut number: u64 = 0;
-    for place in places {
-        add_place(marks, row, number, *place)?;
-        number += 1;
+    add_at_once(marks, row, standing.accepted(), it)?;
+    standing.take(alloc, it.step)?;
+    let first = standing.accepted();
+    let values = standing.settle()?;
+    add_late(marks, it.column, row, first, &values)
+}
+
+/// Adds the marks of what comes to the flow with this row.
+fn add_numbers_on(
+    alloc: Global,
+    marks: &mut Vec<Mark<'_>>,
+    row: usize,
+    moves: &[Move],
+) -> Result<(), AllocError>
+    ensures { OnOk result (map mark_in marks.new.items ≡ map mark_in marks.old.items ++ moves_seen row begun moves.now) }
+{
+    let mut standing = Standing::new(alloc);
+    for it in moves {
+        add_move(alloc, marks, row, &mut standing, *it)?;
     }
     Ok(())
 }
 
 /// Adds the marks of the emissions on the flow of this name.
 fn add_numbers_of(
+    alloc: Global,
     marks: &mut Vec<Mark<'_>>,
-    rows: &Rows<'_, '_>,
-    by_row: &[Vec<Place>],
+    told: &Told<'_, '_, '_, '_>,
+    by_row: &[Vec<Move>],
     name: &[u8],
 ) -> Result<(), AllocError>
-    ensures { OnOk result (map mark_in marks.new.items ≡ map mark_in marks.old.items ++ seen_from (row_of (map (λ known. known.now) rows.now.names.now) name.now) 0 (on_row by_row.now (row_of (map (λ known. known.now) rows.now.names.now) name.now))) }
+    ensures { OnOk result (map mark_in marks.new.items ≡ map mark_in marks.old.items ++ moves_seen (row_of (map (λ known. known.now) told.now.rows.now.names.now) name.now) begun (on_row by_row.now (row_of (map (λ known. known.now) told.now.rows.now.names.now) name.now))) }
 {
-    let row = rows.row(name);
-    add_numbers_on(marks, row, places_of(by_row, row))
+    let row = told.rows.row(name);
+    add_numbers_on(alloc, marks, row, moves_of(by_row, row))
 }
 
 /// Adds the marks of all emissions.
 pub(crate) fn add_numbers(
     alloc: Global,
     marks: &mut Vec<Mark<'_>>,
-    rows: &Rows<'_, '_>,
-    tickets: &Tickets<'_, '_>,
+    told: &Told<'_, '_, '_, '_>,
 ) -> Result<(), AllocError>
-    ensures { OnOk result (map mark_in marks.new.items ≡ map mark_in marks.old.items ++ numbered_in (map (λ known. known.now) rows.now.names.now) (map done_in tickets.now.acts.now)) }
+    ensures { OnOk result (map mark_in marks.new.items ≡ map mark_in marks.old.items ++ numbered_in (map (λ known. known.now) told.now.rows.now.names.now) (map done_in told.now.acts.now)) }
 {
-    let by_row = places_by_row(alloc, rows, tickets)?;
-    let names = rows.names;
+    let by_row = moves_by_row(alloc, told)?;
+    let names = told.rows.names;
     for name in names {
-        add_numbers_of(marks, rows, &by_row, name)?;
+        add_numbers_of(alloc, marks, told, &by_row, name)?;
     }
     Ok(())
 }

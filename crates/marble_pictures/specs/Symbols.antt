@@ -4,6 +4,7 @@ use Rattle.std.specs.List.{flat_map}
 use Rattle.marble_marks.specs.declared.mark.Kind.{Kind}
 use Rattle.marble_marks.specs.declared.mark.Kind.TheVariants as kinds
 use Rattle.marble_marks.specs.declared.mark.Mark.{Mark}
+use Rattle.marble_marks.specs.declared.mark.Spot.{Spot}
 use Rattle.marble_marks.specs.declared.mark.Row.{Row}
 use Rattle.marble_marks.specs.declared.mark.Row.TheVariants as rows
 use Rattle.script_commands.specs.declared.reason.Reason.{Reason}
@@ -16,6 +17,7 @@ use Rattle.marble_pictures.specs.declared.symbol.Segment.{Segment}
 use Rattle.marble_pictures.specs.declared.symbol.Strike.{Strike}
 use Rattle.marble_pictures.specs.declared.symbol.Strike.TheVariants as strikes
 use Rattle.marble_pictures.specs.Captions.{plain_byte, words_of}
+use Rattle.marble_pictures.specs.Widths.{spot_of}
 
 -- ---- places
 
@@ -45,8 +47,12 @@ x_of sheet column = bounded (bounded (bounded ((column - 1) * sheet.column) + sh
 abbrev pub y_of : ℕ → ℕ
 y_of row = bounded (bounded (row * 44) + 22)
 
+-- where one line lets in several, they stand side by side in its column
+abbrev pub beside : Sheet → Spot → Place → Place
+beside sheet at middle = right (bounded (at.index * sheet.slot)) (left (bounded ((at.count - 1) * (sheet.slot / 2))) middle)
+
 abbrev pub place_of : Sheet → Mark → Place
-place_of sheet mark = place (x_of sheet mark.column) (y_of mark.row)
+place_of sheet mark = beside sheet (spot_of mark.kind) (place (x_of sheet mark.column) (y_of mark.row))
 
 -- ---- texts and lines
 
@@ -117,30 +123,37 @@ pub record Look : Type 0 where
 abbrev pub look : List ℕ → ℕ → Strike → Look
 look class round strike = record { class = class; round = round; strike = strike }
 
+-- with round corners and with square ones, round a value that went on
+abbrev pub rounded : List ℕ → Look
+rounded class = look class 11 strikes.None
+
+abbrev pub squared : List ℕ → Look
+squared class = look class 2 strikes.None
+
 abbrev pub look_in : Frame → Look
 look_in frame = look frame.class.now frame.round frame.strike
 
 abbrev pub begun_look : Row → Option Look
-begun_look (rows.Ticket value) = Some (look (codes "before") 11 strikes.None)
+begun_look (rows.Ticket value) = Some (rounded (codes "before"))
 begun_look _ = None
 
 -- the frame of a mark that has one
 abbrev pub look_of : Kind → Option Look
-look_of (kinds.Accepted value) = Some (look (codes "accepted") 11 strikes.None)
-look_of (kinds.AcceptedBefore value) = Some (look (codes "accepted before") 11 strikes.None)
-look_of (kinds.Received value) = Some (look (codes "received") 11 strikes.None)
+look_of (kinds.Accepted value) = Some (rounded (codes "accepted"))
+look_of (kinds.LetIn value at) = Some (rounded (codes "accepted before"))
+look_of (kinds.Received value) = Some (rounded (codes "received"))
 -- square corners: no flow gave it
-look_of (kinds.FromPrelude value) = Some (look (codes "received prelude") 2 strikes.None)
+look_of (kinds.FromPrelude value) = Some (squared (codes "received prelude"))
 -- a value that is lost, one that is dropped and one that found no room differ in shape: a cross, one line, two walls
 look_of (kinds.Lost value) = Some (look (codes "lost") 11 strikes.Cross)
 look_of (kinds.Dropped value) = Some (look (codes "dropped") 11 strikes.Stroke)
 look_of (kinds.Full value) = Some (look (codes "full") 2 strikes.Walls)
 look_of (kinds.Begun row) = begun_look row
-look_of kinds.Done = Some (look (codes "said") 2 strikes.None)
-look_of kinds.Removed = Some (look (codes "said") 2 strikes.None)
-look_of kinds.Left = Some (look (codes "said") 2 strikes.None)
-look_of kinds.Gone = Some (look (codes "said") 2 strikes.None)
-look_of kinds.Said = Some (look (codes "said") 2 strikes.None)
+look_of kinds.Done = Some (squared (codes "said"))
+look_of kinds.Removed = Some (squared (codes "said"))
+look_of kinds.Left = Some (squared (codes "said"))
+look_of kinds.Gone = Some (squared (codes "said"))
+look_of kinds.Said = Some (squared (codes "said"))
 look_of _ = None
 
 -- what shows that the value in a frame didn't go on
@@ -219,13 +232,13 @@ ticked_words said at =
 
 -- a tick: its answer in a frame, and an arrowhead that points down at it
 abbrev pub ticked_text : List ℕ → Place → List ℕ
-ticked_text said at = (edge_text (look (codes "said") 2 strikes.None) (half_width said) at ++ arrow_text (up 12 at)) ++ ticked_words said (down 4 at)
+ticked_text said at = (edge_text (squared (codes "said")) (half_width said) at ++ arrow_text (up 12 at)) ++ ticked_words said (down 4 at)
 
 abbrev pub bare_text : Kind → List ℕ → ℕ → List ℕ → Place → List ℕ
 bare_text (kinds.Line number) line step said at = head_text line said at
 bare_text (kinds.Bad number reason) line step said at = crossed_head reason line (half_width said) said at
 bare_text (kinds.Named row) line step said at = said_text (codes "name") said (place 8 (bounded (at.y + 4)))
-bare_text (kinds.Number number) line step said at = said_text (codes "number") said (up 14 at)
+bare_text (kinds.Number number spot) line step said at = said_text (codes "number") said (up 14 at)
 bare_text (kinds.Set value) line step said at = value_text step said at
 bare_text (kinds.Holds value) line step said at = value_text step said at
 bare_text (kinds.Begun row) line step said at = begun_text row step said at

@@ -3,6 +3,7 @@ use Rattle.std.specs.Prelude.{ℕ, ◌+◌, ◌==◌, List, [], ◌∷◌, lengt
 use Rattle.marble_marks.specs.declared.mark.Kind.{Kind}
 use Rattle.marble_marks.specs.declared.mark.Kind.TheVariants as kinds
 use Rattle.marble_marks.specs.declared.mark.Mark.{Mark}
+use Rattle.marble_marks.specs.declared.mark.Spot.{Spot}
 use Rattle.marble_marks.specs.declared.mark.Row.TheVariants as rows
 use Rattle.marble_pictures.specs.declared.caption.Part.{Part}
 use Rattle.marble_pictures.specs.declared.caption.Part.TheVariants as parts
@@ -13,7 +14,7 @@ use Rattle.marble_pictures.specs.Captions.{words_of, sign}
 -- what a mark's words are for
 abbrev pub part_of : Kind → Part
 part_of (kinds.Named row) = parts.Name
-part_of (kinds.Number number) = parts.Number
+part_of (kinds.Number number at) = parts.Number
 part_of _ = parts.Place
 
 -- the value of a state from a mark on, where the mark says one
@@ -22,6 +23,15 @@ state_value (kinds.Begun (rows.State value)) = Some value
 state_value (kinds.Set value) = Some value
 state_value (kinds.Holds value) = Some value
 state_value _ = None
+
+-- where a mark stands among all that one line lets in
+abbrev pub alone : Spot
+alone = record { index = 0; count = 1 }
+
+abbrev pub spot_of : Kind → Spot
+spot_of (kinds.LetIn value at) = at
+spot_of (kinds.Number number at) = at
+spot_of _ = alone
 
 -- ---- widths
 
@@ -48,6 +58,10 @@ abbrev pub for_value : Option ℕ → ℕ → ℕ → ℕ
 for_value (Some value) said most = max said most
 for_value None said most = most
 
+abbrev pub for_late : Kind → ℕ → ℕ → ℕ
+for_late (kinds.LetIn value at) shown most = max shown most
+for_late _ shown most = most
+
 -- with one more mark
 abbrev pub wider : Widths → Mark → Widths
 wider widths mark = record {
@@ -55,6 +69,8 @@ wider widths mark = record {
   number = for_number (part_of mark.kind) (shown_length mark) widths.number;
   place = for_place (part_of mark.kind) (shown_length mark) widths.place;
   value = for_value (state_value mark.kind) (said_length mark) widths.value;
+  late = for_late mark.kind (shown_length mark) widths.late;
+  slots = max (spot_of mark.kind).count widths.slots;
   last_column = max mark.column widths.last_column;
 }
 
@@ -64,7 +80,7 @@ wider_by widths (mark ∷ marks) = wider_by (wider widths mark) marks
 
 -- HOW WIDE THE WORDS of these marks are
 abbrev pub widths_of : List Mark → Widths
-widths_of marks = wider_by (record { name = 0; number = 0; place = 0; value = 0; last_column = 0 }) marks
+widths_of marks = wider_by (record { name = 0; number = 0; place = 0; value = 0; late = 0; slots = 0; last_column = 0 }) marks
 
 -- ---- the values of a state
 

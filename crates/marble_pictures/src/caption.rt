@@ -29,7 +29,7 @@ impl Part {
     {
         match mark.kind {
             Kind::Named(_) => Part::Name,
-            Kind::Number(_) => Part::Number,
+            Kind::Number(_, _) => Part::Number,
             _ => Part::Place,
         }
     }
@@ -108,7 +108,7 @@ pub(crate) fn sign(kind: Kind) -> &'static str
         Kind::Full(_) => "!",
         Kind::Begun(Row::State(_)) | Kind::Set(_) => "=",
         Kind::Begun(Row::Ticket(_)) | Kind::Waiting => "?",
-        Kind::AcceptedBefore(_) => "<",
+        Kind::LetIn(_, _) => "<",
         Kind::Begun(_) => "o",
         Kind::Nothing => ".",
         Kind::Cancelled => "|",
@@ -150,7 +150,7 @@ pub(crate) fn push_words(text: &mut String, mark: &Mark<'_>) -> Result<(), Alloc
         Kind::Line(value)
         | Kind::Bad(value, _)
         | Kind::Accepted(value)
-        | Kind::AcceptedBefore(value)
+        | Kind::LetIn(value, _)
         | Kind::Lost(value)
         | Kind::Dropped(value)
         | Kind::Full(value)
@@ -158,7 +158,7 @@ pub(crate) fn push_words(text: &mut String, mark: &Mark<'_>) -> Result<(), Alloc
         | Kind::Holds(value)
         | Kind::Received(value)
         | Kind::FromPrelude(value) => push_number(text, value),
-        Kind::Number(number) => {
+        Kind::Number(number, _) => {
             text.push_str("#")?;
             push_number(text, number)
         }
@@ -203,7 +203,7 @@ pub(crate) fn words_len(mark: &Mark<'_>) -> usize
         Kind::Line(value)
         | Kind::Bad(value, _)
         | Kind::Accepted(value)
-        | Kind::AcceptedBefore(value)
+        | Kind::LetIn(value, _)
         | Kind::Lost(value)
         | Kind::Dropped(value)
         | Kind::Full(value)
@@ -211,7 +211,7 @@ pub(crate) fn words_len(mark: &Mark<'_>) -> usize
         | Kind::Holds(value)
         | Kind::Received(value)
         | Kind::FromPrelude(value) => digits(value),
-        Kind::Number(number) => digits(number) + 1,
+        Kind::Number(number, _) => digits(number) + 1,
         Kind::Named(row) => role(row).len() + mark.text.len(),
         Kind::Done | Kind::Removed | Kind::Left | Kind::Gone | Kind::Ticked | Kind::Said => {
             answer_len(mark.text)

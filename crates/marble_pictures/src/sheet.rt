@@ -4,7 +4,7 @@ ghost use Rattle.std.specs.Prelude.{◌≡◌};
 ghost use Rattle.marble_pictures.specs.Symbols.{x_of, y_of, place_of};
 
 use crate::steps::Place;
-use crate::widths::Widths;
+use crate::widths::{Widths, spot_of};
 use marble_marks::Mark;
 
 /// How wide a character is.
@@ -21,6 +21,8 @@ pub(crate) struct Sheet {
     names: usize,
     /// How wide a column is.
     column: usize,
+    /// How far those that one line lets in stand apart.
+    slot: usize,
     pub(crate) last_column: usize,
     last_row: usize,
 }
@@ -35,9 +37,13 @@ impl Sheet {
         // of the next column.
         let values = widths.value.saturating_mul(CHARACTER);
         let value_and_frame = values.saturating_add(places / 2);
+        let column = places.max(numbers).max(value_and_frame).saturating_add(20);
+        let late = widths.late.saturating_mul(CHARACTER);
+        let slot = late.max(numbers).saturating_add(16);
         Sheet {
             names: widths.name.saturating_mul(CHARACTER).saturating_add(16),
-            column: places.max(numbers).max(value_and_frame).saturating_add(20),
+            column: column.max(slot.saturating_mul(widths.slots)),
+            slot,
             last_column: widths.last_column,
             last_row: marks.last().map_or(0, |mark| mark.row),
         }
@@ -59,14 +65,19 @@ impl Sheet {
         row.saturating_mul(ROW).saturating_add(ROW / 2)
     }
 
-    /// The place of a mark.
+    /// The place of a mark: where one line lets in several, they stand side by side in its column.
     pub(crate) fn place(self, mark: &Mark<'_>) -> Place
         ensures { result ≡ place_of self mark.now }
     {
-        Place {
+        let spot = spot_of(mark.kind);
+        let before = spot.count.saturating_sub(1).saturating_mul(self.slot / 2);
+        let middle = Place {
             x: self.x(mark.column),
             y: self.y(mark.row),
-        }
+        };
+        middle
+            .left(before)
+            .right(spot.index.saturating_mul(self.slot))
     }
 
     /// Where the lines of rows end.

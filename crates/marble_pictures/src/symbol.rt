@@ -3,7 +3,7 @@
 ghost use Rattle.std.specs.Prelude.{◌≡◌, ◌<◌, ◌≤◌, ◌++◌, ◌∷◌, [], IfOk, OnOk, IsTrue, length, take, string_bytes};
 ghost use Rattle.std.specs.Option.{option_map};
 ghost use Rattle.marble_pictures.specs.Captions.{words_of};
-ghost use Rattle.marble_pictures.specs.Symbols.{escaped_byte, escaped, line_text, segment_text, opening_text, said_text, half_width, falling_text, rising_text, cross_text, left_wall, right_wall, walls_text, rect_text, look_in, begun_look, look_of, strike_text, edge_text, framed_text, frame_around, frame_text, heading_text, titled_text, head_at, head_text, why_text, bad_head_at, bad_head, crossed_head, bar_text, ring_text, value_text, begun_text, arrow_text, ticked_words, ticked_text, bare_text, symbol_by, symbol_text};
+ghost use Rattle.marble_pictures.specs.Symbols.{escaped_byte, escaped, line_text, segment_text, opening_text, said_text, half_width, falling_text, rising_text, cross_text, left_wall, right_wall, walls_text, rect_text, rounded, squared, look_in, begun_look, look_of, strike_text, edge_text, framed_text, frame_around, frame_text, heading_text, titled_text, head_at, head_text, why_text, bad_head_at, bad_head, crossed_head, bar_text, ring_text, value_text, begun_text, arrow_text, ticked_words, ticked_text, bare_text, symbol_by, symbol_text};
 
 use crate::caption::{plain_byte, push_numbered, push_words};
 use crate::sheet::{CHARACTER, Sheet};
@@ -422,16 +422,36 @@ fn push_crossed_head(
     push_bad_head(picture, reason, line, said, at)
 }
 
+impl Frame {
+    /// A frame with round corners.
+    fn round(class: &'static str) -> Frame
+        ensures { look_in result ≡ rounded class.now }
+    {
+        Frame {
+            class,
+            round: 11,
+            strike: Strike::None,
+        }
+    }
+
+    /// A frame with square corners.
+    fn square(class: &'static str) -> Frame
+        ensures { look_in result ≡ squared class.now }
+    {
+        Frame {
+            class,
+            round: 2,
+            strike: Strike::None,
+        }
+    }
+}
+
 /// The frame of the begin of a row, where it has one.
 fn begun_frame(row: Row) -> Option<Frame>
     ensures { option_map look_in result ≡ begun_look row }
 {
     match row {
-        Row::Ticket(_) => Some(Frame {
-            class: "before",
-            round: 11,
-            strike: Strike::None,
-        }),
+        Row::Ticket(_) => Some(Frame::round("before")),
         _ => None,
     }
 }
@@ -441,47 +461,26 @@ fn frame_of(kind: Kind) -> Option<Frame>
     ensures { option_map look_in result ≡ look_of kind }
 {
     match kind {
-        Kind::Accepted(_) => Some(Frame {
-            class: "accepted",
-            round: 11,
-            strike: Strike::None,
-        }),
-        Kind::AcceptedBefore(_) => Some(Frame {
-            class: "accepted before",
-            round: 11,
-            strike: Strike::None,
-        }),
-        Kind::Received(_) => Some(Frame {
-            class: "received",
-            round: 11,
-            strike: Strike::None,
-        }),
-        Kind::FromPrelude(_) => Some(Frame {
-            class: "received prelude",
-            round: 2,
-            strike: Strike::None,
-        }),
+        Kind::Accepted(_) => Some(Frame::round("accepted")),
+        Kind::LetIn(_, _) => Some(Frame::round("accepted before")),
+        Kind::Received(_) => Some(Frame::round("received")),
+        Kind::FromPrelude(_) => Some(Frame::square("received prelude")),
         Kind::Lost(_) => Some(Frame {
-            class: "lost",
-            round: 11,
             strike: Strike::Cross,
+            ..Frame::round("lost")
         }),
         Kind::Dropped(_) => Some(Frame {
-            class: "dropped",
-            round: 11,
             strike: Strike::Stroke,
+            ..Frame::round("dropped")
         }),
         Kind::Full(_) => Some(Frame {
-            class: "full",
-            round: 2,
             strike: Strike::Walls,
+            ..Frame::square("full")
         }),
         Kind::Begun(row) => begun_frame(row),
-        Kind::Done | Kind::Removed | Kind::Left | Kind::Gone | Kind::Said => Some(Frame {
-            class: "said",
-            round: 2,
-            strike: Strike::None,
-        }),
+        Kind::Done | Kind::Removed | Kind::Left | Kind::Gone | Kind::Said => {
+            Some(Frame::square("said"))
+        }
         _ => None,
     }
 }
@@ -552,12 +551,7 @@ fn push_ticked_words(picture: &mut String, said: &str, at: Place) -> Result<(), 
 fn push_ticked(picture: &mut String, said: &str, at: Place) -> Result<(), AllocError>
     ensures { OnOk result (string_bytes picture.new ≡ string_bytes picture.old ++ ticked_text said.now at) }
 {
-    let frame = Frame {
-        class: "said",
-        round: 2,
-        strike: Strike::None,
-    };
-    push_edge(picture, frame, half_width(said), at)?;
+    push_edge(picture, Frame::square("said"), half_width(said), at)?;
     push_arrow(picture, at.up(12))?;
     push_ticked_words(picture, said, at.down(4))
 }
@@ -581,7 +575,7 @@ fn push_bare(
             let Place { y, .. } = at.down(4);
             push_text(picture, "name", said, Place { x: 8, y })
         }
-        Kind::Number(_) => push_text(picture, "number", said, at.up(14)),
+        Kind::Number(_, _) => push_text(picture, "number", said, at.up(14)),
         Kind::Set(_) | Kind::Holds(_) => push_value(picture, placed.step, said, at),
         Kind::Begun(row) => push_begun(picture, row, placed.step, said, at),
         Kind::Cancelled => push_bar(picture, at),

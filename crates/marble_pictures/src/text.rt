@@ -5,7 +5,7 @@
 //! waits in a heap by the strip of that mark. So each mark is written once, and there are at most as many lines of rows as
 //! there are marks.
 
-ghost use Rattle.std.specs.Prelude.{◌≤◌, length};
+ghost use Rattle.std.specs.Prelude.{◌<◌, ◌≤◌, length};
 ghost use Rattle.std.specs.List.Sorted.{IsPermutation};
 
 use crate::caption::{Part, push_numbered, push_words, sign};
@@ -377,6 +377,15 @@ impl<'m, 'a> Rows<'m, 'a> {
     }
 }
 
+/// How wide a column is: it has room for all that one line lets in.
+fn width_of(widths: Widths) -> usize
+    ensures { 0 < result }
+{
+    let one = widths.place.saturating_add(widths.number);
+    let late = widths.late.saturating_add(widths.number);
+    one.max(late.saturating_mul(widths.slots)).saturating_add(1)
+}
+
 /// The picture of these marks in characters, at most 120 in a line, and then broken into strips.
 ///
 /// A row stands in each strip in which it has a mark, so where it begins and ends, too. Behind the rows of a strip it is
@@ -387,7 +396,7 @@ pub fn text_picture(alloc: Global, marks: &mut Vec<Mark<'_>>) -> Result<String, 
     marks.sort_by_key(|mark| (mark.row, mark.column))?;
     let widths = Widths::of(marks);
     let names = widths.name.saturating_add(2);
-    let width = widths.place.saturating_add(widths.number).saturating_add(1);
+    let width = width_of(widths);
     let columns = (MOST_CHARACTERS.saturating_sub(names) / width).max(1);
     let last = widths.last_column;
     let mut rows = Rows::of(alloc, columns, marks)?;

@@ -1,11 +1,11 @@
 //! How wide the words of marks are.
 
 ghost use Rattle.std.specs.Prelude.{◌≡◌};
-ghost use Rattle.marble_pictures.specs.Widths.{wider, widths_of};
+ghost use Rattle.marble_pictures.specs.Widths.{spot_of, for_late, wider, widths_of};
 
 use crate::caption::{Part, sign, words_len};
 use crate::line::state_value;
-use marble_marks::Mark;
+use marble_marks::{Kind, Mark, Spot};
 
 /// The most characters of the words of marks, and how many columns they have.
 #[derive(Clone, Copy)]
@@ -18,7 +18,31 @@ pub(crate) struct Widths {
     pub(crate) place: usize,
     /// Of a state's value.
     pub(crate) value: usize,
+    /// Of a value that is let in, with its sign.
+    pub(crate) late: usize,
+    /// The most values that one line lets in.
+    pub(crate) slots: usize,
     pub(crate) last_column: usize,
+}
+
+/// Where a mark stands among all that one line lets in.
+pub(crate) fn spot_of(kind: Kind) -> Spot
+    ensures { result ≡ spot_of kind }
+{
+    match kind {
+        Kind::LetIn(_, spot) | Kind::Number(_, spot) => spot,
+        _ => Spot::ALONE,
+    }
+}
+
+/// The most characters of values that are let in, with one more mark, which has so many.
+fn for_late(kind: Kind, shown: usize, most: usize) -> usize
+    ensures { result ≡ for_late kind shown most }
+{
+    match kind {
+        Kind::LetIn(_, _) => shown.max(most),
+        _ => most,
+    }
 }
 
 impl Widths {
@@ -50,6 +74,8 @@ impl Widths {
             } else {
                 self.value
             },
+            late: for_late(mark.kind, shown, self.late),
+            slots: spot_of(mark.kind).count.max(self.slots),
             last_column: mark.column.max(self.last_column),
         }
     }
@@ -63,6 +89,8 @@ impl Widths {
             number: 0,
             place: 0,
             value: 0,
+            late: 0,
+            slots: 0,
             last_column: 0,
         };
         for mark in marks {

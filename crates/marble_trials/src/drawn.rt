@@ -1,7 +1,7 @@
-//! Pictures in characters that were laid out by hand.
+//! Pictures that were laid out by hand.
 
 use marble_marks::{Said, marks};
-use marble_pictures::text_picture;
+use marble_pictures::{svg_picture, text_picture};
 use script_commands::{Answer, NameHash};
 use std::alloc::{AllocError, AllocGlobal, Global};
 use std::random::RandomSource;
@@ -15,6 +15,7 @@ enum Told {
     Dropped,
     Waiting,
     Done,
+    Removed,
     Gone,
     Value(u64),
 }
@@ -74,11 +75,56 @@ poll e
         Told::Gone,
     ],
     picture: "          1      2      3      4      5      6      7      8
-flow f    o-------------1#0------------------<2#1----------gone---
+flow f    o-------------1#0-----------<2#1-----------------gone---
 sub a            o--------------------1---------------------------
 ticket g                       ?2~~~~~~~~~~~~done   gone
 ",
 };
+
+/// What one line lets in stands side by side in its column, less what was taken back; that it is done is told later, on rows of
+/// their own.
+const TOGETHER: Drawn = Drawn {
+    script: "shared f 0 1 suspend
+sub f a
+try f 1
+emit f e 2
+emit f g 3
+emit f h 4
+withdraw g
+cancel a
+poll h
+poll e
+",
+    answers: &[
+        Told::Ok,
+        Told::Ok,
+        Told::Accepted,
+        Told::Waiting,
+        Told::Waiting,
+        Told::Waiting,
+        Told::Removed,
+        Told::Ok,
+        Told::Done,
+        Told::Done,
+    ],
+    picture: "          1         2         3         4         5         6         7         8         9         10
+flow f    o-------------------1#0-----------------------------------------------<2#1<4#2----------------------
+sub a               o-----------------------------------------------------------|
+ticket e                                ?2~~~~~~~~~~~~~~~~~~~~~~~~~~~~~~~~~~~~~~~~~~~~~~~~~~~~~~~~~~done
+ticket g                                          ?3~~~~~~~~~~~~~~~~~~removed
+ticket h                                                    ?4~~~~~~~~~~~~~~~~~~~~~~~~~~~~done
+",
+};
+
+/// The same as SVG: columns are 76 wide, and the middle of the eighth is at 650; the two stand 16 to the left and to the right of it.
+const TOGETHER_AS_SVG: &str =
+    "<rect class=\"accepted before\" x=\"623\" y=\"55\" width=\"22\" height=\"22\" rx=\"11\"/>
+<text class=\"framed\" x=\"634\" y=\"70\">2</text>
+<text class=\"number\" x=\"634\" y=\"52\">#1</text>
+<rect class=\"accepted before\" x=\"655\" y=\"55\" width=\"22\" height=\"22\" rx=\"11\"/>
+<text class=\"framed\" x=\"666\" y=\"70\">4</text>
+<text class=\"number\" x=\"666\" y=\"52\">#2</text>
+";
 
 /// The values of a prelude have a mark of their own; what the flow gives has not.
 const PRELUDE: Drawn = Drawn {
@@ -111,6 +157,7 @@ impl Told {
             Told::Dropped => Answer::Dropped,
             Told::Waiting => Answer::Waiting,
             Told::Done => Answer::Done,
+            Told::Removed => Answer::Removed,
             Told::Gone => Answer::Gone,
             Told::Value(value) => Answer::Value(value),
         }
@@ -128,37 +175,63 @@ fn said_of(alloc: Global, answers: &[Told]) -> Result<Vec<Said>, AllocError> {
     Ok(said)
 }
 
-/// The picture of a script with these answers.
-fn picture_of(
-    alloc: Global,
-    hash: NameHash,
-    script: &[u8],
-    said: &[Said],
-) -> Result<String, AllocError> {
-    if script.len() > 1048576 {
-        return Ok(String::new(alloc));
+/// What a picture is written as.
+#[derive(Clone, Copy)]
+enum Form {
+    Text,
+    Svg,
+}
+
+impl Form {
+    /// The picture of a script with these answers.
+    fn picture(
+        self,
+        alloc: Global,
+        hash: NameHash,
+        script: &[u8],
+        said: &[Said],
+    ) -> Result<String, AllocError> {
+        if script.len() > 1048576 {
+            return Ok(String::new(alloc));
+        }
+        let mut marks = marks(alloc, hash, script, said)?;
+        match self {
+            Form::Text => text_picture(alloc, &mut marks),
+            Form::Svg => svg_picture(alloc, &mut marks),
+        }
     }
-    let mut marks = marks(alloc, hash, script, said)?;
-    text_picture(alloc, &mut marks)
 }
 
 impl Drawn {
-    /// Whether the picture is drawn.
-    fn is_drawn<R>(self, rt: &R) -> Result<bool, AllocError>
+    /// The picture of the script.
+    fn made<R>(self, rt: &R, form: Form) -> Result<String, AllocError>
     where
         R: AllocGlobal + RandomSource,
     {
         let said = said_of(rt.alloc(), self.answers)?;
-        let picture = picture_of(rt.alloc(), NameHash::new(rt), self.script.as_bytes(), &said)?;
-        Ok(picture.as_str() == self.picture)
+        let script = self.script.as_bytes();
+        form.picture(rt.alloc(), NameHash::new(rt), script, &said)
+    }
+}
+
+/// Whether this stands in a picture, and nothing else there was let in.
+fn has_once(picture: &str, let_in: &str) -> bool {
+    match picture.split_once(let_in) {
+        Some((before, after)) => {
+            !before.contains("accepted before") && !after.contains("accepted before")
+        }
+        None => false,
     }
 }
 
 /// Each is drawn.
 #[test]
 fn pictures_by_hand_are_drawn(rt: HostRuntime) -> Result<(), Fail> {
-    for drawn in [AT_ONCE, WAITED, PRELUDE] {
-        assert!(rt; drawn.is_drawn(&rt)?);
+    for drawn in [AT_ONCE, WAITED, TOGETHER, PRELUDE] {
+        let picture = drawn.made(&rt, Form::Text)?;
+        assert!(rt; picture.as_str() == drawn.picture);
     }
+    let picture = TOGETHER.made(&rt, Form::Svg)?;
+    assert!(rt; has_once(picture.as_str(), TOGETHER_AS_SVG));
     Ok(())
 }

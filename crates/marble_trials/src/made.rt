@@ -1,6 +1,6 @@
 //! Lists of marks that are made by numbers without an order.
 
-use marble_marks::{Kind, Mark, Row};
+use marble_marks::{Kind, Mark, Row, Spot};
 use script_commands::Reason;
 use std::alloc::{AllocError, Global};
 
@@ -52,12 +52,12 @@ pub(crate) fn reason(index: usize) -> Reason {
 }
 
 /// What shows this number.
-fn numbered(code: usize, number: u64) -> Kind {
+fn numbered(code: usize, number: u64, spot: Spot) -> Kind {
     match code {
         0 => Kind::Line(number),
         4 => Kind::Accepted(number),
-        5 => Kind::AcceptedBefore(number),
-        6 => Kind::Number(number),
+        5 => Kind::LetIn(number, spot),
+        6 => Kind::Number(number, spot),
         7 => Kind::Lost(number),
         8 => Kind::Dropped(number),
         9 => Kind::Full(number),
@@ -123,12 +123,23 @@ impl Dice {
         }
     }
 
+    /// Mostly the only one.
+    fn spot(&mut self) -> Spot {
+        match self.below(4) {
+            0 => Spot {
+                index: self.below(4),
+                count: self.below(5),
+            },
+            _ => Spot::ALONE,
+        }
+    }
+
     /// What a mark shows that isn't a name.
     fn shown(&mut self) -> Kind {
         match self.below(23) {
             1 => Kind::Bad(self.number(), reason(self.below(6))),
             2 | 3 => Kind::Begun(self.row()),
-            code if code < 13 || code == 22 => numbered(code, self.number()),
+            code if code < 13 || code == 22 => numbered(code, self.number(), self.spot()),
             code => plain(code),
         }
     }

@@ -1,6 +1,6 @@
 //! The words of marks.
 
-use marble_marks::{Kind, Mark, Row};
+use marble_marks::{Kind, Mark, Row, Spot};
 use std::alloc::{AllocError, Global};
 use std::fmt::Write;
 
@@ -23,7 +23,7 @@ impl Part {
     pub(crate) fn of(mark: &Mark<'_>) -> Part {
         match mark.kind {
             Kind::Named(_) => Part::Name,
-            Kind::Number(_) => Part::Number,
+            Kind::Number(_, _) => Part::Number,
             _ => Part::Place,
         }
     }
@@ -64,7 +64,7 @@ pub(crate) fn sign(kind: Kind) -> &'static str {
         Kind::Full(_) => "!",
         Kind::Begun(Row::State(_)) | Kind::Set(_) => "=",
         Kind::Begun(Row::Ticket(_)) | Kind::Waiting => "?",
-        Kind::AcceptedBefore(_) => "<",
+        Kind::LetIn(_, _) => "<",
         Kind::Begun(_) => "o",
         Kind::Nothing => ".",
         Kind::Cancelled => "|",
@@ -100,7 +100,7 @@ fn push_words(text: &mut String, mark: &Mark<'_>) -> Result<(), AllocError> {
         Kind::Line(value)
         | Kind::Bad(value, _)
         | Kind::Accepted(value)
-        | Kind::AcceptedBefore(value)
+        | Kind::LetIn(value, _)
         | Kind::Lost(value)
         | Kind::Dropped(value)
         | Kind::Full(value)
@@ -108,7 +108,7 @@ fn push_words(text: &mut String, mark: &Mark<'_>) -> Result<(), AllocError> {
         | Kind::Holds(value)
         | Kind::Received(value)
         | Kind::FromPrelude(value) => write!(text, "{value}"),
-        Kind::Number(number) => write!(text, "#{number}"),
+        Kind::Number(number, _) => write!(text, "#{number}"),
         Kind::Named(row) => {
             text.push_str(role(row))?;
             push_plain(text, mark.text)
@@ -138,6 +138,36 @@ pub(crate) fn longest(alloc: Global, marks: &[Mark<'_>], part: Part) -> Result<u
         }
     }
     Ok(most)
+}
+
+/// The most characters of values that are let in, with their sign.
+pub(crate) fn longest_late(alloc: Global, marks: &[Mark<'_>]) -> Result<usize, AllocError> {
+    let mut most = 0;
+    for mark in marks {
+        if let Kind::LetIn(_, _) = mark.kind {
+            let said = caption(alloc, mark)?;
+            most = said.len().saturating_add(1).max(most);
+        }
+    }
+    Ok(most)
+}
+
+/// Where a mark stands among all that one line lets in.
+pub(crate) fn spot_of(kind: Kind) -> Spot {
+    match kind {
+        Kind::LetIn(_, spot) => spot,
+        Kind::Number(_, spot) => spot,
+        _ => Spot { index: 0, count: 1 },
+    }
+}
+
+/// The most values that one line lets in.
+pub(crate) fn most_let_in(marks: &[Mark<'_>]) -> usize {
+    marks
+        .iter()
+        .map(|mark| spot_of(mark.kind).count)
+        .max()
+        .unwrap_or(0)
 }
 
 /// The last column of these marks.

@@ -28,7 +28,11 @@ impl<'a> Deed<'a> {
     /// The guest that this lets join, if it joins this flow or state.
     fn guest_met(self, host: &[u8]) -> Option<&'a [u8]> {
         match self {
-            Deed::Joins { host: at, guest } => { if at == host { Some(guest) } else { None } }
+            Deed::Joins {
+                host: at,
+                guest,
+                ..
+            } => { if at == host { Some(guest) } else { None } }
             _ => None,
         }
     }

@@ -194,7 +194,7 @@ pub(crate) fn marks<'a>(
     let acts = acts(alloc, &turns)?;
     let losses = losses_in(alloc, &turns)?;
     let mut marks = marks_in(alloc, &names, &turns)?;
-    add_numbers(&mut marks, &names, &acts)?;
+    add_numbers(alloc, &mut marks, &names, &acts)?;
     add_losses(&mut marks, &names, &acts, &losses)?;
     Ok(marks)
 }

@@ -1,9 +1,11 @@
 //! Where the parts of a picture stand.
 
-use crate::start::caption::{Part, caption, last_column, longest};
+use crate::start::caption::{
+    Part, caption, last_column, longest, longest_late, most_let_in, spot_of,
+};
 use crate::start::line::state_value;
 use crate::start::steps::Place;
-use marble_marks::Mark;
+use marble_marks::{Mark, Spot};
 use std::alloc::{AllocError, Global};
 
 /// How wide a character is.
@@ -32,6 +34,8 @@ pub(crate) struct Sheet {
     names: usize,
     /// How wide a column is.
     column: usize,
+    /// How far those that one line lets in stand apart.
+    slot: usize,
     pub(crate) last_column: usize,
     last_row: usize,
 }
@@ -45,9 +49,13 @@ impl Sheet {
         let values = longest_value(alloc, marks)?.saturating_mul(CHARACTER);
         // Half of a frame's words stand before the middle of the next column.
         let value_and_frame = values.saturating_add(places / 2);
+        let column = places.max(numbers).max(value_and_frame).saturating_add(20);
+        let late = longest_late(alloc, marks)?.saturating_mul(CHARACTER);
+        let slot = late.max(numbers).saturating_add(16);
         Ok(Sheet {
             names: names.saturating_mul(CHARACTER).saturating_add(16),
-            column: places.max(numbers).max(value_and_frame).saturating_add(20),
+            column: column.max(slot.saturating_mul(most_let_in(marks))),
+            slot,
             last_column: last_column(marks),
             last_row: marks.last().map_or(0, |mark| mark.row),
         })
@@ -65,10 +73,13 @@ impl Sheet {
         row.saturating_mul(ROW).saturating_add(ROW / 2)
     }
 
-    /// The place of a mark.
+    /// The place of a mark: what one line lets in stands side by side, its middle at that of the column.
     pub(crate) fn place(self, mark: &Mark<'_>) -> Place {
+        let Spot { index, count } = spot_of(mark.kind);
+        let half = (self.slot / 2).saturating_mul(count.saturating_sub(1));
+        let first = self.x(mark.column).saturating_sub(half);
         Place {
-            x: self.x(mark.column),
+            x: first.saturating_add(self.slot.saturating_mul(index)),
             y: self.y(mark.row),
         }
     }

@@ -24,6 +24,7 @@ circle{fill:#fff;stroke:#444}
 rect{fill:#fff;stroke:#444}
 .accepted{fill:#56b4e9}
 .before{stroke-dasharray:3 3}
+.accepted.before{fill:#cfe9f8}
 .received{fill:#f0e442}
 .lost,.dropped,.full{stroke:#d55e00}
 .said{stroke:#999}

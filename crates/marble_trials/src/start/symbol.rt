@@ -267,7 +267,7 @@ fn frame_of(kind: Kind) -> Option<Frame> {
             round: 11,
             strike: Strike::None,
         }),
-        Kind::AcceptedBefore(_) => Some(Frame {
+        Kind::LetIn(_, _) => Some(Frame {
             class: "accepted before",
             round: 11,
             strike: Strike::None,
@@ -372,7 +372,7 @@ fn push_bare(
             let Place { y, .. } = at.down(4);
             push_text(picture, "name", said, Place { x: 8, y })
         }
-        Kind::Number(_) => push_text(picture, "number", said, at.up(14)),
+        Kind::Number(_, _) => push_text(picture, "number", said, at.up(14)),
         Kind::Set(_) | Kind::Holds(_) => push_value(picture, placed.step, said, at),
         Kind::Begun(row) => push_begun(picture, row, placed.step, said, at),
         Kind::Cancelled => push_bar(picture, at),

@@ -1,6 +1,6 @@
 //! A picture in characters, in strips of at most 120 columns.
 
-use crate::start::caption::{Part, caption, last_column, longest, sign};
+use crate::start::caption::{Part, caption, last_column, longest, longest_late, most_let_in, sign};
 use crate::start::line::Line;
 use marble_marks::Mark;
 use std::alloc::{AllocError, Global};
@@ -127,8 +127,11 @@ fn push_strip(
 pub fn text_picture(alloc: Global, marks: &mut Vec<Mark<'_>>) -> Result<String, AllocError> {
     marks.sort_by_key(|mark| (mark.row, mark.column))?;
     let names = longest(alloc, marks, Part::Name)?.saturating_add(2);
-    let width = longest(alloc, marks, Part::Place)?
-        .saturating_add(longest(alloc, marks, Part::Number)?)
+    let number = longest(alloc, marks, Part::Number)?;
+    let one = longest(alloc, marks, Part::Place)?.saturating_add(number);
+    let late = longest_late(alloc, marks)?.saturating_add(number);
+    let width = one
+        .max(late.saturating_mul(most_let_in(marks)))
         .saturating_add(1);
     let columns = (MOST_CHARACTERS.saturating_sub(names) / width).max(1);
     let last = last_column(marks);

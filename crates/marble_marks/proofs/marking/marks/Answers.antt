@@ -1,5 +1,6 @@
 use Rattle.std.proofs.Common.{◌∙◌, ap, map}
 use Rattle.marble_marks.specs.Turns.{asked_in, asked_of, saying_in}
+use Rattle.marble_marks.specs.declared.rows.Rows.{Rows}
 use Rattle.marble_marks.specs.Deeds.{done_in, done_by}
 use Rattle.marble_marks.specs.Marks.{names_in}
 use Rattle.marble_marks.specs.Receipts.{receipts_in}
@@ -14,11 +15,12 @@ returns-clause-marks c =
     ∙ c.in_ok-names.ensures ∙ ap names_in (ap (map asked_in) c.deref.ensures.value ∙ turns) in
     let acts = c.in_ok-acts.ensures ∙ ap (map done_by) (ap (map asked_in) c.deref-2.ensures.value ∙ turns) in (
       c.deref-8.result.now,
-      all_shown _ _ _ _ _ _ c.deref-8.result.now _ _ _
+      all_shown _ _ _ _ _ _ _ c.deref-8.result.now _ _ _
           (ap (map asked_in) c.deref-7.ensures.value ∙ turns)
           names
+          (ap (λ (rows : Rows). map (λ known. known.now) rows.names.now) c.in_ok-told.ensures.1 ∙ names)
           (ap (map (λ known. known.now)) c.in_ok-guests.ensures.1 ∙ names)
-          (ap (map done_in) (c.in_ok-tickets.ensures ∙ c.deref-5.ensures.value) ∙ acts)
+          (ap (map done_in) (c.in_ok-told.ensures.0 ∙ c.deref-5.ensures.value) ∙ acts)
           (ap (map done_in) (c.in_ok-guests.ensures.0 ∙ c.deref-6.ensures.value) ∙ acts)
           c.in_ok-marks.ensures c.in_ok-add_numbers.ensures c.in_ok-add_losses.ensures,
     )
@@ -29,11 +31,12 @@ returns-clause-received c =
     let names = ap (map (λ known. known.now)) (c.in_ok-rows.ensures ∙ c.deref-4.ensures.value)
     ∙ c.in_ok-names.ensures ∙ ap names_in (ap (map asked_in) c.deref.ensures.value ∙ turns) in
     let acts = c.in_ok-acts.ensures ∙ ap (map done_by) (ap (map asked_in) c.deref-2.ensures.value ∙ turns) in
-    ap receipts_in (all_shown _ _ _ _ _ _ c.deref-8.result.now _ _ _
+    ap receipts_in (all_shown _ _ _ _ _ _ _ c.deref-8.result.now _ _ _
     (ap (map asked_in) c.deref-7.ensures.value ∙ turns)
     names
+    (ap (λ (rows : Rows). map (λ known. known.now) rows.names.now) c.in_ok-told.ensures.1 ∙ names)
     (ap (map (λ known. known.now)) c.in_ok-guests.ensures.1 ∙ names)
-    (ap (map done_in) (c.in_ok-tickets.ensures ∙ c.deref-5.ensures.value) ∙ acts)
+    (ap (map done_in) (c.in_ok-told.ensures.0 ∙ c.deref-5.ensures.value) ∙ acts)
     (ap (map done_in) (c.in_ok-guests.ensures.0 ∙ c.deref-6.ensures.value) ∙ acts)
     c.in_ok-marks.ensures c.in_ok-add_numbers.ensures c.in_ok-add_losses.ensures)
     ∙ all_counted (asked_of c.args.script.now (map saying_in c.args.answers.now)) c.deref-8.result.now

@@ -1,6 +1,6 @@
 use Rattle.std.proofs.Common.{rules}
 use Rattle.marble_marks.proofs.Placing.{none_put}
-use Rattle.marble_marks.proofs.places.empty.Goals as goal
+use Rattle.marble_marks.proofs.moves.empty.Goals as goal
 
 pub loop-alloc-preserved : goal.loop-alloc-preserved
 loop-alloc-preserved c = record {

@@ -2,14 +2,14 @@ use Rattle.std.proofs.Common.{◌∙◌, arith}
 use Rattle.marble_marks.specs.Deeds.{done_in}
 use Rattle.std.specs.Prelude.{map}
 use Rattle.marble_marks.proofs.Placing.{put_more, met_here, met_later}
-use Rattle.marble_marks.proofs.places.places_by_row.Goals as goal
+use Rattle.marble_marks.proofs.moves.moves_by_row.Goals as goal
 
 pub loop-act-preserved : goal.loop-act-preserved
 loop-act-preserved c =
-    let acts = c.args.tickets.now.acts.now in
+    let acts = c.args.told.now.acts.now in
     let all = map done_in acts in
     let i = c.loop-act.act-index in
-    let names = map (λ known. known.now) c.args.rows.now.names.now in
+    let names = map (λ known. known.now) c.args.told.now.rows.now.names.now in
     let met = met_here all acts i _ c.loop-act-test.true c.loop-act.invariant.met in
     record {
       rows = c.in_ok-put_act.ensures.length ∙ c.loop-act.invariant.rows;

@@ -3,7 +3,7 @@ use Rattle.std.specs.Prelude.{is_some}
 use Rattle.marble_marks.specs.Deeds.{done_in}
 use Rattle.marble_marks.specs.Waiting.{is_waiting}
 use Rattle.marble_marks.specs.Firsts.{noted_of}
-use Rattle.marble_marks.proofs.tickets.waiting_in.Given as goal
+use Rattle.marble_marks.proofs.told.waiting_in.Given as goal
 
 abbrev pub invariant-loop-act : goal.invariant-loop-act
 invariant-loop-act l = (ticket : List ℕ) → (if is_some (noted_of l.waiting ticket) then true else is_waiting ticket (map done_in (drop l.act-index l.acts))) ≡ is_waiting ticket (map done_in l.acts)

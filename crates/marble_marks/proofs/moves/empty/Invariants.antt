@@ -1,6 +1,6 @@
 use Rattle.std.proofs.Common.{◌≡◌, ◌≤◌, ◌-◌, ℕ, [], length}
-use Rattle.marble_marks.specs.Places.{on_row}
-use Rattle.marble_marks.proofs.places.empty.Given as goal
+use Rattle.marble_marks.specs.Moves.{on_row}
+use Rattle.marble_marks.proofs.moves.empty.Given as goal
 
 abbrev pub invariant-loop-alloc : goal.invariant-loop-alloc
 invariant-loop-alloc l = record {
