@@ -53,6 +53,46 @@ def test_marks_of_columns_of_their_own_widths_stand_apart(browser, folder):
     page.close()
 
 
+# Line 10 lets in both emissions that wait.
+BOTH_LET_IN = """shared f 0 2 suspend
+sub f a
+sub f b
+try f 1
+try f 2
+emit f x 7
+emit f y 18446744073709551615
+next b
+next b
+cancel a
+next b
+next b
+"""
+
+
+def test_what_one_line_lets_in_stands_side_by_side(browser, folder):
+    page = Page(browser)
+    page.tab.show_as(1600, 900)
+    page.write(BOTH_LET_IN)
+    marks = "[...document.querySelector('.picture').shadowRoot.querySelectorAll('.mark')]"
+    same("its sentence", page.table()[9][3], "flow f accepted 7 and 18446744073709551615, which were told to wait: emissions 2 and 3; sub a is cancelled")
+    seen = page.tab.ask(f"""(() => {{
+      const box = (it) => {{ const {{ left, right }} = it.getBoundingClientRect(); return [left, right]; }};
+      const of = (line) => {marks}.filter((it) => it.getAttribute('aria-label').startsWith(`Line ${{line}}:`));
+      const [let_in, cancelled] = of(10);
+      return [...let_in.children, of(9)[0], of(11)[0], let_in, cancelled].map(box);
+    }})()""")
+    one, other, before, behind, both, middle = seen
+    same("one behind the other, between the columns beside it", before[1] < one[0] < one[1] < other[0] < other[1] < behind[0], True)
+    same("around the middle of the column", abs(sum(both) - sum(middle)) < 4, True)
+    same("by widths of their own", other[1] - other[0] > 3 * (one[1] - one[0]), True)
+    said = "[...document.querySelector('.picture').shadowRoot.querySelectorAll('.same')].map((it) => it.getAttribute('aria-label') ?? it.textContent)"
+    page.focus_mark("Line 11: sub b")
+    same("from a receipt to its mark alone", page.tab.ask(said), ["7#2"])
+    page.focus_mark("Line 10: flow f")
+    same("from there to each receipt", page.tab.ask(said), ["Line 11: sub b received 7, emission 2", "Line 12: sub b received 18446744073709551615, emission 3"])
+    page.close()
+
+
 def test_a_row_says_which_flow_it_is_of(browser, folder):
     page = Page(browser)
     page.tab.show_as(1200, 900)

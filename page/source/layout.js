@@ -24,6 +24,20 @@ function halves(half) {
   return { left: half, right: half };
 }
 
+/** How far behind the middle of its column each mark of a cell has its own: where there are several, they stand side by side. */
+function placesBeside(marks) {
+  if (marks.length === 1) return [0];
+  const widths = marks.map((elements) => 2 * Math.max(...elements.map((one) => reachOf(one).left)) + COLUMN_GAP);
+  let end = -widths.reduce((sum, width) => sum + width) / 2;
+  return widths.map((width) => Math.round((end += width) - width / 2));
+}
+
+/** The elements of a cell, each with how far its mark is behind the middle of the column. */
+function placedElements(cell) {
+  const marks = marksOf(cell);
+  return placesBeside(marks).flatMap((place, index) => marks[index].map((element) => ({ element, place })));
+}
+
 class PictureLayout {
   /** Of a picture whose rows may be of a flow or a state: `hosts` says of which, by the words of the row's name. */
   constructor(picture, hosts = new Map()) {
@@ -42,12 +56,10 @@ class PictureLayout {
 
   measure(column) {
     let [left, right] = [LEAST_HALF, LEAST_HALF];
-    for (const { elements } of this.picture.columns[column]) {
-      for (const element of elements) {
-        const reach = reachOf(element);
-        left = Math.max(left, reach.left + COLUMN_GAP);
-        right = Math.max(right, reach.right + COLUMN_GAP);
-      }
+    for (const { element, place } of this.picture.columns[column].flatMap(placedElements)) {
+      const reach = reachOf(element);
+      left = Math.max(left, reach.left - place + COLUMN_GAP);
+      right = Math.max(right, reach.right + place + COLUMN_GAP);
     }
     this.middles[column] = this.lefts[column] + left;
     this.lefts[column + 1] = this.lefts[column] + left + right;
@@ -59,10 +71,18 @@ class PictureLayout {
   }
 
   /** What stands in a column on a row, as a group: as seen from the column's middle, and moved there as a whole. */
-  groupOf(look, { column, row, elements, more = "" }) {
-    const middle = middleAsDrawn(this.picture, column);
-    const markup = `<g class="${look}">${elements.map((element) => movedLeft(element.markup, middle)).join("")}${more}</g>`;
+  groupOf(look, cell) {
+    const { column, row, more = "" } = cell;
+    const markup = `<g class="${look}">${this.markupOf(cell)}${more}</g>`;
     return new Part(`${column} ${row}`, markup, { transform: `translate(${this.middles[column]} 0)` });
+  }
+
+  /** The marks of a cell as seen from the middle of its column. Where there are several, each is a group of its own. */
+  markupOf(cell) {
+    const marks = marksOf(cell);
+    if (marks.length === 1) return movedAll(cell.elements, middleAsDrawn(this.picture, cell.column));
+    const places = placesBeside(marks);
+    return marks.map((elements, index) => `<g>${movedAll(elements, elements[0].middle - places[index])}</g>`).join("");
   }
 
   /** The column at a place of the page's own. */
@@ -89,6 +109,11 @@ class PictureLayout {
   wayOf(key, { markup, left, right }) {
     return new Part(key, markup.replace(/ x[12]="\d+"/g, ""), { x1: this.placeOf(left), x2: this.placeOf(right) });
   }
+}
+
+/** The markup of some elements, so far to the left. */
+function movedAll(elements, by) {
+  return elements.map(({ markup }) => movedLeft(markup, by)).join("");
 }
 
 /** An element as it is written, so far to the left. What stands in it has no place of its own. */

@@ -1,4 +1,5 @@
-// Which emission a received or lost value was. A flow doesn't say it, and the picture doesn't show it.
+// Which emission a received or lost value was. A flow doesn't say it, and the picture shows an emission's number only where its flow
+// accepted it.
 //
 // It follows from the rules of a shared flow: emissions are numbered in the order in which they are accepted, a
 // subscription begins at the oldest value of the replay cache and takes what is pending in order, and under `oldest` it

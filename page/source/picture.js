@@ -11,6 +11,8 @@ const VALUE_SHIFT = 4;
 /** How the lines begin that lead down a column or along a row. */
 const WAY = /^<line class="(?:row|dashed|step)"/;
 const GUIDE = '<line class="guide"';
+/** The class of the frame of an emission that had to wait, where its flow accepted it. */
+const LET_IN = "accepted before";
 const TAGS = { l: "line", t: "text", r: "rect", c: "circle", p: "path" };
 
 const QUOTE = '"';
@@ -145,6 +147,13 @@ function fillCells(picture, marks) {
     cells.at(-1).elements.push(element);
   }
   picture.cells = picture.columns.flat();
+}
+
+/** The elements of each mark of a cell. What one line lets in stands side by side there, each mark's frame before the rest of it. */
+function marksOf({ elements }) {
+  if (elements[0].look !== LET_IN) return [elements];
+  const frames = elements.flatMap(({ look }, index) => (look === LET_IN ? [index] : []));
+  return frames.map((from, index) => elements.slice(from, frames[index + 1]));
 }
 
 /** The cell in a column on a row, where something stands there. */

@@ -58,12 +58,13 @@ function tellTurn(turn) {
   return turn.words[0] === "cold" ? COLD_LINE : REFUSED_LINE;
 }
 
-/** The emission that a cell shows, if it shows one: { flow, emission }. On a flow's row its number stands above it. */
-function emissionOf(cell) {
-  const number = cell.elements.find(({ look }) => look === "number");
+/** The emissions that a cell shows, one for each mark: { flow, emission }. On a flow's row their numbers stand above them. */
+function emissionsOf(cell) {
   const [role, name] = cell.name.split(" ");
-  if (number) return { flow: name, emission: Number(number.words.slice(1)) };
-  return role === "sub" ? cell.numbers.get(cell.line)?.get(name) : undefined;
+  const numbers = cell.elements.filter(({ look }) => look === "number");
+  if (numbers.length > 0) return numbers.map(({ words }) => ({ flow: name, emission: Number(words.slice(1)) }));
+  const received = role === "sub" ? cell.numbers.get(cell.line)?.get(name) : undefined;
+  return received ? [received] : [];
 }
 
 /** What a cell shows, as the rest of a sentence that begins with the name of its row. */
@@ -71,12 +72,12 @@ function sentenceOn(cell) {
   const [role] = cell.name.split(" ");
   const looks = cell.elements.map(({ look, tag }) => look || tag);
   const value = cell.elements.find(({ tag, look }) => tag === "text" && look !== "number")?.words;
-  const emission = emissionOf(cell);
+  const [emission] = emissionsOf(cell);
   const number = emission ? `, emission ${emission.emission}` : "";
   if (looks.includes("bar")) return cell.isFirst ? ROLE_VERBS[role] : "is cancelled";
   if (looks.includes("circle")) return { ticket: "waits still", buffer: "has nothing to give" }[role] ?? "finds nothing to receive";
   if (looks.includes("value")) return stateSentence(cell, value);
-  if (looks.includes("accepted before")) return `accepted ${value} here or before${number}`;
+  if (looks.includes(LET_IN)) return letInSentence(cell);
   if (looks.includes("accepted")) return `accepted ${value}${number}`;
   if (looks.includes("received prelude")) return `received ${value} of its prelude`;
   if (looks.includes("received")) return `${role === "buffer" ? "gave" : "received"} ${value}${number}`;
@@ -87,6 +88,19 @@ function sentenceOn(cell) {
   if (looks.includes("before")) return `begins to wait with ${value}`;
   if (cell.turn?.words[0] === "tick" && cell.turn.answer === "off") return OFF_TICK;
   return `answers ${cell.turn?.answer ?? value}`;
+}
+
+/** An emission without places is told to wait, though it is accepted at its own line. */
+function letInSentence(cell) {
+  const values = cell.elements.filter(({ look }) => look === "framed").map(({ words }) => words);
+  const numbers = emissionsOf(cell).map(({ emission }) => emission);
+  const [were, emissions] = values.length === 1 ? ["was", "emission"] : ["were", "emissions"];
+  return `accepted ${listed(values)}, which ${were} told to wait: ${emissions} ${listed(numbers)}`;
+}
+
+/** Some words one after another, as a sentence names them. */
+function listed(words) {
+  return words.length < 2 ? words.join("") : `${words.slice(0, -1).join(", ")} and ${words.at(-1)}`;
 }
 
 /** What was taken at a tick is known later than its answer. */

@@ -338,7 +338,7 @@ class PictureView {
     return step > 0 ? marks.find((one) => one.column >= column) ?? marks.at(-1) : marks.findLast((one) => one.column <= column) ?? marks[0];
   }
 
-  /** Marks a column, the cell that is pointed at, and every mark of the same emission. The tab key leads to the column. */
+  /** Marks a column, the cell that is pointed at, and every mark of its emissions. The tab key leads to the column. */
   mark(column, aimed) {
     Object.assign(this, { marked: column, aimed });
     const first = column <= this.shownTo ? this.picture?.columns[column]?.find(({ row }) => row > 0) : undefined;
@@ -357,7 +357,7 @@ class PictureView {
   drawMarked() {
     if (!this.made) return;
     const { layout, marked, aimed } = this;
-    const aimedAt = aimed && emissionOf(aimed);
+    const aimedAt = aimed ? emissionsOf(aimed) : [];
     const band = this.columns.querySelector(".band");
     if (marked > 0) {
       band.setAttribute("x", layout.lefts[marked]);
@@ -368,7 +368,7 @@ class PictureView {
     for (const { element, cell } of this.marks) {
       element.classList.toggle("pointed", cell.column === marked);
       element.classList.toggle("aimed", cell === aimed);
-      element.classList.toggle("same", aimedAt !== undefined && cell !== aimed && isSameEmission(emissionOf(cell), aimedAt));
+      markSame(element, cell, cell === aimed ? [] : aimedAt);
     }
   }
 
@@ -447,6 +447,10 @@ function hostMarkup({ row, words }, hosts) {
   return host === undefined ? "" : `<text class="of" x="${NAMES_MARGIN}" y="${row * ROW_HEIGHT + 39}">of ${host}</text>`;
 }
 
-function isSameEmission(one, other) {
-  return one !== undefined && other !== undefined && one.flow === other.flow && one.emission === other.emission;
+/** Marks what a cell shows of these emissions: of several marks, those that are theirs. */
+function markSame(element, cell, emissions) {
+  const shown = emissions.length > 0 ? emissionsOf(cell) : [];
+  const isOneOf = (one) => one !== undefined && emissions.some(({ flow, emission }) => flow === one.flow && emission === one.emission);
+  const parts = marksOf(cell).length > 1 ? [...element.children] : [element];
+  parts.forEach((part, index) => part.classList.toggle("same", isOneOf(shown[index])));
 }
