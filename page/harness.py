@@ -125,8 +125,8 @@ class Page:
         self.rest()
 
     def saved(self):
-        """The pictures that a click on each button to save hands over."""
-        self.tab.ask("window.saved.length = 0; document.querySelectorAll('figcaption .save').forEach((it) => it.click())")
+        """The pictures of flows that a click on each button to save hands over; pipes have buttons of their own."""
+        self.tab.ask("window.saved.length = 0; document.querySelectorAll('figure:not(.pipe) > figcaption .save').forEach((it) => it.click())")
         return self.tab.ask("Promise.all(window.saved)")
 
     def table(self):
