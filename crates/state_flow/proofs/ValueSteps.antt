@@ -16,6 +16,7 @@ use Rattle.state_flow.specs.Law.{Fits, StateLaw, Rule}
 use Rattle.state_flow.specs.Steps.{Moment, looked, gathered, put as was_put, compared}
 use Rattle.state_flow.proofs.Lists.{put, put_here, put_else, at_inside, last_at, continues_itself, continues_on, continues_at, write, writes_last, writes_on, writes_all, picks_on, picks_last}
 use Rattle.state_flow.proofs.Sums.{sum_by-changed, le-sum_by}
+use Rattle.state_flow.proofs.Shares.{knew_all}
 
 -- two values with one word are one value
 pub apart_by : {T : Type 0} (word : T → ℕ) (read_as : ℕ → T) (fits : T → Type 0) → ((x : T) → fits x → read_as (word x) ≡ x) → (x y : T) → fits x → fits y → word x ≡ word y → x ≡ y
@@ -60,8 +61,8 @@ module _ {T : Type 0} (word : T → ℕ) (fits : T → Type 0) (apart : (x y : T
     dec_collected : (id : ℕ) (v : V) → get_elem? vs id ≡ some v → (x : T) → fits x → Dec (last_of v.collected ≡ Some x)
     dec_collected id v at x f = dec_some (last_of v.collected) x (fits_collected id v at) f
 
-    moment : (id : ℕ) (v : V) → get_elem? vs id ≡ some v → Moment word fits v history (r.turns + 1) (get_or ws 0 0)
-    moment id v at = let mine = r.each id v at in let a = mine.turn_by in let b = mine.told_by in let share = le-sum_by (λ (u : V). u.share) vs id v at in let c = r.within in let d = r.bounded in record {
+    moment : (id : ℕ) (v : V) → get_elem? vs id ≡ some v → 0 < v.share → Moment word fits v history (r.turns + 1) (get_or ws 0 0)
+    moment id v at more = let mine = r.each id v at in let a = mine.turn_by in let b = mine.told_by in let share = le-sum_by (λ (u : V). u.share) vs id v at in let c = r.whole in let d = r.bounded in record {
       later = omega arith;
       later_than_told = omega arith;
       extends = knows id v at;
@@ -71,6 +72,7 @@ module _ {T : Type 0} (word : T → ℕ) (fits : T → Type 0) (apart : (x y : T
       proper = fits_last r.value r.last;
       found_is = r.value_word;
       bounded = omega arith;
+      knew_all = knew_all word fits key ws vs r id v at more;
     }
 
     -- what the seat that made the step knows of it
@@ -82,9 +84,9 @@ module _ {T : Type 0} (word : T → ℕ) (fits : T → Type 0) (apart : (x y : T
     grown h = put r.history_at (r.turns + 1) h
 
     -- a step on the value, which leaves the history h with the last value x, and the seat with xs collected
-    value_step : (id n : ℕ) (v : V) (h : List T) (x : T) (xs : List T) → get_elem? vs id ≡ some v → Picks xs h → Continues h history → IsHistory h → last_of h ≡ Some x
+    value_step : (id n : ℕ) (v : V) (h : List T) (x : T) (xs : List T) → get_elem? vs id ≡ some v → 0 < v.share → Picks xs h → Continues h history → IsHistory h → last_of h ≡ Some x
         → ((i : ℕ) (y : T) → get_elem? h i ≡ some y → fits y) → n ≡ word x → K (set ws 0 n) (set vs id (after_value v h xs))
-    value_step id n v h x xs at picks on is_history last proper is =
+    value_step id n v h x xs at more picks on is_history last proper is =
         let t : ℕ = r.turns + 1 in
         let w : V = after_value v h xs in
         let at_end : grown h t ≡ h = put_here r.history_at t h t refl in
@@ -94,7 +96,7 @@ module _ {T : Type 0} (word : T → ℕ) (fits : T → Type 0) (apart : (x y : T
         let shares = sum_by-changed (λ (u : V). u.share) vs id v w at in
         let turns_is = r.turns_is in
         let counts_is = r.counts_is in
-        let within = r.within in record {
+        let whole = r.whole in record {
           two_words = length-set ws 0 n ∙ r.two_words;
           turns = t;
           turns_is = omega arith;
@@ -117,7 +119,7 @@ module _ {T : Type 0} (word : T → ℕ) (fits : T → Type 0) (apart : (x y : T
           count_word = get_or-set_other ws 0 1 n 0 (λ e. omega arith) ∙ r.count_word;
           collecting = get_or-set_other ws 0 1 n 0 (λ e. omega arith) ∙ (r.collecting ∙ omega arith);
           each = λ i u e. ⊎_elim
-              (λ (k : (i ≡ id) × (w ≡ u)). subst (Fits (grown h) t r.count_at r.counts) k.1 (let mine = r.each id v at in record {
+              (λ (k : (i ≡ id) × (w ≡ u)). subst (Fits key.1 (grown h) t r.count_at r.counts) k.1 (let mine = r.each id v at in record {
                 seen_is = sym at_end;
                 turn_by = omega arith;
                 told_is = sym (still 0 (omega arith) ∙ r.before_making);
@@ -126,6 +128,8 @@ module _ {T : Type 0} (word : T → ℕ) (fits : T → Type 0) (apart : (x y : T
                 counted_by = mine.counted_by;
                 picks = picks;
                 has_share = mine.has_share;
+                gone = λ none. absurd (omega arith);
+                seats_is = mine.seats_is;
               }))
               (λ (k : (i ≢ id) × (get_elem? vs i ≡ some u)). let old = r.each i u k.1 in let a = old.turn_by in let b = old.told_by in record {
                 seen_is = old.seen_is ∙ sym (still u.turn (omega arith));
@@ -136,9 +140,11 @@ module _ {T : Type 0} (word : T → ℕ) (fits : T → Type 0) (apart : (x y : T
                 counted_by = old.counted_by;
                 picks = old.picks;
                 has_share = old.has_share;
+                gone = old.gone;
+                seats_is = old.seats_is;
               })
               (at_set vs id i w u e);
-          within = omega arith;
+          whole = omega arith;
           bounded = r.bounded;
         }
       where
@@ -154,61 +160,61 @@ module _ {T : Type 0} (word : T → ℕ) (fits : T → Type 0) (apart : (x y : T
             (subst (λ (l : List T). Continues (r.history_at k) l) (sym (put_else r.history_at (r.turns + 1) h j f)) (r.grows j k le (omega arith)))
 
     -- a step that leaves the value as it is
-    same_value : (id : ℕ) (v : V) (xs : List T) → get_elem? vs id ≡ some v → Picks xs history → K (set ws 0 (get_or ws 0 0)) (set vs id (after_value v history xs))
-    same_value id v xs at picks = value_step id (get_or ws 0 0) v history r.value xs at picks (continues_itself history) (moment id v at).is_history r.last r.proper r.value_word
+    same_value : (id : ℕ) (v : V) (xs : List T) → get_elem? vs id ≡ some v → 0 < v.share → Picks xs history → K (set ws 0 (get_or ws 0 0)) (set vs id (after_value v history xs))
+    same_value id v xs at more picks = value_step id (get_or ws 0 0) v history r.value xs at more picks (continues_itself history) (moment id v at more).is_history r.last r.proper r.value_word
 
     -- what the seat collected is picked from the whole history too
     picks_now : (id : ℕ) (v : V) → get_elem? vs id ≡ some v → Picks v.collected history
     picks_now id v at = picks_on v.collected v.seen history (knows id v at).seen (r.each id v at).picks
 
     -- a step that writes x
-    writes_step : (id n : ℕ) (v : V) (x : T) (h : List T) → get_elem? vs id ≡ some v → n ≡ word x → fits x → Writes history x h → K (set ws 0 n) (set vs id (stepped_to h (r.turns + 1) v))
-    writes_step id n v x h at is f w =
+    writes_step : (id n : ℕ) (v : V) (x : T) (h : List T) → get_elem? vs id ≡ some v → 0 < v.share → n ≡ word x → fits x → Writes history x h → K (set ws 0 n) (set vs id (stepped_to h (r.turns + 1) v))
+    writes_step id n v x h at more is f w =
         let d = dec_value x f in
         let on = writes_on history x h d w in
-        value_step id n v h x v.collected at (picks_on v.collected history h on (picks_now id v at)) on (written history x h (moment id v at).is_history w) (writes_last history x h d w) (writes_all fits history x h d w f r.proper) is
+        value_step id n v h x v.collected at more (picks_on v.collected history h on (picks_now id v at)) on (written history x h (moment id v at more).is_history w) (writes_last history x h d w) (writes_all fits history x h d w f r.proper) is
 
-  pub loads : (slots id : ℕ) (me : M) → Allows (Rule word fits key) slots id me 0 (λ n. n) (looked word fits (step slots 0 0 0 none) me)
-  loads slots id me s r _ at _ = (
+  pub loads : (slots id : ℕ) (me : M) → 0 < me.0.share → Allows (Rule word fits key) slots id me 0 (λ n. n) (looked word fits (step slots 0 0 0 none) me)
+  loads slots id me more s r _ at _ = (
     stepped_to (r.history_at r.turns) (r.turns + 1) me.0,
     keeps,
     tt,
-    same_value s.words s.views r id me.0 me.0.collected at (picks_now s.words s.views r id me.0 at),
-    (r.history_at r.turns, (r.turns + 1, (moment s.words s.views r id me.0 at, refl))),
+    same_value s.words s.views r id me.0 me.0.collected at more (picks_now s.words s.views r id me.0 at),
+    (r.history_at r.turns, (r.turns + 1, (moment s.words s.views r id me.0 at more, refl))),
   )
 
-  pub gathers : (slots id : ℕ) (me : M) → Allows (Rule word fits key) slots id me 0 (λ n. n) (gathered word fits (step slots 0 0 0 none) me)
+  pub gathers : (slots id : ℕ) (me : M) → 0 < me.0.share → Allows (Rule word fits key) slots id me 0 (λ n. n) (gathered word fits (step slots 0 0 0 none) me)
   unfolding moment
-  gathers slots id me s r _ at _ =
+  gathers slots id me more s r _ at _ =
       let h : List T = r.history_at r.turns in
-      let now = moment s.words s.views r id me.0 at in
+      let now = moment s.words s.views r id me.0 at more in
       let d = dec_collected s.words s.views r id me.0 at r.value now.proper in
       let got = write me.0.collected r.value d in
       let picks = picks_last me.0.collected h r.value got.0 d r.last got.1 (picks_now s.words s.views r id me.0 at) in (
         record (stepped_to h (r.turns + 1) me.0) { collected = got.0 },
         keeps,
         tt,
-        same_value s.words s.views r id me.0 got.0 at picks,
+        same_value s.words s.views r id me.0 got.0 at more picks,
         (h, (r.turns + 1, (now, (got.1, picks, fits_collected s.words s.views r id me.0 at, refl)))),
       )
 
-  pub puts : (slots id n : ℕ) (me : M) (x : T) → n ≡ word x → fits x → Allows (Rule word fits key) slots id me 0 (λ _. n) (was_put word fits (step slots 0 n 0 none) me)
-  puts slots id n me x is f s r _ at _ =
+  pub puts : (slots id n : ℕ) (me : M) (x : T) → 0 < me.0.share → n ≡ word x → fits x → Allows (Rule word fits key) slots id me 0 (λ _. n) (was_put word fits (step slots 0 n 0 none) me)
+  puts slots id n me x more is f s r _ at _ =
       let h : List T = r.history_at r.turns in
       let new = write h x (dec_value s.words s.views r x f) in (
         stepped_to new.0 (r.turns + 1) me.0,
         keeps,
         tt,
-        writes_step s.words s.views r id n me.0 x new.0 at is f new.1,
-        λ y g same. (h, (new.0, (r.turns + 1, (moment s.words s.views r id me.0 at, subst (λ (z : T). Writes h z new.0) (apart x y f g (sym is ∙ same)) new.1, refl)))),
+        writes_step s.words s.views r id n me.0 x new.0 at more is f new.1,
+        λ y g same. (h, (new.0, (r.turns + 1, (moment s.words s.views r id me.0 at more, subst (λ (z : T). Writes h z new.0) (apart x y f g (sym is ∙ same)) new.1, refl)))),
       )
 
-  pub compares : (slots id old new : ℕ) (me : M) (e u : T) → old ≡ word e → new ≡ word u → fits e → fits u
+  pub compares : (slots id old new : ℕ) (me : M) (e u : T) → 0 < me.0.share → old ≡ word e → new ≡ word u → fits e → fits u
       → Allows (Rule word fits key) slots id me 0 (λ n. either (eqb n old) new n) (compared word fits (step slots 0 old new none) me)
-  compares slots id old new me e u is_old is_new fe fu s r _ at _ =
+  compares slots id old new me e u more is_old is_new fe fu s r _ at _ =
       let n : ℕ = get_or s.words 0 0 in
       let h : List T = r.history_at r.turns in
-      let now = moment s.words s.views r id me.0 at in
+      let now = moment s.words s.views r id me.0 at more in
       dite (ℕ_discrete n old)
       (λ hit.
       let after = write h u (dec_value s.words s.views r u fu) in
@@ -218,7 +224,7 @@ module _ {T : Type 0} (word : T → ℕ) (fits : T → Type 0) (apart : (x y : T
         keeps,
         tt,
         subst (λ b. Rule word fits key (stepped s 0 (either b new n) id me.1 (stepped_to after.0 (r.turns + 1) me.0) keeps)) (sym (eq-eqb n old hit))
-            (writes_step s.words s.views r id new me.0 u after.0 at is_new fu after.1),
+            (writes_step s.words s.views r id new me.0 u after.0 at more is_new fu after.1),
         λ e' u' fe' fu' se su. (
           h,
           (
@@ -241,7 +247,7 @@ module _ {T : Type 0} (word : T → ℕ) (fits : T → Type 0) (apart : (x y : T
         keeps,
         tt,
         subst (λ b. Rule word fits key (stepped s 0 (either b new n) id me.1 (stepped_to h (r.turns + 1) me.0) keeps)) (sym (ne_eqb n old miss))
-            (same_value s.words s.views r id me.0 me.0.collected at (picks_now s.words s.views r id me.0 at)),
+            (same_value s.words s.views r id me.0 me.0.collected at more (picks_now s.words s.views r id me.0 at)),
         λ e' u' fe' fu' se su. (h, (h, (r.turns + 1, (now, refl, (λ l. absurd (other (l ∙ ap (λ (z : T). Some z) (sym (apart e e' fe fe' (sym is_old ∙ se)))))), (λ _. refl))))),
       ))
     where

@@ -38,7 +38,12 @@ module _ {T : Type 0} where
     collects = false;
     collected = [];
     share = seats;
+    seats = seats;
   }
+
+  -- all seats of its flow are of this one: nobody else can make a step
+  abbrev pub HasAll : View T → Type 0
+  HasAll v = v.share ≡ v.seats
 
   -- after a step on the value, which left this history and was number `turn` of all steps on the value
   abbrev pub stepped_to : List T → ℕ → View T → View T
@@ -86,4 +91,5 @@ module _ {T : Type 0} where
     collects = false;
     collected = [];
     share = 0;
+    seats = 0;
   }

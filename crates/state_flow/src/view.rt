@@ -26,4 +26,6 @@ pub struct View<T> {
     pub collected: LinkedList<T>,
     /// How many seats can be made of this one, itself among them.
     pub share: u64,
+    /// How many seats the flow has in all: what the shares of all its seats add up to.
+    pub seats: u64,
 }
