@@ -1,5 +1,5 @@
 -- What a step tells its caller, in the words of the call.
-use Rattle.std.proofs.Common.{◌≡◌, ◌≢◌, ℕ, ◌+◌, ◌<◌, Bool, true, false, eqb, List, [], ◌∷◌, ◌++◌, Option, Some, None, MatchBool, sym, refl, ap, ◌∙◌, subst, ⊎_elim, inl, inr, eq-eqb, ne_eqb, arith}
+use Rattle.std.proofs.Common.{◌≡◌, ◌≢◌, ℕ, ◌+◌, ◌<◌, Bool, true, false, eqb, List, [], ◌∷◌, ◌++◌, length, Option, Some, None, MatchBool, sym, refl, ap, ◌∙◌, subst, ⊎_elim, inl, inr, eq-eqb, ne_eqb, arith}
 use Rattle.std.specs.Prelude.{◌↔◌, MatchOption}
 use Rattle.std.specs.Option.{option_eq}
 use mathlib.Core.Logic.{dite}
@@ -11,8 +11,8 @@ use Rattle.atomic_table.specs.declared.shared.Seat.{Seat}
 use Rattle.state_flow.specs.declared.view.View.{View}
 use Rattle.state_flow.specs.History.{last_of, Writes, IsHistory, Picks}
 use Rattle.state_flow.proofs.Lists.{last_snoc, not_last_of_none}
-use Rattle.state_flow.specs.Views.{HasAll, stepped_to, keeper, IsSeated}
-use Rattle.state_flow.specs.Calls.{Extends, StepsOnce, Reads, Compares, Collects, KnewAll, StepsNext, ReadsAlone, SetsAlone, ComparesAlone, CollectsAlone, TakesBackLast}
+use Rattle.state_flow.specs.Views.{HasAll, stepped_to, writing, keeper, IsSeated}
+use Rattle.state_flow.specs.Calls.{Extends, StepsOnce, Reads, Compares, Collects, KnewAll, MadeThemAll, StepsNext, ReadsAlone, SetsAlone, ComparesAlone, CollectsAlone, TakesBackLast}
 use Rattle.state_flow.specs.Steps.{Moment, gathered, put as was_put, compared}
 
 module _ {T : Type 0} (word : T → ℕ) (fits : T → Type 0) (apart : (x y : T) → fits x → fits y → word x ≡ word y → x ≡ y) where
@@ -48,11 +48,12 @@ module _ {T : Type 0} (word : T → ℕ) (fits : T → Type 0) (apart : (x y : T
       let now : Moment word fits m.0 before t.1.1.0 found = t.1.1.1.0 in
       let seen : m'.0.seen ≡ t.1.0 = ap (λ (z : M). z.0.seen) is in
       record {
-        one_step = once m.0 m'.0 t.1.0 t.1.1.0 (ap (λ (z : M). z.0) is) now.later now.later_than_told;
+        one_step = once (writing m'.0.writes m.0) m'.0 t.1.0 t.1.1.0 (ap (λ (z : M). z.0) is) now.later now.later_than_told;
         found = before;
         extends = now.extends;
         is_history = now.is_history;
         answers = answered old new m m' found e u fe is_first before t.1.0 t.1.1.0 now seen t.1.1.1.2 t.1.1.1.3;
+        wrote = t.1.1.1.4;
       }
 
   -- ---- who has all seats
@@ -61,8 +62,12 @@ module _ {T : Type 0} (word : T → ℕ) (fits : T → Type 0) (apart : (x y : T
   at_once : (v : V) (h : List T) (n : ℕ) (x : T) → v.told ≡ [] → last_of h ≡ Some x → KnewAll v h n → (v.turn + 1 ≡ n) × (h ≡ v.seen)
   at_once v h n x untold last knew = ⊎_elim (λ t. t) (λ t. absurd (not_last_of_none x (ap last_of (sym (t.1 ∙ untold)) ∙ last))) knew.latest
 
-  steps_next : (v w : V) (n : ℕ) → w.turn ≡ n → w.steps ≡ v.steps + 1 → v.turn + 1 ≡ n → n ≡ v.steps + 2 → StepsNext v w
-  steps_next v w n turn steps next own = record { next = omega arith; all_its_own = omega arith }
+  steps_next : (v w : V) (n size : ℕ) → w.turn ≡ n → w.steps ≡ v.steps + 1 → v.turn + 1 ≡ n → n ≡ v.steps + 2 → size ≡ v.writes + 1 → w.writes + size ≡ v.writes + length w.seen → StepsNext v w
+  steps_next v w n size turn steps next own all wrote = record { next = omega arith; all_its_own = record { steps = omega arith; writes = omega arith } }
+
+  -- a load writes nothing
+  loaded : (v w : V) → w.writes ≡ v.writes → w.writes + length w.seen ≡ v.writes + length w.seen
+  loaded v w is = omega arith
 
   pub put_alone : (n : ℕ) (m m' : M) (found : ℕ) (x : T) → fits x → n ≡ word x → was_put word fits (step 0 0 n 0 none) m found m' → m.0.told ≡ [] → SetsAlone m.0 x m'.0
   put_alone n m m' found x f is told untold all =
@@ -71,7 +76,7 @@ module _ {T : Type 0} (word : T → ℕ) (fits : T → Type 0) (apart : (x y : T
       let knew = now.knew_all all in
       let once = at_once m.0 t.0 t.1.1.0 now.value untold now.last knew in
       let after = t.1.1.1.2 in (
-        steps_next m.0 m'.0 t.1.1.0 (ap (λ (z : M). z.0.turn) after) (ap (λ (z : M). z.0.steps) after) once.0 knew.all_its_own,
+        steps_next m.0 m'.0 t.1.1.0 (length t.0) (ap (λ (z : M). z.0.turn) after) (ap (λ (z : M). z.0.steps) after) once.0 knew.all_its_own knew.all_written t.1.1.1.3,
         subst (λ (l : List T). Writes l x m'.0.seen) once.1 (subst (Writes t.0 x) (sym (ap (λ (z : M). z.0.seen) after)) t.1.1.1.1),
       )
 
@@ -82,7 +87,7 @@ module _ {T : Type 0} (word : T → ℕ) (fits : T → Type 0) (apart : (x y : T
       let knew = now.knew_all all in
       let once = at_once m.0 t.0 t.1.1.0 now.value untold now.last knew in
       let after = t.1.1.1.1 in (
-        steps_next m.0 m'.0 t.1.1.0 (ap (λ (z : M). z.0.turn) after) (ap (λ (z : M). z.0.steps) after) once.0 knew.all_its_own,
+        steps_next m.0 m'.0 t.1.1.0 (length t.0) (ap (λ (z : M). z.0.turn) after) (ap (λ (z : M). z.0.steps) after) once.0 knew.all_its_own knew.all_written t.1.1.1.4,
         subst (λ (l : List T). MatchBool (eqb found old) ((last_of l ≡ Some e) × Writes l u m'.0.seen) ((last_of l ≢ Some e) × (m'.0.seen ≡ l))) once.1
             (answered old new m m' found e u fe is_first t.0 t.1.0 t.1.1.0 now (ap (λ (z : M). z.0.seen) after) t.1.1.1.2 t.1.1.1.3),
       )
@@ -176,7 +181,7 @@ module _ {T : Type 0} (word : T → ℕ) (fits : T → Type 0) (apart : (x y : T
   pub reads_alone : (v w : V) (x : T) → v.told ≡ [] → Reads v x w → (HasAll v → KnewAll v w.seen w.turn) → ReadsAlone v x w
   reads_alone v w x untold reads knew all =
       let once = at_once v w.seen w.turn x untold reads.current (knew all) in
-      (steps_next v w w.turn refl (ap (λ (u : V). u.steps) reads.one_step.only) once.0 (knew all).all_its_own, ap last_of (sym once.1) ∙ reads.current, once.1)
+      (steps_next v w w.turn (length w.seen) refl (ap (λ (u : V). u.steps) reads.one_step.only) once.0 (knew all).all_its_own (knew all).all_written (loaded v w (ap (λ (u : V). u.writes) reads.one_step.only)), ap last_of (sym once.1) ∙ reads.current, once.1)
 
   gave : (given : Option T) (value : T) (history collected : List T) → last_of history ≡ Some value → MatchOption given (last_of collected ≡ Some value) (λ x. (x ≡ value) × (last_of collected ≢ Some value))
       → MatchOption given (last_of collected ≡ last_of history) (λ x. (last_of history ≡ Some x) × (last_of collected ≢ Some x))
@@ -186,7 +191,7 @@ module _ {T : Type 0} (word : T → ℕ) (fits : T → Type 0) (apart : (x y : T
   pub collects_alone : (v w : V) (given : Option T) → v.told ≡ [] → Collects v given w → (HasAll v → KnewAll v w.seen w.turn) → CollectsAlone v given w
   collects_alone v w given untold collects knew all =
       let once = at_once v w.seen w.turn collects.value untold collects.current (knew all) in (
-        steps_next v w w.turn refl (ap (λ (u : V). u.steps) collects.only) once.0 (knew all).all_its_own,
+        steps_next v w w.turn (length w.seen) refl (ap (λ (u : V). u.steps) collects.only) once.0 (knew all).all_its_own (knew all).all_written (loaded v w (ap (λ (u : V). u.writes) collects.only)),
         once.1,
         gave given collects.value v.seen v.collected (ap last_of (sym once.1) ∙ collects.current) collects.answers,
       )
@@ -197,8 +202,10 @@ module _ {T : Type 0} (word : T → ℕ) (fits : T → Type 0) (apart : (x y : T
       let seats : u.seats ≡ v.seats = ap (λ (z : V). z.seats) reads.one_step.only in
       let steps : u.steps ≡ v.steps + w.steps + 1 = ap (λ (z : V). z.steps) reads.one_step.only in
       let k = knew (sym share ∙ (all ∙ seats)) in
+      let writes : u.writes ≡ v.writes + w.writes = ap (λ (z : V). z.writes) reads.one_step.only in
       let own = k.all_its_own in
-      (omega arith, ⊎_elim (λ t. inl t.1) (λ t. inr t.1) k.latest)
+      let written = k.all_written in
+      (record { steps = omega arith; writes = omega arith }, ⊎_elim (λ t. inl t.1) (λ t. inr t.1) k.latest)
 
   pub last_same : (v w : V) (o : Option T) → Collects v None w → last_of v.collected ≡ o → last_of w.collected ≡ o
   last_same v w o t is = ap last_of t.received ∙ is

@@ -48,6 +48,8 @@ module _ {T : Type 0} (word : T → ℕ) (fits : T → Type 0) (key : T × ℕ) 
         let w : V = after_count v n collects xs in
         let at_end : counted n t ≡ n = put_here r.count_at t n t refl in
         let steps = sum_by-changed (λ (u : V). u.steps) vs id v w at in
+        let writes = sum_by-changed (λ (u : V). u.writes) vs id v w at in
+        let written = r.written in
         let count_steps = sum_by-changed (λ (u : V). u.count_steps) vs id v w at in
         let shares = sum_by-changed (λ (u : V). u.share) vs id v w at in
         let turns_is = r.turns_is in
@@ -61,6 +63,7 @@ module _ {T : Type 0} (word : T → ℕ) (fits : T → Type 0) (key : T × ℕ) 
           at_making = r.at_making;
           grows = r.grows;
           is_history = r.is_history;
+          written = omega arith;
           value = r.value;
           last = r.last;
           value_word = get_or-set_other ws 1 0 n 0 (λ e. omega arith) ∙ r.value_word;

@@ -41,6 +41,8 @@ module _ {T : Type 0} (word : T → ℕ) (fits : T → Type 0) (key : T × ℕ) 
       let collecting = split_sum weight s.views id v l t at (omega arith) in
       let shares = split_sum (λ (u : V). u.share) s.views id v l t at (omega arith) in
       let steps = split_sum (λ (u : V). u.steps) s.views id v l t at (omega arith) in
+      let writes = split_sum (λ (u : V). u.writes) s.views id v l t at (omega arith) in
+      let written = r.written in
       let count_steps = split_sum (λ (u : V). u.count_steps) s.views id v l t at (omega arith) in
       let turns_is = r.turns_is in
       let counts_is = r.counts_is in
@@ -53,6 +55,7 @@ module _ {T : Type 0} (word : T → ℕ) (fits : T → Type 0) (key : T × ℕ) 
         at_making = r.at_making;
         grows = r.grows;
         is_history = r.is_history;
+        written = omega arith;
         value = r.value;
         last = r.last;
         value_word = r.value_word;
@@ -125,6 +128,9 @@ module _ {T : Type 0} (word : T → ℕ) (fits : T → Type 0) (key : T × ℕ) 
       let shares' = sum_by-changed (λ (u : V). u.share) one other w spent at' in
       let steps = sum_by-changed (λ (u : V). u.steps) s.views id v b at in
       let steps' = sum_by-changed (λ (u : V). u.steps) one other w spent at' in
+      let writes = sum_by-changed (λ (u : V). u.writes) s.views id v b at in
+      let writes' = sum_by-changed (λ (u : V). u.writes) one other w spent at' in
+      let written = r.written in
       let count_steps = sum_by-changed (λ (u : V). u.count_steps) s.views id v b at in
       let count_steps' = sum_by-changed (λ (u : V). u.count_steps) one other w spent at' in
       let turns_is = r.turns_is in
@@ -138,6 +144,7 @@ module _ {T : Type 0} (word : T → ℕ) (fits : T → Type 0) (key : T × ℕ) 
         at_making = r.at_making;
         grows = r.grows;
         is_history = r.is_history;
+        written = omega arith;
         value = r.value;
         last = r.last;
         value_word = r.value_word;
@@ -215,6 +222,7 @@ module _ {T : Type 0} (word : T → ℕ) (fits : T → Type 0) (key : T × ℕ) 
     at_making = refl;
     grows = λ j k le _. since_grows key.0 j k le;
     is_history = λ k some _. since_history key.0 k some;
+    written = refl;
     value = key.0;
     last = refl;
     value_word = is;

@@ -22,6 +22,10 @@ module _ {T : Type 0} where
   abbrev pub steps_in : List (View T) → ℕ
   steps_in views = sum_by (λ v. v.steps) views
 
+  -- how many values they wrote
+  abbrev pub writes_in : List (View T) → ℕ
+  writes_in views = sum_by (λ v. v.writes) views
+
   abbrev pub count_steps_in : List (View T) → ℕ
   count_steps_in views = sum_by (λ v. v.count_steps) views
 
@@ -49,6 +53,8 @@ module _ {T : Type 0} where
     pub at_making : history_at 1 ≡ first ∷ []
     pub grows : (m n : ℕ) → m ≤ n → n ≤ turns → Continues (history_at n) (history_at m)
     pub is_history : (n : ℕ) → 0 < n → n ≤ turns → IsHistory (history_at n)
+    -- beside the first value it has just those that the seats wrote
+    pub written : length (history_at turns) ≡ writes_in views + 1
     -- the value word is the last value of the history, and some seat has seen or was told all of it
     pub value : T
     pub last : last_of (history_at turns) ≡ Some value
@@ -91,10 +97,11 @@ module _ {T : Type 0} where
     pub seated : Seated views held
     pub shares : sum_by (λ t. t.1.share) held ≡ seats
 
-  -- These made all steps: so many on the value, at the last of which one of them saw the whole history, or was told it; and
-  -- so many of them collect as the second word says
+  -- These made all steps: so many on the value, at the last of which one of them saw the whole history, or was told it. They
+  -- wrote each value of it but the first, and so many of them collect as the second word says
   pub record MadeAll (history : List T) (turns collectors : ℕ) (held : List (ℕ × View T)) : Type 0 where
     pub steps : turns ≡ sum_by (λ t. t.1.steps) held + 1
+    pub writes : length history ≡ sum_by (λ t. t.1.writes) held + 1
     pub place : ℕ
     pub latest : ℕ × View T
     pub among : get_elem? held place ≡ some latest

@@ -3,8 +3,8 @@ use Rattle.std.specs.Prelude.{◌≡◌, ◌≢◌, ℕ, ◌+◌, ◌-◌, ◌<�
 use Rattle.atomic_table.specs.Table.{Me, Step}
 use Rattle.state_flow.specs.declared.view.View.{View}
 use Rattle.state_flow.specs.History.{last_of, Writes, IsHistory, Picks}
-use Rattle.state_flow.specs.Views.{HasAll, stepped_to, starting, stopping, counting}
-use Rattle.state_flow.specs.Calls.{Extends, KnewAll}
+use Rattle.state_flow.specs.Views.{HasAll, stepped_to, writing, starting, stopping, counting}
+use Rattle.state_flow.specs.Calls.{Extends, Wrote, KnewAll}
 
 -- what a seat learns at step number `turn` on the value, which found `found`: the whole history before the step, and its last value
 pub record Moment {T : Type 0} (word : T → ℕ) (fits : T → Type 0) (v : View T) (history : List T) (turn found : ℕ) : Type 0 where
@@ -42,13 +42,13 @@ module _ {T : Type 0} (word : T → ℕ) (fits : T → Type 0) where
   abbrev pub put : At → Sat T → ℕ → Sat T → Type 0
   put st m found m' = (x : T) → fits x → st.first ≡ word x
       → (before : List T) × ((after : List T) × ((turn : ℕ) × (Moment word fits m.0 before turn found × Writes before x after
-      × (m' ≡ (stepped_to after turn m.0, m.1)))))
+      × (m' ≡ (stepped_to after turn (writing m'.0.writes m.0), m.1)) × Wrote m.0 before m'.0)))
 
   -- a compare_exchange
   abbrev pub compared : At → Sat T → ℕ → Sat T → Type 0
   compared st m found m' = (expect update : T) → fits expect → fits update → st.first ≡ word expect → st.second ≡ word update
-      → (before : List T) × ((after : List T) × ((turn : ℕ) × (Moment word fits m.0 before turn found × (m' ≡ (stepped_to after turn m.0, m.1))
-      × (last_of before ≡ Some expect → Writes before update after) × (last_of before ≢ Some expect → after ≡ before))))
+      → (before : List T) × ((after : List T) × ((turn : ℕ) × (Moment word fits m.0 before turn found × (m' ≡ (stepped_to after turn (writing m'.0.writes m.0), m.1))
+      × (last_of before ≡ Some expect → Writes before update after) × (last_of before ≢ Some expect → after ≡ before) × Wrote m.0 before m'.0)))
 
 -- the steps on the number of collectors: a fetch_add, a fetch_sub, a load
 module _ {T : Type 0} where
