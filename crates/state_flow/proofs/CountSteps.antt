@@ -13,6 +13,7 @@ use Rattle.state_flow.specs.Law.{Fits, StateLaw, Rule, collectors_in, shares_in}
 use Rattle.state_flow.specs.Steps.{began, ended, tallied}
 use Rattle.state_flow.proofs.Lists.{put, put_here, put_else, at_inside, picks_none}
 use Rattle.state_flow.proofs.Sums.{sum_by-changed, collectors_in-le-shares_in}
+use Rattle.state_flow.proofs.Shares.{collects_alone}
 
 module _ {T : Type 0} (word : T → ℕ) (fits : T → Type 0) (key : T × ℕ) where
   abbrev V : Type 0
@@ -29,7 +30,7 @@ module _ {T : Type 0} (word : T → ℕ) (fits : T → Type 0) (key : T × ℕ) 
 
   module _ (ws : List ℕ) (vs : List V) (r : K ws vs) where
     few_collect : collectors_in vs ≤ 1024
-    few_collect = let a = collectors_in-le-shares_in vs (λ i v e. (r.each i v e).has_share) in let b = r.within in let c = r.bounded in omega arith
+    few_collect = let a = collectors_in-le-shares_in vs (λ i v e. (r.each i v e).has_share) in let b = r.whole in let c = r.bounded in omega arith
 
     -- what the seat that made the step knows of it
     abbrev after_count : V → ℕ → Bool → List T → V
@@ -40,18 +41,20 @@ module _ {T : Type 0} (word : T → ℕ) (fits : T → Type 0) (key : T × ℕ) 
     counted n = put r.count_at (r.counts + 1) n
 
     -- a step on the number of collectors, which leaves the number n
-    count_step : (id n : ℕ) (v : V) (collects : Bool) (xs : List T) → get_elem? vs id ≡ some v → Picks xs v.seen → (collects ≡ true → 0 < v.share)
+    count_step : (id n : ℕ) (v : V) (collects : Bool) (xs : List T) → get_elem? vs id ≡ some v → 0 < v.share → Picks xs v.seen → (collects ≡ true → 0 < v.share)
         → n ≡ collectors_in (set vs id (after_count v n collects xs)) → K (set ws 1 n) (set vs id (after_count v n collects xs))
-    count_step id n v collects xs at picks has_share is =
+    count_step id n v collects xs at more picks has_share is =
         let t : ℕ = r.counts + 1 in
         let w : V = after_count v n collects xs in
         let at_end : counted n t ≡ n = put_here r.count_at t n t refl in
         let steps = sum_by-changed (λ (u : V). u.steps) vs id v w at in
+        let writes = sum_by-changed (λ (u : V). u.writes) vs id v w at in
+        let written = r.written in
         let count_steps = sum_by-changed (λ (u : V). u.count_steps) vs id v w at in
         let shares = sum_by-changed (λ (u : V). u.share) vs id v w at in
         let turns_is = r.turns_is in
         let counts_is = r.counts_is in
-        let within = r.within in record {
+        let whole = r.whole in record {
           two_words = length-set ws 1 n ∙ r.two_words;
           turns = r.turns;
           turns_is = omega arith;
@@ -60,6 +63,7 @@ module _ {T : Type 0} (word : T → ℕ) (fits : T → Type 0) (key : T × ℕ) 
           at_making = r.at_making;
           grows = r.grows;
           is_history = r.is_history;
+          written = omega arith;
           value = r.value;
           last = r.last;
           value_word = get_or-set_other ws 1 0 n 0 (λ e. omega arith) ∙ r.value_word;
@@ -83,7 +87,7 @@ module _ {T : Type 0} (word : T → ℕ) (fits : T → Type 0) (key : T × ℕ) 
           count_word = get_or-set_same ws 1 n 0 (let two = r.two_words in omega arith) ∙ sym at_end;
           collecting = get_or-set_same ws 1 n 0 (let two = r.two_words in omega arith) ∙ is;
           each = λ i u e. ⊎_elim
-              (λ (k : (i ≡ id) × (w ≡ u)). subst (Fits r.history_at r.turns (counted n) t) k.1 (let mine = r.each id v at in record {
+              (λ (k : (i ≡ id) × (w ≡ u)). subst (Fits key.1 r.history_at r.turns (counted n) t) k.1 (let mine = r.each id v at in record {
                 seen_is = mine.seen_is;
                 turn_by = mine.turn_by;
                 told_is = mine.told_is;
@@ -92,6 +96,8 @@ module _ {T : Type 0} (word : T → ℕ) (fits : T → Type 0) (key : T × ℕ) 
                 counted_by = omega arith;
                 picks = picks;
                 has_share = has_share;
+                gone = λ none. absurd (omega arith);
+                seats_is = mine.seats_is;
               }))
               (λ (k : (i ≢ id) × (get_elem? vs i ≡ some u)). let old = r.each i u k.1 in let a = old.counted_by in record {
                 seen_is = old.seen_is;
@@ -102,9 +108,11 @@ module _ {T : Type 0} (word : T → ℕ) (fits : T → Type 0) (key : T × ℕ) 
                 counted_by = omega arith;
                 picks = old.picks;
                 has_share = old.has_share;
+                gone = old.gone;
+                seats_is = old.seats_is;
               })
               (at_set vs id i w u e);
-          within = omega arith;
+          whole = omega arith;
           bounded = r.bounded;
         }
       where
@@ -122,7 +130,7 @@ module _ {T : Type 0} (word : T → ℕ) (fits : T → Type 0) (key : T × ℕ) 
       let sum = sum_by-changed weight s.views id me.0 w at in
       let none_yet : weight me.0 ≡ 0 = ap (λ (b : Bool). cond b 1 0) out in
       let share = sum_by-changed (λ (u : V). u.share) s.views id me.0 w at in
-      let within = r.within in
+      let whole = r.whole in
       let bounded = r.bounded in
       let few : collectors_in (set s.views id w) ≤ shares_in (set s.views id w) = collectors_in-le-shares_in (set s.views id w) (λ i v e. ⊎_elim
       (λ (k : (i ≡ id) × (w ≡ v)) (_ : v.collects ≡ true). subst (λ (u : V). 0 < u.share) k.1 some_share)
@@ -134,12 +142,12 @@ module _ {T : Type 0} (word : T → ℕ) (fits : T → Type 0) (key : T × ℕ) 
         w,
         keeps,
         tt,
-        subst (λ (k : ℕ). K (set s.words 1 k) (set s.views id w)) no_wrap (count_step s.words s.views r id (n + 1) me.0 true [] at (picks_none me.0.seen) (λ _. some_share) more),
-        (r.counts + 1, (later s.words s.views r id me.0 at, small, refl)),
+        subst (λ (k : ℕ). K (set s.words 1 k) (set s.views id w)) no_wrap (count_step s.words s.views r id (n + 1) me.0 true [] at some_share (picks_none me.0.seen) (λ _. some_share) more),
+        (r.counts + 1, (later s.words s.views r id me.0 at, small, refl, collects_alone word fits key s.words s.views r id me.0 at some_share)),
       )
 
-  pub ends : (slots id : ℕ) (me : M) → me.0.collects ≡ true → Allows (Rule word fits key) slots id me 1 (λ n. (n + (2 ^ 64 - 1)) % 2 ^ 64) (ended (step slots 1 1 0 none) me)
-  ends slots id me inside s r _ at small =
+  pub ends : (slots id : ℕ) (me : M) → me.0.collects ≡ true → 0 < me.0.share → Allows (Rule word fits key) slots id me 1 (λ n. (n + (2 ^ 64 - 1)) % 2 ^ 64) (ended (step slots 1 1 0 none) me)
+  ends slots id me inside more s r _ at small =
       let n : ℕ = get_or s.words 1 0 in
       let w : V = stopping (n - 1) (r.counts + 1) me.0 in
       let is : n ≡ collectors_in s.views = r.collecting in
@@ -154,15 +162,15 @@ module _ {T : Type 0} (word : T → ℕ) (fits : T → Type 0) (key : T × ℕ) 
         w,
         keeps,
         tt,
-        subst (λ (k : ℕ). K (set s.words 1 k) (set s.views id w)) no_wrap (count_step s.words s.views r id (n - 1) me.0 false me.0.collected at (r.each id me.0 at).picks (λ c. absurd (no_true c)) less),
-        (r.counts + 1, (later s.words s.views r id me.0 at, at_most, some_collect, refl)),
+        subst (λ (k : ℕ). K (set s.words 1 k) (set s.views id w)) no_wrap (count_step s.words s.views r id (n - 1) me.0 false me.0.collected at more (r.each id me.0 at).picks (λ c. absurd (no_true c)) less),
+        (r.counts + 1, (later s.words s.views r id me.0 at, at_most, some_collect, refl, collects_alone word fits key s.words s.views r id me.0 at more)),
       )
     where
       no_true : false ≢ true
       no_true e = cc
 
-  pub tallies : (slots id : ℕ) (me : M) → Allows (Rule word fits key) slots id me 1 (λ n. n) (tallied (step slots 1 0 0 none) me)
-  tallies slots id me s r _ at _ =
+  pub tallies : (slots id : ℕ) (me : M) → 0 < me.0.share → Allows (Rule word fits key) slots id me 1 (λ n. n) (tallied (step slots 1 0 0 none) me)
+  tallies slots id me more s r _ at _ =
       let n : ℕ = get_or s.words 1 0 in
       let w : V = counting n (r.counts + 1) me.0 in
       let is : n ≡ collectors_in s.views = r.collecting in
@@ -173,6 +181,6 @@ module _ {T : Type 0} (word : T → ℕ) (fits : T → Type 0) (key : T × ℕ) 
         w,
         keeps,
         tt,
-        count_step s.words s.views r id n me.0 me.0.collects me.0.collected at (r.each id me.0 at).picks (r.each id me.0 at).has_share same,
-        (r.counts + 1, (later s.words s.views r id me.0 at, at_most, refl)),
+        count_step s.words s.views r id n me.0 me.0.collects me.0.collected at more (r.each id me.0 at).picks (r.each id me.0 at).has_share same,
+        (r.counts + 1, (later s.words s.views r id me.0 at, at_most, refl, collects_alone word fits key s.words s.views r id me.0 at more)),
       )

@@ -1,5 +1,6 @@
 pub mod Lists
 pub mod Sums
+pub mod Shares
 pub mod ValueSteps
 pub mod CountSteps
 pub mod Seats

@@ -30,8 +30,8 @@ module _ {T : Type 0} (word : T → ℕ) (fits : T → Type 0) (key : T × ℕ) 
   split_sum : (f : V → ℕ) (vs : List V) (id : ℕ) (v l t : V) → get_elem? vs id ≡ some v → f l + f t ≡ f v → sum_by f (set vs id l ++ t ∷ []) ≡ sum_by f vs
   split_sum f vs id v l t at is = let a = sum_by-changed f vs id v l at in let b = sum_by_push f (set vs id l) t in omega arith
 
-  pub splits : (id part : ℕ) (v : V) → part ≤ v.share → v.collects ≡ false → Splits (Rule word fits key) id v (giver part v) (taker part v)
-  splits id part v enough idle s r at =
+  pub splits : (id part : ℕ) (v : V) → 0 < part → part < v.share → v.collects ≡ false → Splits (Rule word fits key) id v (giver part v) (taker part v)
+  splits id part v some_part enough idle s r at =
       let l : V = giver part v in
       let t : V = taker part v in
       let vs : List V = set s.views id l in
@@ -41,10 +41,12 @@ module _ {T : Type 0} (word : T → ℕ) (fits : T → Type 0) (key : T × ℕ) 
       let collecting = split_sum weight s.views id v l t at (omega arith) in
       let shares = split_sum (λ (u : V). u.share) s.views id v l t at (omega arith) in
       let steps = split_sum (λ (u : V). u.steps) s.views id v l t at (omega arith) in
+      let writes = split_sum (λ (u : V). u.writes) s.views id v l t at (omega arith) in
+      let written = r.written in
       let count_steps = split_sum (λ (u : V). u.count_steps) s.views id v l t at (omega arith) in
       let turns_is = r.turns_is in
       let counts_is = r.counts_is in
-      let within = r.within in record {
+      let whole = r.whole in record {
         two_words = r.two_words;
         turns = r.turns;
         turns_is = omega arith;
@@ -53,6 +55,7 @@ module _ {T : Type 0} (word : T → ℕ) (fits : T → Type 0) (key : T × ℕ) 
         at_making = r.at_making;
         grows = r.grows;
         is_history = r.is_history;
+        written = omega arith;
         value = r.value;
         last = r.last;
         value_word = r.value_word;
@@ -77,7 +80,7 @@ module _ {T : Type 0} (word : T → ℕ) (fits : T → Type 0) (key : T × ℕ) 
         collecting = r.collecting ∙ sym collecting;
         each = λ i u e. ⊎_elim
             (λ (h : get_elem? vs i ≡ some u). ⊎_elim
-            (λ (k : (i ≡ id) × (l ≡ u)). subst (Fits r.history_at r.turns r.count_at r.counts) k.1 record {
+            (λ (k : (i ≡ id) × (l ≡ u)). subst (Fits key.1 r.history_at r.turns r.count_at r.counts) k.1 record {
               seen_is = mine.seen_is;
               turn_by = mine.turn_by;
               told_is = mine.told_is;
@@ -86,10 +89,12 @@ module _ {T : Type 0} (word : T → ℕ) (fits : T → Type 0) (key : T × ℕ) 
               counted_by = mine.counted_by;
               picks = mine.picks;
               has_share = λ c. absurd (not_both v.collects idle c);
+              gone = λ none. absurd (omega arith);
+              seats_is = λ _. mine.seats_is (omega arith);
             })
             (λ (k : (i ≢ id) × (get_elem? s.views i ≡ some u)). r.each i u k.1)
             (at_set s.views id i l u h))
-            (λ (h : t ≡ u). subst (Fits r.history_at r.turns r.count_at r.counts) h record {
+            (λ (h : t ≡ u). subst (Fits key.1 r.history_at r.turns r.count_at r.counts) h record {
               seen_is = mine.seen_is;
               turn_by = mine.turn_by;
               told_is = sym r.before_making;
@@ -98,14 +103,16 @@ module _ {T : Type 0} (word : T → ℕ) (fits : T → Type 0) (key : T × ℕ) 
               counted_by = mine.counted_by;
               picks = picks_none v.seen;
               has_share = λ c. absurd (not_both false refl c);
+              gone = λ none. absurd (omega arith);
+              seats_is = λ _. mine.seats_is (omega arith);
             })
             (at_snoc vs t u i e);
-        within = omega arith;
+        whole = omega arith;
         bounded = r.bounded;
       }
 
-  pub joins : (id : ℕ) (v : V) (other : ℕ) (w : V) → v.told_turn ≡ 0 → w.told_turn ≡ 0 → w.collects ≡ false → Joins (Rule word fits key) id v other w (keeper v w) spent
-  joins id v other w untold untold' idle s r at apart_seats at' =
+  pub joins : (id : ℕ) (v : V) (other : ℕ) (w : V) → 0 < v.share → v.told_turn ≡ 0 → w.told_turn ≡ 0 → w.collects ≡ false → Joins (Rule word fits key) id v other w (keeper v w) spent
+  joins id v other w some_share untold untold' idle s r at apart_seats at' =
       let b : V = keeper v w in
       let one : List V = set s.views id b in
       let vs : List V = set one other spent in
@@ -121,11 +128,14 @@ module _ {T : Type 0} (word : T → ℕ) (fits : T → Type 0) (key : T × ℕ) 
       let shares' = sum_by-changed (λ (u : V). u.share) one other w spent at' in
       let steps = sum_by-changed (λ (u : V). u.steps) s.views id v b at in
       let steps' = sum_by-changed (λ (u : V). u.steps) one other w spent at' in
+      let writes = sum_by-changed (λ (u : V). u.writes) s.views id v b at in
+      let writes' = sum_by-changed (λ (u : V). u.writes) one other w spent at' in
+      let written = r.written in
       let count_steps = sum_by-changed (λ (u : V). u.count_steps) s.views id v b at in
       let count_steps' = sum_by-changed (λ (u : V). u.count_steps) one other w spent at' in
       let turns_is = r.turns_is in
       let counts_is = r.counts_is in
-      let within = r.within in record {
+      let whole = r.whole in record {
         two_words = r.two_words;
         turns = r.turns;
         turns_is = omega arith;
@@ -134,6 +144,7 @@ module _ {T : Type 0} (word : T → ℕ) (fits : T → Type 0) (key : T × ℕ) 
         at_making = r.at_making;
         grows = r.grows;
         is_history = r.is_history;
+        written = omega arith;
         value = r.value;
         last = r.last;
         value_word = r.value_word;
@@ -152,7 +163,7 @@ module _ {T : Type 0} (word : T → ℕ) (fits : T → Type 0) (key : T × ℕ) 
         count_word = r.count_word;
         collecting = r.collecting ∙ (let a : collectors_in vs ≡ collectors_in s.views = omega arith in sym a);
         each = λ i u e. ⊎_elim
-            (λ (h : (i ≡ other) × (spent ≡ u)). subst (Fits r.history_at r.turns r.count_at r.counts) h.1 record {
+            (λ (h : (i ≡ other) × (spent ≡ u)). subst (Fits key.1 r.history_at r.turns r.count_at r.counts) h.1 record {
               seen_is = sym r.before_making;
               turn_by = omega arith;
               told_is = sym r.before_making;
@@ -161,9 +172,11 @@ module _ {T : Type 0} (word : T → ℕ) (fits : T → Type 0) (key : T × ℕ) 
               counted_by = omega arith;
               picks = picks_none [];
               has_share = λ c. absurd (not_both false refl c);
+              gone = λ _. refl;
+              seats_is = λ more. absurd (omega arith);
             })
             (λ (h : (i ≢ other) × (get_elem? one i ≡ some u)). ⊎_elim
-            (λ (k : (i ≡ id) × (b ≡ u)). subst (Fits r.history_at r.turns r.count_at r.counts) k.1 record {
+            (λ (k : (i ≡ id) × (b ≡ u)). subst (Fits key.1 r.history_at r.turns r.count_at r.counts) k.1 record {
               seen_is = mine.seen_is;
               turn_by = mine.turn_by;
               told_is = theirs.seen_is;
@@ -172,11 +185,13 @@ module _ {T : Type 0} (word : T → ℕ) (fits : T → Type 0) (key : T × ℕ) 
               counted_by = mine.counted_by;
               picks = mine.picks;
               has_share = λ c. let old = mine.has_share c in omega arith;
+              gone = λ none. absurd (omega arith);
+              seats_is = λ _. mine.seats_is some_share;
             })
             (λ (k : (i ≢ id) × (get_elem? s.views i ≡ some u)). r.each i u k.1)
             (at_set s.views id i b u h.1))
             (at_set one other i spent u e);
-        within = omega arith;
+        whole = omega arith;
         bounded = r.bounded;
       }
 
@@ -207,6 +222,7 @@ module _ {T : Type 0} (word : T → ℕ) (fits : T → Type 0) (key : T × ℕ) 
     at_making = refl;
     grows = λ j k le _. since_grows key.0 j k le;
     is_history = λ k some _. since_history key.0 k some;
+    written = refl;
     value = key.0;
     last = refl;
     value_word = is;
@@ -219,7 +235,7 @@ module _ {T : Type 0} (word : T → ℕ) (fits : T → Type 0) (key : T × ℕ) 
     count_word = refl;
     collecting = refl;
     each = λ i v e. first_fits i v e;
-    within = omega arith;
+    whole = omega arith;
     bounded = few;
   }
     where
@@ -227,8 +243,8 @@ module _ {T : Type 0} (word : T → ℕ) (fits : T → Type 0) (key : T × ℕ) 
       only zero x e = subst fits (some-injective key.0 x e) f
       only (suc i) x e = absurd (some-ne-none x (sym e))
 
-      first_fits : (i : ℕ) (v : V) → get_elem? (opening key.0 key.1 ∷ []) i ≡ some v → Fits (since key.0) 1 (λ _. 0) 1 v
-      first_fits zero v e = subst (Fits (since key.0) 1 (λ _. 0) 1) (some-injective (opening key.0 key.1) v e) record {
+      first_fits : (i : ℕ) (v : V) → get_elem? (opening key.0 key.1 ∷ []) i ≡ some v → Fits key.1 (since key.0) 1 (λ _. 0) 1 v
+      first_fits zero v e = subst (Fits key.1 (since key.0) 1 (λ _. 0) 1) (some-injective (opening key.0 key.1) v e) record {
         seen_is = refl;
         turn_by = omega arith;
         told_is = refl;
@@ -237,5 +253,7 @@ module _ {T : Type 0} (word : T → ℕ) (fits : T → Type 0) (key : T × ℕ) 
         counted_by = omega arith;
         picks = picks_none (key.0 ∷ []);
         has_share = λ _. some_seats;
+        gone = λ none. absurd (omega arith);
+        seats_is = λ _. refl;
       }
       first_fits (suc i) v e = absurd (some-ne-none v (sym e))

@@ -1,5 +1,5 @@
 -- Each kind of step on the value keeps the law.
-use Rattle.std.proofs.Common.{◌≡◌, ◌≢◌, ℕ, ◌+◌, ◌<◌, ◌≤◌, cond, eqb, List, get_or, set, Option, Some, None, sym, refl, ap, ◌∙◌, subst, ⊎_elim, inl, arith, length-set, get_or-set_same, get_or-set_other, eq-eqb, ne_eqb}
+use Rattle.std.proofs.Common.{◌≡◌, ◌≢◌, ℕ, ◌+◌, ◌<◌, ◌≤◌, cond, eqb, List, get_or, set, Option, Some, None, sym, refl, ap, ◌∙◌, subst, ⊎_elim, inl, arith, length, length-append, length-set, get_or-set_same, get_or-set_other, eq-eqb, ne_eqb}
 use mathlib.Core.Logic.{dite}
 use mathlib.Core.Option.{none, some}
 use native.Mathlib.Decide.{ℕ_discrete}
@@ -10,12 +10,13 @@ use Rattle.atomic_table.proofs.Lists.{at_set, set_here}
 use Rattle.state_flow.specs.declared.view.View.{View}
 use Rattle.state_flow.specs.History.{last_of, Continues, Writes, IsHistory, Picks}
 use Rattle.state_flow.specs.History.IsHistory.{written}
-use Rattle.state_flow.specs.Views.{stepped_to}
+use Rattle.state_flow.specs.Views.{stepped_to, writing}
 use Rattle.state_flow.specs.Calls.{Extends}
 use Rattle.state_flow.specs.Law.{Fits, StateLaw, Rule}
 use Rattle.state_flow.specs.Steps.{Moment, looked, gathered, put as was_put, compared}
 use Rattle.state_flow.proofs.Lists.{put, put_here, put_else, at_inside, last_at, continues_itself, continues_on, continues_at, write, writes_last, writes_on, writes_all, picks_on, picks_last}
 use Rattle.state_flow.proofs.Sums.{sum_by-changed, le-sum_by}
+use Rattle.state_flow.proofs.Shares.{knew_all}
 
 -- two values with one word are one value
 pub apart_by : {T : Type 0} (word : T → ℕ) (read_as : ℕ → T) (fits : T → Type 0) → ((x : T) → fits x → read_as (word x) ≡ x) → (x y : T) → fits x → fits y → word x ≡ word y → x ≡ y
@@ -60,8 +61,8 @@ module _ {T : Type 0} (word : T → ℕ) (fits : T → Type 0) (apart : (x y : T
     dec_collected : (id : ℕ) (v : V) → get_elem? vs id ≡ some v → (x : T) → fits x → Dec (last_of v.collected ≡ Some x)
     dec_collected id v at x f = dec_some (last_of v.collected) x (fits_collected id v at) f
 
-    moment : (id : ℕ) (v : V) → get_elem? vs id ≡ some v → Moment word fits v history (r.turns + 1) (get_or ws 0 0)
-    moment id v at = let mine = r.each id v at in let a = mine.turn_by in let b = mine.told_by in let share = le-sum_by (λ (u : V). u.share) vs id v at in let c = r.within in let d = r.bounded in record {
+    moment : (id : ℕ) (v : V) → get_elem? vs id ≡ some v → 0 < v.share → Moment word fits v history (r.turns + 1) (get_or ws 0 0)
+    moment id v at more = let mine = r.each id v at in let a = mine.turn_by in let b = mine.told_by in let share = le-sum_by (λ (u : V). u.share) vs id v at in let c = r.whole in let d = r.bounded in record {
       later = omega arith;
       later_than_told = omega arith;
       extends = knows id v at;
@@ -71,30 +72,33 @@ module _ {T : Type 0} (word : T → ℕ) (fits : T → Type 0) (apart : (x y : T
       proper = fits_last r.value r.last;
       found_is = r.value_word;
       bounded = omega arith;
+      knew_all = knew_all word fits key ws vs r id v at more;
     }
 
     -- what the seat that made the step knows of it
-    abbrev after_value : V → List T → List T → V
-    after_value v h xs = record (stepped_to h (r.turns + 1) v) { collected = xs }
+    abbrev after_value : V → List T → List T → ℕ → V
+    after_value v h xs k = record (stepped_to h (r.turns + 1) v) { collected = xs; writes = k }
 
     -- the history after each step, with this one
     abbrev grown : List T → ℕ → List T
     grown h = put r.history_at (r.turns + 1) h
 
-    -- a step on the value, which leaves the history h with the last value x, and the seat with xs collected
-    value_step : (id n : ℕ) (v : V) (h : List T) (x : T) (xs : List T) → get_elem? vs id ≡ some v → Picks xs h → Continues h history → IsHistory h → last_of h ≡ Some x
-        → ((i : ℕ) (y : T) → get_elem? h i ≡ some y → fits y) → n ≡ word x → K (set ws 0 n) (set vs id (after_value v h xs))
-    value_step id n v h x xs at picks on is_history last proper is =
+    -- a step on the value, which leaves the history h with the last value x, and the seat with xs collected and k values written
+    value_step : (id n : ℕ) (v : V) (h : List T) (x : T) (xs : List T) (k : ℕ) → k + length history ≡ v.writes + length h → get_elem? vs id ≡ some v → 0 < v.share → Picks xs h → Continues h history → IsHistory h → last_of h ≡ Some x
+        → ((i : ℕ) (y : T) → get_elem? h i ≡ some y → fits y) → n ≡ word x → K (set ws 0 n) (set vs id (after_value v h xs k))
+    value_step id n v h x xs k wrote at more picks on is_history last proper is =
         let t : ℕ = r.turns + 1 in
-        let w : V = after_value v h xs in
+        let w : V = after_value v h xs k in
         let at_end : grown h t ≡ h = put_here r.history_at t h t refl in
         let steps = sum_by-changed (λ (u : V). u.steps) vs id v w at in
+        let writes = sum_by-changed (λ (u : V). u.writes) vs id v w at in
+        let written = r.written in
         let count_steps = sum_by-changed (λ (u : V). u.count_steps) vs id v w at in
         let collecting = sum_by-changed (λ (u : V). cond u.collects 1 0) vs id v w at in
         let shares = sum_by-changed (λ (u : V). u.share) vs id v w at in
         let turns_is = r.turns_is in
         let counts_is = r.counts_is in
-        let within = r.within in record {
+        let whole = r.whole in record {
           two_words = length-set ws 0 n ∙ r.two_words;
           turns = t;
           turns_is = omega arith;
@@ -102,6 +106,7 @@ module _ {T : Type 0} (word : T → ℕ) (fits : T → Type 0) (apart : (x y : T
           before_making = still 0 (omega arith) ∙ r.before_making;
           at_making = still 1 (omega arith) ∙ r.at_making;
           grows = λ j k le by. grows_at j k le by (ℕ_discrete k t) (ℕ_discrete j t);
+          written = ap length at_end ∙ omega arith;
           is_history = λ k some by. dite (ℕ_discrete k t)
               (λ e. subst IsHistory (sym (put_here r.history_at t h k e)) is_history)
               (λ e. subst IsHistory (sym (put_else r.history_at t h k e)) (r.is_history k some (omega arith)));
@@ -117,7 +122,7 @@ module _ {T : Type 0} (word : T → ℕ) (fits : T → Type 0) (apart : (x y : T
           count_word = get_or-set_other ws 0 1 n 0 (λ e. omega arith) ∙ r.count_word;
           collecting = get_or-set_other ws 0 1 n 0 (λ e. omega arith) ∙ (r.collecting ∙ omega arith);
           each = λ i u e. ⊎_elim
-              (λ (k : (i ≡ id) × (w ≡ u)). subst (Fits (grown h) t r.count_at r.counts) k.1 (let mine = r.each id v at in record {
+              (λ (k : (i ≡ id) × (w ≡ u)). subst (Fits key.1 (grown h) t r.count_at r.counts) k.1 (let mine = r.each id v at in record {
                 seen_is = sym at_end;
                 turn_by = omega arith;
                 told_is = sym (still 0 (omega arith) ∙ r.before_making);
@@ -126,6 +131,8 @@ module _ {T : Type 0} (word : T → ℕ) (fits : T → Type 0) (apart : (x y : T
                 counted_by = mine.counted_by;
                 picks = picks;
                 has_share = mine.has_share;
+                gone = λ none. absurd (omega arith);
+                seats_is = mine.seats_is;
               }))
               (λ (k : (i ≢ id) × (get_elem? vs i ≡ some u)). let old = r.each i u k.1 in let a = old.turn_by in let b = old.told_by in record {
                 seen_is = old.seen_is ∙ sym (still u.turn (omega arith));
@@ -136,9 +143,11 @@ module _ {T : Type 0} (word : T → ℕ) (fits : T → Type 0) (apart : (x y : T
                 counted_by = old.counted_by;
                 picks = old.picks;
                 has_share = old.has_share;
+                gone = old.gone;
+                seats_is = old.seats_is;
               })
               (at_set vs id i w u e);
-          within = omega arith;
+          whole = omega arith;
           bounded = r.bounded;
         }
       where
@@ -154,71 +163,82 @@ module _ {T : Type 0} (word : T → ℕ) (fits : T → Type 0) (apart : (x y : T
             (subst (λ (l : List T). Continues (r.history_at k) l) (sym (put_else r.history_at (r.turns + 1) h j f)) (r.grows j k le (omega arith)))
 
     -- a step that leaves the value as it is
-    same_value : (id : ℕ) (v : V) (xs : List T) → get_elem? vs id ≡ some v → Picks xs history → K (set ws 0 (get_or ws 0 0)) (set vs id (after_value v history xs))
-    same_value id v xs at picks = value_step id (get_or ws 0 0) v history r.value xs at picks (continues_itself history) (moment id v at).is_history r.last r.proper r.value_word
+    same_value : (id : ℕ) (v : V) (xs : List T) → get_elem? vs id ≡ some v → 0 < v.share → Picks xs history → K (set ws 0 (get_or ws 0 0)) (set vs id (after_value v history xs v.writes))
+    same_value id v xs at more picks = value_step id (get_or ws 0 0) v history r.value xs v.writes refl at more picks (continues_itself history) (moment id v at more).is_history r.last r.proper r.value_word
 
     -- what the seat collected is picked from the whole history too
     picks_now : (id : ℕ) (v : V) → get_elem? vs id ≡ some v → Picks v.collected history
     picks_now id v at = picks_on v.collected v.seen history (knows id v at).seen (r.each id v at).picks
 
+    -- how many values were written by a step that writes x
+    abbrev wrote : V → (x : T) (h : List T) → Dec (last_of history ≡ Some x) → Writes history x h → ℕ
+    wrote v x h d w = v.writes + length (writes_on history x h d w).0
+
+    wrote_is : (v : V) (x : T) (h : List T) (d : Dec (last_of history ≡ Some x)) (w : Writes history x h) → wrote v x h d w + length history ≡ v.writes + length h
+    wrote_is v x h d w = let on = writes_on history x h d w in let a = ap length on.1 ∙ length-append history on.0 in omega arith
+
     -- a step that writes x
-    writes_step : (id n : ℕ) (v : V) (x : T) (h : List T) → get_elem? vs id ≡ some v → n ≡ word x → fits x → Writes history x h → K (set ws 0 n) (set vs id (stepped_to h (r.turns + 1) v))
-    writes_step id n v x h at is f w =
+    writes_step : (id n : ℕ) (v : V) (x : T) (h : List T) → get_elem? vs id ≡ some v → 0 < v.share → n ≡ word x → (f : fits x) (w : Writes history x h) → K (set ws 0 n) (set vs id (stepped_to h (r.turns + 1) (writing (wrote v x h (dec_value x f) w) v)))
+    writes_step id n v x h at more is f w =
         let d = dec_value x f in
         let on = writes_on history x h d w in
-        value_step id n v h x v.collected at (picks_on v.collected history h on (picks_now id v at)) on (written history x h (moment id v at).is_history w) (writes_last history x h d w) (writes_all fits history x h d w f r.proper) is
+        value_step id n v h x v.collected (wrote v x h d w) (wrote_is v x h d w) at more (picks_on v.collected history h on (picks_now id v at)) on (written history x h (moment id v at more).is_history w) (writes_last history x h d w) (writes_all fits history x h d w f r.proper) is
 
-  pub loads : (slots id : ℕ) (me : M) → Allows (Rule word fits key) slots id me 0 (λ n. n) (looked word fits (step slots 0 0 0 none) me)
-  loads slots id me s r _ at _ = (
+  pub loads : (slots id : ℕ) (me : M) → 0 < me.0.share → Allows (Rule word fits key) slots id me 0 (λ n. n) (looked word fits (step slots 0 0 0 none) me)
+  loads slots id me more s r _ at _ = (
     stepped_to (r.history_at r.turns) (r.turns + 1) me.0,
     keeps,
     tt,
-    same_value s.words s.views r id me.0 me.0.collected at (picks_now s.words s.views r id me.0 at),
-    (r.history_at r.turns, (r.turns + 1, (moment s.words s.views r id me.0 at, refl))),
+    same_value s.words s.views r id me.0 me.0.collected at more (picks_now s.words s.views r id me.0 at),
+    (r.history_at r.turns, (r.turns + 1, (moment s.words s.views r id me.0 at more, refl))),
   )
 
-  pub gathers : (slots id : ℕ) (me : M) → Allows (Rule word fits key) slots id me 0 (λ n. n) (gathered word fits (step slots 0 0 0 none) me)
+  pub gathers : (slots id : ℕ) (me : M) → 0 < me.0.share → Allows (Rule word fits key) slots id me 0 (λ n. n) (gathered word fits (step slots 0 0 0 none) me)
   unfolding moment
-  gathers slots id me s r _ at _ =
+  gathers slots id me more s r _ at _ =
       let h : List T = r.history_at r.turns in
-      let now = moment s.words s.views r id me.0 at in
+      let now = moment s.words s.views r id me.0 at more in
       let d = dec_collected s.words s.views r id me.0 at r.value now.proper in
       let got = write me.0.collected r.value d in
       let picks = picks_last me.0.collected h r.value got.0 d r.last got.1 (picks_now s.words s.views r id me.0 at) in (
         record (stepped_to h (r.turns + 1) me.0) { collected = got.0 },
         keeps,
         tt,
-        same_value s.words s.views r id me.0 got.0 at picks,
+        same_value s.words s.views r id me.0 got.0 at more picks,
         (h, (r.turns + 1, (now, (got.1, picks, fits_collected s.words s.views r id me.0 at, refl)))),
       )
 
-  pub puts : (slots id n : ℕ) (me : M) (x : T) → n ≡ word x → fits x → Allows (Rule word fits key) slots id me 0 (λ _. n) (was_put word fits (step slots 0 n 0 none) me)
-  puts slots id n me x is f s r _ at _ =
+  pub puts : (slots id n : ℕ) (me : M) (x : T) → 0 < me.0.share → n ≡ word x → fits x → Allows (Rule word fits key) slots id me 0 (λ _. n) (was_put word fits (step slots 0 n 0 none) me)
+  puts slots id n me x more is f s r _ at _ =
       let h : List T = r.history_at r.turns in
-      let new = write h x (dec_value s.words s.views r x f) in (
-        stepped_to new.0 (r.turns + 1) me.0,
+      let d = dec_value s.words s.views r x f in
+      let new = write h x d in
+      let k : ℕ = wrote s.words s.views r me.0 x new.0 d new.1 in (
+        stepped_to new.0 (r.turns + 1) (writing k me.0),
         keeps,
         tt,
-        writes_step s.words s.views r id n me.0 x new.0 at is f new.1,
-        λ y g same. (h, (new.0, (r.turns + 1, (moment s.words s.views r id me.0 at, subst (λ (z : T). Writes h z new.0) (apart x y f g (sym is ∙ same)) new.1, refl)))),
+        writes_step s.words s.views r id n me.0 x new.0 at more is f new.1,
+        λ y g same. (h, (new.0, (r.turns + 1, (moment s.words s.views r id me.0 at more, subst (λ (z : T). Writes h z new.0) (apart x y f g (sym is ∙ same)) new.1, refl, wrote_is s.words s.views r me.0 x new.0 d new.1)))),
       )
 
-  pub compares : (slots id old new : ℕ) (me : M) (e u : T) → old ≡ word e → new ≡ word u → fits e → fits u
+  pub compares : (slots id old new : ℕ) (me : M) (e u : T) → 0 < me.0.share → old ≡ word e → new ≡ word u → fits e → fits u
       → Allows (Rule word fits key) slots id me 0 (λ n. either (eqb n old) new n) (compared word fits (step slots 0 old new none) me)
-  compares slots id old new me e u is_old is_new fe fu s r _ at _ =
+  compares slots id old new me e u more is_old is_new fe fu s r _ at _ =
       let n : ℕ = get_or s.words 0 0 in
       let h : List T = r.history_at r.turns in
-      let now = moment s.words s.views r id me.0 at in
+      let now = moment s.words s.views r id me.0 at more in
       dite (ℕ_discrete n old)
       (λ hit.
-      let after = write h u (dec_value s.words s.views r u fu) in
+      let d = dec_value s.words s.views r u fu in
+      let after = write h u d in
+      let k : ℕ = wrote s.words s.views r me.0 u after.0 d after.1 in
       let is : r.value ≡ e = apart r.value e (fits_last s.words s.views r r.value r.last) fe (sym r.value_word ∙ (hit ∙ is_old)) in
       let last : last_of h ≡ Some e = r.last ∙ ap (λ (z : T). Some z) is in (
-        stepped_to after.0 (r.turns + 1) me.0,
+        stepped_to after.0 (r.turns + 1) (writing k me.0),
         keeps,
         tt,
-        subst (λ b. Rule word fits key (stepped s 0 (either b new n) id me.1 (stepped_to after.0 (r.turns + 1) me.0) keeps)) (sym (eq-eqb n old hit))
-            (writes_step s.words s.views r id new me.0 u after.0 at is_new fu after.1),
+        subst (λ b. Rule word fits key (stepped s 0 (either b new n) id me.1 (stepped_to after.0 (r.turns + 1) (writing k me.0)) keeps)) (sym (eq-eqb n old hit))
+            (writes_step s.words s.views r id new me.0 u after.0 at more is_new fu after.1),
         λ e' u' fe' fu' se su. (
           h,
           (
@@ -230,6 +250,7 @@ module _ {T : Type 0} (word : T → ℕ) (fits : T → Type 0) (apart : (x y : T
                 refl,
                 (λ _. subst (λ (z : T). Writes h z after.0) (apart u u' fu fu' (sym is_new ∙ su)) after.1),
                 (λ not. absurd (not (last ∙ ap (λ (z : T). Some z) (apart e e' fe fe' (sym is_old ∙ se))))),
+                wrote_is s.words s.views r me.0 u after.0 d after.1,
               ),
             ),
           ),
@@ -241,8 +262,8 @@ module _ {T : Type 0} (word : T → ℕ) (fits : T → Type 0) (apart : (x y : T
         keeps,
         tt,
         subst (λ b. Rule word fits key (stepped s 0 (either b new n) id me.1 (stepped_to h (r.turns + 1) me.0) keeps)) (sym (ne_eqb n old miss))
-            (same_value s.words s.views r id me.0 me.0.collected at (picks_now s.words s.views r id me.0 at)),
-        λ e' u' fe' fu' se su. (h, (h, (r.turns + 1, (now, refl, (λ l. absurd (other (l ∙ ap (λ (z : T). Some z) (sym (apart e e' fe fe' (sym is_old ∙ se)))))), (λ _. refl))))),
+            (same_value s.words s.views r id me.0 me.0.collected at more (picks_now s.words s.views r id me.0 at)),
+        λ e' u' fe' fu' se su. (h, (h, (r.turns + 1, (now, refl, (λ l. absurd (other (l ∙ ap (λ (z : T). Some z) (sym (apart e e' fe fe' (sym is_old ∙ se)))))), (λ _. refl), refl)))),
       ))
     where
       same_some : (x y : T) → Some x ≡ Some y → x ≡ y

@@ -1,11 +1,11 @@
 -- What the calls say of a seat or a collector, as it was before the call and as it is after it.
 -- `after.seen` is the whole history at the one step that the call made on the value.
-use Rattle.std.specs.Prelude.{◌≡◌, ◌≢◌, ℕ, ◌<◌, ◌≤◌, Bool, List, [], ◌∷◌, ◌++◌, Option, Some, None, MatchOption, MatchBool}
+use Rattle.std.specs.Prelude.{◌≡◌, ◌≢◌, ◌⊎◌, ℕ, ◌+◌, ◌<◌, ◌≤◌, Bool, List, [], ◌∷◌, ◌++◌, length, Option, Some, None, MatchOption, MatchBool}
 use Rattle.futures.specs.declared.task.Poll.{Poll}
 use Rattle.futures.specs.declared.task.Poll.TheVariants.{Ready, Pending}
 use Rattle.state_flow.specs.declared.view.View.{View}
 use Rattle.state_flow.specs.History.{last_of, Continues, Writes, IsHistory, Picks}
-use Rattle.state_flow.specs.Views.{stepped_to, keeper, counting, starting, stopping}
+use Rattle.state_flow.specs.Views.{HasAll, stepped_to, writing, keeper, counting, starting, stopping}
 
 -- what a poll gave
 abbrev pub taken : {T : Type 0} → Poll T → Option T
@@ -31,21 +31,27 @@ module _ {T : Type 0} where
     pub is_history : IsHistory after.seen
     pub current : last_of after.seen ≡ Some x
 
+  -- it wrote as many values as the history grew by
+  abbrev pub Wrote : View T → List T → View T → Type 0
+  Wrote before found after = after.writes + length found ≡ before.writes + length after.seen
+
   -- one swap, which wrote x at one point of the history
   pub record Sets (before : View T) (x : T) (after : View T) : Type 0 where
-    pub one_step : StepsOnce before after
+    pub one_step : StepsOnce (writing after.writes before) after
     pub found : List T
     pub extends : Extends before found
     pub is_history : IsHistory found
     pub writes : Writes found x after.seen
+    pub wrote : Wrote before found after
 
   -- one compare_exchange, which answers true exactly where the value was `expect`, and then writes `update`
   pub record Compares (before : View T) (expect update : T) (answer : Bool) (after : View T) : Type 0 where
-    pub one_step : StepsOnce before after
+    pub one_step : StepsOnce (writing after.writes before) after
     pub found : List T
     pub extends : Extends before found
     pub is_history : IsHistory found
     pub answers : MatchBool answer ((last_of found ≡ Some expect) × Writes found update after.seen) ((last_of found ≢ Some expect) × (after.seen ≡ found))
+    pub wrote : Wrote before found after
 
   -- what a collector has collected after it was given a value, or nothing
   abbrev pub with_given : List T → Option T → List T
@@ -90,3 +96,44 @@ module _ {T : Type 0} where
     pub later : before.count_turn < after.count_turn
     pub only : after ≡ stopping after.counted after.count_turn before
     pub below : after.counted < 1024
+
+-- WHO HAS ALL SEATS KNOWS ALL: where all seats of the flow are of the one that makes the call, what the call finds is what that
+-- one had seen.
+module _ {T : Type 0} where
+  -- All steps on the value were its own, and so was each value but the first; this step is the next, and the history before it is what the seat had seen, or was told
+  pub record KnewAll (before : View T) (history : List T) (turn : ℕ) : Type 0 where
+    pub all_its_own : turn ≡ before.steps + 2
+    pub all_written : length history ≡ before.writes + 1
+    pub latest : ((before.turn + 1 ≡ turn) × (history ≡ before.seen)) ⊎ ((before.told_turn + 1 ≡ turn) × (history ≡ before.told))
+
+  -- All steps on the value were its own, with those of seats that were given back to it, and it wrote each value but the first
+  pub record MadeThemAll (v : View T) : Type 0 where
+    pub steps : v.turn ≡ v.steps + 1
+    pub writes : length v.seen ≡ v.writes + 1
+
+  -- and this one is the next
+  pub record StepsNext (before after : View T) : Type 0 where
+    pub next : after.turn ≡ before.turn + 1
+    pub all_its_own : MadeThemAll after
+
+  -- it gives the last value that it had seen
+  abbrev pub ReadsAlone : View T → T → View T → Type 0
+  ReadsAlone before x after = HasAll before → StepsNext before after × (last_of before.seen ≡ Some x) × (after.seen ≡ before.seen)
+
+  -- it writes on what it had seen
+  abbrev pub SetsAlone : View T → T → View T → Type 0
+  SetsAlone before x after = HasAll before → StepsNext before after × Writes before.seen x after.seen
+
+  -- it compares with the last value that it had seen
+  abbrev pub ComparesAlone : View T → T → T → Bool → View T → Type 0
+  ComparesAlone before expect update answer after = HasAll before → StepsNext before after
+      × MatchBool answer ((last_of before.seen ≡ Some expect) × Writes before.seen update after.seen) ((last_of before.seen ≢ Some expect) × (after.seen ≡ before.seen))
+
+  -- it gives the last value that it had seen, or nothing where that is the last one that it gave
+  abbrev pub CollectsAlone : View T → Option T → View T → Type 0
+  CollectsAlone before given after = HasAll before → StepsNext before after × (after.seen ≡ before.seen)
+      × MatchOption given (last_of before.collected ≡ last_of before.seen) (λ x. (last_of before.seen ≡ Some x) × (last_of before.collected ≢ Some x))
+
+  -- with the other's seats it has all: it has seen what the one of the two had seen that made the last step
+  abbrev pub TakesBackLast : View T → View T → View T → Type 0
+  TakesBackLast before other after = HasAll after → MadeThemAll after × ((after.seen ≡ before.seen) ⊎ (after.seen ≡ other.seen))

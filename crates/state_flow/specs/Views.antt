@@ -32,17 +32,27 @@ module _ {T : Type 0} where
     told = [];
     told_turn = 0;
     steps = 0;
+    writes = 0;
     counted = 0;
     count_turn = 1;
     count_steps = 0;
     collects = false;
     collected = [];
     share = seats;
+    seats = seats;
   }
+
+  -- all seats of its flow are of this one: nobody else can make a step
+  abbrev pub HasAll : View T → Type 0
+  HasAll v = v.share ≡ v.seats
 
   -- after a step on the value, which left this history and was number `turn` of all steps on the value
   abbrev pub stepped_to : List T → ℕ → View T → View T
   stepped_to history turn v = record v { seen = history; turn = turn; told = []; told_turn = 0; steps = v.steps + 1 }
+
+  -- a seat that wrote so many values
+  abbrev pub writing : ℕ → View T → View T
+  writing n v = record v { writes = n }
 
   -- after a step on the number of collectors, which left this count and was number `turn` of all steps on that number
   abbrev pub counting : ℕ → ℕ → View T → View T
@@ -60,7 +70,7 @@ module _ {T : Type 0} where
   giver part v = record v { share = v.share - part }
 
   abbrev pub taker : ℕ → View T → View T
-  taker part v = record v { told = []; told_turn = 0; steps = 0; count_steps = 0; collects = false; collected = []; share = part }
+  taker part v = record v { told = []; told_turn = 0; steps = 0; writes = 0; count_steps = 0; collects = false; collected = []; share = part }
 
   -- A seat that took back another, with its share. It is told what that one had seen, and that one's steps count as its own
   abbrev pub keeper : View T → View T → View T
@@ -68,6 +78,7 @@ module _ {T : Type 0} where
     told = other.seen;
     told_turn = other.turn;
     steps = v.steps + other.steps;
+    writes = v.writes + other.writes;
     count_steps = v.count_steps + other.count_steps;
     share = v.share + other.share;
   }
@@ -80,10 +91,12 @@ module _ {T : Type 0} where
     told = [];
     told_turn = 0;
     steps = 0;
+    writes = 0;
     counted = 0;
     count_turn = 0;
     count_steps = 0;
     collects = false;
     collected = [];
     share = 0;
+    seats = 0;
   }

@@ -3,8 +3,8 @@ ghost use Rattle.std.specs.Prelude.{◌≡◌, [], true};
 ghost use Rattle.std.specs.Arc.{arc_value};
 ghost use Rattle.futures.specs.Poll.{OnPending};
 ghost use Rattle.futures.specs.Task.{IsArmed, Keeps};
-ghost use Rattle.state_flow.specs.Views.{seen_by, IsSeated};
-ghost use Rattle.state_flow.specs.Calls.{Collects, Ends, taken};
+ghost use Rattle.state_flow.specs.Views.{seen_by, IsSeated, HasAll};
+ghost use Rattle.state_flow.specs.Calls.{Collects, CollectsAlone, Ends, taken};
 
 use crate::flow::StateFlow;
 use crate::seat::StateSeat;
@@ -66,6 +66,7 @@ impl<T: Word, A: Allocator> Collector<T, A> {
     pub fn try_next(&mut self) -> Option<T>
         ensures same_flow { self.new.flow ≡ self.old.flow }
         ensures received { Collects self.old.view result self.new.view }
+        ensures alone { CollectsAlone self.old.view result self.new.view }
     {
         let flow = &self.flow;
         let value = T::from_word(flow.gather(&mut self.seat));
@@ -81,6 +82,7 @@ impl<T: Word, A: Allocator> Collector<T, A> {
     pub fn poll_next(&mut self, cx: &mut Context<'_>) -> Poll<T>
         ensures same_flow { self.new.flow ≡ self.old.flow }
         ensures received { Collects self.old.view (taken result) self.new.view }
+        ensures alone { CollectsAlone self.old.view (taken result) self.new.view }
         ensures armed { OnPending result (IsArmed cx.new) }
         ensures kept { Keeps cx.old cx.new }
     {
@@ -95,6 +97,7 @@ impl<T: Word, A: Allocator> Collector<T, A> {
     pub fn cancel(self) -> StateSeat<T, A>
         ensures same_flow { result.flow ≡ self.flow }
         ensures ends { Ends self.view result.view }
+        ensures alone { HasAll self.view → result.view.counted ≡ 0 }
     {
         let Collector {
             flow,

@@ -1,8 +1,8 @@
 //! A seat at a state flow: it reads the value, sets it, and can begin to collect.
 ghost use Rattle.std.specs.Prelude.{◌≡◌, ◌+◌, ◌<◌, ◌≤◌, ◌⊎◌, false, IfOk, IfErr, OnErr};
 ghost use Rattle.std.specs.Arc.{arc_value};
-ghost use Rattle.state_flow.specs.Views.{seen_by, IsSeated, giver, taker};
-ghost use Rattle.state_flow.specs.Calls.{Reads, Sets, Compares, TakesBack, Counts, Begins};
+ghost use Rattle.state_flow.specs.Views.{seen_by, IsSeated, HasAll, giver, taker};
+ghost use Rattle.state_flow.specs.Calls.{Reads, Sets, Compares, TakesBack, Counts, Begins, ReadsAlone, SetsAlone, ComparesAlone, TakesBackLast};
 ghost use Rattle.flow_terms.specs.declared.refusal.Refusal.TheVariants.{SubscribersFull, NoMemory};
 
 use crate::collector::Collector;
@@ -68,6 +68,7 @@ impl<T: Word, A: Allocator> StateSeat<T, A> {
     pub fn value(&mut self) -> T
         ensures same_flow { self.new.flow ≡ self.old.flow }
         ensures value { Reads self.old.view result self.new.view }
+        ensures alone { ReadsAlone self.old.view result self.new.view }
     {
         let flow = &self.flow;
         flow.load(&mut self.seat)
@@ -77,6 +78,7 @@ impl<T: Word, A: Allocator> StateSeat<T, A> {
     pub fn set(&mut self, value: T)
         ensures same_flow { self.new.flow ≡ self.old.flow }
         ensures value { Sets self.old.view value self.new.view }
+        ensures alone { SetsAlone self.old.view value self.new.view }
     {
         let flow = &self.flow;
         flow.swap(&mut self.seat, value);
@@ -87,6 +89,7 @@ impl<T: Word, A: Allocator> StateSeat<T, A> {
     pub fn compare_and_set(&mut self, expect: T, update: T) -> bool
         ensures same_flow { self.new.flow ≡ self.old.flow }
         ensures value { Compares self.old.view expect update result self.new.view }
+        ensures alone { ComparesAlone self.old.view expect update result self.new.view }
     {
         let flow = &self.flow;
         flow.compare_exchange(&mut self.seat, expect, update)
@@ -96,6 +99,7 @@ impl<T: Word, A: Allocator> StateSeat<T, A> {
     pub fn collectors(&mut self) -> u32
         ensures same_flow { self.new.flow ≡ self.old.flow }
         ensures count { Counts self.old.view result self.new.view }
+        ensures alone { HasAll self.old.view → result ≡ 0 }
     {
         let flow = &self.flow;
         flow.count(&mut self.seat)
@@ -136,6 +140,7 @@ impl<T: Word, A: Allocator> StateSeat<T, A> {
         requires { other.flow ≡ self.old.flow }
         ensures same_flow { self.new.flow ≡ self.old.flow }
         ensures joined { TakesBack self.old.view other.view self.new.view }
+        ensures alone { TakesBackLast self.old.view other.view self.new.view }
     {
         let StateSeat { flow, seat, share } = other;
         flow.join(&mut self.seat, seat);
@@ -149,6 +154,7 @@ impl<T: Word, A: Allocator> StateSeat<T, A> {
     pub fn collect(self) -> Collector<T, A>
         ensures same_flow { result.flow ≡ self.flow }
         ensures begins { Begins self.view result.view }
+        ensures alone { HasAll self.view → result.view.counted ≡ 1 }
     {
         let StateSeat {
             flow,

@@ -14,6 +14,8 @@ pub struct View<T> {
     pub told_turn: u64,
     /// How many steps on the value the seat has made, with those of seats that were given back to it.
     pub steps: u64,
+    /// How many values these steps wrote: those that differed from the value at that moment.
+    pub writes: u64,
     /// The number of collectors after the seat's last step on that number.
     pub counted: u64,
     /// The number of that step in the one order of all steps on the number of collectors.
@@ -26,4 +28,6 @@ pub struct View<T> {
     pub collected: LinkedList<T>,
     /// How many seats can be made of this one, itself among them.
     pub share: u64,
+    /// How many seats the flow has in all: what the shares of all its seats add up to.
+    pub seats: u64,
 }

@@ -1,9 +1,9 @@
 //! The kinds of step on the two words: one function for each, and what its seat knows after it.
-ghost use Rattle.std.specs.Prelude.{◌≡◌, ◌<◌, ◌≤◌, [], true, false};
+ghost use Rattle.std.specs.Prelude.{◌≡◌, ◌<◌, ◌≤◌, [], true, false, cond};
 ghost use mathlib.Core.Option.{none};
 ghost use Rattle.atomic_table.specs.Table.{step};
-ghost use Rattle.state_flow.specs.Views.{giver, taker, keeper};
-ghost use Rattle.state_flow.specs.Calls.{Reads, Sets, Compares, Counts, Begins, Ends};
+ghost use Rattle.state_flow.specs.Views.{HasAll, giver, taker, keeper};
+ghost use Rattle.state_flow.specs.Calls.{Reads, Sets, Compares, Counts, Begins, Ends, KnewAll, SetsAlone, ComparesAlone};
 ghost use Rattle.state_flow.specs.Steps.{gathered};
 
 use super::StateFlow;
@@ -16,10 +16,12 @@ use std::alloc::Allocator;
 impl<T: Word, A: Allocator> StateFlow<T, A> {
     /// The value, as it is now.
     pub(crate) fn load(&self, seat: &mut Seat<(), View<T>>) -> T
-        requires { seat.old.table_id ≡ self.now.table.shared.table_id }
+        requires same_flow { seat.old.table_id ≡ self.now.table.shared.table_id }
+        requires has_share { 0 < seat.old.me.0.share }
         ensures same_flow { seat.new.table_id ≡ seat.old.table_id }
         ensures same_slots { seat.new.me.1 ≡ seat.old.me.1 }
         ensures value { Reads seat.old.me.0 result seat.new.me.0 }
+        ensures alone { HasAll seat.old.me.0 → KnewAll seat.old.me.0 seat.new.me.0.seen seat.new.me.0.turn }
         ensures few { seat.new.me.0.share ≤ 1024 }
     {
         let word = self.table.shared.load::<Look>(seat, 0);
@@ -28,7 +30,8 @@ impl<T: Word, A: Allocator> StateFlow<T, A> {
 
     /// The word of the value, for a collector. Its caller compares the value with the last one that it gave.
     pub(crate) fn gather(&self, seat: &mut Seat<(), View<T>>) -> u64
-        requires { seat.old.table_id ≡ self.now.table.shared.table_id }
+        requires same_flow { seat.old.table_id ≡ self.now.table.shared.table_id }
+        requires has_share { 0 < seat.old.me.0.share }
         ensures same_flow { seat.new.table_id ≡ seat.old.table_id }
         ensures value { gathered T.word T.fits (step 0 0 0 0 none) seat.old.me result seat.new.me }
     {
@@ -37,10 +40,12 @@ impl<T: Word, A: Allocator> StateFlow<T, A> {
 
     /// Writes a value, whatever it was.
     pub(crate) fn swap(&self, seat: &mut Seat<(), View<T>>, value: T)
-        requires { seat.old.table_id ≡ self.now.table.shared.table_id }
+        requires same_flow { seat.old.table_id ≡ self.now.table.shared.table_id }
+        requires has_share { 0 < seat.old.me.0.share }
         ensures same_flow { seat.new.table_id ≡ seat.old.table_id }
         ensures same_slots { seat.new.me.1 ≡ seat.old.me.1 }
         ensures value { Sets seat.old.me.0 value seat.new.me.0 }
+        ensures alone { seat.old.me.0.told ≡ [] → SetsAlone seat.old.me.0 value seat.new.me.0 }
     {
         let word = value.to_word();
         self.table.shared.swap::<Put>(seat, 0, word);
@@ -53,10 +58,12 @@ impl<T: Word, A: Allocator> StateFlow<T, A> {
         expect: T,
         update: T,
     ) -> bool
-        requires { seat.old.table_id ≡ self.now.table.shared.table_id }
+        requires same_flow { seat.old.table_id ≡ self.now.table.shared.table_id }
+        requires has_share { 0 < seat.old.me.0.share }
         ensures same_flow { seat.new.table_id ≡ seat.old.table_id }
         ensures same_slots { seat.new.me.1 ≡ seat.old.me.1 }
         ensures value { Compares seat.old.me.0 expect update result seat.new.me.0 }
+        ensures alone { seat.old.me.0.told ≡ [] → ComparesAlone seat.old.me.0 expect update result seat.new.me.0 }
     {
         let expected = expect.to_word();
         let new = update.to_word();
@@ -69,10 +76,12 @@ impl<T: Word, A: Allocator> StateFlow<T, A> {
 
     /// The number of collectors, as it is now.
     pub(crate) fn count(&self, seat: &mut Seat<(), View<T>>) -> u32
-        requires { seat.old.table_id ≡ self.now.table.shared.table_id }
+        requires same_flow { seat.old.table_id ≡ self.now.table.shared.table_id }
+        requires has_share { 0 < seat.old.me.0.share }
         ensures same_flow { seat.new.table_id ≡ seat.old.table_id }
         ensures same_slots { seat.new.me.1 ≡ seat.old.me.1 }
         ensures count { Counts seat.old.me.0 result seat.new.me.0 }
+        ensures alone { HasAll seat.old.me.0 → result ≡ cond seat.old.me.0.collects 1 0 }
     {
         let found = self.table.shared.load::<Tally>(seat, 1);
         found as u32
@@ -86,6 +95,7 @@ impl<T: Word, A: Allocator> StateFlow<T, A> {
         ensures same_flow { seat.new.table_id ≡ seat.old.table_id }
         ensures same_slots { seat.new.me.1 ≡ seat.old.me.1 }
         ensures begins { Begins seat.old.me.0 seat.new.me.0 }
+        ensures alone { HasAll seat.old.me.0 → seat.new.me.0.counted ≡ 1 }
     {
         self.table.shared.fetch_add::<Begin>(seat, 1, 1);
     }
@@ -94,9 +104,11 @@ impl<T: Word, A: Allocator> StateFlow<T, A> {
     pub(crate) fn end(&self, seat: &mut Seat<(), View<T>>)
         requires same_flow { seat.old.table_id ≡ self.now.table.shared.table_id }
         requires collects { seat.old.me.0.collects ≡ true }
+        requires has_share { 0 < seat.old.me.0.share }
         ensures same_flow { seat.new.table_id ≡ seat.old.table_id }
         ensures same_slots { seat.new.me.1 ≡ seat.old.me.1 }
         ensures ends { Ends seat.old.me.0 seat.new.me.0 }
+        ensures alone { HasAll seat.old.me.0 → seat.new.me.0.counted ≡ 0 }
     {
         self.table.shared.fetch_sub::<End>(seat, 1, 1);
     }
@@ -109,7 +121,8 @@ impl<T: Word, A: Allocator> StateFlow<T, A> {
     ) -> Seat<(), View<T>>
         requires picked { part ≡ J.part }
         requires same_flow { seat.old.table_id ≡ self.now.table.shared.table_id }
-        requires enough { part ≤ seat.old.me.0.share }
+        requires some_part { 0 < part }
+        requires enough { part < seat.old.me.0.share }
         requires idle { seat.old.me.0.collects ≡ false }
         ensures same_flow { (seat.new.table_id ≡ seat.old.table_id) × (result.table_id ≡ seat.old.table_id) }
         ensures gives { seat.new.me ≡ (giver part seat.old.me.0, seat.old.me.1) }
@@ -122,6 +135,7 @@ impl<T: Word, A: Allocator> StateFlow<T, A> {
     /// Takes another seat's share. It tells nothing of how the two histories go together: the next load does.
     pub(crate) fn join(&self, seat: &mut Seat<(), View<T>>, other: Seat<(), View<T>>)
         requires same_flow { (seat.old.table_id ≡ self.now.table.shared.table_id) × (other.table_id ≡ self.now.table.shared.table_id) }
+        requires has_share { 0 < seat.old.me.0.share }
         requires untold { (seat.old.me.0.told_turn ≡ 0) × (other.me.0.told_turn ≡ 0) }
         requires idle { other.me.0.collects ≡ false }
         requires no_slots { (seat.old.me.1 ≡ []) × (other.me.1 ≡ []) }
