@@ -1,13 +1,15 @@
 //! A lock: a word that says whether it is free, and a place for the state.
-ghost use Rattle.std.specs.Prelude.{◌≡◌, ◌≢◌, [], ◌∷◌, Option, Some, None, IfOk, IsTrue, IsFalse, ◌<◌};
+ghost use Rattle.std.specs.Prelude.{ℕ, suc, ◌≡◌, ◌≢◌, [], ◌∷◌, Option, Some, None, IfOk, IfErr, IsTrue, IsFalse, ◌<◌};
 ghost use Rattle.std.specs.Arc.{arc_value};
 ghost use Rattle.round_lock.specs.declared.log.Log.{Log};
-ghost use Rattle.round_lock.specs.History.{Saw, newcomer, called, another, own_of, turn_of};
+ghost use Rattle.round_lock.specs.History.{Saw, newcomer, called, another, sharing, whole_again, own_of, turn_of};
 ghost use Rattle.round_lock.specs.Law.{HasTaken, IsAt, IsNote, HasLooked};
 ghost use Rattle.round_lock.specs.Locking.{Locking, Noting};
 
 use crate::log::Log;
-use crate::rule::{Another, Called, Gives, Hears, Looks, Made, Numbered, Rounds, Takes, Turned};
+use crate::rule::{
+    Another, Called, Gives, Hears, Looks, Made, Notes, Numbered, Rounds, Takes, TakesBack, Turned,
+};
 use atomic_table::{Refused, Seat, Table};
 use std::alloc::{AllocError, Global};
 use std::hint::spin_loop;
@@ -16,7 +18,8 @@ use std::snapshot::Snapshot;
 use std::sync::{Arc, Wait};
 
 /// An owner of the state under a lock. Contracts see which lock it is, the owner's number, how the state was made, the
-/// owner's own calls, and the one list of all calls as far as the owner has seen it.
+/// owner's own calls, the one list of all calls as far as the owner has seen it, and how often its share of the lock was
+/// halved.
 #[derive(Drop)]
 pub struct Lock<S: Called<E> + Drop, E> {
     place: Arc<Place<S, E>>,
@@ -109,14 +112,31 @@ impl<S: Called<E> + Drop, E: Drop> Lock<S, E> {
         give_as::<S, E, Brand>(&self.place, &mut self.seat, state);
     }
 
-    /// Another owner of the same state, which has made no call, and has seen as much as this one.
+    /// Another owner of the same state, which has made no call, and has seen as much as this one. It has half of this
+    /// one's share of the lock, of which the first owner has the whole: so no body makes an owner that nobody sees.
     pub fn dup(&mut self, rt: &impl Wait) -> Result<Lock<S, E>, AllocError>
         ensures other { IfOk result (λ other. (other.log ≡ another self.old.log) × (other.place ≡ self.old.place)) }
-        ensures same { self.new ≡ self.old }
+        ensures half { IfOk result (λ _. self.new ≡ record self.old { log = sharing self.old.log }) }
+        ensures same { IfErr result (λ _. self.new ≡ self.old) }
     {
         let place = Arc::try_clone(&self.place)?;
         let seat = self.place.shared.split_seat::<Another>(&mut self.seat);
         Ok(Lock { place, seat })
+    }
+
+    /// Takes back the half of the share that another owner has, which has made no call: for a call that made one, and then
+    /// failed. Without waiting.
+    pub fn take_back(&mut self, other: Lock<S, E>)
+        requires place { other.place ≡ self.old.place }
+        requires half { (half : ℕ) × (other.log.halved ≡ suc half) × (self.old.log.halved ≡ suc half) }
+        requires idle { (other.log.own ≡ []) × (other.log.held ≡ None) }
+        ensures whole { self.new ≡ record self.old { log = whole_again self.old.log other.log } }
+    {
+        let Lock { place, seat } = other;
+        self.place
+            .shared
+            .join_seat::<TakesBack>(&mut self.seat, seat);
+        drop(place);
     }
 
     /// A note of what this owner has seen. Without waiting.
@@ -124,7 +144,7 @@ impl<S: Called<E> + Drop, E: Drop> Lock<S, E> {
         ensures note { (result.place ≡ self.old.place) × (result.seen ≡ self.old.log.seen) }
         ensures same { self.new ≡ self.old }
     {
-        let seat = self.place.shared.split_seat::<Another>(&mut self.seat);
+        let seat = self.place.shared.split_seat::<Notes>(&mut self.seat);
         Note { seat }
     }
 

@@ -9,13 +9,14 @@ use Rattle.shared_rounds.specs.Names.{FlowName, SharedSeen}
 abbrev pub Rounds : Type 0
 Rounds = List (ℕ × Round × SharedSeen)
 
--- which lock it is, the flow under it, what the owner holds while it has the lock, the owner's number, its own rounds, and the one
--- list of rounds as far as it has seen it
+-- which lock it is, the flow under it, what the owner holds while it has the lock, the owner's number, how often its share of the
+-- lock was halved, its own rounds, and the one list of rounds as far as it has seen it
 pub record Reach : Type 0 where
   pub lock : TableId
   pub flow : Option FlowName
   pub held : Option SharedSeen
   pub pass : ℕ
+  pub halved : ℕ
   pub rounds : List Round
   pub seen : Rounds
 
@@ -24,11 +25,12 @@ pub record Party : Type 0 where
   pub lock : TableId
   pub flow : Option FlowName
   pub pass : ℕ
+  pub halved : ℕ
   pub rounds : List Round
   pub seen : Rounds
 
 abbrev pub party_of : Reach → Party
-party_of r = record { lock = r.lock; flow = r.flow; pass = r.pass; rounds = r.rounds; seen = r.seen }
+party_of r = record { lock = r.lock; flow = r.flow; pass = r.pass; halved = r.halved; rounds = r.rounds; seen = r.seen }
 
 -- the party's rounds grew by this one, and it has seen this list
 abbrev pub with_round : Round → Rounds → Party → Party
@@ -49,4 +51,4 @@ module _ {S : Type 0} (value : S → SharedSeen) where
   rounds_in (t ∷ log) = (t.0, t.1, value t.2) ∷ rounds_in log
 
   abbrev pub reach_of : Locking S Round → Reach
-  reach_of l = record { lock = l.place; flow = name_in l.log.made; held = seen_in l.log.held; pass = l.pass; rounds = l.log.own; seen = rounds_in l.log.seen }
+  reach_of l = record { lock = l.place; flow = name_in l.log.made; held = seen_in l.log.held; pass = l.pass; halved = l.log.halved; rounds = l.log.own; seen = rounds_in l.log.seen }

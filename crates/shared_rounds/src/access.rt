@@ -1,5 +1,5 @@
 //! What every owner of a shared flow holds.
-ghost use Rattle.std.specs.Prelude.{true, false, ℕ, ◌≡◌, ◌≢◌, ◌⊎◌, [], Ok, Some, None, length, map, IfOk, IsOkUnless};
+ghost use Rattle.std.specs.Prelude.{suc, pred, IfErr, true, false, ℕ, ◌≡◌, ◌≢◌, ◌⊎◌, [], Ok, Some, None, length, map, IfOk, IsOkUnless};
 ghost use Rattle.round_lock.specs.History.{own_of};
 ghost use Rattle.shared_lane.specs.Readers.{at};
 ghost use Rattle.shared_lane.specs.Sequencers.{next};
@@ -81,7 +81,7 @@ impl Access {
     /// The first owner.
     pub fn new(alloc: Global, config: Config, shared: Shared) -> Result<Access, Refusal>
         requires { (shared.name.config ≡ config) × IsNew shared }
-        ensures made { IfOk result (λ made. (made.flow ≡ Some shared.name) × (made.held ≡ None) × (made.rounds ≡ []) × (made.seen ≡ [])) }
+        ensures made { IfOk result (λ made. (made.flow ≡ Some shared.name) × (made.held ≡ None) × (made.rounds ≡ []) × (made.halved ≡ 0) × (made.seen ≡ [])) }
         ensures memory { IsOkUnless result Refusal.NoMemory }
     {
         let state = Box::new(alloc, shared)?;
@@ -97,11 +97,12 @@ impl Access {
         })
     }
 
-    /// Another owner of the same flow, which has made no call, and has seen as much.
+    /// Another owner of the same flow, which has made no call, and has seen as much. It has half of this owner's share of the lock.
     pub fn another(&mut self, rt: &impl Wait) -> Result<Access, Refusal>
-        ensures other { IfOk result (λ other. other ≡ record self.old { held = None; pass = other.pass; rounds = [] }) }
+        ensures other { IfOk result (λ other. other ≡ record self.old { held = None; pass = other.pass; halved = suc self.old.halved; rounds = [] }) }
+        ensures half { IfOk result (λ _. self.new ≡ record self.old { halved = suc self.old.halved }) }
         ensures memory { IsOkUnless result Refusal.NoMemory }
-        ensures same { self.new ≡ self.old }
+        ensures same { IfErr result (λ _. self.new ≡ self.old) }
     {
         let wakes = Wakes::new(self.alloc, &self.config)?;
         let track = Arc::try_clone(&self.track)?;
@@ -113,6 +114,26 @@ impl Access {
             alloc: self.alloc,
             config: self.config,
         })
+    }
+
+    /// Takes back the half of the share that another owner has, which has made no call: for a call that made one, and then failed.
+    /// Without a lock.
+    pub fn take_back(&mut self, other: Access)
+        requires lock { other.lock ≡ self.old.lock }
+        requires half { (half : ℕ) × (other.halved ≡ suc half) × (self.old.halved ≡ suc half) }
+        requires idle { (other.rounds ≡ []) × (other.held ≡ None) }
+        ensures whole { self.new ≡ record self.old { halved = pred self.old.halved } }
+    {
+        let Access {
+            lock,
+            track,
+            wakes,
+            alloc: _,
+            config: _,
+        } = other;
+        self.lock.take_back(lock);
+        drop(track);
+        drop(wakes);
     }
 
     /// Whether who has received has to take the lock, for an emission that may wait for that, as its reader stands now, and after the
@@ -299,7 +320,7 @@ fn taken_by(round: &Round) -> Option<u64>
 // Puts it under a lock, whose first owner has made no call.
 fn locked(alloc: Global, state: Box<Shared>) -> Result<Lock<Box<Shared>, Round>, AllocError>
     requires { IsNew state.value }
-    ensures { IfOk result (λ lock. reach_of (λ s. s.value) lock ≡ record { lock = lock.place; flow = Some state.value.name; held = None; pass = lock.pass; rounds = []; seen = [] }) }
+    ensures { IfOk result (λ lock. reach_of (λ s. s.value) lock ≡ record { lock = lock.place; flow = Some state.value.name; held = None; pass = lock.pass; halved = 0; rounds = []; seen = [] }) }
 {
     Lock::new(alloc, state)
 }
