@@ -239,7 +239,7 @@ makes_loses lane q (round.Subscribe (Ok number)) t same on = let r = on.1.0 in (
 makes_loses lane q (round.Subscribe (Err refusal)) t same on = shut_loses q refusal t on
 makes_loses lane q (round.Next number) t same on = same_state q t on
 makes_loses lane q (round.Pending number) t same on = same_state q t on
-makes_loses lane q (round.Cancel number) t same on = λ p. ap (λ (z : SequencerSeen). lost_by z p) on.2 ∙ told_loses q.view.sequencing.places (on.0).place (on.0).opening p
+makes_loses lane q (round.Cancel number) t same on = λ p. ap (λ (z : SequencerSeen). lost_by z p) on.4 ∙ told_loses (on.0).view.sequencing.places (on.1).place (on.1).opening p ∙ on.2.4 p
 makes_loses lane q round.Reset t same on = λ p. ap (λ (z : SequencerSeen). lost_by z p) on
 makes_loses lane q (round.Cache (Ok words)) t same on = same_state q t on.0
 makes_loses lane q (round.Cache (Err refusal)) t same on = same_state q t on.0

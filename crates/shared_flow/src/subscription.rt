@@ -362,8 +362,11 @@ impl<T: Word> Subscription<T> {
 
     /// Ends the subscription, and gives up what it has pending, of its prelude too: Kotlin's `collect`, cancelled. Emissions that
     /// wait are then accepted while there is room.
-    pub fn cancel(self, rt: &impl Wait)
-        ensures ended { (left : Party) × WasEnded self.number self.reader self.party left }
+    ///
+    /// Says what had become of the emissions from its start on, as an owner's [`meet`](crate::SharedFlow::meet) does:
+    /// `accepted - received - dropped` were pending, and are given up. Those of its prelude aren't counted.
+    pub fn cancel(self, rt: &impl Wait) -> Met
+        ensures ended { (left : Party) × WasEnded self.number self.reader result self.party left }
     {
         let Subscription {
             mut access,
@@ -375,8 +378,9 @@ impl<T: Word> Subscription<T> {
             marker: _,
         } = self;
         let mut inside = access.enter(rt);
-        inside.guarded.state.cancel(number, reader);
+        let met = inside.guarded.state.cancel(number, reader);
         access.leave(rt, inside, Round::Cancel(number));
         drop(access);
+        met
     }
 }

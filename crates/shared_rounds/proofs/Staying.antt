@@ -186,7 +186,7 @@ makes_out lane q (round.Subscribe (Ok number)) t b on kept out = let is = on.1.1
 makes_out lane q (round.Subscribe (Err refusal)) t b on kept out = shut_out q refusal t b on out
 makes_out lane q (round.Next number) t b on kept out = equal_out q t b on out
 makes_out lane q (round.Pending number) t b on kept out = equal_out q t b on out
-makes_out lane q (round.Cancel number) t b on kept out = let is = on.2 in same_out q t b (ap (λ (z : SequencerSeen). z.standing) is) (ap (λ (z : SequencerSeen). z.waiting) is) out
+makes_out lane q (round.Cancel number) t b on kept out = let is = on.4 in same_out on.0 t b (ap (λ (z : SequencerSeen). z.standing) is) (ap (λ (z : SequencerSeen). z.waiting) is) (loaded_out q on.0 b on.2 out)
 makes_out lane q round.Reset t b on kept out = same_out q t b (ap (λ (z : SequencerSeen). z.standing) on) (ap (λ (z : SequencerSeen). z.waiting) on) out
 makes_out lane q (round.Cache (Ok words)) t b on kept out = equal_out q t b on.0 out
 makes_out lane q (round.Cache (Err refusal)) t b on kept out = equal_out q t b on.0 out

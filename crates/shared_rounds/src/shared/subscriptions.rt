@@ -98,17 +98,21 @@ impl Shared {
         self.subscriptions.sleep(number, bed, cx);
     }
 
-    /// Lets in what waits, ends a subscription, and lets in once more. Where nothing waits, that loads no cursor.
-    pub fn cancel(&mut self, number: u64, reader: Reader)
+    /// Lets in what waits, compares what sequencer and reader know, ends the subscription, and lets in once more. Where nothing waits,
+    /// that loads no cursor but the reader's.
+    pub fn cancel(&mut self, number: u64, reader: Reader) -> Met
         requires { IsReaderOf self.old.name.lane reader }
         ensures does { IsOfSubscription number reader → Comes self.old (round.Cancel number) self.new }
-        ensures closed { HasClosed self.old reader self.new }
+        ensures closed { HasClosed self.old reader result self.new }
         ensures asleep { SleepOn self.old self.new }
     {
         self.sequencer.scan(self.track.lane());
+        let mut reader = reader;
+        let met = self.meet(&mut reader);
         let mut closed = reader.close(self.track.lane());
         self.sequencer.told_end(self.track.lane(), &mut closed);
         self.sequencer.scan(self.track.lane());
+        met
     }
 
     /// Empties the replay cache.
