@@ -41,16 +41,16 @@ was_let_in number p q t found called reader taken saw named went let_in =
     }
 
 -- so it did, and ended a reader
-pub was_ended : (number : ℕ) (p q t : Reach) (found called : SharedSeen) (reader : ReaderSeen) → q ≡ record p { held = Some found; seen = q.seen }
-    → Found (party_of p) found q.seen → p.flow ≡ Some found.name → Left (round.Cancel number) called q t → HasClosed found reader called
-    → WasEnded number reader (party_of p) (party_of t)
+pub was_ended : (number : ℕ) (p q t : Reach) (found called : SharedSeen) (reader : ReaderSeen) (met : Met) → q ≡ record p { held = Some found; seen = q.seen }
+    → Found (party_of p) found q.seen → p.flow ≡ Some found.name → Left (round.Cancel number) called q t → HasClosed found reader met called
+    → WasEnded number reader met (party_of p) (party_of t)
 unfolding made
-was_ended number p q t found called reader taken saw named went closed =
+was_ended number p q t found called reader met taken saw named went closed =
     let same : found ≡ went.found = same_Some _ _ (sym (ap (λ (x : Reach). x.held) taken) ∙ went.held) in record {
       made = made (round.Cancel number) p q t found taken saw went;
       flow_is = named ∙ ap (λ (s : SharedSeen). Some s.name) same;
-      closed = subst (λ (s : SharedSeen). HasClosed s reader went.left) same
-          (closed.0, closed.1, closed.2, closed.3, closed.4, (closed.5.0, closed.5.1, loaded_twice closed.5.0 called.sequencer went.left.sequencer closed.5.2 went.only));
+      closed = subst (λ (s : SharedSeen). HasClosed s reader met went.left) same
+          (closed.0, closed.1, closed.2, closed.3, closed.4, (closed.5.0, closed.5.1, closed.5.2, closed.5.3, closed.5.4, closed.5.5, loaded_twice closed.5.2 called.sequencer went.left.sequencer closed.5.6 went.only));
     }
 
 -- so it did, of which a receipt was a part

@@ -1,5 +1,6 @@
 -- What a subscription was let in by, and what its looks at the lane came to.
 use Rattle.std.specs.Prelude.{◌≡◌, ◌⊎◌, ◌++◌, ℕ, false, length, replicate, Some, Ok}
+use Rattle.shared_lane.specs.declared.meeting.Met.{Met}
 use Rattle.shared_lane.specs.declared.reader.Taken.{Taken}
 use Rattle.shared_lane.specs.declared.reader.Taken.TheVariants.{Value, Nothing, Overtaken}
 use Rattle.shared_lane.specs.Views.{ReaderSeen}
@@ -19,11 +20,12 @@ pub record WasLetInBy (number : ℕ) (r : ReaderSeen) (p q : Party) : Type 0 whe
   pub flow_is : p.flow ≡ Some made.found.name
   pub admitted : WasAdmitted made.found r made.left
 
--- The reader was closed by a round of this party: after that what waits was let in.
-pub record WasEnded (number : ℕ) (r : ReaderSeen) (p q : Party) : Type 0 where
+-- The reader was closed by a round of this party: sequencer and reader compared what they know before that, and counted this, and after
+-- it what waits was let in.
+pub record WasEnded (number : ℕ) (r : ReaderSeen) (met : Met) (p q : Party) : Type 0 where
   pub made : Made (round.Cancel number) p q
   pub flow_is : p.flow ≡ Some made.found.name
-  pub closed : HasClosed made.found r made.left
+  pub closed : HasClosed made.found r met made.left
 
 -- A receipt was made within a round of this party: what waits was let in before it, and once more after it.
 pub record WasMadeWithin (number : ℕ) (p q : Party) : Type 0 where
@@ -56,6 +58,10 @@ MissedTwice r t = (m : ReaderSeen) × Missed r m × Missed m t
 pub data MissedOn : ReaderSeen → ReaderSeen → Type 0 where
   not_once : (r : ReaderSeen) → MissedOn r r
   once_more : (r m t : ReaderSeen) → MissedOn r m → Missed m t → MissedOn r t
+
+-- so it did by one look at least
+abbrev pub MissedSome : ReaderSeen → ReaderSeen → Type 0
+MissedSome r t = (m : ReaderSeen) × MissedOn r m × Missed m t
 
 -- the reader took the next value, after looks that took nothing
 abbrev pub Waited : {T : Type 0} → (ℕ → T) → ReaderSeen → T → ReaderSeen → Type 0

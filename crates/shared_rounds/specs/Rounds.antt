@@ -12,17 +12,19 @@ use Rattle.flow_terms.specs.declared.answers.Withdrawn.{Withdrawn}
 use Rattle.flow_terms.specs.declared.answers.Withdrawn.TheVariants as withdrawn
 use Rattle.flow_terms.specs.declared.ids.Ticket.{Ticket}
 use Rattle.lane_steps.specs.Law.{Entry}
+use Rattle.shared_lane.specs.declared.meeting.Met.{Met}
 use Rattle.shared_lane.specs.declared.reader.Taken.{Taken}
 use Rattle.shared_lane.specs.declared.reader.Taken.TheVariants.{Value, Nothing, Overtaken}
 use Rattle.shared_lane.specs.Views.{LaneSeen, ReaderSeen, ReceiptSeen, SequencerSeen}
 use Rattle.shared_lane.specs.Sequencers.{IsSameSequencer, OnlyLoaded, AfterScan, TriedOn, RefusedTry, BegunOn, RefusedStart, seen}
 use Rattle.shared_lane.specs.Blocks.{TriedAllOn}
 use Rattle.shared_lane.specs.Polls.{PolledOn, WithdrawnFrom, IsOutFor, IsNotOut}
-use Rattle.shared_lane.specs.Places.{LetIn, NotLetIn, Counted, told_of_end}
+use Rattle.shared_lane.specs.Places.{LetIn, NotLetIn, Counted, IsOfSubscription, told_of_end}
 use Rattle.shared_lane.specs.Readers.{IsReaderOf}
 use Rattle.shared_rounds.specs.declared.round.Emission.{Emission}
 use Rattle.shared_rounds.specs.declared.round.Round.{Round}
 use Rattle.shared_rounds.specs.declared.round.Round.TheVariants as round
+use Rattle.shared_rounds.specs.Meeting.{HasMet}
 use Rattle.shared_rounds.specs.Names.{SharedSeen}
 use Rattle.shared_rounds.specs.Tries.{IfBegun, without_ticket}
 use Rattle.shared_rounds.specs.Waking.{Wakes}
@@ -69,8 +71,8 @@ Makes lane q (round.Subscribe (Ok number)) t = (number ≡ q.subscription) × ((
 Makes lane q (round.Subscribe (Err refusal)) t = NotLetIn q refusal t
 Makes lane q (round.Next number) t = t ≡ q
 Makes lane q (round.Pending number) t = t ≡ q
--- the sequencer knows that a reader has closed its cursor
-Makes lane q (round.Cancel number) t = (r : ReaderSeen) × IsReaderOf lane r × (t ≡ told_of_end r q)
+-- the sequencer has loaded the cursor of this subscription's reader, and then knows that it was closed
+Makes lane q (round.Cancel number) t = (m : SequencerSeen) × (r : ReaderSeen) × OnlyLoaded q m × IsReaderOf lane r × (t ≡ told_of_end r m) × IsOfSubscription number r
 Makes lane q round.Reset t = t ≡ record q { cache = [] }
 Makes lane q (round.Cache (Ok words)) t = (t ≡ q) × (words ≡ q.cache)
 Makes lane q (round.Cache (Err refusal)) t = (t ≡ q) × (refusal ≡ NoMemory)
@@ -189,9 +191,15 @@ IsLetIn s number r t = AfterScan s.sequencer (λ m. (number ≡ m.subscription) 
 abbrev pub WasAdmitted : SharedSeen → ReaderSeen → SharedSeen → Type 0
 WasAdmitted s r t = AfterScan s.sequencer (λ m. (n : SequencerSeen) × LetIn s.name.lane m r n × OnlyLoaded n t.sequencer)
 
--- the sequencer heard that the reader has closed its cursor, and then let in what waits
-abbrev pub HasClosed : SharedSeen → ReaderSeen → SharedSeen → Type 0
-HasClosed s r t = AfterScan s.sequencer (λ m. (n : SequencerSeen) × Scanned (told_of_end r m) n × OnlyLoaded n t.sequencer)
+-- Sequencer and reader compared what they know, and counted; then the sequencer heard that the reader has closed its cursor, and let in
+-- what waits
+abbrev pub HasClosedAt : ReaderSeen → Met → SequencerSeen → SequencerSeen → Type 0
+HasClosedAt r met q t = (k : SequencerSeen) × (last : ReaderSeen) × (n : SequencerSeen)
+    × OnlyLoaded q k × HasMet k r last met × Scanned (told_of_end last k) n × OnlyLoaded n t
+
+-- so it did after what waits was let in
+abbrev pub HasClosed : SharedSeen → ReaderSeen → Met → SharedSeen → Type 0
+HasClosed s r met t = AfterScan s.sequencer (λ m. HasClosedAt r met m t.sequencer)
 
 -- what waits was let in before a look, and once more after it
 abbrev pub HasFreed : SharedSeen → SharedSeen → Type 0

@@ -8,11 +8,11 @@ use Rattle.shared_flow.proofs.subscription.Subscription.cancel.Goals as goal
 pub returns : goal.returns
 returns g c =
     let found : SharedSeen = c.enter-inside.result.guarded.state.value in
-    let closed = subst (λ (s : SharedSeen). HasClosed s c.self.inside.reader c.cancel.new.self) c.deref_mut.ensures.value c.cancel.ensures.closed in
+    let closed = subst (λ (s : SharedSeen). HasClosed s c.self.inside.reader c.cancel.result c.cancel.new.self) c.deref_mut.ensures.value c.cancel.ensures.closed in
     record {
       ended = (
         party_of c.leave.new.self,
-        rw (← c.self.view_is) (was_ended c.self.inside.number c.self.inside.access c.enter-inside.new.self c.leave.new.self found c.cancel.new.self c.self.inside.reader
+        rw (← c.self.view_is) (was_ended c.self.inside.number c.self.inside.access c.enter-inside.new.self c.leave.new.self found c.cancel.new.self c.self.inside.reader c.cancel.result
             c.enter-inside.ensures.taken c.enter-inside.ensures.found c.enter-inside.ensures.named c.leave.ensures.left closed),
       );
     }
