@@ -16,7 +16,7 @@ returns-clause-does c = λ own. (
     search rules,
     (
       c.told_end.new.self,
-      (c.meet.new.self.sequencer, c.meet.new.reader, c.meet.ensures.shared.1, search rules, search rules, c.meet.ensures.met.same.5 ∙ own),
+      (c.meet-met.new.self.sequencer, c.meet-met.new.reader, c.meet-met.ensures.shared.1, search rules, search rules, c.meet-met.ensures.met.same.5 ∙ own),
       (c.scan-2.new.self, inr (c.scan-2.new.self, c.scan-2.result, search rules, search rules, search rules, refl), (refl, refl, refl, λ _. refl, λ _. refl)),
       (c.scan-2.new.self, (c.scan-2.new.self, c.scan-2.result, search rules, search rules, search rules, refl), (refl, refl, refl, λ _. refl, λ _. refl)),
     ),
@@ -26,18 +26,18 @@ returns-clause-does c = λ own. (
 pub returns-clause-closed : goal.returns-clause-closed
 returns-clause-closed c =
     let last = c.scan-2.new.self in
-    let heard : c.told_end.new.self ≡ told_of_end c.meet.new.reader c.meet.new.self.sequencer = search rules in (
+    let heard : c.told_end.new.self ≡ told_of_end c.meet-met.new.reader c.meet-met.new.self.sequencer = search rules in (
       c.scan.new.self,
       c.scan.result,
       search rules,
       search rules,
       search rules,
       (
-        c.meet.new.self.sequencer,
-        c.meet.new.reader,
+        c.meet-met.new.self.sequencer,
+        c.meet-met.new.reader,
         last,
-        c.meet.ensures.shared.1,
-        c.meet.ensures.met,
+        c.meet-met.ensures.shared.1,
+        c.meet-met.ensures.met,
         subst (λ (q : SequencerSeen). Scanned q last) heard (last, c.scan-2.result, search rules, search rules, search rules, refl),
         (refl, refl, refl, λ _. refl, λ _. refl),
       ),
