@@ -17,7 +17,7 @@ use Rattle.shared_rounds.specs.Reach.{Rounds, rounds_in}
 use Rattle.shared_rounds.specs.Rounds.{Does, WasAdmitted}
 use Rattle.shared_flow.specs.Laws.{IsOneFlow, IsRuled, HasOneList, EachSubscriptionLaw, knowing}
 use Rattle.shared_flow.proofs.Lives.{looks, reader_lived, with_prelude}
-use Rattle.shared_rounds.proofs.Boxes.{in_begins, same_own, unboxed}
+use Rattle.shared_rounds.proofs.Boxes.{in_begins, same_own, same_parts, unboxed}
 use Rattle.shared_rounds.proofs.Numbers.{same_name}
 use Rattle.shared_flow.proofs.Ordering.{each_in_its_own_order}
 use Rattle.shared_flow.proofs.Queueing.{comes_to}
@@ -33,7 +33,8 @@ module _ {S : Type 0} (value : S → SharedSeen) where
   pub one_list : (items : List S) (views : List (Log S Round)) → IsRuled value items views → HasOneList value items views
   one_list items views ruled = let one = reads (λ (s : S). IsNew (value s)) (λ (s : S) (r : Round) (t : S). Does (value s) r (value t)) items views ruled in record {
     log = rounds_in value one.log;
-    parts = λ pass v at. one.parts pass v at ∙ same_own value pass one.log;
+    parts = λ pass v at here. one.parts pass v at here ∙ same_own value pass one.log;
+    parts_taken = λ pass v at. same_parts value one.log v.taken (one.parts_taken pass v at);
     seen_by = λ pass v at. in_begins value one.log v.seen (one.seen_by pass v at);
     under = λ now is. (value one.made, unboxed value one.made one.log now (one.under now is));
     taken = λ pass v now at is. (value one.made, unboxed value one.made one.log now (one.taken pass v now at is).0);

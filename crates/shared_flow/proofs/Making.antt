@@ -1,6 +1,6 @@
 -- A party's round, put together from what it found and how it left.
 use Rattle.std.proofs.Common.{◌≡◌, ◌++◌, ◌∷◌, [], ℕ, Ok, Some, refl, sym, ap, ◌∙◌, subst}
-use Rattle.round_lock.specs.History.{Begins, own_of}
+use Rattle.round_lock.specs.History.{Begins, KnowsTaken, own_of}
 use Rattle.std.proofs.lemmas.List.{append-nil}
 use Rattle.std.proofs.lemmas.Option.{same_Some}
 use Rattle.shared_lane.specs.declared.meeting.Met.{Met}
@@ -92,6 +92,7 @@ made_since r p q t same on it = record {
     after = it.made.saw.after;
     rounds_are = sym (ap (λ (x : Party). x.rounds) same) ∙ it.made.saw.rounds_are ∙ ap (λ pass. own_of pass it.made.before) (ap (λ (x : Party). x.pass) same);
     seen_on = subst (λ (l : Rounds). Begins l p.seen) (sym it.before_is) on;
+    taken_in = subst (λ (x : Party). KnowsTaken x.pass x.rounds x.halved x.taken it.made.before) same it.made.saw.taken_in;
   };
   does = it.made.does;
   after = it.made.after ∙ ap (λ (x : Party). with_round r (it.made.before ++ (x.pass, r, it.made.left) ∷ []) x) same;
@@ -119,6 +120,7 @@ found_again p q found saw same = subst (λ (x : Party). Found x found q.seen) (s
   after = saw.after;
   rounds_are = saw.rounds_are;
   seen_on = ([], sym (append-nil q.seen));
+  taken_in = saw.taken_in;
 })
 
 -- a party after its round is what it was, but for this round and what it has seen now

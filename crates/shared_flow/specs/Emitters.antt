@@ -14,10 +14,10 @@ use Rattle.shared_lane.specs.Views.{ReceiptSeen}
 use Rattle.shared_rounds.specs.declared.round.Emission.{Emission}
 use Rattle.shared_rounds.specs.declared.round.Round.TheVariants as round
 use Rattle.shared_rounds.specs.Entering.{Made}
-use Rattle.shared_rounds.specs.Reach.{Rounds, with_round}
+use Rattle.shared_rounds.specs.Reach.{Party, Rounds, with_round}
 use Rattle.shared_rounds.specs.Rounds.{numbers_tried, numbers_begun, poll_round, withdraw_round}
 use Rattle.shared_rounds.specs.Tries.{ticket_of, last_of_try, last_of_start, without_ticket}
-use Rattle.shared_flow.specs.Parties.{Emitting, IfLeft, UnlessLeft, without_receipt}
+use Rattle.shared_flow.specs.Parties.{Emitting, IfLeft, UnlessLeft, taking_of, without_receipt}
 
 -- the emission of this word by an emitter
 abbrev pub emission_by : Emitting → ℕ → Emission
@@ -76,6 +76,10 @@ WasGivenUp e answer f = (ticket : Ticket) → e.ticket ≡ Some ticket
 -- an emitter was ended: what was in flight was given up, and had been accepted, or there was no receipt for it
 abbrev pub EndedWith : Emitting → Withdrawn ReceiptSeen → Type 0
 EndedWith e answer = (f : Emitting) × IfLeft answer (λ receipt. WasLeft e receipt f) × WasGivenUp e answer f
+
+-- a party took in an emitter that was ended, for good
+abbrev pub EndedInto : Emitting → Withdrawn ReceiptSeen → Party → Party → Type 0
+EndedInto e answer p q = (f : Emitting) × IfLeft answer (λ receipt. WasLeft e receipt f) × WasGivenUp e answer f × (e.ticket ≡ None → f ≡ e) × (q ≡ taking_of f.party p)
 
 -- by polls, one after another, there was no receipt for the emission in flight
 pub data Waited : Emitting → Emitting → Type 0 where

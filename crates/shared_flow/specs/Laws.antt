@@ -1,10 +1,10 @@
 -- What holds of a shared flow for every order of calls by any of its owners, emitters and subscriptions on threads.
-use Rattle.std.specs.Prelude.{◌≡◌, ℕ, List, [], ◌∷◌, Option, Some}
+use Rattle.std.specs.Prelude.{◌≡◌, ◌≢◌, ℕ, List, [], ◌∷◌, Option, Some}
 use mathlib.Core.Option.{some}
 use lib.ListN.{get_elem?}
 use Rattle.std.specs.Global.{Box}
 use Rattle.round_lock.specs.declared.log.Log.{Log}
-use Rattle.round_lock.specs.History.{OneHistory, own_of}
+use Rattle.round_lock.specs.History.{OneHistory, Parts, own_of, spent}
 use Rattle.round_lock.specs.Law.{Lies, OneLock}
 use Rattle.atomic_table.specs.Table.{State}
 use Rattle.lane_steps.specs.Law.{Begins}
@@ -32,11 +32,13 @@ abbrev pub OneFlowLaw : Type 0
 OneFlowLaw = (made now : SharedSeen) (log : Rounds) → IsLeftBy made log now → IsOneFlow made log now
 
 module _ {S : Type 0} (value : S → SharedSeen) where
-  -- There is one list of rounds. Each owner's rounds are its part of it, in that owner's order; it begins with what each owner has seen;
+  -- There is one list of rounds. Each owner's rounds are its part of it, in that owner's order, and so are those of each owner that it
+  -- took in; the list begins with what each owner has seen;
   -- and the flow, under the lock or with an owner that has taken it, is what exactly that list left of a new one.
   pub record HasOneList (items : List S) (views : List (Log S Round)) : Type 0 where
     pub log : Rounds
-    pub parts : (pass : ℕ) (v : Log S Round) → get_elem? views pass ≡ some v → v.own ≡ own_of pass log
+    pub parts : (pass : ℕ) (v : Log S Round) → get_elem? views pass ≡ some v → v ≢ spent → v.own ≡ own_of pass log
+    pub parts_taken : (pass : ℕ) (v : Log S Round) → get_elem? views pass ≡ some v → Parts log v.taken
     pub seen_by : (pass : ℕ) (v : Log S Round) → get_elem? views pass ≡ some v → Begins log (rounds_in value v.seen)
     pub under : (now : S) → items ≡ now ∷ [] → (made : SharedSeen) × IsLeftBy made log (value now)
     pub taken : (pass : ℕ) (v : Log S Round) (now : S) → get_elem? views pass ≡ some v → v.held ≡ Some now → (made : SharedSeen) × IsLeftBy made log (value now)

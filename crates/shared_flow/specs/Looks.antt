@@ -8,7 +8,7 @@ use Rattle.shared_lane.specs.Readers.{at}
 use Rattle.shared_rounds.specs.declared.round.Round.TheVariants as round
 use Rattle.shared_rounds.specs.Meeting.{Looked}
 use Rattle.shared_rounds.specs.Names.{FoundDown, FoundUp}
-use Rattle.shared_flow.specs.Parties.{Subscribed}
+use Rattle.shared_flow.specs.Parties.{Subscribed, taking_of}
 use Rattle.shared_rounds.specs.Reach.{Party}
 use Rattle.shared_rounds.specs.Entering.{Made}
 use Rattle.shared_rounds.specs.Rounds.{HasClosed, HasFreed, WasAdmitted}
@@ -26,6 +26,10 @@ pub record WasEnded (number : ℕ) (r : ReaderSeen) (met : Met) (p q : Party) : 
   pub made : Made (round.Cancel number) p q
   pub flow_is : p.flow ≡ Some made.found.name
   pub closed : HasClosed made.found r met made.left
+
+-- a party took in a subscription that was cancelled, for good
+abbrev pub EndedInto : {T : Type 0} → Subscribed T → Met → Party → Party → Type 0
+EndedInto s met p q = (left : Party) × WasEnded s.number s.reader met s.party left × (q ≡ taking_of left p)
 
 -- A receipt was made within a round of this party: what waits was let in before it, and once more after it.
 pub record WasMadeWithin (number : ℕ) (p q : Party) : Type 0 where

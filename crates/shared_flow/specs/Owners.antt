@@ -10,7 +10,7 @@ use Rattle.shared_rounds.specs.Names.{SharedSeen}
 use Rattle.shared_rounds.specs.Reach.{Party, Rounds, with_round}
 use Rattle.shared_rounds.specs.Rounds.{Comes, IsAtLimit}
 use Rattle.shared_rounds.specs.Waking.{SleepOn}
-use Rattle.shared_flow.specs.Parties.{Subscribed}
+use Rattle.shared_flow.specs.Parties.{Subscribed, sharing_of}
 use Rattle.shared_rounds.specs.Entering.{Found, Made}
 use Rattle.shared_rounds.specs.Meeting.{HasMet, OnlyMet}
 
@@ -42,10 +42,11 @@ KeepsLock o k = (o.party.flow ≡ Some k.shared.name)
 abbrev pub IsKept : Keeping → Keeping → Type 0
 IsKept k l = (l.count ≡ k.count) × (l.before ≡ k.before) × OnlyMet k.shared l.shared
 
--- nobody was let in: without memory the owner made no call, else its round was refused
+-- nobody was let in: without memory the owner made no call, else its round was refused, which it made while who was to be let in had
+-- half its share
 abbrev pub IsLeftOut : Owning → Refusal → Owning → Type 0
 IsLeftOut o refusal p = ((refusal ≡ NoMemory) × (p ≡ o))
-    ⊎ (IsAtLimit refusal × (p ≡ at_rest (with_round (round.Subscribe (Err refusal)) p.party.seen o.party)) × Made (round.Subscribe (Err refusal)) o.party p.party)
+    ⊎ (IsAtLimit refusal × (p ≡ at_rest (with_round (round.Subscribe (Err refusal)) p.party.seen o.party)) × Made (round.Subscribe (Err refusal)) (sharing_of o.party) (sharing_of p.party))
 
 -- the values of the replay cache were added to a list, and the owner's round has their words
 abbrev pub AddsCache : {T : Type 0} → (ℕ → T) → Owning → List T → Owning → List T → Type 0

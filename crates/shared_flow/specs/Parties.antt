@@ -9,7 +9,7 @@ use Rattle.shared_rounds.specs.declared.flag.view.FlagLook.{FlagLook}
 use Rattle.shared_rounds.specs.declared.round.Emission.{Emission}
 use Rattle.shared_rounds.specs.declared.round.Round.{Round}
 use Rattle.shared_rounds.specs.Names.{FlowName}
-use Rattle.shared_rounds.specs.Reach.{Party}
+use Rattle.shared_rounds.specs.Reach.{Party, with_taken}
 use Rattle.shared_rounds.specs.Rounds.{after_number, IsReceiptFor, IsReceiptOfOne}
 
 -- a fact about what an emission was given that had been accepted when it was given up
@@ -43,7 +43,11 @@ whole_again p = record p { halved = pred p.halved }
 
 -- a party of the same flow, with this number, which has made no call and has seen as much: it has the other half of the share
 abbrev pub newcomer_of : ℕ → Party → Party
-newcomer_of pass p = record p { pass = pass; halved = suc p.halved; rounds = [] }
+newcomer_of pass p = record p { pass = pass; halved = suc p.halved; taken = []; rounds = [] }
+
+-- a party that took in another for good, with its rounds and its share
+abbrev pub taking_of : Party → Party → Party
+taking_of other p = record p { taken = with_taken other p.taken }
 
 -- a fact about the flow that a party knows
 abbrev pub OfFlow : Party → (FlowName → Type 0) → Type 0

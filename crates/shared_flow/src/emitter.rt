@@ -302,6 +302,21 @@ impl<T: Word> Emitter<T> {
         drop(access);
         withdrawn
     }
+
+    /// What it has of the flow's lock, for an owner that takes it in.
+    pub(crate) fn into_access(self) -> Access
+        ensures { (party_of result ≡ self.party) × (result.held ≡ None) }
+    {
+        let Emitter {
+            access,
+            id: _,
+            ticket: _,
+            last: _,
+            bed: _,
+            marker: _,
+        } = self;
+        access
+    }
 }
 
 // The last number that an emitter was answered, after a try.

@@ -6,17 +6,19 @@ ghost use Rattle.shared_rounds.specs.declared.round.Round.TheVariants as round;
 ghost use Rattle.shared_rounds.specs.Names.{IsMadeWith};
 ghost use Rattle.shared_rounds.specs.Entering.{Made};
 ghost use Rattle.shared_rounds.specs.Reach.{with_round};
-ghost use Rattle.shared_flow.specs.Parties.{newcomer_of, sharing_of, whole_again};
+ghost use Rattle.shared_flow.specs.Parties.{newcomer_of, sharing_of, whole_again, taking_of, IfLeft, IsOwnReceipt};
 ghost use Rattle.shared_flow.specs.Owners.{at_rest, IsLeftOut, AddsCache, Meets};
-ghost use Rattle.shared_flow.specs.Looks.{WasLetInBy};
-ghost use Rattle.shared_rounds.specs.Rounds.{IsAtLimit};
+ghost use Rattle.shared_flow.specs.Looks.{WasLetInBy, EndedInto as SubscriptionEndedInto};
+ghost use Rattle.shared_flow.specs.Emitters.{EndedInto as EmitterEndedInto};
+ghost use Rattle.flow_terms.specs.declared.answers.Withdrawn.TheVariants as withdrawn;
+ghost use Rattle.shared_rounds.specs.Rounds.{IsAfter, IsAtLimit};
 ghost use Rattle.shared_core.specs.Preludes.{prelude_values};
 
 use crate::emitter::Emitter;
-use crate::subscription::Subscription;
+use crate::subscription::{Ended, Subscription};
 use flow_terms::{Refusal, Word};
-use shared_core::{Config, Prelude};
-use shared_lane::Met;
+use shared_core::{Config, Prelude, Withdrawn};
+use shared_lane::{Met, Receipt};
 use shared_rounds::{Access, Admitted, Round, Shared};
 use std::alloc::Global;
 use std::marker::{Model, PhantomData};
@@ -66,7 +68,7 @@ impl<T: Word> SharedFlow<T> {
         ensures refused { IfSome (making_refusal config) (λ refusal. result ≡ Err refusal) }
         ensures made { IfNone (making_refusal config) (IsOkUnless result Refusal.NoMemory) }
         ensures config { IfOk result (λ flow. IsMadeWith config flow.party.flow) }
-        ensures rounds { IfOk result (λ flow. (flow ≡ at_rest flow.party) × (flow.party.rounds ≡ []) × (flow.party.halved ≡ 0) × (flow.party.seen ≡ [])) }
+        ensures rounds { IfOk result (λ flow. (flow ≡ at_rest flow.party) × (flow.party.rounds ≡ []) × (flow.party.halved ≡ 0) × (flow.party.taken ≡ []) × (flow.party.seen ≡ [])) }
     {
         let shared = Shared::new(alloc, config)?;
         let access = Access::new(alloc, config, shared)?;
@@ -101,6 +103,44 @@ impl<T: Word> SharedFlow<T> {
     {
         let SharedFlow { access, marker: _ } = other;
         self.access.take_back(access);
+    }
+
+    /// Takes in another owner for good, with its rounds and its share of the lock: who has the whole lock so knows who made each round.
+    /// Without a lock. Kotlin has no such call.
+    pub fn take_in(&mut self, other: SharedFlow<T>)
+        requires lock { other.party.lock ≡ self.old.party.lock }
+        requires free { other.held ≡ None }
+        ensures taken { self.new ≡ record self.old { party = taking_of other.party self.old.party } }
+    {
+        let SharedFlow { access, marker: _ } = other;
+        self.access.take_in(access);
+    }
+
+    /// Ends an emitter of this flow, as [`Emitter::close`] does, and takes it in for good, with its rounds and its share of the lock.
+    pub fn close(&mut self, rt: &impl Wait, emitter: Emitter<T>) -> Withdrawn<Receipt>
+        requires lock { emitter.party.lock ≡ self.old.party.lock }
+        ensures idle { emitter.ticket ≡ None → result ≡ withdrawn.Gone }
+        ensures ended { EmitterEndedInto emitter result self.old.party self.new.party }
+        ensures same { self.new ≡ record self.old { party = self.new.party } }
+        ensures receipt { IfLeft result (IsOwnReceipt emitter.party emitter.id) }
+        ensures rises { IfLeft result (λ receipt. IsAfter emitter.last receipt.number) }
+    {
+        let mut emitter = emitter;
+        let withdrawn = emitter.cancel_emit(rt);
+        self.access.take_in(emitter.into_access());
+        withdrawn
+    }
+
+    /// Ends a subscription of this flow, as [`Subscription::cancel`] does, and takes it in for good, with its rounds and its share of
+    /// the lock.
+    pub fn cancel(&mut self, rt: &impl Wait, subscription: Subscription<T>) -> Met
+        requires lock { subscription.party.lock ≡ self.old.party.lock }
+        ensures ended { SubscriptionEndedInto subscription result self.old.party self.new.party }
+        ensures same { self.new ≡ record self.old { party = self.new.party } }
+    {
+        let Ended { access, met } = subscription.end(rt);
+        self.access.take_in(access);
+        met
     }
 
     /// An emitter of this flow, whose receipts have this id: in Kotlin, a coroutine that emits into it. It has half of this owner's

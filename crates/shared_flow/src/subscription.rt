@@ -48,6 +48,12 @@ pub struct Subscription<T: Word> {
     marker: PhantomData<T>,
 }
 
+/// What is left of a subscription that was ended: its owner of the flow's lock, and what was counted.
+pub(crate) struct Ended {
+    pub(crate) access: Access,
+    pub(crate) met: Met,
+}
+
 impl<T: Word> Model for Subscription<T> {
     ghost use Rattle.std.specs.Prelude.{◌≡◌, None};
     ghost use Rattle.shared_lane.specs.Readers.{IsReaderOf};
@@ -368,6 +374,17 @@ impl<T: Word> Subscription<T> {
     pub fn cancel(self, rt: &impl Wait) -> Met
         ensures ended { (left : Party) × WasEnded self.number self.reader result self.party left }
     {
+        let Ended { access, met } = self.end(rt);
+        drop(access);
+        met
+    }
+
+    /// Ends it as `cancel` does, and gives what it has of the flow's lock besides, for an owner that takes it in.
+    #[inline(always)]
+    pub(crate) fn end(self, rt: &impl Wait) -> Ended
+        ensures ended { WasEnded self.number self.reader result.met self.party (party_of result.access) }
+        ensures free { result.access.held ≡ None }
+    {
         let Subscription {
             mut access,
             rest: _,
@@ -380,7 +397,6 @@ impl<T: Word> Subscription<T> {
         let mut inside = access.enter(rt);
         let met = inside.guarded.state.cancel(number, reader);
         access.leave(rt, inside, Round::Cancel(number));
-        drop(access);
-        met
+        Ended { access, met }
     }
 }
