@@ -1,4 +1,5 @@
 pub mod Making
+pub mod Shares
 pub mod Rising
 pub mod Queueing
 pub mod Ordering

@@ -1,5 +1,5 @@
 -- What contracts see of an owner of a flow, and of one whose lock is kept.
-use Rattle.std.specs.Prelude.{◌≡◌, ◌⊎◌, ◌++◌, ℕ, List, Option, Some, None, Ok, Err, map}
+use Rattle.std.specs.Prelude.{◌≡◌, ◌⊎◌, ◌++◌, ℕ, List, [], Option, Some, None, Ok, Err, map}
 use Rattle.flow_terms.specs.declared.refusal.Refusal.{Refusal}
 use Rattle.flow_terms.specs.declared.refusal.Refusal.TheVariants.{NoMemory}
 use Rattle.round_lock.specs.History.{own_of}
@@ -22,6 +22,10 @@ pub record Owning : Type 0 where
 -- an owner that doesn't have the lock
 abbrev pub at_rest : Party → Owning
 at_rest p = record { party = p; held = None }
+
+-- an owner that doesn't have the lock, and has made no call, and of whose share so many halves were given away
+abbrev pub HasMadeNoCall : ℕ → Owning → Type 0
+HasMadeNoCall halved o = (o ≡ at_rest o.party) × (o.party.rounds ≡ []) × (o.party.halved ≡ halved)
 
 -- what lies under a lock that is kept, and what was found as it was taken: how many subscriptions were live, and the next number
 pub record Keeping : Type 0 where

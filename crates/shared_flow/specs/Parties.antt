@@ -1,5 +1,5 @@
 -- What contracts see of an owner, an emitter and a subscription, and of their answers.
-use Rattle.std.specs.Prelude.{◌≡◌, ◌⊎◌, ⊤, ℕ, ◌+◌, ◌∷◌, [], List, Option, Some, None}
+use Rattle.std.specs.Prelude.{suc, pred, ◌≡◌, ◌⊎◌, ⊤, ℕ, ◌+◌, ◌∷◌, [], List, Option, Some, None}
 use Rattle.flow_terms.specs.declared.answers.Withdrawn.{Withdrawn}
 use Rattle.flow_terms.specs.declared.answers.Withdrawn.TheVariants as withdrawn
 use Rattle.flow_terms.specs.declared.ids.Ticket.{Ticket}
@@ -33,9 +33,17 @@ pub record Subscribed (T : Type 0) : Type 0 where
   pub reader : ReaderSeen
   pub looks : List FlagLook
 
--- a party of the same flow, with this number, which has made no call and has seen as much
+-- a party that gave half its share of the lock to another
+abbrev pub sharing_of : Party → Party
+sharing_of p = record p { halved = suc p.halved }
+
+-- a party that took back the half that it gave to another
+abbrev pub whole_again : Party → Party
+whole_again p = record p { halved = pred p.halved }
+
+-- a party of the same flow, with this number, which has made no call and has seen as much: it has the other half of the share
 abbrev pub newcomer_of : ℕ → Party → Party
-newcomer_of pass p = record p { pass = pass; rounds = [] }
+newcomer_of pass p = record p { pass = pass; halved = suc p.halved; rounds = [] }
 
 -- a fact about the flow that a party knows
 abbrev pub OfFlow : Party → (FlowName → Type 0) → Type 0

@@ -1,12 +1,12 @@
 //! An owner of a shared flow.
-ghost use Rattle.std.specs.Prelude.{◌≡◌, ◌⊎◌, [], None, Ok, Err, IfOk, IfErr, IfSome, IfNone, IsOkUnless, OnOk, OnErr};
+ghost use Rattle.std.specs.Prelude.{suc, ℕ, ◌≡◌, ◌⊎◌, [], None, Ok, Err, IfOk, IfErr, IfSome, IfNone, IsOkUnless, OnOk, OnErr};
 ghost use Rattle.flow_terms.specs.declared.refusal.Refusal.TheVariants.{Spent, SubscribersFull, NoMemory};
 ghost use Rattle.shared_core.specs.Kept.{making_refusal};
 ghost use Rattle.shared_rounds.specs.declared.round.Round.TheVariants as round;
 ghost use Rattle.shared_rounds.specs.Names.{IsMadeWith};
 ghost use Rattle.shared_rounds.specs.Entering.{Made};
 ghost use Rattle.shared_rounds.specs.Reach.{with_round};
-ghost use Rattle.shared_flow.specs.Parties.{newcomer_of};
+ghost use Rattle.shared_flow.specs.Parties.{newcomer_of, sharing_of, whole_again};
 ghost use Rattle.shared_flow.specs.Owners.{at_rest, IsLeftOut, AddsCache, Meets};
 ghost use Rattle.shared_flow.specs.Looks.{WasLetInBy};
 ghost use Rattle.shared_rounds.specs.Rounds.{IsAtLimit};
@@ -31,7 +31,9 @@ pub use held::{Held, Kept};
 ///
 /// Contracts see the flow, which its owners, emitters and subscriptions have in common, and the rounds of this owner: the calls that
 /// it made under the lock, with their answers. All rounds of a flow are one list, and each owner's are its part of it; contracts see
-/// that list as far as this owner has seen it. They see too what it found under the lock, while a [`Held`] keeps that.
+/// that list as far as this owner has seen it. They see how often its share of the lock was halved: the first owner has the whole,
+/// and whoever makes an owner, an emitter or a subscription gives it half of its own, so none is made that nobody sees. They see too
+/// what it found under the lock, while a [`Held`] keeps that.
 pub struct SharedFlow<T: Word> {
     access: Access,
     marker: PhantomData<T>,
@@ -64,7 +66,7 @@ impl<T: Word> SharedFlow<T> {
         ensures refused { IfSome (making_refusal config) (λ refusal. result ≡ Err refusal) }
         ensures made { IfNone (making_refusal config) (IsOkUnless result Refusal.NoMemory) }
         ensures config { IfOk result (λ flow. IsMadeWith config flow.party.flow) }
-        ensures rounds { IfOk result (λ flow. (flow ≡ at_rest flow.party) × (flow.party.rounds ≡ []) × (flow.party.seen ≡ [])) }
+        ensures rounds { IfOk result (λ flow. (flow ≡ at_rest flow.party) × (flow.party.rounds ≡ []) × (flow.party.halved ≡ 0) × (flow.party.seen ≡ [])) }
     {
         let shared = Shared::new(alloc, config)?;
         let access = Access::new(alloc, config, shared)?;
@@ -74,12 +76,13 @@ impl<T: Word> SharedFlow<T> {
         })
     }
 
-    /// Another owner of the same flow, which has made no call and has seen as much: in Kotlin, a second reference to it. Refused as
-    /// `NoMemory`.
+    /// Another owner of the same flow, which has made no call and has seen as much: in Kotlin, a second reference to it. It has half
+    /// of this owner's share of the lock. Refused as `NoMemory`.
     pub fn dup(&mut self, rt: &impl Wait) -> Result<SharedFlow<T>, Refusal>
         ensures other { IfOk result (λ other. other ≡ at_rest (newcomer_of other.party.pass self.old.party)) }
+        ensures half { IfOk result (λ _. self.new ≡ record self.old { party = sharing_of self.old.party }) }
         ensures memory { IsOkUnless result Refusal.NoMemory }
-        ensures same { self.new ≡ self.old }
+        ensures same { IfErr result (λ _. self.new ≡ self.old) }
     {
         let access = self.access.another(rt)?;
         Ok(SharedFlow {
@@ -88,30 +91,45 @@ impl<T: Word> SharedFlow<T> {
         })
     }
 
-    /// An emitter of this flow, whose receipts have this id: in Kotlin, a coroutine that emits into it. Refused as `NoMemory`.
+    /// Takes back the half of the share that another owner has, which has made no call: for a call that made one, and then failed.
+    /// Without a lock. Kotlin has no such call.
+    pub fn take_back(&mut self, other: SharedFlow<T>)
+        requires lock { other.party.lock ≡ self.old.party.lock }
+        requires half { (half : ℕ) × (other.party.halved ≡ suc half) × (self.old.party.halved ≡ suc half) }
+        requires idle { (other.party.rounds ≡ []) × (other.held ≡ None) }
+        ensures whole { self.new ≡ record self.old { party = whole_again self.old.party } }
+    {
+        let SharedFlow { access, marker: _ } = other;
+        self.access.take_back(access);
+    }
+
+    /// An emitter of this flow, whose receipts have this id: in Kotlin, a coroutine that emits into it. It has half of this owner's
+    /// share of the lock. Refused as `NoMemory`.
     ///
     /// Two emitters with one id are one emitter in the flow.
     pub fn emitter(&mut self, rt: &impl Wait, id: u32) -> Result<Emitter<T>, Refusal>
         ensures flow { IfOk result (λ emitter. emitter.party ≡ newcomer_of emitter.party.pass self.old.party) }
         ensures id { IfOk result (λ emitter. emitter.id ≡ id) }
         ensures idle { IfOk result (λ emitter. emitter.ticket ≡ None) }
+        ensures half { IfOk result (λ _. self.new ≡ record self.old { party = sharing_of self.old.party }) }
         ensures memory { IsOkUnless result Refusal.NoMemory }
-        ensures same { self.new ≡ self.old }
+        ensures same { IfErr result (λ _. self.new ≡ self.old) }
     {
         let access = self.access.another(rt)?;
         Ok(Emitter::new(access, id))
     }
 
-    /// A new subscription, which starts at the oldest value of the replay cache: Kotlin's `collect`, as it begins.
+    /// A new subscription, which starts at the oldest value of the replay cache: Kotlin's `collect`, as it begins. It has half of this
+    /// owner's share of the lock; refused, the owner has all of that again.
     ///
     /// Refused as `NoMemory`, then as `Spent` where the numbers of subscriptions below 2^62 are used up, then as
     /// `SubscribersFull` where `subscribers` are live.
     pub fn subscribe(&mut self, rt: &impl Wait) -> Result<Subscription<T>, Refusal>
         ensures flow { IfOk result (λ subscription. subscription.party ≡ newcomer_of subscription.party.pass self.old.party) }
-        ensures round { IfOk result (λ subscription. self.new ≡ at_rest (with_round (round.Subscribe (Ok subscription.number)) self.new.party.seen self.old.party)) }
+        ensures round { IfOk result (λ subscription. self.new ≡ at_rest (with_round (round.Subscribe (Ok subscription.number)) self.new.party.seen (sharing_of self.old.party))) }
         ensures prelude { IfOk result (λ subscription. subscription.rest ≡ []) }
         ensures looks { IfOk result (λ subscription. subscription.looks ≡ []) }
-        ensures begins { IfOk result (λ subscription. WasLetInBy subscription.number subscription.reader self.old.party self.new.party) }
+        ensures begins { IfOk result (λ subscription. WasLetInBy subscription.number subscription.reader (sharing_of self.old.party) self.new.party) }
         ensures refused { IfErr result (λ refusal. (refusal ≡ NoMemory) ⊎ IsAtLimit refusal) }
         ensures kept { IfErr result (λ refusal. IsLeftOut self.old refusal self.new) }
     {
@@ -128,8 +146,8 @@ impl<T: Word> SharedFlow<T> {
         ensures prelude { IfOk result (λ subscription. subscription.rest ≡ prelude_values prelude) }
         ensures looks { IfOk result (λ subscription. subscription.looks ≡ []) }
         ensures flow { IfOk result (λ subscription. subscription.party ≡ newcomer_of subscription.party.pass self.old.party) }
-        ensures round { IfOk result (λ subscription. self.new ≡ at_rest (with_round (round.Subscribe (Ok subscription.number)) self.new.party.seen self.old.party)) }
-        ensures begins { IfOk result (λ subscription. WasLetInBy subscription.number subscription.reader self.old.party self.new.party) }
+        ensures round { IfOk result (λ subscription. self.new ≡ at_rest (with_round (round.Subscribe (Ok subscription.number)) self.new.party.seen (sharing_of self.old.party))) }
+        ensures begins { IfOk result (λ subscription. WasLetInBy subscription.number subscription.reader (sharing_of self.old.party) self.new.party) }
         ensures refused { IfErr result (λ refusal. (refusal ≡ NoMemory) ⊎ IsAtLimit refusal) }
         ensures kept { IfErr result (λ refusal. IsLeftOut self.old refusal self.new) }
     {
@@ -148,7 +166,7 @@ impl<T: Word> SharedFlow<T> {
             Err(refusal) => {
                 self.access
                     .leave(rt, inside, Round::Subscribe(Err(refusal)));
-                drop(access);
+                self.access.take_back(access);
                 Err(refusal)
             }
         }

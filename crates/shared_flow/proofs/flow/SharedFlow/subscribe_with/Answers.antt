@@ -1,11 +1,13 @@
 use Rattle.std.proofs.Common.{rules, Ok, IfOk, refl, inr, ap, subst, Err, IfErr}
 use Rattle.shared_rounds.specs.declared.round.Round.TheVariants as round
 use Rattle.shared_rounds.specs.Names.{SharedSeen}
-use Rattle.shared_rounds.specs.Reach.{Reach}
+use Rattle.shared_rounds.specs.Reach.{Reach, party_of}
 use Rattle.shared_rounds.specs.Rounds.{Comes, IsLetIn, IsAtLimit}
 use Rattle.shared_rounds.specs.Waking.{SleepOn}
 use Rattle.shared_rounds.proofs.Doing.{is_called}
-use Rattle.shared_flow.proofs.Making.{made, was_let_in}
+use Rattle.shared_flow.specs.Looks.{WasLetInBy}
+use Rattle.shared_flow.proofs.Making.{was_let_in}
+use Rattle.shared_flow.proofs.Shares.{are_halves, made_and_took_back}
 use Rattle.shared_flow.proofs.flow.SharedFlow.subscribe_with.Goals as goal
 
 -- the owner that took the lock is the one that another was made of
@@ -16,9 +18,10 @@ returns-in-Ok-clause-begins g c =
     let number = c.subscribe-number.result.number in
     let did = subst (λ (s : SharedSeen). IfOk c.subscribe-number.result.reader (λ reader. Comes s (round.Subscribe (Ok number)) after × IsLetIn s number reader after)) c.deref_mut.ensures.value c.subscribe-number.ensures.ok in
     let let_in = subst (λ r. IfOk r (λ reader. Comes c.enter-inside.result.guarded.state.value (round.Subscribe (Ok number)) after × IsLetIn c.enter-inside.result.guarded.state.value number reader after)) c.in-Ok.is did in
-    rw (← c.self.view_is, ← c.in_ok-access.ensures.same, c.new.ensures)
+    rw (← c.self.view_is, c.new.ensures)
+    (subst (λ (r : Reach). WasLetInBy number c.in-Ok.reader (party_of r) (party_of c.leave.new.self)) c.in_ok-access.ensures.half
     (was_let_in number owner c.enter-inside.new.self c.leave.new.self c.enter-inside.result.guarded.state.value after c.in-Ok.reader
-    c.enter-inside.ensures.taken c.enter-inside.ensures.found c.enter-inside.ensures.named c.leave.ensures.left let_in.1)
+    c.enter-inside.ensures.taken c.enter-inside.ensures.found c.enter-inside.ensures.named c.leave.ensures.left let_in.1))
 
 pub leave-requires : goal.leave-requires
 leave-requires g c =
@@ -43,12 +46,19 @@ leave-requires-in-Err g c =
           c.enter-inside.ensures.before refl left_out.0 (subst (λ (s : SharedSeen). SleepOn s after) c.deref_mut.ensures.value c.subscribe-number.ensures.asleep);
     }
 
+-- who was let in would have half the share of the lock: refused, it gives that back
+pub take_back-requires : goal.take_back-requires
+take_back-requires g c =
+    let halves = are_halves (round.Subscribe (Err c.in-Err.refusal)) c.self.inside.access c.another.new.self c.enter-inside.new.self c.leave-in-Err.new.self c.in_ok-access.access
+    c.enter-inside.result.guarded.state.value c.in_ok-access.ensures.other c.in_ok-access.ensures.half c.enter-inside.ensures.taken c.leave-in-Err.ensures.left in
+    record { lock = halves.lock; half = halves.half; idle = halves.idle }
+
 pub returns-in-Err-clause-kept : goal.returns-in-Err-clause-kept
 returns-in-Err-clause-kept g c =
-    let owner : Reach = c.another.new.self in
     inr (
       search rules,
       search rules,
-      rw (← c.self.view_is, ← c.in_ok-access.ensures.same)
-          (made (round.Subscribe (Err c.in-Err.refusal)) owner c.enter-inside.new.self c.leave-in-Err.new.self c.enter-inside.result.guarded.state.value c.enter-inside.ensures.taken c.enter-inside.ensures.found c.leave-in-Err.ensures.left),
+      rw (← c.self.view_is)
+          (made_and_took_back (round.Subscribe (Err c.in-Err.refusal)) c.self.inside.access c.another.new.self c.enter-inside.new.self c.leave-in-Err.new.self c.take_back.new.self
+          c.enter-inside.result.guarded.state.value c.in_ok-access.ensures.half c.enter-inside.ensures.taken c.enter-inside.ensures.found c.leave-in-Err.ensures.left c.take_back.ensures.whole),
     )
