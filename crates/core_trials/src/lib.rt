@@ -23,6 +23,8 @@ mod list_body;
 #[cfg(test)]
 mod making_rows;
 #[cfg(test)]
+mod state_exchange_rows;
+#[cfg(test)]
 mod state_rows;
 #[cfg(test)]
 mod tools;

@@ -1,2 +1,3 @@
 mod Looks
 mod Exchanging
+mod StateExchanging

@@ -2,3 +2,4 @@ pub mod Lights
 pub mod LightLaws
 pub mod SharedCalls
 pub mod Exchanges
+pub mod StateExchanges

@@ -8,6 +8,7 @@ mod lane_calling;
 mod shared_calling;
 mod sharing_calling;
 mod state_calling;
+mod state_exchange_calling;
 mod strategy_calling;
 
 pub use core_calling::{received_in_turn, received_once};
@@ -19,4 +20,5 @@ pub use shared_calling::{
 };
 pub use sharing_calling::first_poll;
 pub use state_calling::{Dimmer, Light, asked_twice};
+pub use state_exchange_calling::set_and_collect;
 pub use strategy_calling::comes_and_goes;

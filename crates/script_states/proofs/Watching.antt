@@ -3,7 +3,7 @@ use Rattle.std.proofs.Common.{◌≡◌, ℕ, false, zero, suc, ◌+◌, ◌-◌
 use Rattle.std.proofs.lemmas.Option.{slice_get_past, slice_get-get_or}
 use Rattle.std.proofs.Math.Seq.{map-set_same}
 use Rattle.state_flow.specs.Views.{SeatSeen}
-use Rattle.state_flow.specs.Calls.{Collects, Ends, TakesBack}
+use Rattle.state_flow.specs.Calls.{Collects, Ends, TakesBack, TakesBackLast}
 use Rattle.state_flow.specs.declared.view.View.{View}
 use Rattle.flow_terms.specs.declared.answers.Next.TheVariants.{Closed}
 use Rattle.script_states.specs.Watching.{SeatedBeside, IsWatch, NextsAt, CancelsAt, next_of, collecting}
@@ -111,10 +111,10 @@ never seat places index size same past =
     rw (slice_get_past places index (omega arith)) (refl, refl)
 
 -- it ended
-pub cancels : (seat seat' : SeatSeen ℕ) (places : List (Option (SeatSeen ℕ))) (index : ℕ) (place : SeatSeen ℕ) (now left : Option (SeatSeen ℕ)) (spent : View ℕ) → index < length places → now ≡ get_or places index now → Some place ≡ now → left ≡ None → Ends place.view spent → TakesBack seat.view spent seat'.view → seat'.flow ≡ seat.flow
+pub cancels : (seat seat' : SeatSeen ℕ) (places : List (Option (SeatSeen ℕ))) (index : ℕ) (place : SeatSeen ℕ) (now left : Option (SeatSeen ℕ)) (spent : View ℕ) → index < length places → now ≡ get_or places index now → Some place ≡ now → left ≡ None → Ends place.view spent → TakesBack seat.view spent seat'.view → TakesBackLast seat.view spent seat'.view → seat'.flow ≡ seat.flow
     → CancelsAt (slice_get places index) (record { seat = seat; collectors = places }) index true (record { seat = seat'; collectors = set places index left })
-cancels seat seat' places index place now left spent small is held none ends joined same =
-    rw (slice_get-get_or places index now small ∙ ap (λ o. Some o) (sym is ∙ sym held)) (refl, record { spent = spent; ends = ends; joined = joined; same_flow = same }, ap (set places index) none)
+cancels seat seat' places index place now left spent small is held none ends joined alone same =
+    rw (slice_get-get_or places index now small ∙ ap (λ o. Some o) (sym is ∙ sym held)) (refl, record { spent = spent; ends = ends; joined = joined; alone = alone; same_flow = same }, ap (set places index) none)
 
 -- it had ended
 pub ended : (seat : SeatSeen ℕ) (places : List (Option (SeatSeen ℕ))) (index : ℕ) (now left : Option (SeatSeen ℕ)) → index < length places → now ≡ get_or places index now → None ≡ now → left ≡ None

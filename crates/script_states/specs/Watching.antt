@@ -8,7 +8,7 @@ use Rattle.flow_terms.specs.declared.ids.SubId.{SubId}
 use Rattle.flow_terms.specs.declared.answers.Next.{Next}
 use Rattle.flow_terms.specs.declared.answers.Next.TheVariants.{Value, Nothing, Closed}
 use Rattle.state_flow.specs.declared.view.View.{View}
-use Rattle.state_flow.specs.Views.{SeatSeen, giver, taker}
+use Rattle.state_flow.specs.Views.{SeatSeen, HasAll, giver, taker}
 use Rattle.state_flow.specs.Calls as seats
 use Rattle.script_calls.specs.Calls.{Readings, Settings}
 
@@ -83,6 +83,7 @@ pub record GivesBack (place before after : SeatSeen ℕ) : Type 0 where
   pub spent : View ℕ
   pub ends : seats.Ends place.view spent
   pub joined : seats.TakesBack before.view spent after.view
+  pub alone : seats.TakesBackLast before.view spent after.view
   pub same_flow : after.flow ≡ before.flow
 
 -- the collector with an index ended, where it collects, and nothing else has changed
@@ -91,19 +92,19 @@ CancelsAt (Some (Some place)) old index reply new = (reply ≡ true) × GivesBac
 CancelsAt (Some None) old index reply new = (reply ≡ false) × (new ≡ old)
 CancelsAt None old index reply new = (reply ≡ false) × (new ≡ old)
 
--- ---- all of them
+-- ---- all of them: where nobody collects, the seat has all seats of the state, and what it found is what it had seen
 
 abbrev pub watching : Readings Watch
 watching = record {
-  Reads = λ old value new. BySeat (λ before after. seats.Reads before value after) old new;
+  Reads = λ old value new. BySeat (λ before after. seats.Reads before value after × seats.ReadsAlone before value after) old new;
   Collects = Collects;
   Nexts = λ old id reply new. NextsAt (slice_get old.collectors id.0) old id.0 reply new;
   Cancels = λ old id reply new. CancelsAt (slice_get old.collectors id.0) old id.0 reply new;
-  Counts = λ old count new. BySeat (λ before after. seats.Counts before count after) old new;
+  Counts = λ old count new. BySeat (λ before after. seats.Counts before count after × (HasAll before → count ≡ 0)) old new;
 }
 
 abbrev pub setting : Settings Watch
 setting = record {
-  Sets = λ old value new. BySeat (λ before after. seats.Sets before value after) old new;
-  Compares = λ old expect update held new. BySeat (λ before after. seats.Compares before expect update held after) old new;
+  Sets = λ old value new. BySeat (λ before after. seats.Sets before value after × seats.SetsAlone before value after) old new;
+  Compares = λ old expect update held new. BySeat (λ before after. seats.Compares before expect update held after × seats.ComparesAlone before expect update held after) old new;
 }

@@ -19,4 +19,4 @@ invariant_of-self-2 c =
     (ap (λ (v : View ℕ). v.share) c.give_back.ensures.joined.one_step.only) (ap (λ (v : View ℕ). v.share) c.cancel.ensures.ends.only ∙ at.1)
 
 pub returns : goal.returns
-returns c = rw (← c.self.view_is, ← c.place_of.ensures) (cancels c.self.inside.seat c.give_back.new.self c.self.inside.collectors.items c.place_of.result c.in-Some-take.collector c.in-Some.place.now c.take.new.self c.cancel.result.view (within c.place_of.result _ _ c.self.inside.collectors.ok.0 (c.in-Some.ensures.variant.0 refl)) c.in-Some.ensures.value c.in-Some-take.ensures.value c.take.ensures.after c.cancel.ensures.ends c.give_back.ensures.joined c.give_back.ensures.same_flow)
+returns c = rw (← c.self.view_is, ← c.place_of.ensures) (cancels c.self.inside.seat c.give_back.new.self c.self.inside.collectors.items c.place_of.result c.in-Some-take.collector c.in-Some.place.now c.take.new.self c.cancel.result.view (within c.place_of.result _ _ c.self.inside.collectors.ok.0 (c.in-Some.ensures.variant.0 refl)) c.in-Some.ensures.value c.in-Some-take.ensures.value c.take.ensures.after c.cancel.ensures.ends c.give_back.ensures.joined c.give_back.ensures.alone c.give_back.ensures.same_flow)
