@@ -55,7 +55,8 @@ module _ {T : Type 0} where
   Withdrew s t = ((s.waiting ≡ None) × (t ≡ s))
       ⊎ ((s.waiting ≢ None) × EmitterDid None s t × ((answer : Withdrawn ReceiptSeen) × WasEndedAs s.emitter answer t.emitter))
 
-  -- an owner and an emitter of this party's flow, with the id 0, which have made no call and have seen as much; and nothing waits
+  -- an owner and an emitter of this party's flow, with the id 0, which have made no call and have seen as much, and each of which has half
+  -- as large a share of the lock as the party; and nothing waits
   pub record IsNewPlace (p : Party) (s : Place T) : Type 0 where
     pub owner : s.owner ≡ at_rest (newcomer_of s.owner.party.pass p)
     pub emitter : s.emitter.party ≡ newcomer_of s.emitter.party.pass p
