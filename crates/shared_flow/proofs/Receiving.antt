@@ -1,5 +1,5 @@
 -- What a subscription is after a call that receives.
-use Rattle.std.proofs.Common.{◌≡◌, ◌⊎◌, ⊎_elim, inl, ◌+◌, ◌++◌, [], false, replicate, Option, Some, None, IfNone, refl, sym, ap, subst, ◌∙◌, append_assoc}
+use Rattle.std.proofs.Common.{◌≡◌, ◌⊎◌, ⊎_elim, inl, inr, ◌+◌, ◌++◌, [], false, replicate, Option, Some, None, IfSome, IfNone, refl, sym, ap, subst, ◌∙◌, append_assoc}
 use Rattle.std.proofs.lemmas.List.{append-nil, replicate-append-replicate}
 use Rattle.futures.specs.Poll.{IfReady, OnPending}
 use Rattle.futures.specs.declared.task.Poll.{Poll}
@@ -74,6 +74,12 @@ module _ {T : Type 0} where
 
   pub room_since : (s m t : Subscribed T) → OnlyLooked s m → MadeRoom m t → MadeRoom s t
   room_since s m t looked it = subst (λ (x : Subscribed T). MadeRoom x t) looked it
+
+  -- a look made room where it gave a value
+  pub gave_room : {A : Type 0} (found : Option A) (greeted : A → Type 0) (s m t : Subscribed T) → m ≡ s → IfSome found (λ _. MadeRoom m t)
+      → IfSome found (λ v. greeted v ⊎ MadeRoom s t)
+  gave_room None greeted s m t is it = tt
+  gave_room (Some v) greeted s m t is it = inr (subst (λ (x : Subscribed T). MadeRoom x t) is it)
 
   pub has_room_since : (s m t : Subscribed T) → OnlyLooked s m → HasMadeRoom m t → HasMadeRoom s t
   has_room_since s m t looked it = record {

@@ -11,10 +11,12 @@ use Rattle.shared_flow.specs.Looks.{GaveIn, Missed, MissedOn, not_once, once_mor
 use Rattle.std.proofs.lemmas.Option.{same_Some}
 use Rattle.flow_terms.specs.declared.answers.Begun.{Begun}
 use Rattle.flow_terms.specs.declared.answers.Begun.TheVariants as begun
+use Rattle.flow_terms.specs.declared.answers.Tried.{Tried}
+use Rattle.flow_terms.specs.declared.answers.Tried.TheVariants as tried
 use Rattle.flow_terms.specs.declared.answers.Withdrawn.{Withdrawn}
 use Rattle.flow_terms.specs.declared.answers.Withdrawn.TheVariants as withdrawn
 use Rattle.shared_rounds.specs.Entering.{Made}
-use Rattle.shared_rounds.specs.Tries.{BegunUnder, IfBegun, without_ticket}
+use Rattle.shared_rounds.specs.Tries.{BegunUnder, IfBegun, IfTried, without_ticket}
 use Rattle.shared_flow.specs.Parties.{Emitting, IsItsReceipt, IsOwnReceipt, IsSameEmitter, OfFlow, UnlessLeft, named, without_receipt}
 use Rattle.shared_rounds.specs.Reach.{Party, with_round}
 use Rattle.shared_rounds.specs.Rounds.{IsReceiptFor, IsReceiptOfOne, withdraw_round}
@@ -50,7 +52,15 @@ begun_receipt (Ok begun.Dropped) p e name is for = tt
 begun_receipt (Ok (begun.Waiting k)) p e name is for = tt
 begun_receipt (Err refusal) p e name is for = tt
 
--- so of the policy
+-- so of a try
+pub tried_receipt : (answer : Result (Tried ReceiptSeen) Refusal) (p : Party) (e : Emission) (name : FlowName) → p.flow ≡ Some name
+    → IfTried answer (IsReceiptFor name.lane e) → IfTried answer (IsItsReceipt p e)
+tried_receipt (Ok (tried.Accepted r)) p e name is for = (for.1, λ other at. subst (λ (n : FlowName). IsReceiptFor n.lane e r) (same_Some _ _ (sym is ∙ at)) for)
+tried_receipt (Ok tried.Dropped) p e name is for = tt
+tried_receipt (Ok tried.Full) p e name is for = tt
+tried_receipt (Err refusal) p e name is for = tt
+
+-- and of the policy
 pub begun_policy : {K : Type 0} (answer : Result (Begun ReceiptSeen K) Refusal) (p : Party) (name : FlowName) → p.flow ≡ Some name
     → BegunUnder name.config.policy answer → OfFlow p (λ n. BegunUnder n.config.policy answer)
 begun_policy answer p name is it = λ other at. subst (λ (n : FlowName). BegunUnder n.config.policy answer) (same_Some _ _ (sym is ∙ at)) it
@@ -105,14 +115,14 @@ ticket_there : (o : Option Ticket) → (o ≡ None → ⊥) → (t : Ticket) × 
 ticket_there None busy = absurd (busy refl)
 ticket_there (Some t) busy = (t, refl)
 
-removed_with : (e f : Emitting) (t : Ticket) (w : Withdrawn ℕ) → e.ticket ≡ Some t → withdrawn.Removed {N = ReceiptSeen} ≡ without_receipt w
+removed_with : (e f : Emitting) (t : Ticket) (x : Withdrawn ReceiptSeen) (w : Withdrawn ℕ) → e.ticket ≡ Some t → x ≡ withdrawn.Removed → x ≡ without_receipt w
     → f ≡ record e { party = with_round (withdraw_round t e.id e.last w None) f.party.seen e.party; ticket = None } → Made (withdraw_round t e.id e.last w None) e.party f.party → WasWithdrawn e f
-removed_with e f t (withdrawn.Left n) at is same made = let no : ⊥ = cc (is) in absurd no
-removed_with e f t withdrawn.Removed at is same made = (t, at, same, made)
-removed_with e f t withdrawn.Gone at is same made = let no : ⊥ = cc (is) in absurd no
+removed_with e f t x (withdrawn.Left n) at is other same made = let no : ⊥ = cc (is, other) in absurd no
+removed_with e f t x withdrawn.Removed at is other same made = (t, at, same, made)
+removed_with e f t x withdrawn.Gone at is other same made = let no : ⊥ = cc (is, other) in absurd no
 
 pub was_withdrawn : (e f : Emitting) → (e.ticket ≡ None → ⊥) → WasGivenUp {N = ReceiptSeen} e withdrawn.Removed f → WasWithdrawn e f
-was_withdrawn e f busy given = let t = ticket_there e.ticket busy in let it = given t.0 t.1 in removed_with e f t.0 it.0 t.1 it.1 it.2 it.3
+was_withdrawn e f busy given = let t = ticket_there e.ticket busy in let it = given t.0 t.1 in removed_with e f t.0 withdrawn.Removed it.0 t.1 refl it.1 it.2 it.3
 
 -- what is so of each answer
 pub unless_left : {N : Type 0} (answer : Withdrawn N) {P : Type 0} → P → UnlessLeft answer P

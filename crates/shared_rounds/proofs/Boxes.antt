@@ -31,7 +31,7 @@ module _ {S : Type 0} (value : S → SharedSeen) where
   same_own pass (t ∷ log) = ap (λ (l : List Round). cond (t.0 == pass) (t.1 ∷ l) l) (same_own pass log)
 
   -- nor do those of the owners that one took in
-  same_parts : (log : List (ℕ × Round × S)) (parts : List (Part Round)) → Parts log parts → Parts (rounds_in value log) parts
+  pub same_parts : (log : List (ℕ × Round × S)) (parts : List (Part Round)) → Parts log parts → Parts (rounds_in value log) parts
   same_parts log [] are = tt
   same_parts log (p ∷ parts) are = (are.0 ∙ same_own p.pass log, same_parts log parts are.1)
 

@@ -4,14 +4,15 @@ use Rattle.shared_rounds.specs.declared.round.Emission.{Emission}
 use Rattle.shared_rounds.specs.declared.round.Round.TheVariants as round
 use Rattle.shared_rounds.specs.Names.{SharedSeen}
 use Rattle.shared_rounds.specs.Entering.{IsCalled, Made}
-use Rattle.shared_rounds.specs.Reach.{Reach, party_of}
-use Rattle.shared_rounds.specs.Rounds.{IsAfter, numbers_tried}
+use Rattle.shared_rounds.specs.Reach.{Party, Reach, party_of}
+use Rattle.shared_rounds.specs.Rounds.{IsAfter, IsReceiptFor, numbers_tried}
 use Rattle.shared_rounds.specs.Tries.{IfTried}
 use Rattle.shared_rounds.proofs.Doing.{is_called}
 use Rattle.shared_flow.specs.Emitters.{emission_by}
-use Rattle.shared_flow.specs.Parties.{Emitting, WasAnswered}
+use Rattle.shared_flow.specs.Parties.{Emitting, IsItsReceipt, WasAnswered}
 use Rattle.shared_flow.proofs.Rising.{after_try, try_rises}
 use Rattle.shared_flow.proofs.Making.{made}
+use Rattle.shared_flow.proofs.Waiting.{tried_receipt}
 use Rattle.shared_flow.proofs.emitter.Emitter.try_emit.Goals as goal
 
 pub returns-clause-rises : goal.returns-clause-rises
@@ -48,3 +49,15 @@ returns-clause-made g c =
     let answered = subst (λ a. Made (round.Try emission a) (party_of c.self.inside.access) (party_of c.leave.new.self)) c.tried_with_receipt-tried.ensures.numbers it in
     let worded = subst (λ word. Made (round.Try (record { emitter = c.self.inside.id; word = word }) (numbers_tried answer)) (party_of c.self.inside.access) (party_of c.leave.new.self)) c.to_word.ensures.word answered in
     subst (λ (e : Emitting). Made (round.Try (emission_by e (g.T.Word.word c.args.value)) (numbers_tried answer)) e.party (party_of c.leave.new.self)) c.self.view_is worded
+
+pub returns-clause-receipt : goal.returns-clause-receipt
+returns-clause-receipt g c =
+    let answer = c.tried_with_receipt-tried.result in
+    let party : Party = party_of c.self.inside.access in
+    let found = c.enter-inside.result.guarded.state.value in
+    let emission : Emission = record { emitter = c.self.inside.id; word = c.to_word.result } in
+    let flow = ap (λ (s : SharedSeen). s.name) c.deref_mut-2.ensures.value ∙ c.try_emit-answer.ensures.does.0 ∙ ap (λ (s : SharedSeen). s.name) c.deref_mut.ensures.value in
+    let of_lane = subst (λ name. IfTried answer (IsReceiptFor name.lane emission)) flow c.tried_with_receipt-tried.ensures.receipt in
+    let its = tried_receipt answer party emission found.name c.enter-inside.ensures.named of_lane in
+    let worded = subst (λ word. IfTried answer (IsItsReceipt party (record { emitter = c.self.inside.id; word = word }))) c.to_word.ensures.word its in
+    subst (λ (e : Emitting). IfTried answer (IsItsReceipt e.party (emission_by e (g.T.Word.word c.args.value)))) c.self.view_is worded

@@ -1,11 +1,14 @@
-use Rattle.std.proofs.Common.{sym, ap, subst}
+use Rattle.std.proofs.Common.{inl, sym, ap, subst}
 use Rattle.shared_lane.specs.declared.reader.Taken.{Taken}
 use Rattle.shared_rounds.specs.declared.round.Round.TheVariants as round
+use Rattle.shared_rounds.specs.Meeting.{Looked}
 use Rattle.shared_rounds.specs.Names.{SharedSeen}
 use Rattle.shared_rounds.specs.Reach.{Reach}
 use Rattle.shared_rounds.specs.Rounds.{Comes, FreesAfter, HasFreed, look_round}
 use Rattle.shared_rounds.specs.Waking.{SleepOn}
 use Rattle.shared_rounds.proofs.Doing.{is_called, lay_down, none_lies}
+use Rattle.shared_flow.specs.Looks.{Missed}
+use Rattle.shared_flow.specs.Parties.{Subscribed}
 use Rattle.shared_flow.proofs.Making.{made, was_made_within}
 use Rattle.shared_flow.proofs.subscription.Subscription.look_again.Goals as goal
 
@@ -59,3 +62,8 @@ returns-in-Nothing-clause-round g c = rw (← c.self.view_is) (made (round.Pendi
 
 pub returns-in-Overtaken-clause-round : goal.returns-in-Overtaken-clause-round
 returns-in-Overtaken-clause-round g c = rw (← c.self.view_is) (made (round.Pending c.self.inside.number) c.self.inside.access c.enter-inside.new.self c.leave-in-Overtaken.new.self c.enter-inside.result.guarded.state.value c.enter-inside.ensures.taken c.enter-inside.ensures.found c.leave-in-Overtaken.ensures.left)
+
+pub returns-in-Nothing-clause-pending : goal.returns-in-Nothing-clause-pending
+returns-in-Nothing-clause-pending g c =
+    let looked = subst (λ (x : Taken _). Looked c.self.inside.reader x c.look.new.reader) c.in-Nothing.is c.look.ensures.looked in
+    subst (λ (s : Subscribed _). Missed s.reader c.look.new.reader) c.self.view_is (inl looked)

@@ -4,8 +4,8 @@ use Rattle.shared_flow.specs.Parties.{Subscribed}
 use Rattle.shared_flow.proofs.Receiving.{looked_as, looked_twice, room_since, rounds_since, still}
 use Rattle.shared_flow.proofs.subscription.Subscription.next_soon.Goals as goal
 
-pub loop-_turn-init : goal.loop-_turn-init
-loop-_turn-init g c =
+pub loop-turn-init : goal.loop-turn-init
+loop-turn-init g c =
     let s = c.args.self.now in
     let greeted = c.greet.new.self in
     let is = still s greeted c.greet.ensures.same c.in_default.ensures.past in record {
@@ -15,11 +15,11 @@ loop-_turn-init g c =
       some = λ turns. absurd (omega arith);
     }
 
-pub loop-_turn-preserved : goal.loop-_turn-preserved
-loop-_turn-preserved g c =
+pub loop-turn-preserved : goal.loop-turn-preserved
+loop-turn-preserved g c =
     let s = c.args.self.now in
-    let m = c.loop-_turn.self in
-    let it = c.loop-_turn.invariant in
+    let m = c.loop-turn.self in
+    let it = c.loop-turn.invariant in
     let missed = c.in_default-look.ensures.missed in record {
       past = it.past;
       looked = looked_twice s m c.look.new.self it.looked missed.0;
@@ -30,9 +30,9 @@ loop-_turn-preserved g c =
 pub returns-in-Some-look : goal.returns-in-Some-look
 returns-in-Some-look g c =
     let s = c.args.self.now in
-    let m = c.loop-_turn.self in
+    let m = c.loop-turn.self in
     let t = c.look.new.self in
-    let it = c.loop-_turn.invariant in
+    let it = c.loop-turn.invariant in
     let look = c.look.ensures in record {
       rounds = rounds_since s m t it.looked look.rounds;
       same = look.same.0 ∙ ap (λ (x : Subscribed _). x.number) it.looked;
@@ -44,10 +44,10 @@ returns-in-Some-look g c =
 pub returns : goal.returns
 returns g c =
     let s = c.args.self.now in
-    let it = c.loop-_turn.invariant in record {
+    let it = c.loop-turn.invariant in record {
       rounds = inl (ap (λ (x : Subscribed _). x.party) it.looked);
       same = ap (λ (x : Subscribed _). x.number) it.looked;
       given = tt;
       room = tt;
-      missed = ((it.past, ap (λ (x : Subscribed _). x.rest) it.looked ∙ it.past), it.looked, it.some (let last = c.loop-_turn-test.false in omega arith));
+      missed = ((it.past, ap (λ (x : Subscribed _). x.rest) it.looked ∙ it.past), it.looked, it.some (let last = c.loop-turn-test.false in omega arith));
     }
