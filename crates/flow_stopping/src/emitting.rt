@@ -22,7 +22,13 @@ fn given_up<T: Word>(rt: &impl Wait, emitter: &mut Emitter<T>) -> Option<Receipt
     match emitter.cancel_emit(rt) {
         Withdrawn::Left(receipt) => Some(receipt),
         Withdrawn::Removed => None,
-        Withdrawn::Gone => None,
+        // Its ticket wasn't out, which no run of an emitter shows. A poll of it would be pending for ever, too.
+        Withdrawn::Gone => {
+            for _ in rt.forever() {
+                emitter.look_on();
+            }
+            unreachable!()
+        }
     }
 }
 

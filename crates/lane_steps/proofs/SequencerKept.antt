@@ -329,14 +329,14 @@ module _ (key : Shape) where
     none_reads s r p pl' shut j rd o = dite (ℕ_discrete rd.place p) (λ e. not_both (r.place rd.place).is_open o.live (ap (λ (z : ℕ). (r.place z).is_open) e ∙ shut))
         (λ ne. subst (ReaderOk key r.log j rd) (sym (put_else r.place p pl' rd.place ne)) o)
 
-    opens_here : (slots id p start : ℕ) (me : Me S View) → me.0.sequencing.active ≡ true → p < key.places → (known_of me.0.sequencing p).is_open ≡ false → me.0.sequencing.flight ≡ [] → key.first ≤ start → start ≤ next_number me.0
-        → next_number me.0 ≤ start + key.cells → Allows (Law key) slots id me (cursor_word p) (λ _. start) (λ _. opened (step slots (cursor_word p) start 0 none) me start)
-    opens_here slots id p start me act inside shut grounded from_first below near s r deep at small = let v : View = me.0 in let q : Sequencing = v.sequencing in let ok = r.each_seat id v at in let own = ok.sequencing act in
+    opens_here : (slots id p start opening : ℕ) (me : Me S View) → me.0.sequencing.active ≡ true → p < key.places → (known_of me.0.sequencing p).is_open ≡ false → (known_of me.0.sequencing p).opening < opening → me.0.sequencing.flight ≡ [] → key.first ≤ start → start ≤ next_number me.0
+        → next_number me.0 ≤ start + key.cells → Allows (Law key) slots id me (cursor_word p) (λ _. start) (λ _. opened opening (step slots (cursor_word p) start 0 none) me start)
+    opens_here slots id p start opening me act inside shut later grounded from_first below near s r deep at small = let v : View = me.0 in let q : Sequencing = v.sequencing in let ok = r.each_seat id v at in let own = ok.sequencing act in
         let k : Known = known_of q p in let count = own.2.count in let there_k = index_there q.places p shut_place (omega arith) in let tail : ℕ = key.first + length r.log in let knows = own.2.knows p k there_k in
-        let closed_place = knows.shut shut in let same : next_number v ≡ tail = (λ i. (own.0 i).first + length (own.1 i)) in let pl' : Place = record { is_open = true; unread = true; holder = id; opening = suc k.opening; start = start; story = [] } in
+        let closed_place = knows.shut shut in let same : next_number v ≡ tail = (λ i. (own.0 i).first + length (own.1 i)) in let pl' : Place = record { is_open = true; unread = true; holder = id; opening = opening; start = start; story = [] } in
         let none_ahead : length r.flight ≡ 0 = ap length (sym own.2.in_flight ∙ grounded) in
         let opened_again : (rd : Reading) → IsOver rd (r.place p) → IsOver rd pl' = λ rd was. let at_most = was.0 in let counted = knows.opening in (omega arith, inr (omega arith)) in
-        let k' : Known = known_from start k in let w : View = record v { sequencing = with_known p k' q } in
+        let k' : Known = known_from start opening in let w : View = record v { sequencing = with_known p k' q } in
         let knows' : KnownOk k' (put r.place p pl' p) = subst (KnownOk k') (sym (put_here r.place p pl')) record { shut = λ e. not_both true refl e; opening = refl; start = λ _. refl; floor = λ _. omega arith; lost = λ _. refl; unread = λ _ _. (refl, refl) } in (
           w,
           keeps,
@@ -365,7 +365,7 @@ module _ (key : Shape) where
                 reading = λ a. let x = o.reading a in (x.0, none_reads s r p pl' closed_place j u.reading x.1);
                 quit = quit_stays key r.place p pl' u.reading (opened_again u.reading) o.quit;
               }),
-          (refl, λ p' e. let is : p ≡ p' = cursors_differ p p' e in ap (λ (z : ℕ). let u : View = record v { sequencing = with_known z (known_from start (known_of q z)) q } in u) is),
+          (refl, λ p' e. let is : p ≡ p' = cursors_differ p p' e in ap (λ (z : ℕ). let u : View = record v { sequencing = with_known z (known_from start opening) q } in u) is),
         )
 
     -- the same where the index is known by an equation
@@ -377,7 +377,7 @@ module _ (key : Shape) where
     drops slots id i p old new me is act inside dropping next full =
         subst (λ (z : ℕ). Allows (Law key) slots id me z (λ n. either (eqb n old) new n) (dropped (step slots z old new none) me)) (sym is) (drops_here slots id p old new me act inside dropping next full)
 
-    pub opens : (slots id i p start : ℕ) (me : Me S View) → i ≡ cursor_word p → me.0.sequencing.active ≡ true → p < key.places → (known_of me.0.sequencing p).is_open ≡ false → me.0.sequencing.flight ≡ [] → key.first ≤ start
-        → start ≤ next_number me.0 → next_number me.0 ≤ start + key.cells → Allows (Law key) slots id me i (λ _. start) (λ _. opened (step slots i start 0 none) me start)
-    opens slots id i p start me is act inside shut grounded from_first below near =
-        subst (λ (z : ℕ). Allows (Law key) slots id me z (λ _. start) (λ _. opened (step slots z start 0 none) me start)) (sym is) (opens_here slots id p start me act inside shut grounded from_first below near)
+    pub opens : (slots id i p start opening : ℕ) (me : Me S View) → i ≡ cursor_word p → me.0.sequencing.active ≡ true → p < key.places → (known_of me.0.sequencing p).is_open ≡ false → (known_of me.0.sequencing p).opening < opening → me.0.sequencing.flight ≡ [] → key.first ≤ start
+        → start ≤ next_number me.0 → next_number me.0 ≤ start + key.cells → Allows (Law key) slots id me i (λ _. start) (λ _. opened opening (step slots i start 0 none) me start)
+    opens slots id i p start opening me is act inside shut later grounded from_first below near =
+        subst (λ (z : ℕ). Allows (Law key) slots id me z (λ _. start) (λ _. opened opening (step slots z start 0 none) me start)) (sym is) (opens_here slots id p start opening me act inside shut later grounded from_first below near)

@@ -35,7 +35,7 @@ pub record Place : Type 0 where
   pub is_open : Bool
   pub unread : Bool
   pub holder : ℕ
-  -- how often it was opened
+  -- the number of its last opening, which rises from one to the next; 0 where it was never opened
   pub opening : ℕ
   pub start : ℕ
   pub story : List Bool

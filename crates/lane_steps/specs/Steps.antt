@@ -62,9 +62,9 @@ known_at n k = cond (eqb n closed) (record k { is_open = false }) (record k { fl
 abbrev pub known_past : ℕ → Known → Known
 known_past n k = record k { floor = suc n; lost = k.lost ++ n ∷ [] }
 
--- the sequencer opened the place at n
-abbrev pub known_from : ℕ → Known → Known
-known_from n k = record { is_open = true; unread = true; opening = suc k.opening; start = n; floor = n; lost = [] }
+-- the sequencer opened the place at n, by the opening with this number
+abbrev pub known_from : ℕ → ℕ → Known
+known_from n opening = record { is_open = true; unread = true; opening = opening; start = n; floor = n; lost = [] }
 
 -- the sequencer heard that the reader of this opening has closed its cursor
 abbrev pub known_over : ℕ → Known → Known
@@ -160,9 +160,9 @@ Dropped p old v n v' =
     (n ≡ old → (v' ≡ record v { sequencing = place_moved_past p n v.sequencing }) × ((known_of v.sequencing p).is_open ≡ true))
     × (n ≢ old → (v' ≡ record v { sequencing = place_found_at p n v.sequencing }) × Standing v p n)
 
--- the store that opens the place p at the number n
-abbrev pub Opened : ℕ → ℕ → View → View → Type 0
-Opened p n v v' = v' ≡ record v { sequencing = with_known p (known_from n (known_of v.sequencing p)) v.sequencing }
+-- the store that opens the place p at the number n, by the opening with this number
+abbrev pub Opened : ℕ → ℕ → ℕ → View → View → Type 0
+Opened p n opening v v' = v' ≡ record v { sequencing = with_known p (known_from n opening) v.sequencing }
 
 -- the cursor of the place p stands at n
 abbrev pub place_stands_at : ℕ → ℕ → Sequencing → Sequencing
@@ -221,8 +221,8 @@ module _ {S : Type 0} where
   abbrev pub dropped : Step S → Me S View → ℕ → Me S View → Type 0
   dropped st m n m' = (m'.1 ≡ m.1) × ((p : ℕ) → st.word ≡ cursor_word p → Dropped p st.first m.0 n m'.0)
 
-  abbrev pub opened : Step S → Me S View → ℕ → Me S View → Type 0
-  opened st m n m' = (m'.1 ≡ m.1) × ((p : ℕ) → st.word ≡ cursor_word p → Opened p st.first m.0 m'.0)
+  abbrev pub opened : ℕ → Step S → Me S View → ℕ → Me S View → Type 0
+  opened opening st m n m' = (m'.1 ≡ m.1) × ((p : ℕ) → st.word ≡ cursor_word p → Opened p st.first opening m.0 m'.0)
 
   abbrev pub met : Step S → Me S View → ℕ → Me S View → Type 0
   met st m n m' = (m'.1 ≡ m.1) × Met st.word m.0 n m'.0

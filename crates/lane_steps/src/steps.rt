@@ -200,17 +200,31 @@ impl<A: Allocator> Words<A> {
             .compare_exchange::<Lose>(seat, cursor_at(place), at, at + 1)
     }
 
-    /// Opens the cursor of a closed place at `start`.
-    pub fn open(&self, seat: &mut Place, place: usize, start: u64)
+    fn open_as<O: Told>(&self, seat: &mut Place, place: usize, start: u64, opening: u64)
+        requires told { O.number ≡ opening }
         requires seat { IsSeatOf self.now seat.old × (seat.old.me.0.sequencing.active ≡ true) × (place < self.now.shape.places) }
         requires closed { ((known_of seat.old.me.0.sequencing place).is_open ≡ false) × (seat.old.me.0.sequencing.flight ≡ []) }
         requires start { MayOpenAt self.now.shape seat.old.me.0 start }
+        requires later { (known_of seat.old.me.0.sequencing place).opening < opening }
         ensures seat { IsSameSeat seat.old seat.new }
-        ensures view { Opened place start seat.old.me.0 seat.new.me.0 }
+        ensures view { Opened place start opening seat.old.me.0 seat.new.me.0 }
     {
+        let _opening = opening;
         self.table
             .shared
-            .store::<Open>(seat, cursor_at(place), start);
+            .store::<Open<O>>(seat, cursor_at(place), start);
+    }
+
+    /// Opens the cursor of a closed place at `start`, by an opening with a number above that of the place's last one.
+    pub fn open(&self, seat: &mut Place, place: usize, start: u64, opening: u64)
+        requires seat { IsSeatOf self.now seat.old × (seat.old.me.0.sequencing.active ≡ true) × (place < self.now.shape.places) }
+        requires closed { ((known_of seat.old.me.0.sequencing place).is_open ≡ false) × (seat.old.me.0.sequencing.flight ≡ []) }
+        requires start { MayOpenAt self.now.shape seat.old.me.0 start }
+        requires later { (known_of seat.old.me.0.sequencing place).opening < opening }
+        ensures seat { IsSameSeat seat.old seat.new }
+        ensures view { Opened place start opening seat.old.me.0 seat.new.me.0 }
+    {
+        self.open_as::<Brand>(seat, place, start, opening);
     }
 
     /// Loads the cursor of the reader that the seat has taken in.

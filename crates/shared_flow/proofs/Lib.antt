@@ -9,3 +9,5 @@ pub mod Waiting
 pub mod Receiving
 pub mod Takes
 pub mod Emits
+pub mod Losing
+pub mod GivingUp

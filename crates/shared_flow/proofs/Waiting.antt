@@ -1,11 +1,12 @@
 -- An emission, and a value, that a thread waits for.
-use Rattle.std.proofs.Common.{◌≡◌, ◌⊎◌, ℕ, Option, Some, None, Result, Ok, Err, IfErr, sym, ap, subst, ◌∙◌, ⊎_elim}
+use Rattle.std.proofs.Common.{◌≡◌, ◌⊎◌, ℕ, Option, Some, None, Result, Ok, Err, IfErr, refl, sym, ap, subst, ◌∙◌, ⊎_elim}
 use Rattle.flow_terms.specs.declared.policy.Policy.{Policy}
 use Rattle.flow_terms.specs.declared.refusal.Refusal.{Refusal}
 use Rattle.shared_lane.specs.Views.{ReaderSeen, ReceiptSeen}
 use Rattle.shared_rounds.specs.declared.round.Round.TheVariants as round
 use Rattle.shared_flow.specs.Emitters as emitters
-use Rattle.shared_flow.specs.Emitters.{IfEmitted, Waits}
+use Rattle.flow_terms.specs.declared.ids.Ticket.{Ticket}
+use Rattle.shared_flow.specs.Emitters.{IfEmitted, Waits, WasGivenUp, WasWithdrawn}
 use Rattle.shared_flow.specs.Looks.{GaveIn, Missed, MissedOn, not_once, once_more, OnlyNext, by_one, by_pending, Waited}
 use Rattle.std.proofs.lemmas.Option.{same_Some}
 use Rattle.flow_terms.specs.declared.answers.Begun.{Begun}
@@ -14,9 +15,9 @@ use Rattle.flow_terms.specs.declared.answers.Withdrawn.{Withdrawn}
 use Rattle.flow_terms.specs.declared.answers.Withdrawn.TheVariants as withdrawn
 use Rattle.shared_rounds.specs.Entering.{Made}
 use Rattle.shared_rounds.specs.Tries.{BegunUnder, IfBegun, without_ticket}
-use Rattle.shared_flow.specs.Parties.{Emitting, IsItsReceipt, IsOwnReceipt, IsSameEmitter, OfFlow, UnlessLeft, named}
-use Rattle.shared_rounds.specs.Reach.{Party}
-use Rattle.shared_rounds.specs.Rounds.{IsReceiptFor, IsReceiptOfOne}
+use Rattle.shared_flow.specs.Parties.{Emitting, IsItsReceipt, IsOwnReceipt, IsSameEmitter, OfFlow, UnlessLeft, named, without_receipt}
+use Rattle.shared_rounds.specs.Reach.{Party, with_round}
+use Rattle.shared_rounds.specs.Rounds.{IsReceiptFor, IsReceiptOfOne, withdraw_round}
 use Rattle.shared_rounds.specs.declared.round.Emission.{Emission}
 use Rattle.shared_rounds.specs.Names.{FlowName}
 
@@ -98,6 +99,20 @@ missed_before r m t (once_more s n u before later) missed = once_more r n u (mis
 -- the next value was taken, after a look that took nothing and others
 pub waited_before : {T : Type 0} (read_as : ℕ → T) (r m t : ReaderSeen) (v : T) → Missed r m → Waited read_as m v t → Waited read_as r v t
 waited_before read_as r m t v missed waited = (waited.0, missed_before r m waited.0 waited.1 missed, waited.2)
+
+-- an emission that was given up, and of which no receipt was left, was withdrawn where that was answered
+ticket_there : (o : Option Ticket) → (o ≡ None → ⊥) → (t : Ticket) × (o ≡ Some t)
+ticket_there None busy = absurd (busy refl)
+ticket_there (Some t) busy = (t, refl)
+
+removed_with : (e f : Emitting) (t : Ticket) (x : Withdrawn ReceiptSeen) (w : Withdrawn ℕ) → e.ticket ≡ Some t → x ≡ withdrawn.Removed → x ≡ without_receipt w
+    → f ≡ record e { party = with_round (withdraw_round t e.id e.last w None) f.party.seen e.party; ticket = None } → Made (withdraw_round t e.id e.last w None) e.party f.party → WasWithdrawn e f
+removed_with e f t x (withdrawn.Left n) at is other same made = let no : ⊥ = cc (is, other) in absurd no
+removed_with e f t x withdrawn.Removed at is other same made = (t, at, same, made)
+removed_with e f t x withdrawn.Gone at is other same made = let no : ⊥ = cc (is, other) in absurd no
+
+pub was_withdrawn : (e f : Emitting) → (e.ticket ≡ None → ⊥) → WasGivenUp {N = ReceiptSeen} e withdrawn.Removed f → WasWithdrawn e f
+was_withdrawn e f busy given = let t = ticket_there e.ticket busy in let it = given t.0 t.1 in removed_with e f t.0 withdrawn.Removed it.0 t.1 refl it.1 it.2 it.3
 
 -- what is so of each answer
 pub unless_left : {N : Type 0} (answer : Withdrawn N) {P : Type 0} → P → UnlessLeft answer P

@@ -82,12 +82,12 @@ pub data Waited : Emitting → Emitting → Type 0 where
   not_yet : (e : Emitting) → Waited e e
   once_more : (e f g : Emitting) → Waited e f → Waits f g → Waited e g
 
--- the emission in flight was withdrawn, without a receipt
+-- the emission in flight was withdrawn: it waited under its ticket, and does no more, so that it was never accepted
 abbrev pub WasWithdrawn : Emitting → Emitting → Type 0
-WasWithdrawn e f = (ticket : Ticket) × (w : Withdrawn ℕ) × (e.ticket ≡ Some ticket) × (f ≡ record e {
-  party = with_round (withdraw_round ticket e.id e.last w None) f.party.seen e.party;
+WasWithdrawn e f = (ticket : Ticket) × (e.ticket ≡ Some ticket) × (f ≡ record e {
+  party = with_round (round.Withdraw ticket withdrawn.Removed) f.party.seen e.party;
   ticket = None;
-}) × Made (withdraw_round ticket e.id e.last w None) e.party f.party
+}) × Made (round.Withdraw ticket withdrawn.Removed) e.party f.party
 
 -- What an emission comes to that is waited for: polls find it finished; or there is no memory to wait by, and it is given up, which
 -- had been accepted, or had not.

@@ -7,3 +7,4 @@ pub mod Preludes
 pub mod Blocks
 pub mod Lives
 pub mod Owners
+pub mod Losses

@@ -57,6 +57,10 @@ pub data MissedOn : ReaderSeen → ReaderSeen → Type 0 where
   not_once : (r : ReaderSeen) → MissedOn r r
   once_more : (r m t : ReaderSeen) → MissedOn r m → Missed m t → MissedOn r t
 
+-- so it did by one look at least
+abbrev pub MissedSome : ReaderSeen → ReaderSeen → Type 0
+MissedSome r t = (m : ReaderSeen) × MissedOn r m × Missed m t
+
 -- the reader took the next value, after looks that took nothing
 abbrev pub Waited : {T : Type 0} → (ℕ → T) → ReaderSeen → T → ReaderSeen → Type 0
 Waited read_as r v t = (m : ReaderSeen) × MissedOn r m × Gave read_as m v t

@@ -1,5 +1,5 @@
 -- Which emissions a history of rounds accepted, and in which order: those that wait stand in a queue, whose first ones are let in.
-use Rattle.std.specs.Prelude.{◌≡◌, ◌⊎◌, ℕ, List, [], ◌∷◌, ◌++◌, ◌==◌, cond, map, take, drop, slice_get, Some, Ok}
+use Rattle.std.specs.Prelude.{◌≡◌, ◌⊎◌, ℕ, ◌+◌, Bool, false, ◌||◌, List, [], ◌∷◌, ◌++◌, ◌==◌, cond, map, take, drop, slice_get, Some, Ok}
 use Rattle.std.specs.List.{remove}
 use Rattle.shared_core.specs.Story.{Interleaves}
 use Rattle.flow_terms.specs.declared.answers.Tried.TheVariants as tried
@@ -17,17 +17,18 @@ use Rattle.shared_rounds.specs.Names.{SharedSeen}
 use Rattle.shared_rounds.specs.Reach.{Rounds}
 use Rattle.shared_rounds.specs.Rounds.{entry}
 
--- the emissions that wait, and those that were accepted
+-- the emissions that wait, those that were accepted, and the number of the next ticket
 pub record Progress : Type 0 where
   pub waiting : List Waiting
   pub accepted : List Entry
+  pub ticket : ℕ
 
 abbrev pub progress_of : SequencerSeen → Progress
-progress_of q = record { waiting = q.waiting; accepted = seen q }
+progress_of q = record { waiting = q.waiting; accepted = seen q; ticket = q.ticket }
 
 -- the first k of those that wait are accepted
 abbrev pub let_in : ℕ → Progress → Progress
-let_in k p = record { waiting = drop k p.waiting; accepted = p.accepted ++ map entry_of (take k p.waiting) }
+let_in k p = record { waiting = drop k p.waiting; accepted = p.accepted ++ map entry_of (take k p.waiting); ticket = p.ticket }
 
 -- an emission is accepted at once, where none waits
 abbrev pub IsAcceptedNow : Emission → Progress → Progress → Type 0
@@ -37,9 +38,13 @@ IsAcceptedNow e p p' = (p.waiting ≡ []) × (p' ≡ record p { accepted = p.acc
 abbrev pub AreAcceptedNow : List Entry → Progress → Progress → Type 0
 AreAcceptedNow es p p' = ((es ≡ []) ⊎ (p.waiting ≡ [])) × (p' ≡ record p { accepted = p.accepted ++ es })
 
--- it waits behind all others
-abbrev pub waits_in : Emission → ℕ → Progress → Progress
-waits_in e ticket p = record p { waiting = p.waiting ++ record { ticket = ticket; emitter = e.emitter; word = e.word } ∷ [] }
+-- the next ticket is given
+abbrev pub with_ticket : Progress → Progress
+with_ticket p = record p { ticket = p.ticket + 1 }
+
+-- it waits behind all others, with the next ticket
+abbrev pub waits_in : Emission → Progress → Progress
+waits_in e p = record (with_ticket p) { waiting = p.waiting ++ record { ticket = p.ticket; emitter = e.emitter; word = e.word } ∷ [] }
 
 -- one that waits with this ticket is withdrawn
 abbrev pub IsWithdrawn : ℕ → Progress → Progress → Type 0
@@ -51,7 +56,7 @@ Goes (round.Try e (Ok (tried.Accepted n))) p p' = IsAcceptedNow e p p'
 Goes (round.TryAll emitter words (Ok n)) p p' = AreAcceptedNow (entries emitter (take n words)) p p'
 Goes (round.Start e (Ok (begun.Accepted n))) p p' = IsAcceptedNow e p p'
 -- a ticket is also out for an emission that is accepted, and isn't finished before all have received it
-Goes (round.Start e (Ok (begun.Waiting ticket))) p p' = IsAcceptedNow e p p' ⊎ (p' ≡ waits_in e ticket.0 p)
+Goes (round.Start e (Ok (begun.Waiting ticket))) p p' = (ticket.0 ≡ p.ticket) × (IsAcceptedNow e (with_ticket p) p' ⊎ (p' ≡ waits_in e p))
 Goes (round.Withdraw ticket withdrawn.Removed) p p' = IsWithdrawn ticket.0 p p'
 Goes _ p p' = p' ≡ p
 
@@ -59,9 +64,9 @@ Goes _ p p' = p' ≡ p
 abbrev pub Proceeds : Round → Progress → Progress → Type 0
 Proceeds r p p' = (k : ℕ) × (m : Progress) × (l : ℕ) × Goes r (let_in k p) m × (p' ≡ let_in l m)
 
--- what a history of rounds comes to
+-- what a history of rounds comes to, from a first ticket on
 pub data ComesTo : Rounds → Progress → Type 0 where
-  begins : ComesTo [] (record { waiting = []; accepted = [] })
+  begins : (first : ℕ) → ComesTo [] (record { waiting = []; accepted = []; ticket = first })
   goes_on : (log : Rounds) (p : Progress) (pass : ℕ) (r : Round) (left : SharedSeen) (p' : Progress) → ComesTo log p → Proceeds r p p'
       → ComesTo (log ++ (pass, r, left) ∷ []) p'
 
@@ -87,7 +92,30 @@ abbrev pub emitted : ℕ → Rounds → List ℕ
 emitted e [] = []
 emitted e (x ∷ log) = taken_up e x.1 ++ emitted e log
 
+-- whether a round gives up the emission with this ticket: it answers that this waited, and waits no more
+abbrev pub gives_up : ℕ → Round → Bool
+gives_up ticket (round.Withdraw k withdrawn.Removed) = k.0 == ticket
+gives_up ticket _ = false
+
+-- whether some round of a history does
+abbrev pub is_given_up : ℕ → Rounds → Bool
+is_given_up ticket [] = false
+is_given_up ticket (x ∷ log) = gives_up ticket x.1 || is_given_up ticket log
+
+-- the word that this emitter emitted by a call, where this history gives it up
+abbrev pub one_given_up : ℕ → Rounds → Round → List ℕ
+one_given_up e log (round.Start m (Ok (begun.Waiting ticket))) = cond (is_given_up ticket.0 log) (one_by e (entry m)) []
+one_given_up e log _ = []
+
+-- the words that this emitter emitted in some rounds, and that a history gives up, in its order
+abbrev pub given_up_of : ℕ → Rounds → Rounds → List ℕ
+given_up_of e log [] = []
+given_up_of e log (x ∷ rounds) = one_given_up e log x.1 ++ given_up_of e log rounds
+
+abbrev pub given_up : ℕ → Rounds → List ℕ
+given_up e log = given_up_of e log log
+
 -- Those of an emitter's emissions that were accepted, and then those that wait, are what it emitted, in its own order, less
--- those that were withdrawn
+-- those that it gave up: those of its rounds whose tickets rounds answered with `Removed`, and no others
 abbrev pub EachInItsOwnOrder : Rounds → Progress → Type 0
-EachInItsOwnOrder log p = (e : ℕ) → (withdrawn : List ℕ) × Interleaves (words_by e (p.accepted ++ map entry_of p.waiting)) withdrawn (emitted e log)
+EachInItsOwnOrder log p = (e : ℕ) → Interleaves (words_by e (p.accepted ++ map entry_of p.waiting)) (given_up e log) (emitted e log)

@@ -20,7 +20,7 @@ use flow_terms::{Refusal, Word};
 use futures::task::{Context, Poll};
 use shared_core::{Begun, Emit, Ticket, Tried, Withdrawn};
 use shared_lane::Receipt;
-use shared_rounds::{Access, Bed, Emission, Polled, Released, Round, begun_ticket};
+use shared_rounds::{Access, Bed, Emission, Polled, Released, Round, begun_ticket, pause};
 use std::marker::{Model, PhantomData};
 use std::sync::Wait;
 
@@ -164,7 +164,7 @@ impl<T: Word> Emitter<T> {
     /// Emits a value, and waits until that is finished: Kotlin's `emit`. Nothing where the policy dropped the value.
     ///
     /// The thread sleeps while the emission is in flight. That the wake arrives isn't claimed. Refused as [`start_emit`](Emitter::start_emit)
-    /// is, and as `NoMemory` where the parker finds none to wait by: the emission was given up then, and was never accepted.
+    /// is, and as `NoMemory` where the parker finds none to wait by: the emission was withdrawn then, and was never accepted.
     pub fn emit(
         &mut self,
         rt: &impl Wait,
@@ -199,7 +199,13 @@ impl<T: Word> Emitter<T> {
             Err(_) => match self.cancel_emit(rt) {
                 Withdrawn::Left(receipt) => Ok(Some(receipt)),
                 Withdrawn::Removed => Err(Refusal::NoMemory),
-                Withdrawn::Gone => Err(Refusal::NoMemory),
+                // Its ticket wasn't out, which no run of an emitter shows. A poll of it would be pending for ever, too.
+                Withdrawn::Gone => {
+                    for _ in rt.forever() {
+                        pause();
+                    }
+                    unreachable!()
+                }
             },
         }
     }

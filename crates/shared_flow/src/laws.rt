@@ -1,5 +1,6 @@
 //! What holds of a shared flow for every order of calls by any of its owners, emitters and subscriptions on threads.
 ghost use Rattle.shared_flow.specs.Laws.{EachLockLaw, OneListLaw, OneFlowLaw, EachSubscriptionLaw, TakingAllIsTakingEach};
+ghost use Rattle.shared_flow.specs.Losses.{OnlyAcceptancesLose};
 
 use flow_terms::Word;
 
@@ -31,4 +32,11 @@ pub fn each_subscription_receives_prelude_cache_then_later<T: Word>()
 /// after another; or it looks once without a word, by which its reader's position is found, and then once for each word.
 pub fn taking_all_is_taking_each<T: Word>()
     ensures { TakingAllIsTakingEach T.read_as }
+{}
+
+/// A law, with nothing to run. Values are lost by the rounds that accept emissions under `DropOldest`, and by no other: not by a
+/// poll, a withdrawal, a count, a reset, an end, nor by a look at the cursors after any of them. For each emission that is accepted
+/// a place loses one value at most, the oldest that is pending there, and only where as many are pending as the flow has room for.
+pub fn values_are_lost_by_acceptances_alone()
+    ensures { OnlyAcceptancesLose }
 {}

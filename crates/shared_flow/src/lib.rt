@@ -63,7 +63,7 @@ pub use flow_terms::{Refusal, Word};
 pub use laws::{
     each_emitter_in_its_own_order, each_lock_has_one_list,
     each_subscription_receives_prelude_cache_then_later, one_list_of_rounds,
-    taking_all_is_taking_each,
+    taking_all_is_taking_each, values_are_lost_by_acceptances_alone,
 };
 pub use parker::Parker;
 pub use shared_core::Prelude;

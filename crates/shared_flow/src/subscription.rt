@@ -4,11 +4,12 @@ ghost use Rattle.futures.specs.Poll.{IfReady, OnPending};
 ghost use Rattle.futures.specs.Task.{IsArmed, Keeps};
 ghost use Rattle.lane_steps.specs.Law.{Begins};
 ghost use Rattle.shared_lane.specs.Readers.{IsReaderOf, IsReceiptOf, IsSameReader, at, received_count, lost_count};
+ghost use Rattle.shared_lane.specs.Places.{IsOfSubscription};
 ghost use Rattle.shared_rounds.specs.declared.round.Round.TheVariants as round;
 ghost use Rattle.shared_rounds.specs.Reach.{Party, party_of};
 ghost use Rattle.shared_rounds.specs.Entering.{Made};
 ghost use Rattle.shared_flow.specs.Parties.{Subscribed, OfFlow};
-ghost use Rattle.shared_flow.specs.Looks.{Took, Gave, GaveIn, Missed, MissedTwice, MissedOn, OnlyLooked, OnlyNext, Waited, WasEnded};
+ghost use Rattle.shared_flow.specs.Looks.{Took, Gave, GaveIn, Missed, MissedTwice, MissedSome, OnlyLooked, OnlyNext, Waited, WasEnded};
 ghost use Rattle.shared_flow.specs.Looks.{MadeRoom, MadeRoomIn, HasMadeRoom, WasMadeWithin};
 ghost use Rattle.shared_core.specs.Preludes.{prelude_values};
 ghost use Rattle.shared_flow.specs.Preludes.{IsGreeted, IsPast, GreetedOr, TookFirst};
@@ -50,6 +51,7 @@ pub struct Subscription<T: Word> {
 impl<T: Word> Model for Subscription<T> {
     ghost use Rattle.std.specs.Prelude.{◌≡◌, None};
     ghost use Rattle.shared_lane.specs.Readers.{IsReaderOf};
+    ghost use Rattle.shared_lane.specs.Places.{IsOfSubscription};
     ghost use Rattle.shared_rounds.specs.Reach.{party_of};
     ghost use Rattle.shared_rounds.specs.Names.{IsFlagOf};
     ghost use Rattle.shared_flow.specs.Parties.{Subscribed, OfFlow};
@@ -58,7 +60,7 @@ impl<T: Word> Model for Subscription<T> {
 
     ghost view = { λ s. record { party = party_of s.access; number = s.number; rest = s.rest; reader = s.reader; looks = s.looker.looks } };
 
-    ghost invariant = { λ s. (s.access.held ≡ None) × OfFlow (party_of s.access) (λ name. IsReaderOf name.lane s.reader) × IsFlagOf (party_of s.access).flow s.looker.table };
+    ghost invariant = { λ s. (s.access.held ≡ None) × OfFlow (party_of s.access) (λ name. IsReaderOf name.lane s.reader) × IsFlagOf (party_of s.access).flow s.looker.table × IsOfSubscription s.number s.reader };
 }
 
 impl<T: Word> Subscription<T> {
@@ -69,7 +71,7 @@ impl<T: Word> Subscription<T> {
         reader: Reader,
         looker: Looker,
     ) -> Subscription<T>
-        requires { (access.held ≡ None) × OfFlow (party_of access) (λ name. IsReaderOf name.lane reader) × IsFlagOf (party_of access).flow looker.table }
+        requires { (access.held ≡ None) × OfFlow (party_of access) (λ name. IsReaderOf name.lane reader) × IsFlagOf (party_of access).flow looker.table × IsOfSubscription number reader }
         ensures { result ≡ record { party = party_of access; number = number; rest = prelude_values prelude; reader = reader; looks = looker.looks } }
     {
         Subscription {
@@ -154,13 +156,13 @@ impl<T: Word> Subscription<T> {
         ensures same { self.new.number ≡ self.old.number }
         ensures given { IfSome result (λ v. GreetedOr self.old v self.new (Waited T.read_as self.old.reader v self.new.reader)) }
         ensures room { IfSome result (λ v. IsGreeted self.old v self.new ⊎ MadeRoom self.old self.new) }
-        ensures missed { IfNone result (IsPast self.old self.new × OnlyLooked self.old self.new × MissedOn self.old.reader self.new.reader) }
+        ensures missed { IfNone result (IsPast self.old self.new × OnlyLooked self.old self.new × MissedSome self.old.reader self.new.reader) }
     {
         if let Some(value) = self.greet() {
             return Some(value);
         }
         // A value that another thread is about to accept is there sooner than a thread that sleeps has been woken for it.
-        for _ in 0..LOOKS {
+        for _turn in 0..LOOKS {
             pause();
             if let Some(value) = self.look(rt) {
                 return Some(value);

@@ -10,7 +10,7 @@ use Rattle.lane_steps.specs.Layout.{cursor_word}
 use Rattle.lane_steps.specs.Law.{closed, shut_place}
 use Rattle.lane_steps.specs.Steps.{known_of, known_at, known_over, with_known, place_over, next_number, IsRoomy, IsRoomyAt, Surveyed}
 use Rattle.lane_steps.proofs.Lists.{not_both, within, index_is}
-use Rattle.shared_lane.specs.Surveys.{cursor_loads, open_count, opening_at, may_be_open, OpensNone, OnlyPlaces, Visit, Round, WholeRound, FoundAt, Cleared, Behind}
+use Rattle.shared_lane.specs.Surveys.{cursor_loads, open_count, opening_at, may_be_open, OpensNone, LosesNone, OnlyPlaces, Visit, Round, WholeRound, FoundAt, Cleared, Behind}
 
 pub loads_more : (p : ℕ) (ns : List ℕ) (n : ℕ) → cursor_loads p (ns ++ n ∷ []) ≡ cursor_loads p ns ++ (cursor_word (p + length ns), n) ∷ []
 loads_more p [] n = ap (λ (z : ℕ). (cursor_word z, n) ∷ []) (omega arith)
@@ -120,6 +120,19 @@ same_opening n k = go (eqb n closed)
     go : (b : Bool) → (cond b (record k { is_open = false }) (record k { floor = n })).opening ≡ k.opening
     go true = refl
     go false = refl
+
+-- and no value is lost by it
+pub same_lost : (n : ℕ) (k : Known) → (known_at n k).lost ≡ k.lost
+same_lost n k = go (eqb n closed)
+  where
+    go : (b : Bool) → (cond b (record k { is_open = false }) (record k { floor = n })).lost ≡ k.lost
+    go true = refl
+    go false = refl
+
+-- a round that left the cursors where they were found lost nothing
+pub round_loses_none : (v w : View) (ns : List ℕ) → Round FoundAt v ns w → LosesNone v w
+round_loses_none v w ns round p = dite (dec_le (length ns) p) (λ far. ap (λ (k : Known). k.lost) (round.rest p far))
+    (λ near. let lt : p < length ns = Rattle.std.proofs.Common.lt_of_not-le near in ap (λ (k : Known). k.lost) (round.each p lt) ∙ same_lost (get_or ns p 0) (known_of v.sequencing p))
 
 pub visited : (v w : View) (p n : ℕ) → p < length v.sequencing.places → Surveyed p v n w → Visit FoundAt v p n w
 visited v w p n inside step = let e = step.0 in let q = ap (λ (x : View). x.sequencing) e in let k : Known = known_at n (known_of v.sequencing p) in record {

@@ -5,6 +5,7 @@ use lib.ListN.{length-map}
 use Rattle.std.proofs.lemmas.Option.{none-some}
 use Rattle.std.proofs.lemmas.List.{append-nil, nil_from_length}
 use Rattle.shared_lane.proofs.Outstanding.{inside_some}
+use Rattle.shared_lane.proofs.WholeRounds.{found_loses_none}
 use Rattle.circular_buffer.specs.Buffer.{keep_last}
 use Rattle.lane_steps.specs.declared.view.Shape.{Shape}
 use Rattle.lane_steps.specs.declared.view.View.{View}
@@ -12,9 +13,9 @@ use Rattle.lane_steps.specs.Law.{Begins}
 use Rattle.flow_terms.specs.declared.policy.Policy.{Policy}
 use Rattle.flow_terms.specs.declared.policy.Policy.TheVariants.{Suspend, DropOldest, DropLatest}
 use Rattle.shared_lane.specs.Views.{SequencerSeen}
-use Rattle.shared_lane.specs.Surveys.{cursor_loads, OpensNone}
+use Rattle.shared_lane.specs.Surveys.{cursor_loads, OpensNone, LosesNone}
 use Rattle.shared_lane.specs.declared.tickets.Waiting.{Waiting}
-use Rattle.shared_lane.specs.Sequencers.{entry_of, stood, cached, seen, next, IsSameTickets, OnlyLoaded, RoundedBy, Settled, IsStuck, accepted_on, stood_on}
+use Rattle.shared_lane.specs.Sequencers.{entry_of, stood, cached, seen, next, IsSameTickets, LoadedOrMoved, RoundedBy, Settled, IsStuck, accepted_on, stood_on}
 
 -- what begins with that begins with its beginning
 pub begins_twice : {A : Type 0} (xs ys zs : List A) → Begins xs ys → Begins ys zs → Begins xs zs
@@ -25,6 +26,12 @@ pub rounded_later : (p : Policy) (lag : ℕ) (q : SequencerSeen) (room : Bool) (
 rounded_later Suspend lag q room v r = let l = r.2.loads in (cursor_loads 0 (take l.0 r.0), l.1)
 rounded_later DropOldest lag q room v r = let x = r.1 in let l = x.2.loads in (cursor_loads 0 (take l.0 x.0), l.1)
 rounded_later DropLatest lag q room v r = let l = r.2.loads in (cursor_loads 0 (take l.0 r.0), l.1)
+
+-- where the oldest values aren't dropped, a round loses none
+pub rounded_loses_none : (p : Policy) (lag : ℕ) (q : SequencerSeen) (room : Bool) (v : View) → p ≡ Suspend → RoundedBy p lag q room v → LosesNone q.view v
+rounded_loses_none Suspend lag q room v is r = found_loses_none q.view v r.0 r.2
+rounded_loses_none DropOldest lag q room v is r = let no : ⊥ = cc (is) in absurd no
+rounded_loses_none DropLatest lag q room v is r = found_loses_none q.view v r.0 r.2
 
 -- before any was accepted
 pub settled_none : (q : SequencerSeen) → Settled 0 q q
@@ -38,6 +45,7 @@ settled_none q = record {
   cache_is = refl;
   later = ([], sym (append-nil q.view.loads));
   none_opened = λ p. refl;
+  none_lost = λ p. refl;
   quiet = λ none. refl;
 }
 
@@ -65,8 +73,8 @@ cached_more r ws [] ys = refl
 cached_more r ws (x ∷ xs) ys = cached_more r (keep_last r (ws ++ x.word ∷ [])) xs ys
 
 pub settled_more : (k : ℕ) (q t t' u : SequencerSeen) → Settled k q t → seen t' ≡ seen t → t'.cache ≡ t.cache → IsSameTickets t t' → t'.subscription ≡ t.subscription → t'.view.shape ≡ q.view.shape → t'.replay ≡ q.replay
-    → Begins t'.view.loads t.view.loads → OpensNone t.view t'.view → Settled 1 t' u → Settled (k + 1) q u
-settled_more k q t t' u was same_seen same_cache same subs shape r since none_opened one = let W : List Waiting = q.waiting in let next_k : k + 1 ≡ suc k = omega arith in
+    → Begins t'.view.loads t.view.loads → OpensNone t.view t'.view → LosesNone t.view t'.view → Settled 1 t' u → Settled (k + 1) q u
+settled_more k q t t' u was same_seen same_cache same subs shape r since none_opened none_lost one = let W : List Waiting = q.waiting in let next_k : k + 1 ≡ suc k = omega arith in
     let here : t'.waiting ≡ drop k W = same.0 ∙ was.waiting_is in let cut : take k W ++ take 1 (t'.waiting) ≡ take (k + 1) W = ap (λ l. take k W ++ take 1 l) here ∙ (sym (take_more k W) ∙ ap (λ (z : ℕ). take z W) (sym next_k)) in
     let left : length (t'.waiting) ≡ length (drop k W) = ap length here in let left' = length-drop k W in let few = was.few in let more = one.few in
     let grown : seen t' ≡ seen q ++ map entry_of (take k W) = same_seen ∙ was.accepted in
@@ -82,10 +90,11 @@ settled_more k q t t' u was same_seen same_cache same subs shape r since none_op
       cache_is = one.cache_is ∙ ((λ i. cached (r i) ((same_cache ∙ was.cache_is) i) (take 1 (t'.waiting))) ∙ (sym (cached_more q.replay (q.cache) (take k W) (take 1 (t'.waiting))) ∙ ap (cached q.replay (q.cache)) cut));
       later = begins_twice u.view.loads t'.view.loads q.view.loads one.later (begins_twice t'.view.loads t.view.loads q.view.loads since was.later);
       none_opened = λ p. one.none_opened p ∙ (none_opened p ∙ was.none_opened p);
+      none_lost = λ p. one.none_lost p ∙ (none_lost p ∙ was.none_lost p);
       quiet = λ none. let few : k + 1 ≤ length q.waiting = omega arith in let zero_long : length q.waiting ≡ 0 = ap length none in absurd (omega arith);
     }
 
-pub stuck : (q t t' : SequencerSeen) (lag : ℕ) → Begins t.view.loads q.view.loads → OnlyLoaded t t' → RoundedBy t.policy lag t false t'.view → lag ≡ t.view.shape.cells → IsStuck q t'
+pub stuck : (q t t' : SequencerSeen) (lag : ℕ) → Begins t.view.loads q.view.loads → LoadedOrMoved t t' → RoundedBy t.policy lag t false t'.view → lag ≡ t.view.shape.cells → IsStuck q t'
 stuck q t t' lag since only round cells =
     (t, since, (only, subst (λ (z : ℕ). RoundedBy t.policy z t false t'.view) (cells ∙ ap (λ (z : Shape). z.cells) (sym only.1)) round))
 
@@ -104,10 +113,11 @@ settles q w is = go q.waiting refl is where
     cache_is = ap (cached q.replay q.cache) (sym one);
     later = ([], sym (append-nil q.view.loads));
     none_opened = λ p. refl;
+    none_lost = λ p. refl;
     quiet = λ none. let zero_long : length q.waiting ≡ 0 = ap length none in absurd (omega arith);
   }
 
-pub still_waits : (k : ℕ) (q t t' : SequencerSeen) → Settled k q t → OnlyLoaded t t' → k < length q.waiting → t'.waiting ≢ []
+pub still_waits : (k : ℕ) (q t t' : SequencerSeen) → Settled k q t → LoadedOrMoved t t' → k < length q.waiting → t'.waiting ≢ []
 still_waits k q t t' was only more none = let left = length-drop k q.waiting in let is : length t'.waiting ≡ length (drop k q.waiting) = ap length (ap (λ (z : SequencerSeen). z.waiting) only.0 ∙ was.waiting_is) in let nothing : length t'.waiting ≡ 0 = ap length none in absurd (omega arith)
 
 pub all_settled : (k : ℕ) (q t : SequencerSeen) → Settled k q t → k ≡ length q.waiting → t.waiting ≡ []

@@ -12,6 +12,7 @@ use Rattle.shared_lane.specs.declared.tickets.Standing.{Standing}
 use Rattle.shared_lane.specs.Caches.{emitter_at, word_of, IsLastOf, AreAccepted}
 use Rattle.shared_lane.specs.Views.{SequencerSeen}
 use Rattle.shared_lane.specs.Kept.{IsSound}
+use Rattle.shared_lane.specs.Surveys.{opening_at}
 use Rattle.shared_lane.specs.Polls.{given_back, withdrawn_from}
 use Rattle.shared_lane.specs.Sequencers.{next, accepted_on}
 use Rattle.shared_lane.specs.Blocks.{accepted_all}
@@ -34,6 +35,7 @@ sound_accepted_all q es was below = let longer : length (q.view.seen ++ es) ≡ 
   numbers = omega arith;
   tickets = was.tickets;
   subscriptions = was.subscriptions;
+  openings = was.openings;
   waits = was.waits;
   stands = stand_on q.view.shape.first q.view.seen es q.standing was.stands;
   cached = cached_after q.replay q.view.seen es q.cache was.cached;
@@ -58,6 +60,7 @@ sound_given_back i q was = let a = length-take i q.standing in let b = length-dr
   numbers = was.numbers;
   tickets = was.tickets;
   subscriptions = was.subscriptions;
+  openings = was.openings;
   waits = was.waits;
   stands = stand_without q.view.shape.first q.view.seen q.standing i was.stands;
   cached = was.cached;
@@ -84,6 +87,7 @@ sound_waiting q waiting was fewer none order = record {
   numbers = let few = was.numbers in omega (arith, few, fewer);
   tickets = was.tickets;
   subscriptions = was.subscriptions;
+  openings = was.openings;
   waits = λ no. none (was.waits no);
   stands = was.stands;
   cached = was.cached;
@@ -114,6 +118,7 @@ sound_stood q x was few accepted last low = record {
   numbers = was.numbers;
   tickets = was.tickets;
   subscriptions = was.subscriptions;
+  openings = was.openings;
   waits = was.waits;
   stands = map-append (λ (z : Standing). emitter_at q.view.shape.first q.view.seen z.number) q.standing (x ∷ []) ∙ (λ i. was.stands i ++ accepted i ∷ []) ∙ sym (map-append (λ (z : Standing). Some z.emitter) q.standing (x ∷ []));
   cached = was.cached;
@@ -122,8 +127,8 @@ sound_stood q x was few accepted last low = record {
 
 -- it has loaded cursors, and may have let a reader in
 pub sound_seeing : (q : SequencerSeen) (v : View) (subscription : ℕ) → IsSound q → v.shape ≡ q.view.shape → v.seen ≡ q.view.seen → v.sequencing.active ≡ true → v.sequencing.flight ≡ []
-    → length v.sequencing.places ≡ length q.view.sequencing.places → subscription ≤ 4611686018427387904 → IsSound (record q { view = v; subscription = subscription })
-sound_seeing q v subscription was shape log active flight places few = record {
+    → length v.sequencing.places ≡ length q.view.sequencing.places → subscription ≤ 4611686018427387904 → ((p : ℕ) → opening_at v p ≤ subscription) → IsSound (record q { view = v; subscription = subscription })
+sound_seeing q v subscription was shape log active flight places few openings = record {
   active = active;
   no_flight = flight;
   each_place_known = places ∙ was.each_place_known ∙ ap (λ (z : Shape). z.places) (sym shape);
@@ -136,6 +141,7 @@ sound_seeing q v subscription was shape log active flight places few = record {
   numbers = let e : next_number v ≡ next_number q.view = (λ i. (shape i).first + length (log i)) in let n = was.numbers in omega arith;
   tickets = was.tickets;
   subscriptions = few;
+  openings = openings;
   waits = was.waits;
   stands = subst (λ (z : ℕ × List Entry). AreAccepted z.0 z.1 q.standing) (λ i. ((sym shape i).first, sym log i)) was.stands;
   cached = subst (λ l. IsLastOf l q.cache) (sym log) was.cached;

@@ -15,7 +15,7 @@ use Rattle.lane_steps.proofs.Lists.{front}
 use Rattle.shared_lane.specs.Caches.{word_of}
 use Rattle.shared_lane.specs.Views.{SequencerSeen}
 use Rattle.shared_lane.specs.Surveys.{cursor_loads, may_be_open, WholeRound, FoundAt, Cleared, Behind}
-use Rattle.shared_lane.specs.Sequencers.{next, OnlyLoaded, RoundedBy, ByCursors, AcceptedOn, accepted_on}
+use Rattle.shared_lane.specs.Sequencers.{next, LoadedOrMoved, RoundedBy, ByCursors, AcceptedOn, accepted_on}
 use Rattle.shared_lane.specs.Blocks.{FindRoom, RoundedFor, AcceptedTogether, AcceptedEach}
 
 -- ---- the cache
@@ -110,7 +110,7 @@ again n k = go (eqb n closed)
 found_shut : (n : ℕ) (k : Known) → (known_at n k).is_open ≡ false → n ≢ closed → k.is_open ≡ false
 found_shut n k e ne = sym (ap (λ (b : Bool). (cond b (record k { is_open = false }) (record k { floor = n })).is_open) (Rattle.std.proofs.Common.ne_eqb n closed ne)) ∙ e
 
-stands_after : (ns : List ℕ) (q m : SequencerSeen) (e : Entry) (E : ℕ → Known → Known → Type 0) → OnlyLoaded q m → length ns ≡ q.view.shape.places → WholeRound E q.view ns m.view
+stands_after : (ns : List ℕ) (q m : SequencerSeen) (e : Entry) (E : ℕ → Known → Known → Type 0) → LoadedOrMoved q m → length ns ≡ q.view.shape.places → WholeRound E q.view ns m.view
     → ((p : ℕ) → p < length ns → FoundAt (get_or ns p 0) (known_of q.view.sequencing p) (known_of m.view.sequencing p)) → Stands ns (accepted_on e m)
 stands_after ns q m e E only long round found = let longer = length-append m.view.seen (e ∷ []) in let same : next m ≡ next q = (λ i. (only.1 i).first + length (only.2 i)) in record {
   long = long ∙ (λ i. (sym only.1 i).places);
@@ -127,7 +127,7 @@ first_by DropLatest k q v some r = (r.0, r.1, r.2, r.3 (next q) (omega arith) (o
 first_by DropOldest k q v some r = (refl, (r.0, r.1, r.2))
 
 -- and the others find the cursors where it found them
-others_by : (p : Policy) (k : ℕ) (q m : SequencerSeen) (e : Entry) → 1 < k → OnlyLoaded q m → RoundedFor p k q m.view → (ns : List ℕ) × Stands ns (accepted_on e m) × FindRoom (lag_for p m.capacity m.view.shape.cells) (next q + 1) (next q + k) ns
+others_by : (p : Policy) (k : ℕ) (q m : SequencerSeen) (e : Entry) → 1 < k → LoadedOrMoved q m → RoundedFor p k q m.view → (ns : List ℕ) × Stands ns (accepted_on e m) × FindRoom (lag_for p m.capacity m.view.shape.cells) (next q + 1) (next q + k) ns
 others_by Suspend k q m e some only r = (r.0, stands_after r.0 q m e FoundAt only r.1 r.2 r.2.each, λ n low high. subst (λ (z : SequencerSeen). Behind n z.capacity r.0 false) (sym only.0) (r.3 n (omega arith) high))
 others_by DropLatest k q m e some only r = (r.0, stands_after r.0 q m e FoundAt only r.1 r.2 r.2.each, λ n low high. subst (λ (z : SequencerSeen). Behind n z.capacity r.0 false) (sym only.0) (r.3 n (omega arith) high))
 others_by DropOldest k q m e some only r = let ns : List ℕ = r.0 in let near = r.3 (next q + 1) (omega arith) (omega arith) in (
@@ -137,7 +137,7 @@ others_by DropOldest k q m e some only r = let ns : List ℕ = r.0 in let near =
   λ n low high. subst (λ (z : ℕ). Behind n z ns false) (λ i. (sym only.1 i).cells) (r.3 n low high),
 )
 
-first_accepted : (q m : SequencerSeen) (e : Entry) → q.waiting ≡ [] → OnlyLoaded q m → RoundedBy q.policy q.capacity q true m.view → AcceptedOn q e (next q) (accepted_on e m)
+first_accepted : (q m : SequencerSeen) (e : Entry) → q.waiting ≡ [] → LoadedOrMoved q m → RoundedBy q.policy q.capacity q true m.view → AcceptedOn q e (next q) (accepted_on e m)
 first_accepted q m e none only round = let is = only.0 in (
   none,
   refl,

@@ -8,9 +8,9 @@ use Rattle.lane_steps.specs.declared.view.Known.{Known}
 use Rattle.lane_steps.specs.declared.view.View.{View}
 use Rattle.lane_steps.specs.Law.{closed}
 use Rattle.lane_steps.specs.Steps.{known_of, next_number}
-use Rattle.shared_lane.specs.Surveys.{cursor_loads, open_count, ShutFrom, Round, WholeRound, FoundAt, Cleared, Behind}
+use Rattle.shared_lane.specs.Surveys.{cursor_loads, open_count, ShutFrom, LosesNone, Round, WholeRound, FoundAt, Cleared, Behind}
 use Rattle.shared_lane.specs.Blocks.{HasRoom}
-use Rattle.shared_lane.proofs.Rounds.{at_back, shut_at}
+use Rattle.shared_lane.proofs.Rounds.{at_back, same_lost, shut_at}
 
 -- the cursors that were found, and so many more that are known to be closed
 abbrev pub all_of : List ℕ → ℕ → List ℕ
@@ -66,6 +66,11 @@ room_all tail lag ns more most room has = record {
   near = λ n low high. behind_all n lag ns more false (has.near n low high);
   no_more = λ h. behind_all (tail + room) lag ns more true (has.no_more h);
 }
+
+-- a round that left the cursors where they were found lost nothing
+pub found_loses_none : (v w : View) (ns : List ℕ) → WholeRound FoundAt v ns w → LosesNone v w
+found_loses_none v w ns round p = dite (dec_le (length ns) p) (λ far. ap (λ (k : Known). k.lost) (round.rest p far))
+    (λ near. let lt : p < length ns = lt_of_not-le near in ap (λ (k : Known). k.lost) (round.each p lt) ∙ same_lost (get_or ns p 0) (known_of v.sequencing p))
 
 -- each of these cursors from the place `end` on was found closed
 pub record EndsAt (ns : List ℕ) (end : ℕ) : Type 0 where

@@ -10,7 +10,7 @@ use Rattle.lane_steps.specs.Law.{Entry, closed}
 use Rattle.shared_lane.specs.Caches.{word_of}
 use Rattle.shared_lane.specs.Views.{SequencerSeen}
 use Rattle.shared_lane.specs.Surveys.{WholeRound, FoundAt, Cleared, Behind}
-use Rattle.shared_lane.specs.Sequencers.{next, seen, OnlyLoaded, AcceptedOn, TriedOn, RefusedTry}
+use Rattle.shared_lane.specs.Sequencers.{next, seen, LoadedOrMoved, AcceptedOn, TriedOn, RefusedTry}
 
 -- the emissions of these words, for one emitter
 abbrev pub entries : ℕ → List ℕ → List Entry
@@ -50,7 +50,7 @@ RoundedFor DropLatest k q v = (ns : List ℕ) × (length ns ≡ q.view.shape.pla
 
 -- the emissions were accepted together, after one round over the cursors that found room for each of them
 abbrev pub AcceptedTogether : SequencerSeen → List Entry → SequencerSeen → Type 0
-AcceptedTogether q es t = (q.waiting ≡ []) × ((m : SequencerSeen) × OnlyLoaded q m × RoundedFor q.policy (length es) q m.view × (t ≡ accepted_all es m))
+AcceptedTogether q es t = (q.waiting ≡ []) × ((m : SequencerSeen) × LoadedOrMoved q m × RoundedFor q.policy (length es) q m.view × (t ≡ accepted_all es m))
 
 -- the emissions were accepted one after another, each by a try of its own
 abbrev pub AcceptedEach : SequencerSeen → List Entry → SequencerSeen → Type 0

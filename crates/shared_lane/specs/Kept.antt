@@ -5,7 +5,7 @@ use Rattle.lane_steps.specs.declared.view.View.{View}
 use Rattle.lane_steps.specs.Law.{received, lost}
 use Rattle.lane_steps.specs.Layout.{cell_index}
 use Rattle.lane_steps.specs.Steps.{position, next_number}
-use Rattle.shared_lane.specs.Surveys.{ShutFrom}
+use Rattle.shared_lane.specs.Surveys.{ShutFrom, opening_at}
 use Rattle.shared_lane.specs.Views.{SequencerSeen}
 use Rattle.shared_lane.specs.Ordering.{IsInOrder}
 use Rattle.shared_lane.specs.Caches.{drops_values, may_wait, AreAccepted, IsLastOf}
@@ -44,6 +44,7 @@ pub record IsSound (q : SequencerSeen) : Type 0 where
   pub numbers : next_number q.view + length q.waiting ≤ 4611686018427387904
   pub tickets : q.ticket ≤ 4611686018427387904
   pub subscriptions : q.subscription ≤ 4611686018427387904
+  pub openings : (p : ℕ) → opening_at q.view p ≤ q.subscription
   pub waits : may_wait q.policy ≡ false → q.waiting ≡ []
   pub stands : AreAccepted q.view.shape.first q.view.seen q.standing
   pub cached : IsLastOf q.view.seen q.cache

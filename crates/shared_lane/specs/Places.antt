@@ -5,10 +5,10 @@ use lib.ListN.{get_elem?}
 use Rattle.flow_terms.specs.declared.refusal.Refusal.{Refusal}
 use Rattle.flow_terms.specs.declared.refusal.Refusal.TheVariants.{SubscribersFull, Spent}
 use Rattle.lane_steps.specs.Law.{closed}
-use Rattle.lane_steps.specs.Steps.{known_of, place_over}
+use Rattle.lane_steps.specs.Steps.{place_over}
 use Rattle.shared_lane.specs.Headline.{WasLetIn}
 use Rattle.shared_lane.specs.Views.{LaneSeen, ReaderSeen, SequencerSeen}
-use Rattle.shared_lane.specs.Surveys.{WholeRound, FoundAt, FoundAllOpen, cursor_loads, open_count, opening_at, may_be_open}
+use Rattle.shared_lane.specs.Surveys.{WholeRound, FoundAt, FoundAllOpen, LosesNone, cursor_loads, open_count, opening_at, lost_at, may_be_open}
 use Rattle.shared_lane.specs.Readers.{IsReaderOf}
 use Rattle.shared_lane.specs.Sequencers.{seen, OnlyLoaded}
 
@@ -18,11 +18,15 @@ Counted q count t = (ns : List ℕ) × (length ns ≡ q.view.shape.places) × Wh
 
 -- what the sequencer moved past at a place, since it was opened last
 abbrev pub lost_by : SequencerSeen → ℕ → List ℕ
-lost_by q p = (known_of q.view.sequencing p).lost
+lost_by q p = lost_at q.view p
 
--- how often a place was opened
+-- the number of the last opening of a place
 abbrev pub opening_of : SequencerSeen → ℕ → ℕ
 opening_of q p = opening_at q.view p
+
+-- the reader was let in as the subscription with this number: its place was opened for that, and the opening's number is one more
+abbrev pub IsOfSubscription : ℕ → ReaderSeen → Type 0
+IsOfSubscription number r = r.opening ≡ number + 1
 
 -- the sequencer heard that this reader has closed its cursor
 abbrev pub told_of_end : ReaderSeen → SequencerSeen → SequencerSeen
@@ -41,11 +45,12 @@ pub record LetIn (lane : LaneSeen) (q : SequencerSeen) (r : ReaderSeen) (t : Seq
   pub found_closed : (ns : List ℕ) × (r.place ≡ length ns) × (t.view.loads ≡ q.view.loads ++ cursor_loads 0 (ns ++ closed ∷ []))
       × ((p : ℕ) → p < length ns → slice_index ns p ≢ closed)
   pub none_before : (p : ℕ) → p < r.place → may_be_open q.view p ≡ true
-  -- its place was opened once more, and it is the reader of this opening
-  pub opened : (r.opening ≡ opening_of q r.place + 1) × (opening_of t r.place ≡ r.opening)
+  -- its place was opened once more, by an opening of the next subscription's number, and it is the reader of this opening
+  pub opened : IsOfSubscription q.subscription r × (opening_of t r.place ≡ r.opening) × (opening_of q r.place < r.opening)
   pub others : (p : ℕ) → p ≢ r.place → opening_of t p ≡ opening_of q p
-  -- what was dropped for others stays
+  -- what was dropped for others stays, and nothing was dropped for it yet
   pub keeps : (p : ℕ) → p ≢ r.place → lost_by t p ≡ lost_by q p
+  pub none_lost : lost_by t r.place ≡ []
   pub unspent : q.subscription < 4611686018427387904
   pub counted : t ≡ record q { view = t.view; subscription = q.subscription + 1 }
   pub same_shape : t.view.shape ≡ q.view.shape
@@ -71,4 +76,4 @@ IsAccepted q emitter number = (i : ℕ) × (w : ℕ) × (number ≡ q.view.shape
 
 -- no place lost a value by the call
 abbrev pub LosesNothing : SequencerSeen → SequencerSeen → Type 0
-LosesNothing q t = (p : ℕ) → lost_by t p ≡ lost_by q p
+LosesNothing q t = LosesNone q.view t.view

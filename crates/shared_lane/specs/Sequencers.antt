@@ -19,7 +19,7 @@ use Rattle.shared_lane.specs.Caches.{drops_values}
 use Rattle.shared_lane.specs.Views.{LaneSeen, SequencerSeen}
 use Rattle.shared_lane.specs.declared.tickets.Waiting.{Waiting}
 use Rattle.shared_lane.specs.declared.tickets.Standing.{Standing}
-use Rattle.shared_lane.specs.Surveys.{WholeRound, FoundAt, Cleared, Behind, OpensNone}
+use Rattle.shared_lane.specs.Surveys.{WholeRound, FoundAt, Cleared, Behind, OpensNone, LosesNone}
 
 -- what the lane of a flow with this config is made with
 abbrev pub shape_of : Config → Shape
@@ -58,9 +58,14 @@ abbrev pub IsSameSequencer : SequencerSeen → SequencerSeen → Type 0
 IsSameSequencer q t = (t.table ≡ q.table) × (t.view.shape ≡ q.view.shape)
     × (t.policy ≡ q.policy) × (t.capacity ≡ q.capacity) × (t.replay ≡ q.replay) × (t.emits ≡ q.emits)
 
--- nothing changed but what it has loaded, and what it knows of the places by that; and no place was opened
+-- Nothing changed but what it has loaded, and what it knows of the places by that: no place was opened, and none lost a value. So it is of
+-- each look at the cursors.
 abbrev pub OnlyLoaded : SequencerSeen → SequencerSeen → Type 0
-OnlyLoaded q t = (t ≡ record q { view = t.view }) × (t.view.shape ≡ q.view.shape) × (t.view.seen ≡ q.view.seen) × OpensNone q.view t.view
+OnlyLoaded q t = (t ≡ record q { view = t.view }) × (t.view.shape ≡ q.view.shape) × (t.view.seen ≡ q.view.seen) × OpensNone q.view t.view × LosesNone q.view t.view
+
+-- the same of a round for an acceptance, which may move cursors on, past values that are lost by that
+abbrev pub LoadedOrMoved : SequencerSeen → SequencerSeen → Type 0
+LoadedOrMoved q t = (t ≡ record q { view = t.view }) × (t.view.shape ≡ q.view.shape) × (t.view.seen ≡ q.view.seen) × OpensNone q.view t.view
 
 -- one round over the cursors, which found room or not
 abbrev pub RoundedBy : Policy → ℕ → SequencerSeen → Bool → View → Type 0
@@ -75,7 +80,7 @@ Rounded lag q room t = RoundedBy q.policy lag q room t.view
 -- From q to t every cursor was found, by one round and no other, and by what it found there was room or not. Each answer that tells of
 -- room says so by this: the loads that t has and q hasn't are those of the round.
 abbrev pub ByCursors : ℕ → SequencerSeen → Bool → SequencerSeen → Type 0
-ByCursors lag q room t = OnlyLoaded q t × Rounded lag q room t
+ByCursors lag q room t = LoadedOrMoved q t × Rounded lag q room t
 
 -- the first k waiting emissions were accepted, in their order
 pub record Settled (k : ℕ) (q t : SequencerSeen) : Type 0 where
@@ -88,6 +93,7 @@ pub record Settled (k : ℕ) (q t : SequencerSeen) : Type 0 where
   pub cache_is : t.cache ≡ cached q.replay q.cache (take k q.waiting)
   pub later : Begins t.view.loads q.view.loads
   pub none_opened : OpensNone q.view t.view
+  pub none_lost : LosesNone q.view t.view
   -- where nothing waited nothing was done
   pub quiet : q.waiting ≡ [] → t ≡ q
 

@@ -17,13 +17,21 @@ abbrev pub open_count : List ℕ → ℕ
 open_count [] = 0
 open_count (n ∷ ns) = cond (eqb n closed) (open_count ns) (suc (open_count ns))
 
--- how often the place p was opened
+-- the number of the last opening of the place p
 abbrev pub opening_at : View → ℕ → ℕ
 opening_at v p = (known_of v.sequencing p).opening
 
 -- no place was opened
 abbrev pub OpensNone : View → View → Type 0
 OpensNone v v' = (p : ℕ) → opening_at v' p ≡ opening_at v p
+
+-- what the sequencer moved past at the place p, since it was opened last
+abbrev pub lost_at : View → ℕ → List ℕ
+lost_at v p = (known_of v.sequencing p).lost
+
+-- no place lost a value
+abbrev pub LosesNone : View → View → Type 0
+LosesNone v v' = (p : ℕ) → lost_at v' p ≡ lost_at v p
 
 -- the place p may be open, or is known to be closed
 abbrev pub may_be_open : View → ℕ → Bool

@@ -15,7 +15,7 @@ pub record LaneSeen : Type 0 where
   pub table : TableId
   pub shape : Shape
 
--- A reader: its place and which opening of it, where it began, for each number from there on whether it was received, and the accepted emissions that it has seen.
+-- A reader: its place and the number of the opening of it, where it began, for each number from there on whether it was received, and the accepted emissions that it has seen.
 -- `loads` are its loads, in order: the index of a word, and what it found there.
 pub record ReaderSeen : Type 0 where
   pub table : TableId

@@ -3,7 +3,7 @@ ghost use Rattle.std.specs.Prelude.{◌≡◌, ◌≢◌, ◌+◌, ◌<◌, ◌�
 ghost use Rattle.std.specs.Prelude.{eqb, IfSome, IfNone, ◌-◌, take};
 ghost use Rattle.flow_terms.specs.declared.policy.Policy.TheVariants.{Suspend, DropOldest, DropLatest};
 ghost use Rattle.shared_lane.specs.Sequencers.{next, HasNumber, HasTicketNumber, HasFreeTicket, IsSequencerOf, IsSameSequencer, TriedOn, RefusedTry};
-ghost use Rattle.shared_lane.specs.Sequencers.{BegunOn, RefusedStart, AfterScan, OnlyLoaded, Rounded, seen, accepted_on, stood_on};
+ghost use Rattle.shared_lane.specs.Sequencers.{BegunOn, RefusedStart, AfterScan, LoadedOrMoved, Rounded, seen, accepted_on, stood_on};
 ghost use Rattle.shared_lane.specs.Sequencers.{accepted_with_ticket, waited, Settled, IsStuck};
 ghost use Rattle.lane_steps.specs.Steps.{IsRoomy, next_number};
 ghost use Rattle.shared_lane.specs.Ordering.{StandsLast};
@@ -12,7 +12,7 @@ ghost use Rattle.shared_lane.specs.Places.{IsAccepted};
 ghost use Rattle.shared_lane.specs.Readers.{IsReceiptOf};
 ghost use Rattle.lane_steps.specs.Law.{closed};
 ghost use Rattle.lane_steps.specs.Seats.{IsSeatOf, IsSameSeat};
-ghost use Rattle.shared_lane.specs.Surveys.{KnowsPlaces, MayDrop, MayDropAt, IsSurvey, WholeRound, FoundAllOpen, FoundClosed, Cleared, Visit, ShutFrom};
+ghost use Rattle.shared_lane.specs.Surveys.{KnowsPlaces, MayDrop, MayDropAt, IsSurvey, WholeRound, FoundAllOpen, FoundClosed, Cleared, Visit, ShutFrom, LosesNone};
 
 use crate::lane::Lane;
 use crate::receipt::Receipt;
@@ -343,7 +343,7 @@ impl<A: Allocator> Sequencer<A> {
     fn find_room<B: Allocator>(&mut self, lane: &Lane<B>, lag: u64) -> bool
         requires lane { IsSequencerOf lane.now self.old }
         requires lag { lag ≤ self.old.view.shape.cells }
-        ensures only { OnlyLoaded self.old self.new }
+        ensures only { LoadedOrMoved self.old self.new }
         ensures round { Rounded lag self.old result self.new }
         ensures room { result ≡ true → IsRoomy self.new.view.shape.cells self.new.view }
         ensures calm { result ≡ false → self.new.policy ≢ DropOldest }
@@ -481,7 +481,8 @@ impl<A: Allocator> Sequencer<A> {
     /// Accepts waiting emissions, the oldest first, while there is room, and returns how many.
     #[inline(never)]
     fn let_in<B: Allocator>(&mut self, lane: &Lane<B>) -> u32
-        requires { IsSequencerOf lane.now self.old }
+        requires lane { IsSequencerOf lane.now self.old }
+        requires policy { self.old.policy ≡ Suspend }
         ensures same { IsSequencerOf lane.now self.new × IsSameSequencer self.old self.new }
         ensures settled { Settled result self.old self.new }
         ensures stuck { self.new.waiting ≢ [] → IsStuck self.old self.new }
@@ -572,6 +573,7 @@ pub(crate) fn load_cursors<A: Allocator>(
     requires beyond { (open_end.old ≤ words.now.shape.places) × ShutFrom seat.old.me.0 open_end.old }
     ensures seat { IsSameSeat seat.old seat.new }
     ensures found { IsSurvey words.now.shape.places tail lag seat.old.me.0 result seat.new.me.0 }
+    ensures keeps { LosesNone seat.old.me.0 seat.new.me.0 }
     ensures beyond { (open_end.new ≤ open_end.old) × ShutFrom seat.new.me.0 open_end.new }
 {
     let mut found = Survey {
@@ -594,6 +596,7 @@ pub(crate) fn find_closed<A: Allocator>(words: &Words<A>, seat: &mut Place) -> O
     requires sized { KnowsPlaces words.now.shape seat.old.me.0 }
     ensures seat { IsSameSeat seat.old seat.new }
     ensures none { IfNone result (FoundAllOpen words.now.shape.places seat.old.me.0 seat.new.me.0) }
+    ensures keeps { LosesNone seat.old.me.0 seat.new.me.0 }
     ensures some { IfSome result (λ p. (p < words.now.shape.places) × FoundClosed p seat.old.me.0 seat.new.me.0) }
 {
     for place in 0..words.shape.places {

@@ -52,7 +52,7 @@ same_through q m t a b = (b.0 ∙ a.0, b.1 ∙ a.1, b.2 ∙ a.2, b.3 ∙ a.3, b.
 
 -- a call that was made after what waited was let in
 pub comes : (s t : SharedSeen) (r : Round) → t.name ≡ s.name → IsSameSequencer s.sequencer t.sequencer → AfterScan s.sequencer (λ x. Makes s.name.lane x r t.sequencer) → Frees r t.sequencer t → Comes s r t
-comes s t r named same made frees = (named, same, (made.0, made.1, made.2, made.3, made.4, (t.sequencer, made.5, (t.sequencer, inl refl, (refl, refl, refl, λ _. refl)), frees)))
+comes s t r named same made frees = (named, same, (made.0, made.1, made.2, made.3, made.4, (t.sequencer, made.5, (t.sequencer, inl refl, (refl, refl, refl, λ _. refl, λ _. refl)), frees)))
 
 -- the same, where what waits may have been let in once more
 pub comes_again : (s m t : SharedSeen) (r : Round) → m.name ≡ s.name → IsSameSequencer s.sequencer m.sequencer → AfterScan s.sequencer (λ x. Makes s.name.lane x r m.sequencer)
@@ -60,7 +60,7 @@ pub comes_again : (s m t : SharedSeen) (r : Round) → m.name ≡ s.name → IsS
 comes_again s m t r named same made still kept again frees = (
   still ∙ named,
   same_through s.sequencer m.sequencer t.sequencer same kept,
-  (made.0, made.1, made.2, made.3, made.4, (m.sequencer, made.5, (t.sequencer, again, (refl, refl, refl, λ _. refl)), frees)),
+  (made.0, made.1, made.2, made.3, made.4, (m.sequencer, made.5, (t.sequencer, again, (refl, refl, refl, λ _. refl, λ _. refl)), frees)),
 )
 
 -- looks at the cursors after what was let in once more
@@ -71,7 +71,7 @@ frees_on _ q m t frees only raised = tt
 
 -- where an emission has to wait the flag was raised, and then what waits was let in once more
 pub watched_frees : (e : Emission) (b : Result (Begun ℕ Ticket) Refusal) (q : SequencerSeen) (t : SharedSeen) → Watched (ticket_of b) q t.sequencer → RaisedFor (ticket_of b) q t.raised → Frees (round.Start e b) q t
-watched_frees e (Ok (begun.Waiting ticket)) q t watched raised = (t.sequencer, watched, (refl, refl, refl, λ _. refl), raised)
+watched_frees e (Ok (begun.Waiting ticket)) q t watched raised = (t.sequencer, watched, (refl, refl, refl, λ _. refl, λ _. refl), raised)
 watched_frees e (Ok (begun.Accepted n)) q t watched raised = tt
 watched_frees e (Ok begun.Dropped) q t watched raised = tt
 watched_frees e (Err refusal) q t watched raised = tt

@@ -15,7 +15,7 @@ use Rattle.shared_lane.specs.Views.{LaneSeen, SequencerSeen}
 use Rattle.flow_terms.specs.declared.ids.Ticket.{Ticket}
 use Rattle.flow_terms.specs.declared.refusal.Refusal.{Refusal}
 use Rattle.flow_terms.specs.declared.refusal.Refusal.TheVariants as refusals
-use Rattle.shared_lane.specs.Sequencers.{IsSameSequencer, OnlyLoaded, Rounded, Settled, BegunOn, RefusedStart, seen, next}
+use Rattle.shared_lane.specs.Sequencers.{IsSameSequencer, OnlyLoaded, LoadedOrMoved, Rounded, Settled, BegunOn, RefusedStart, seen, next}
 use Rattle.shared_lane.specs.Places.{IsAccepted, NotLetIn}
 use Rattle.shared_lane.specs.Polls.{given_back}
 use Rattle.shared_rounds.specs.declared.round.Round.{Round}
@@ -33,7 +33,7 @@ below_snoc n (x ∷ rs) r all last = (all.0, below_snoc n rs r all.1 last)
 
 -- ---- the next number never falls
 
-settled_next : (k : ℕ) (q m : SequencerSeen) → IsSameSequencer q m → Settled k q m → next q ≤ next m
+pub settled_next : (k : ℕ) (q m : SequencerSeen) → IsSameSequencer q m → Settled k q m → next q ≤ next m
 settled_next k q m same settled =
     let first : m.view.shape.first ≡ q.view.shape.first = ap (λ z. z.first) same.1 in
     let count = ap length settled.accepted ∙ length-append (seen q) _ in
@@ -45,10 +45,17 @@ loaded_next q t only =
     let count = ap length only.2 in
     omega (arith, first, count)
 
+-- so a round for an acceptance leaves it, which may have moved cursors on
+moved_next : (q t : SequencerSeen) → LoadedOrMoved q t → next q ≤ next t
+moved_next q t only =
+    let first : t.view.shape.first ≡ q.view.shape.first = ap (λ z. z.first) only.1 in
+    let count = ap length only.2 in
+    omega (arith, first, count)
+
 scanned_next : (q t : SequencerSeen) → Scanned q t → next q ≤ next t
 scanned_next q t scan = subst (λ z. next q ≤ next z) (sym scan.5) (settled_next scan.1 q scan.0 scan.2 scan.3)
 
-rests_next : (q t : SequencerSeen) → Rests q t → next q ≤ next t
+pub rests_next : (q t : SequencerSeen) → Rests q t → next q ≤ next t
 rests_next q t rests =
     let to : next q ≤ next rests.0 = ⊎_elim (λ is. subst (λ z. next q ≤ next z) (sym is) (omega arith)) (scanned_next q rests.0) rests.1 in
     let on = loaded_next rests.0 t rests.2 in
@@ -85,8 +92,8 @@ same_log q t same is =
 same_state : (q t : SequencerSeen) → t ≡ q → next q ≤ next t
 same_state q t is = subst (λ z. next q ≤ next z) (sym is) (omega arith)
 
-full_next : (q t : SequencerSeen) → ((q.waiting ≢ []) × (t ≡ q)) ⊎ (OnlyLoaded q t × Rounded q.capacity q false t) → next q ≤ next t
-full_next q t on = ⊎_elim (λ stays. same_state q t stays.1) (λ loaded. loaded_next q t loaded.0) on
+full_next : (q t : SequencerSeen) → ((q.waiting ≢ []) × (t ≡ q)) ⊎ (LoadedOrMoved q t × Rounded q.capacity q false t) → next q ≤ next t
+full_next q t on = ⊎_elim (λ stays. same_state q t stays.1) (λ moved. moved_next q t moved.0) on
 
 refused_next : (q : SequencerSeen) (refusal : Refusal) (t : SequencerSeen) → RefusedStart q refusal t → next q ≤ next t
 refused_next q refusals.Spent t on = same_state q t on.1
@@ -109,15 +116,15 @@ waiting_next q e ticket t same on = ⊎_elim
     on.3
 
 -- what a call answered with is below the next number after it, which isn't below the one before it
-makes_next : (lane : LaneSeen) (q : SequencerSeen) (r : Round) (t : SequencerSeen) → t.view.shape ≡ q.view.shape → Makes lane q r t → (next q ≤ next t) × (after_number r ≤ next t)
+pub makes_next : (lane : LaneSeen) (q : SequencerSeen) (r : Round) (t : SequencerSeen) → t.view.shape ≡ q.view.shape → Makes lane q r t → (next q ≤ next t) × (after_number r ≤ next t)
 makes_next lane q (round.Try e (Ok (tried.Accepted n))) t same on = let more = one_more q (e.emitter, e.word) t same on.2 in let is = on.1 in (omega (arith, more), omega (arith, more, is))
-makes_next lane q (round.Try e (Ok tried.Dropped)) t same on = unnumbered q t (loaded_next q t on.1.0)
+makes_next lane q (round.Try e (Ok tried.Dropped)) t same on = unnumbered q t (moved_next q t on.1.0)
 makes_next lane q (round.Try e (Ok tried.Full)) t same on = unnumbered q t (full_next q t on.1)
 makes_next lane q (round.Try e (Err refusal)) t same on = unnumbered q t (same_state q t on.2)
 makes_next lane q (round.TryAll emitter words (Ok n)) t same on = unnumbered q t (some_more q (entries emitter (take n words)) t same on.accepted)
 makes_next lane q (round.TryAll emitter words (Err refusal)) t same on = unnumbered q t (same_state q t on.1.2)
 makes_next lane q (round.Start e (Ok (begun.Accepted n))) t same on = let more = one_more q (e.emitter, e.word) t same on.2 in let is = on.1 in (omega (arith, more), omega (arith, more, is))
-makes_next lane q (round.Start e (Ok begun.Dropped)) t same on = unnumbered q t (loaded_next q t on.1.0)
+makes_next lane q (round.Start e (Ok begun.Dropped)) t same on = unnumbered q t (moved_next q t on.1.0)
 makes_next lane q (round.Start e (Ok (begun.Waiting ticket))) t same on = unnumbered q t (waiting_next q (e.emitter, e.word) ticket t same on)
 makes_next lane q (round.Start e (Err refusal)) t same on = unnumbered q t (refused_next q refusal t on)
 makes_next lane q (round.Poll ticket (emit.Done n)) t same on = (loaded_next (given_back on.0 q) t on.5, accepted_below t (on.1).emitter n on.4)
@@ -139,7 +146,7 @@ makes_next lane q (round.Cache (Err refusal)) t same on = unnumbered q t (same_s
 makes_next lane q (round.Count count) t same on = unnumbered q t (loaded_next q t on.0)
 makes_next lane q (round.Hold count) t same on = unnumbered q t (loaded_next q t on.0)
 
-rests_shape : (q t : SequencerSeen) → Rests q t → t.view.shape ≡ q.view.shape
+pub rests_shape : (q t : SequencerSeen) → Rests q t → t.view.shape ≡ q.view.shape
 rests_shape q t rests = rests.2.1 ∙ ⊎_elim (λ is. ap (λ (z : SequencerSeen). z.view.shape) is) (λ (scan : Scanned q rests.0). ap (λ (z : SequencerSeen). z.view.shape) scan.5 ∙ scan.2.1) rests.1
 
 pub does_next : (s : SharedSeen) (r : Round) (t : SharedSeen) → Does s r t → (next s.sequencer ≤ next t.sequencer) × (after_number r ≤ next t.sequencer)

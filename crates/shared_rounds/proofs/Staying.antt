@@ -23,7 +23,7 @@ use Rattle.shared_lane.specs.Blocks.{AcceptedInTurn, IsTurnedAway}
 use Rattle.shared_lane.specs.Ordering.{IsOut, FirstUnfinished}
 use Rattle.shared_lane.specs.Places.{NotLetIn}
 use Rattle.shared_lane.specs.Polls.{IsNotOut, IsOutFor, PolledOn, given_back, withdrawn_from}
-use Rattle.shared_lane.specs.Sequencers.{OnlyLoaded, Settled, BegunOn, RefusedStart, FoundNoRoom, stood}
+use Rattle.shared_lane.specs.Sequencers.{OnlyLoaded, LoadedOrMoved, Settled, BegunOn, RefusedStart, FoundNoRoom, stood}
 use Rattle.shared_rounds.specs.declared.round.Round.{Round}
 use Rattle.shared_rounds.specs.declared.round.Round.TheVariants as round
 use Rattle.shared_rounds.specs.declared.sleepers.Sleeper.{Sleeper}
@@ -44,6 +44,9 @@ same_out q t b stands waits out = ⊎_elim
 
 loaded_out : (q t : SequencerSeen) (b : ℕ) → OnlyLoaded q t → IsOut q b → IsOut t b
 loaded_out q t b only out = same_out q t b (ap (λ (z : SequencerSeen). z.standing) only.0) (ap (λ (z : SequencerSeen). z.waiting) only.0) out
+
+moved_out : (q t : SequencerSeen) (b : ℕ) → LoadedOrMoved q t → IsOut q b → IsOut t b
+moved_out q t b only out = same_out q t b (ap (λ (z : SequencerSeen). z.standing) only.0) (ap (λ (z : SequencerSeen). z.waiting) only.0) out
 
 equal_out : (q t : SequencerSeen) (b : ℕ) → t ≡ q → IsOut q b → IsOut t b
 equal_out q t b is out = subst (λ (z : SequencerSeen). IsOut z b) (sym is) out
@@ -113,7 +116,7 @@ waits_more q t x b stands waits out = ⊎_elim
     out
 
 full_out : (q t : SequencerSeen) (b : ℕ) → FoundNoRoom q t → IsOut q b → IsOut t b
-full_out q t b on out = ⊎_elim (λ stays. equal_out q t b stays.1 out) (λ loaded. loaded_out q t b loaded.0 out) on
+full_out q t b on out = ⊎_elim (λ stays. equal_out q t b stays.1 out) (λ moved. moved_out q t b moved.0 out) on
 
 refused_out : (q : SequencerSeen) (refusal : Refusal) (t : SequencerSeen) (b : ℕ) → RefusedStart q refusal t → IsOut q b → IsOut t b
 refused_out q refusals.Spent t b on out = equal_out q t b on.1 out
@@ -138,12 +141,12 @@ turns_out q (es ∷ blocks) t b on out =
     let together = on.2 in
     let loaded : SequencerSeen = together.1.0 in
     turns_out m blocks t b on.3
-    (same_out loaded m b (ap (λ (z : SequencerSeen). z.standing) together.1.3) (ap (λ (z : SequencerSeen). z.waiting) together.1.3) (loaded_out q loaded b together.1.1 out))
+    (same_out loaded m b (ap (λ (z : SequencerSeen). z.standing) together.1.3) (ap (λ (z : SequencerSeen). z.waiting) together.1.3) (moved_out q loaded b together.1.1 out))
 
 away_out : (q t : SequencerSeen) (b : ℕ) → IsTurnedAway q t → IsOut q b → IsOut t b
 away_out q t b away out = ⊎_elim
     (λ refused. equal_out q t b refused.2 out)
-    (λ tries. ⊎_elim (λ full. full_out q t b full.1 out) (λ dropped. loaded_out q t b dropped.1.0 out) (tries (0, 0)))
+    (λ tries. ⊎_elim (λ full. full_out q t b full.1 out) (λ dropped. moved_out q t b dropped.1.0 out) (tries (0, 0)))
     away
 
 -- the ticket of a poll that waits is out
@@ -155,7 +158,7 @@ polled_out q ticket t on = loaded_out q t ticket on.0 (⊎_elim
 
 makes_out : (lane : LaneSeen) (q : SequencerSeen) (r : Round) (t : SequencerSeen) (b : ℕ) → Makes lane q r t → taken_by r ≢ Some b → IsOut q b → IsOut t b
 makes_out lane q (round.Try e (Ok (tried.Accepted n))) t b on kept out = same_out q t b on.4.1 on.4.0 out
-makes_out lane q (round.Try e (Ok tried.Dropped)) t b on kept out = loaded_out q t b on.1.0 out
+makes_out lane q (round.Try e (Ok tried.Dropped)) t b on kept out = moved_out q t b on.1.0 out
 makes_out lane q (round.Try e (Ok tried.Full)) t b on kept out = full_out q t b on.1 out
 makes_out lane q (round.Try e (Err refusal)) t b on kept out = equal_out q t b on.2 out
 makes_out lane q (round.TryAll emitter words (Ok n)) t b on kept out =
@@ -165,7 +168,7 @@ makes_out lane q (round.TryAll emitter words (Ok n)) t b on kept out =
     ⊎_elim (λ all. equal_out m t b all.1 accepted) (λ some. away_out m t b some.1 accepted) turn.4
 makes_out lane q (round.TryAll emitter words (Err refusal)) t b on kept out = equal_out q t b on.1.2 out
 makes_out lane q (round.Start e (Ok (begun.Accepted n))) t b on kept out = same_out q t b on.4.1 on.4.0 out
-makes_out lane q (round.Start e (Ok begun.Dropped)) t b on kept out = loaded_out q t b on.1.0 out
+makes_out lane q (round.Start e (Ok begun.Dropped)) t b on kept out = moved_out q t b on.1.0 out
 makes_out lane q (round.Start e (Ok (begun.Waiting ticket))) t b on kept out = waiting_out q (e.emitter, e.word) ticket t b on out
 makes_out lane q (round.Start e (Err refusal)) t b on kept out = refused_out q refusal t b on out
 makes_out lane q (round.Poll ticket (emit.Done n)) t b on kept out =

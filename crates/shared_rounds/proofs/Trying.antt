@@ -4,7 +4,7 @@ use Rattle.std.proofs.lemmas.List.{append-nil, length-take, map-append, take-tak
 use Rattle.flow_terms.specs.declared.refusal.Refusal.{Refusal}
 use Rattle.lane_steps.specs.Law.{Entry}
 use Rattle.shared_lane.specs.Views.{SequencerSeen}
-use Rattle.shared_lane.specs.Sequencers.{OnlyLoaded, FoundNoRoom, AfterScan, RefusedTry, TriedOn, seen}
+use Rattle.shared_lane.specs.Sequencers.{LoadedOrMoved, FoundNoRoom, AfterScan, RefusedTry, TriedOn, seen}
 use Rattle.shared_lane.specs.Blocks.{entries, joined, AcceptedTogether, AcceptedInTurn, IsTurnedAway, TriedAllOn}
 use Rattle.shared_lane.proofs.Entries.{entries_front}
 use Rattle.flow_terms.specs.declared.answers.Tried.TheVariants.{Dropped, Full}
@@ -33,16 +33,16 @@ none_or_first q t (es ∷ blocks) in_turn = inr in_turn.2.0
 
 -- ---- a word that is turned away
 
-loaded_waiting : (q t : SequencerSeen) → OnlyLoaded q t → t.waiting ≡ q.waiting
-loaded_waiting q t only = ap (λ (z : SequencerSeen). z.waiting) only.0
+moved_waiting : (q t : SequencerSeen) → LoadedOrMoved q t → t.waiting ≡ q.waiting
+moved_waiting q t only = ap (λ (z : SequencerSeen). z.waiting) only.0
 
 no_room_waiting : (q t : SequencerSeen) → FoundNoRoom q t → t.waiting ≡ q.waiting
-no_room_waiting q t found = ⊎_elim (λ stays. ap (λ (z : SequencerSeen). z.waiting) stays.1) (λ loaded. loaded_waiting q t loaded.0) found
+no_room_waiting q t found = ⊎_elim (λ stays. ap (λ (z : SequencerSeen). z.waiting) stays.1) (λ loaded. moved_waiting q t loaded.0) found
 
 turned_waiting : (q t : SequencerSeen) → IsTurnedAway q t → t.waiting ≡ q.waiting
 turned_waiting q t turned = ⊎_elim
     (λ spent. ap (λ (z : SequencerSeen). z.waiting) spent.2)
-    (λ each. let any : Entry = (0, 0) in ⊎_elim (λ (full : TriedOn q any Full t). no_room_waiting q t full.1) (λ (dropped : TriedOn q any Dropped t). loaded_waiting q t dropped.1.0) (each any))
+    (λ each. let any : Entry = (0, 0) in ⊎_elim (λ (full : TriedOn q any Full t). no_room_waiting q t full.1) (λ (dropped : TriedOn q any Dropped t). moved_waiting q t dropped.1.0) (each any))
     turned
 
 -- ---- words that were tried

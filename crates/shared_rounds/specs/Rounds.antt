@@ -18,7 +18,7 @@ use Rattle.shared_lane.specs.Views.{LaneSeen, ReaderSeen, ReceiptSeen, Sequencer
 use Rattle.shared_lane.specs.Sequencers.{IsSameSequencer, OnlyLoaded, AfterScan, TriedOn, RefusedTry, BegunOn, RefusedStart, seen}
 use Rattle.shared_lane.specs.Blocks.{TriedAllOn}
 use Rattle.shared_lane.specs.Polls.{PolledOn, WithdrawnFrom, IsOutFor, IsNotOut}
-use Rattle.shared_lane.specs.Places.{LetIn, NotLetIn, Counted, told_of_end}
+use Rattle.shared_lane.specs.Places.{LetIn, NotLetIn, Counted, IsOfSubscription, told_of_end}
 use Rattle.shared_lane.specs.Readers.{IsReaderOf}
 use Rattle.shared_rounds.specs.declared.round.Emission.{Emission}
 use Rattle.shared_rounds.specs.declared.round.Round.{Round}
@@ -69,8 +69,8 @@ Makes lane q (round.Subscribe (Ok number)) t = (number ≡ q.subscription) × ((
 Makes lane q (round.Subscribe (Err refusal)) t = NotLetIn q refusal t
 Makes lane q (round.Next number) t = t ≡ q
 Makes lane q (round.Pending number) t = t ≡ q
--- the sequencer knows that a reader has closed its cursor
-Makes lane q (round.Cancel number) t = (r : ReaderSeen) × IsReaderOf lane r × (t ≡ told_of_end r q)
+-- the sequencer knows that the reader of this subscription has closed its cursor
+Makes lane q (round.Cancel number) t = (r : ReaderSeen) × IsReaderOf lane r × (t ≡ told_of_end r q) × IsOfSubscription number r
 Makes lane q round.Reset t = t ≡ record q { cache = [] }
 Makes lane q (round.Cache (Ok words)) t = (t ≡ q) × (words ≡ q.cache)
 Makes lane q (round.Cache (Err refusal)) t = (t ≡ q) × (refusal ≡ NoMemory)

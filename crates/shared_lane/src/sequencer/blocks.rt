@@ -2,7 +2,7 @@
 ghost use Rattle.std.specs.Prelude.{◌≡◌, ◌≢◌, ℕ, ◌+◌, ◌<◌, ◌≤◌, [], length, false, IfOk, IfErr};
 ghost use Rattle.flow_terms.specs.declared.policy.Policy.TheVariants.{Suspend, DropOldest};
 ghost use Rattle.lane_steps.specs.Steps.{IsRoomyAt};
-ghost use Rattle.shared_lane.specs.Sequencers.{IsSequencerOf, IsSameSequencer, OnlyLoaded, Rounded, HasNumber, RefusedTry, AfterScan, next};
+ghost use Rattle.shared_lane.specs.Sequencers.{IsSequencerOf, IsSameSequencer, LoadedOrMoved, Rounded, HasNumber, RefusedTry, AfterScan, next};
 ghost use Rattle.shared_lane.specs.Blocks.{entries, accepted_all, RoundedFor, AcceptedSome, TriedAllOn};
 
 use super::{LIMIT, Sequencer};
@@ -17,7 +17,7 @@ impl<A: Allocator> Sequencer<A> {
     fn find_room_for<B: Allocator>(&mut self, lane: &Lane<B>, most: u64) -> u64
         requires lane { IsSequencerOf lane.now self.old }
         requires some { 0 < most }
-        ensures only { OnlyLoaded self.old self.new }
+        ensures only { LoadedOrMoved self.old self.new }
         ensures few { result ≤ most }
         ensures none { result ≡ 0 → Rounded self.old.capacity self.old false self.new × (self.new.policy ≢ DropOldest) }
         ensures some { 0 < result → RoundedFor self.old.policy result self.old self.new.view }

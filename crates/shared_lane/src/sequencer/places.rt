@@ -50,7 +50,7 @@ impl<A: Allocator> Sequencer<A> {
             return Err(Refusal::SubscribersFull);
         };
         let start = self.tail - self.cache.len() as u64;
-        words.open(&mut self.seat, place, start);
+        words.open(&mut self.seat, place, start, self.subscription + 1);
         let seat = words.hand_out(&mut self.seat, place);
         self.open_end = self.open_end.max(place + 1);
         self.subscription += 1;

@@ -4,12 +4,13 @@ ghost use Rattle.std.specs.Arc.{arc_value};
 ghost use Rattle.flow_terms.specs.declared.refusal.Refusal.TheVariants.{NoMemory};
 ghost use Rattle.futures.specs.Task.{IsArmed, Keeps};
 ghost use Rattle.shared_lane.specs.Readers.{IsReaderOf};
+ghost use Rattle.shared_lane.specs.Places.{IsOfSubscription};
 ghost use Rattle.shared_lane.specs.Caches.{IsLastOf};
 ghost use Rattle.shared_lane.specs.Sequencers.{seen};
 ghost use Rattle.shared_rounds.specs.declared.round.Round.TheVariants as round;
 ghost use Rattle.shared_rounds.specs.Names.{IsTrackOf};
 ghost use Rattle.shared_rounds.specs.Meeting.{Looked, HasMet, OnlyMet};
-ghost use Rattle.shared_rounds.specs.Sleeping.{LiesDown};
+ghost use Rattle.shared_rounds.specs.Sleeping.{LiesDown, SleepsAt, StayBut};
 ghost use Rattle.shared_rounds.specs.Waking.{SleepOn};
 ghost use Rattle.shared_rounds.specs.Rounds.{Comes, FreesAfter, HasClosed, IsAtLimit, IsLetIn, look_round};
 
@@ -84,10 +85,13 @@ impl Shared {
         taken
     }
 
-    /// The task of a subscription without a value sleeps until something is accepted.
+    /// The task of a subscription without a value sleeps until something is accepted. Who sleeps in its bed already sleeps on
+    /// there, and takes no other.
     pub fn sleep_subscription(&mut self, number: u64, bed: &mut Bed, cx: &mut Context<'_>)
         ensures same { self.new ≡ record self.old { subscriptions = self.new.subscriptions } }
         ensures lies { LiesDown number self.old.subscriptions self.new.subscriptions }
+        ensures stays { SleepsAt self.old.subscriptions bed.old.key number → bed.new.key ≡ bed.old.key }
+        ensures others { StayBut bed.new.key self.old.subscriptions self.new.subscriptions }
         ensures armed { IsArmed cx.new }
         ensures kept { Keeps cx.old cx.new }
     {
@@ -97,7 +101,7 @@ impl Shared {
     /// Lets in what waits, ends a subscription, and lets in once more. Where nothing waits, that loads no cursor.
     pub fn cancel(&mut self, number: u64, reader: Reader)
         requires { IsReaderOf self.old.name.lane reader }
-        ensures does { Comes self.old (round.Cancel number) self.new }
+        ensures does { IsOfSubscription number reader → Comes self.old (round.Cancel number) self.new }
         ensures closed { HasClosed self.old reader self.new }
         ensures asleep { SleepOn self.old self.new }
     {

@@ -3,7 +3,7 @@ use Rattle.lane_steps.specs.Law.{closed}
 use Rattle.lane_steps.specs.Steps.{Surveyed}
 use Rattle.shared_lane.proofs.Rounds.{visited, round_more, behind_more, open_more, open_few}
 use Rattle.shared_lane.specs.Surveys.{ShutFrom, FoundAt}
-use Rattle.shared_lane.proofs.WholeRounds.{all_of, all_long, found_still, found_shut, whole_of, behind_all, open_all, ends_more, shut_after}
+use Rattle.shared_lane.proofs.WholeRounds.{all_of, all_long, found_still, found_shut, whole_of, found_loses_none, behind_all, open_all, ends_more, shut_after}
 use Rattle.shared_lane.proofs.sequencer.load_cursors.Goals as goal
 
 pub with-found-requires : goal.with-found-requires
@@ -27,12 +27,14 @@ loop-place-preserved g c = let before = c.loop-place.invariant.0 in let inv = c.
 pub returns : goal.returns
 returns g c = let inv = c.loop-place.invariant.1 in let ns : List ℕ = inv.0 in let v = c.args.seat.now.me.0 in let w = c.loop-place.seat.me.0 in let places : ℕ = c.args.words.now.shape.places in let more : ℕ = places - length ns in
     let long = inv.1 in let within = c.requires.beyond.0 in let past = c.loop-place-test.false in let up = c.loop-place.auto.place-end in let all = all_long ns more in
-    let is : length ns ≡ c.args.open_end.now = omega arith in let shut = subst (ShutFrom v) (sym is) c.requires.beyond.1 in let ends = inv.5.within in record {
+    let is : length ns ≡ c.args.open_end.now = omega arith in let shut = subst (ShutFrom v) (sym is) c.requires.beyond.1 in let ends = inv.5.within in
+    let whole = whole_of FoundAt v w ns more found_still inv.2 shut in record {
       seat = c.loop-place.invariant.0;
+      keeps = found_loses_none v w (all_of ns more) whole;
       found = (
         all_of ns more,
         omega arith,
-        whole_of FoundAt v w ns more found_still inv.2 shut,
+        whole,
         behind_all c.args.tail c.args.lag ns more c.loop-place.found.behind inv.3,
         inv.4 ∙ sym (open_all ns more),
       );

@@ -2,7 +2,7 @@ use Rattle.std.proofs.Common.{◌≡◌, ◌⊎◌, refl, subst, ◌∙◌}
 use Rattle.futures.specs.Poll.{IfReady, OnPending}
 use Rattle.shared_rounds.specs.declared.round.Round.TheVariants as round
 use Rattle.shared_rounds.specs.Entering.{Made}
-use Rattle.shared_flow.specs.Looks.{GaveIn, MadeRoomIn, MissedTwice, by_none}
+use Rattle.shared_flow.specs.Looks.{GaveIn, MadeRoomIn, MissedTwice, by_none, once_more}
 use Rattle.shared_flow.specs.Preludes.{IsGreeted, IsPast, GreetedOr}
 use Rattle.shared_flow.proofs.Waiting.{only_next}
 use Rattle.flow_stopping.proofs.Looking.{looked_on, looked_soon, received_since, room_now, room_polled, room_then, rounds_since, since}
@@ -15,7 +15,7 @@ returns-in-Some g c =
 
 pub loop-init : goal.loop-init
 loop-init g c =
-    looked_soon c.args.subscription.now c.next_soon.new.self c.in_default.ensures.missed
+    let missed = c.in_default.ensures.missed in looked_soon c.args.subscription.now c.next_soon.new.self (missed.0, missed.1, once_more _ _ _ missed.2.1 missed.2.2)
 
 pub returns-in-Ready : goal.returns-in-Ready
 returns-in-Ready g c =

@@ -1,36 +1,38 @@
-use Rattle.std.proofs.Common.{inl, inr, sym, ap, subst, ◌∙◌}
+use Rattle.std.proofs.Common.{arith, inl, inr, sym, ap, subst, ◌∙◌}
 use Rattle.shared_flow.specs.Looks.{MissedOn, not_once, once_more}
 use Rattle.shared_flow.specs.Parties.{Subscribed}
 use Rattle.shared_flow.proofs.Receiving.{looked_as, looked_twice, room_since, rounds_since, still}
 use Rattle.shared_flow.proofs.subscription.Subscription.next_soon.Goals as goal
 
-pub loop-init : goal.loop-init
-loop-init g c =
+pub loop-turn-init : goal.loop-turn-init
+loop-turn-init g c =
     let s = c.args.self.now in
     let greeted = c.greet.new.self in
     let is = still s greeted c.greet.ensures.same c.in_default.ensures.past in record {
       past = c.in_default.ensures.past.0;
       looked = looked_as s greeted is;
       missed = subst (λ (x : Subscribed _). MissedOn s.reader x.reader) (sym is) (not_once s.reader);
+      some = λ turns. absurd (omega arith);
     }
 
-pub loop-preserved : goal.loop-preserved
-loop-preserved g c =
+pub loop-turn-preserved : goal.loop-turn-preserved
+loop-turn-preserved g c =
     let s = c.args.self.now in
-    let m = c.loop.self in
-    let it = c.loop.invariant in
+    let m = c.loop-turn.self in
+    let it = c.loop-turn.invariant in
     let missed = c.in_default-look.ensures.missed in record {
       past = it.past;
       looked = looked_twice s m c.look.new.self it.looked missed.0;
       missed = once_more s.reader m.reader c.look.new.self.reader it.missed missed.1;
+      some = λ _. (m.reader, it.missed, missed.1);
     }
 
 pub returns-in-Some-look : goal.returns-in-Some-look
 returns-in-Some-look g c =
     let s = c.args.self.now in
-    let m = c.loop.self in
+    let m = c.loop-turn.self in
     let t = c.look.new.self in
-    let it = c.loop.invariant in
+    let it = c.loop-turn.invariant in
     let look = c.look.ensures in record {
       rounds = rounds_since s m t it.looked look.rounds;
       same = look.same.0 ∙ ap (λ (x : Subscribed _). x.number) it.looked;
@@ -42,10 +44,10 @@ returns-in-Some-look g c =
 pub returns : goal.returns
 returns g c =
     let s = c.args.self.now in
-    let it = c.loop.invariant in record {
+    let it = c.loop-turn.invariant in record {
       rounds = inl (ap (λ (x : Subscribed _). x.party) it.looked);
       same = ap (λ (x : Subscribed _). x.number) it.looked;
       given = tt;
       room = tt;
-      missed = ((it.past, ap (λ (x : Subscribed _). x.rest) it.looked ∙ it.past), it.looked, it.missed);
+      missed = ((it.past, ap (λ (x : Subscribed _). x.rest) it.looked ∙ it.past), it.looked, it.some (let last = c.loop-turn-test.false in omega arith));
     }

@@ -29,7 +29,7 @@ loop-init g c =
       past = missed.0.1;
       same = c.next_soon.ensures.same;
       rounds = only_next _ _ _ _ _ refl (by_none c.args.self.now.party) c.next_soon.ensures.rounds;
-      missed = missed.2;
+      missed = once_more _ _ _ missed.2.1 missed.2.2;
     }
 
 pub returns-in-Ready : goal.returns-in-Ready

@@ -6,7 +6,7 @@ use Rattle.shared_rounds.specs.Rounds.{Scanned}
 use Rattle.shared_rounds.proofs.shared.Shared.cancel.Goals as goal
 
 pub returns-clause-does : goal.returns-clause-does
-returns-clause-does c = (
+returns-clause-does c = λ own. (
   search rules,
   search rules,
   (
@@ -17,9 +17,9 @@ returns-clause-does c = (
     search rules,
     (
       c.told_end.new.self,
-      (c.args.reader, search rules, search rules),
-      (c.scan-2.new.self, inr (c.scan-2.new.self, c.scan-2.result, search rules, search rules, search rules, refl), (refl, refl, refl, λ _. refl)),
-      (c.scan-2.new.self, (c.scan-2.new.self, c.scan-2.result, search rules, search rules, search rules, refl), (refl, refl, refl, λ _. refl)),
+      (c.args.reader, search rules, search rules, own),
+      (c.scan-2.new.self, inr (c.scan-2.new.self, c.scan-2.result, search rules, search rules, search rules, refl), (refl, refl, refl, λ _. refl, λ _. refl)),
+      (c.scan-2.new.self, (c.scan-2.new.self, c.scan-2.result, search rules, search rules, search rules, refl), (refl, refl, refl, λ _. refl, λ _. refl)),
     ),
   ),
 )
@@ -34,5 +34,5 @@ returns-clause-closed c =
       search rules,
       search rules,
       subst (λ (q : SequencerSeen). (n : SequencerSeen) × Scanned q n × OnlyLoaded n last) heard
-          (last, (last, c.scan-2.result, search rules, search rules, search rules, refl), (refl, refl, refl, λ _. refl)),
+          (last, (last, c.scan-2.result, search rules, search rules, search rules, refl), (refl, refl, refl, λ _. refl, λ _. refl)),
     )

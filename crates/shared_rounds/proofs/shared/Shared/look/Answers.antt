@@ -15,7 +15,7 @@ returns-in-Value-clause-does c = (
     (
       c.scan.new.self,
       look_makes _ c.scan.new.self c.args.number c.try_next-taken.result,
-      (c.scan-in-Value.new.self, inr (c.scan-in-Value.new.self, c.scan-in-Value.result, search rules, search rules, search rules, refl), (refl, refl, refl, λ _. refl)),
+      (c.scan-in-Value.new.self, inr (c.scan-in-Value.new.self, c.scan-in-Value.result, search rules, search rules, search rules, refl), (refl, refl, refl, λ _. refl, λ _. refl)),
       look_frees c.scan.new.self _ c.args.number c.try_next-taken.result,
     ),
   ),
@@ -34,7 +34,7 @@ returns-in_default-clause-does c = (
     (
       c.scan.new.self,
       look_makes _ c.scan.new.self c.args.number c.try_next-taken.result,
-      (c.scan.new.self, inl refl, (refl, refl, refl, λ _. refl)),
+      (c.scan.new.self, inl refl, (refl, refl, refl, λ _. refl, λ _. refl)),
       look_frees c.scan.new.self _ c.args.number c.try_next-taken.result,
     ),
   ),
@@ -47,7 +47,7 @@ returns-in-Value-clause-freed c = look_freed c.try_next-taken.result _ _ (
   search rules,
   search rules,
   search rules,
-  (c.scan-in-Value.new.self, (c.scan-in-Value.new.self, c.scan-in-Value.result, search rules, search rules, search rules, refl), (refl, refl, refl, λ _. refl)),
+  (c.scan-in-Value.new.self, (c.scan-in-Value.new.self, c.scan-in-Value.result, search rules, search rules, search rules, refl), (refl, refl, refl, λ _. refl, λ _. refl)),
 )
 
 pub returns-in_default-clause-freed : goal.returns-in_default-clause-freed

@@ -33,7 +33,7 @@ returns-clause-does c =
         search rules,
         search rules,
         search rules,
-        (t, made, (t, inl refl, (refl, refl, refl, λ _. refl)), polled_frees c.args.ticket c.args.emitter c.args.last answer receipt t c.own_receipt-receipt.new.self),
+        (t, made, (t, inl refl, (refl, refl, refl, λ _. refl, λ _. refl)), polled_frees c.args.ticket c.args.emitter c.args.last answer receipt t c.own_receipt-receipt.new.self),
       ),
     )
 

@@ -13,7 +13,7 @@ pub returns-clause-does : goal.returns-clause-does
 returns-clause-does c =
     let made = subst (λ (s : SharedSeen). AfterScan s.sequencer (λ m. Makes s.name.lane m (round.Try c.args.emission c.try_emit.result) c.try_emit.new.self)) c.self.view_is
     (try_made (arc_value c.self.inside.track).lane c.self.inside.sequencer c.try_emit.new.self c.args.emission c.try_emit.result c.try_emit.ensures.refused c.try_emit.ensures.tried) in
-    (search rules, search rules, (made.0, made.1, made.2, made.3, made.4, (c.try_emit.new.self, made.5, (c.try_emit.new.self, inl refl, (refl, refl, refl, λ _. refl)), tt)))
+    (search rules, search rules, (made.0, made.1, made.2, made.3, made.4, (c.try_emit.new.self, made.5, (c.try_emit.new.self, inl refl, (refl, refl, refl, λ _. refl, λ _. refl)), tt)))
 
 pub returns-clause-last : goal.returns-clause-last
 returns-clause-last c =
