@@ -1,5 +1,5 @@
 -- What an emitter and a subscription did in their threads, and what they and their owner know once they have met.
-use Rattle.std.proofs.Common.{◌≡◌, ℕ, List, [], ◌∷◌, ◌++◌, None, Result, Ok, refl, sym, ap, subst, ◌∙◌, append_assoc}
+use Rattle.std.proofs.Common.{◌≡◌, ℕ, suc, List, [], ◌∷◌, ◌++◌, None, Result, Ok, refl, sym, ap, subst, ◌∙◌, append_assoc}
 use Rattle.std.proofs.lemmas.List.{append-nil}
 use Rattle.std.proofs.lemmas.Option.{same_Some}
 use Rattle.flow_terms.specs.declared.refusal.Refusal.{Refusal}
@@ -18,11 +18,11 @@ use Rattle.shared_flow.specs.Lives.{IsSubscriptionOf, Life, LivesOn, looked, rec
 use Rattle.shared_flow.specs.Looks.{WasLetInBy}
 use Rattle.shared_rounds.specs.Names.{FlowName, IsMadeWith}
 use Rattle.shared_flow.specs.Owners.{HasHeard, Meets}
-use Rattle.shared_flow.specs.Parties.{Emitting, Subscribed, named}
+use Rattle.shared_flow.specs.Parties.{Emitting, Subscribed, named, sharing_of}
 use Rattle.shared_rounds.specs.Reach.{Party, Rounds}
 use Rattle.shared_rounds.specs.Rounds.{numbers_tried}
 use Rattle.shared_flow.proofs.Lives.{lives_more, received_more}
-use Rattle.hot_callers.specs.Exchanges.{AreTries, Emits, LateExchange, Receives, ReceivesBetween, TakesEach, TellsBoth, TriesEach}
+use Rattle.hot_callers.specs.Exchanges.{AreTries, Emits, Exchange, LateExchange, Receives, ReceivesBetween, TakesEach, TellsBoth, TriesEach}
 use Rattle.hot_callers.proofs.Looks.{taken_on}
 
 -- ---- tries
@@ -167,15 +167,28 @@ module _ (p q r : Party) (s t u : Subscribed ℕ) (counts : Met) where
         receives = proved.1;
       }
 
-pub late : (config : Config) (prelude first second received : List ℕ) (p q last : Party) (d e f g h i : Emitting) → IsMadeWith config p.flow
+-- what came of it for the owner, which let the subscription in by half of its share
+pub exchanged : (config : Config) (prelude words received : List ℕ) (p q last : Party) (s t u : Subscribed ℕ) (counts : Met) (it : Receives config prelude received) → Emits 1 words it.before
+    → last.seen ≡ it.log → p.halved ≡ 1 → q.halved ≡ suc p.halved → Meets q last t u counts → Exchange config prelude words received last
+exchanged config prelude words received p q last s t u counts it emits seen one two meets = record {
+  receives = it;
+  emits = emits;
+  seen = seen;
+  halved = ap (λ (x : Party). x.halved) meets.made.after ∙ two ∙ ap suc one;
+}
+
+pub late : (config : Config) (prelude first second received : List ℕ) (p q last : Party) (d e f g h i : Emitting) → IsMadeWith config p.flow → p.halved ≡ 2
     → d.party.rounds ≡ [] → d.id ≡ 1 → e.party.rounds ≡ [] → e.id ≡ 2 → EachSubscriptionLaw {T = ℕ} (λ word. word)
-    → TriesEach first d f → TriesEach second e g → ReceivesBetween p q prelude received → TellsBoth q last f h g i → LateExchange config prelude first second received
-late config prelude first second received p q last d e f g h i with new_first first_is new_second second_is law tried_first tried_second between told =
+    → TriesEach first d f → TriesEach second e g → ReceivesBetween p q prelude received → TellsBoth q last f h g i → LateExchange config prelude first second received last
+late config prelude first second received p q last d e f g h i with two new_first first_is new_second second_is law tried_first tried_second between told =
     let same = ap (λ (x : Party). x.flow) between.let_in.made.after in
-    subst (λ (l : List ℕ). LateExchange config l first second received) between.prelude_is (record {
-      receives = receives p between.then q between.began between.took between.met between.counts config received with same law between.let_in between.takes between.meets;
+    subst (λ (l : List ℕ). LateExchange config l first second received last) between.prelude_is (record {
+      receives = receives (sharing_of p) between.then q between.began between.took between.met between.counts config received with same law between.let_in between.takes between.meets;
       rounds = told.made.before;
       goes_on = subst (λ (l : Rounds). Begins told.made.before l) (ap (λ (x : Party). x.seen) between.meets.made.after) told.made.saw.seen_on;
       emits_first = emits_in 1 first told.made.before d f h.party new_first first_is tried_first told.first;
       emits_second = emits_in 2 second told.made.before e g i.party new_second second_is tried_second told.second;
+      seen = ((q.pass, round.Hold told.count, told.made.left) ∷ [], ap (λ (x : Party). x.seen) told.made.after);
+      halved = ap (λ (x : Party). x.halved) told.made.after ∙ ap (λ (x : Party). x.halved) between.meets.made.after
+          ∙ ap (λ (x : Party). x.halved) between.let_in.made.after ∙ ap suc two;
     })

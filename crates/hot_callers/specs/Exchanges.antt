@@ -13,7 +13,7 @@ use Rattle.shared_flow.specs.Lives.{Life, IsSubscriptionOf, ReceivesPreludeCache
 use Rattle.shared_flow.specs.Looks.{WasLetInBy}
 use Rattle.shared_rounds.specs.Names.{SharedSeen}
 use Rattle.shared_flow.specs.Owners.{HasHeard, Meets}
-use Rattle.shared_flow.specs.Parties.{Emitting, Subscribed, named}
+use Rattle.shared_flow.specs.Parties.{Emitting, Subscribed, named, sharing_of}
 use Rattle.shared_rounds.specs.Reach.{Party, Rounds}
 use Rattle.hot_callers.specs.SharedCalls.{HasTaken}
 
@@ -43,14 +43,15 @@ pub record MeetsBoth (p q : Party) (e f : Emitting) (s t : Subscribed ℕ) : Typ
   pub emitter : HasHeard meets.made.before e.party f.party
   pub only : f ≡ record e { party = f.party }
 
--- Between these two moments of an owner a subscription was let in, took values that others emitted, and met the owner.
+-- Between these two moments of an owner a subscription was let in, with half its share of the lock, took values that others emitted, and
+-- met the owner.
 pub record ReceivesBetween (p q : Party) (prelude received : List ℕ) : Type 0 where
   pub began : Subscribed ℕ
   pub took : Subscribed ℕ
   pub met : Subscribed ℕ
   pub then : Party
   pub counts : Met
-  pub let_in : WasLetInBy began.number began.reader p then
+  pub let_in : WasLetInBy began.number began.reader (sharing_of p) then
   pub prelude_is : began.rest ≡ prelude
   pub takes : TakesEach [] began received took
   pub meets : Meets then q took met counts
@@ -85,15 +86,22 @@ pub record Receives (config : Config) (prelude received : List ℕ) : Type 0 whe
 abbrev pub Emits : ℕ → List ℕ → Rounds → Type 0
 Emits id words rounds = (pass : ℕ) × AreTries id words (own_of pass rounds)
 
--- one thread emitted these words, and another received
-abbrev pub Exchange : Config → List ℕ → List ℕ → List ℕ → Type 0
-Exchange config prelude words received = (it : Receives config prelude received) × Emits 1 words it.before
+-- One thread emitted these words, and another received; and the flow's owner has seen that list of rounds. It was the first owner, and
+-- its share of the lock was halved twice, for the emitter and for the subscription: so there was nobody else.
+pub record Exchange (config : Config) (prelude words received : List ℕ) (owner : Party) : Type 0 where
+  pub receives : Receives config prelude received
+  pub emits : Emits 1 words receives.before
+  pub seen : owner.seen ≡ receives.log
+  pub halved : owner.halved ≡ 2
 
 -- What one emitter had emitted before the subscription began, and both while it received; then it was cancelled, and they went on: the list
--- of rounds that the owner saw in the end begins with the one up to the meeting, and has all that both emitted.
-pub record LateExchange (config : Config) (prelude first second received : List ℕ) : Type 0 where
+-- of rounds that the owner saw in the end begins with the one up to the meeting, and has all that both emitted. The owner was the first
+-- one, and its share of the lock was halved three times, for the emitters and for the subscription: so there was nobody else.
+pub record LateExchange (config : Config) (prelude first second received : List ℕ) (owner : Party) : Type 0 where
   pub receives : Receives config prelude received
   pub rounds : Rounds
   pub goes_on : Begins rounds receives.log
   pub emits_first : Emits 1 first rounds
   pub emits_second : Emits 2 second rounds
+  pub seen : Begins owner.seen rounds
+  pub halved : owner.halved ≡ 3

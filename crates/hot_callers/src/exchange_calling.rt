@@ -127,8 +127,17 @@ fn meet_both(
     held.release(rt);
 }
 
+/// What came of an exchange.
+#[derive(Drop)]
+pub struct Exchanged {
+    /// The owner of the flow, with the list of rounds that it has seen.
+    pub flow: SharedFlow<u64>,
+    /// What was received, in its order.
+    pub received: Vec<u64>,
+}
+
 /// Makes a flow, emits values in one thread and receives in another, which looks so often for one. Both are lent to the threads, meet
-/// their flow then, and are spent. What was received, in its order.
+/// their flow then, and are spent. Nobody else has a share of the flow's lock.
 ///
 /// Refused as `SharedFlow::new` is, and as `NoMemory`.
 pub fn emit_and_receive<R>(
@@ -137,10 +146,10 @@ pub fn emit_and_receive<R>(
     prelude: Prelude<u64>,
     values: &[u64],
     turns: usize,
-) -> Result<Vec<u64>, Refusal>
+) -> Result<Exchanged, Refusal>
 where
     R: Threads + Wait + Sync + AllocGlobal,
-    ensures { IfOk result (λ received. Exchange config (prelude_values prelude) values.now received.items) }
+    ensures { IfOk result (λ exchanged. Exchange config (prelude_values prelude) values.now exchanged.received.items exchanged.flow.party) }
 {
     each_subscription_receives_prelude_cache_then_later::<u64>();
     let mut flow = SharedFlow::new(rt.alloc(), config)?;
@@ -165,7 +174,7 @@ where
     subscription.cancel(rt);
     emitter.close(rt);
     taken?;
-    Ok(received)
+    Ok(Exchanged { flow, received })
 }
 
 // A subscription begins, receives what two emit meanwhile, meets its flow, and is cancelled.
@@ -233,10 +242,10 @@ pub fn emit_and_receive_between<R>(
     second: &[u64],
     late: &[u64],
     turns: usize,
-) -> Result<Vec<u64>, Refusal>
+) -> Result<Exchanged, Refusal>
 where
     R: Threads + Wait + Sync + AllocGlobal,
-    ensures { IfOk result (λ received. LateExchange config (prelude_values prelude) (early.now ++ first.now) (second.now ++ late.now) received.items) }
+    ensures { IfOk result (λ exchanged. LateExchange config (prelude_values prelude) (early.now ++ first.now) (second.now ++ late.now) exchanged.received.items exchanged.flow.party) }
 {
     each_subscription_receives_prelude_cache_then_later::<u64>();
     let mut flow = SharedFlow::new(rt.alloc(), config)?;
@@ -264,5 +273,5 @@ where
     tell_both(rt, &mut flow, &mut one, &mut two);
     one.close(rt);
     two.close(rt);
-    Ok(received)
+    Ok(Exchanged { flow, received })
 }

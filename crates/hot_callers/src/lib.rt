@@ -12,7 +12,7 @@ mod state_exchange_calling;
 mod strategy_calling;
 
 pub use core_calling::{received_in_turn, received_once};
-pub use exchange_calling::{emit_and_receive, emit_and_receive_between};
+pub use exchange_calling::{Exchanged, emit_and_receive, emit_and_receive_between};
 pub use lane_calling::{drained, emitted_and_taken, taken_from_the_cache};
 pub use shared_calling::{
     asked, awaited, counted_with_cache, emitted, emitted_and_heard, finished, heard_at_once,

@@ -1,7 +1,7 @@
 //! Callers of a shared flow between threads: an emission and a receipt for which a thread sleeps, and both lent to threads; a
 //! question that waits for its answer; a subscription that is told of an emission; and a look at the flow while its lock is kept.
 
-ghost use Rattle.std.specs.Prelude.{◌≡◌, ◌≢◌, ◌<◌, ◌++◌, ◌∷◌, [], ℕ, List, Option, None, Some, Ok, IfOk, IfErr, IfSome, IfNone};
+ghost use Rattle.std.specs.Prelude.{◌≡◌, ◌≢◌, ◌<◌, ◌+◌, ◌++◌, ◌∷◌, [], ℕ, List, Option, None, Some, Ok, IfOk, IfErr, IfSome, IfNone};
 ghost use Rattle.flow_terms.specs.declared.refusal.Refusal.TheVariants.{NoMemory};
 ghost use Rattle.shared_lane.specs.Readers.{at};
 ghost use Rattle.shared_lane.specs.declared.reader.Taken.TheVariants.{Nothing};
@@ -10,7 +10,7 @@ ghost use Rattle.shared_lane.specs.Views.{ReceiptSeen};
 ghost use Rattle.shared_rounds.specs.Rounds.{IsAfter};
 ghost use Rattle.shared_flow.specs.Emitters.{Emits, emission_by};
 ghost use Rattle.shared_rounds.specs.Reach.{with_round};
-ghost use Rattle.shared_flow.specs.Parties.{IsOwnReceipt, IsSameEmitter, named};
+ghost use Rattle.shared_flow.specs.Parties.{IsOwnReceipt, IsSameEmitter, named, sharing_of};
 ghost use Rattle.shared_flow.specs.Owners.{at_rest};
 ghost use Rattle.hot_callers.specs.SharedCalls.{AreOfOneFlow, HasTaken, IsSameSubscription, WereAtOnce};
 
@@ -157,7 +157,7 @@ pub fn passed_on<R>(
 where
     R: Wait + Threads + RandomSource + AllocGlobal + Sync,
     ensures receipt { IfOk result (λ passed. IfSome passed.0 (IsOwnReceipt flow.old.party 1)) }
-    ensures round { IfOk result (λ _. (number : ℕ) × (flow.new ≡ at_rest (with_round (round.Subscribe (Ok number)) flow.new.party.seen flow.old.party))) }
+    ensures round { IfOk result (λ _. (number : ℕ) × (flow.new ≡ at_rest (with_round (round.Subscribe (Ok number)) flow.new.party.seen (sharing_of (sharing_of flow.old.party))))) }
     ensures same { named flow.new.party ≡ named flow.old.party }
 {
     let subscription = flow.subscribe(rt)?;
@@ -253,6 +253,7 @@ pub fn heard_at_once(
     value: u64,
 ) -> Result<Option<Taken<u64>>, Refusal>
     ensures same { named flow.new.party ≡ named flow.old.party }
+    ensures halved { IfOk result (λ _. flow.new.party.halved ≡ flow.old.party.halved + 2) }
 {
     let mut subscription = flow.subscribe(rt)?;
     let mut emitter = match flow.emitter(rt, 1) {

@@ -1,8 +1,11 @@
--- An owner that has made no call.
-use Rattle.std.proofs.Common.{◌≡◌, List, [], ap, ◌∙◌}
-use Rattle.shared_rounds.specs.declared.round.Round.{Round}
-use Rattle.shared_flow.specs.Owners.{Owning, at_rest}
-use Rattle.shared_flow.specs.Parties.{newcomer_of}
+-- An owner that has made no call, and gave half its share of the lock to another.
+use Rattle.std.proofs.Common.{◌≡◌, ℕ, suc, [], sym, ap, ◌∙◌}
+use Rattle.shared_flow.specs.Owners.{Owning, at_rest, HasMadeNoCall}
+use Rattle.shared_flow.specs.Parties.{sharing_of}
 
-pub is_newcomer : (flow : Owning) → flow ≡ at_rest flow.party → flow.party.rounds ≡ [] → flow ≡ at_rest (newcomer_of flow.party.pass flow.party)
-is_newcomer flow rests no_rounds = rests ∙ ap (λ (rounds : List Round). at_rest (record flow.party { rounds = rounds })) no_rounds
+pub gave_half : (flow shared : Owning) → HasMadeNoCall 0 flow → shared ≡ record flow { party = sharing_of flow.party } → HasMadeNoCall 1 shared
+gave_half flow shared (rests, no_rounds, whole) is = (
+  is ∙ ap (λ (o : Owning). record o { party = sharing_of flow.party }) rests ∙ ap at_rest (sym (ap (λ (o : Owning). o.party) is)),
+  ap (λ (o : Owning). o.party.rounds) is ∙ no_rounds,
+  ap (λ (o : Owning). o.party.halved) is ∙ ap suc whole,
+)

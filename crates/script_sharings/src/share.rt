@@ -4,8 +4,7 @@ ghost use Rattle.std.specs.Prelude.{◌≡◌, [], IfOk};
 ghost use Rattle.sharing_upstream.specs.Shown.{Shows};
 ghost use Rattle.shared_core.specs.Kept.{making_refusal};
 ghost use Rattle.shared_rounds.specs.Names.{IsMadeWith};
-ghost use Rattle.shared_flow.specs.Owners.{at_rest};
-ghost use Rattle.shared_flow.specs.Parties.{newcomer_of};
+ghost use Rattle.shared_flow.specs.Owners.{HasMadeNoCall};
 ghost use Rattle.script_calls.specs.Makings.{MadeUnless};
 
 use crate::ticks::ticked;
@@ -37,7 +36,7 @@ impl<'a, W: Wait, S: Flow<Item = u64, Fault = u64>> Share<'a, W, S> {
         started: Started,
         source: S,
     ) -> Result<(SharedFlow<u64>, Share<'a, W, S>), Refusal>
-        ensures made { MadeUnless (making_refusal config) result (λ made. IsMadeWith config made.0.party.flow × (made.0 ≡ at_rest (newcomer_of made.0.party.pass made.0.party))) }
+        ensures made { MadeUnless (making_refusal config) result (λ made. IsMadeWith config made.0.party.flow × HasMadeNoCall 1 made.0) }
         ensures sharing { IfOk result (λ made. SharesFrom made.0 started source made.1) }
         ensures shows { IfOk result (λ made. Shows (sharings_of made.1).strategy []) }
     {

@@ -46,9 +46,9 @@ fn what_is_emitted_meanwhile_comes_in_order(rt: HostRuntime) -> Result<(), Fail>
         let none = emit_and_receive(&rt, config, Prelude::empty(), &values, 0)?;
         let some = emit_and_receive(&rt, config, prelude, &values, TURNS)?;
         let found = (
-            none.len(),
-            begins_with(&some, &[7, 8]),
-            rise_below(&some, 19),
+            none.received.len(),
+            begins_with(&some.received, &[7, 8]),
+            rise_below(&some.received, 19),
         );
         assert_eq!(rt; found, (0, true, true), "what came");
     }
@@ -75,10 +75,10 @@ fn who_begins_late_has_the_cache_and_ends_in_time(rt: HostRuntime) -> Result<(),
             TURNS,
         )?;
         let mut is_late = false;
-        for value in &some {
+        for value in &some.received {
             is_late = is_late || *value == 99;
         }
-        let found = (begins_with(&some, &[7, 8, 12, 13]), is_late);
+        let found = (begins_with(&some.received, &[7, 8, 12, 13]), is_late);
         assert_eq!(rt; found, (true, false), "what came");
     }
     Ok(())

@@ -1,13 +1,11 @@
-use Rattle.std.proofs.Common.{◌≡◌, inr, sym, ap, ◌∙◌, subst, refl}
+use Rattle.std.proofs.Common.{◌≡◌, Option, inr, sym, ap, ◌∙◌, subst, refl}
 use Rattle.std.proofs.lemmas.Result.{err_from_is_err_and}
 use Rattle.shared_core.specs.Kept.{making_refusal}
-use Rattle.shared_rounds.specs.Names.{IsMadeWith}
-use Rattle.shared_flow.specs.Owners.{Owning, at_rest}
-use Rattle.shared_flow.specs.Parties.{named, newcomer_of}
+use Rattle.shared_rounds.specs.Names.{FlowName, IsMadeWith}
+use Rattle.shared_flow.specs.Owners.{Owning}
+use Rattle.shared_flow.specs.Parties.{named}
 use Rattle.script_calls.proofs.Refusals.{no_reason, refused_for}
-use Rattle.flow_sharing.specs.FlowDestinations.{IsNewPlace}
-use Rattle.flow_sharing.specs.Sharings.{place_of}
-use Rattle.script_sharings.proofs.Fresh.{is_newcomer}
+use Rattle.script_sharings.proofs.Fresh.{gave_half}
 use Rattle.script_sharings.proofs.share.Share.new.Goals as goal
 
 pub returns-in_err-flow-clause-made : goal.returns-in_err-flow-clause-made
@@ -23,14 +21,16 @@ returns-in_err-sharing-clause-made g c =
 pub returns-clause-made : goal.returns-clause-made
 returns-clause-made g c = (
   no_reason (making_refusal c.args.config) c.in_ok-flow.flow c.in_ok-flow.ensures.refused,
-  subst (λ (o : Owning). IsMadeWith c.args.config o.party.flow × (o ≡ at_rest (newcomer_of o.party.pass o.party))) (sym c.in_ok-sharing.ensures.same)
-      (c.in_ok-flow.ensures.config, is_newcomer c.in_ok-flow.flow c.in_ok-flow.ensures.rounds.0 c.in_ok-flow.ensures.rounds.1),
+  (
+    subst (λ (known : Option FlowName). IsMadeWith c.args.config known) (sym (ap (λ (o : Owning). o.party.flow) c.in_ok-sharing.ensures.half)) c.in_ok-flow.ensures.config,
+    gave_half c.in_ok-flow.flow c.share_in.new.flow (c.in_ok-flow.ensures.rounds.0, c.in_ok-flow.ensures.rounds.1, c.in_ok-flow.ensures.rounds.2) c.in_ok-sharing.ensures.half,
+  ),
 )
 
 pub returns-clause-sharing : goal.returns-clause-sharing
 returns-clause-sharing g c = (
-  c.in_ok-sharing.ensures.flow ∙ sym (ap (λ (o : Owning). named o.party) c.in_ok-sharing.ensures.same),
-  subst (λ (o : Owning). IsNewPlace o.party (place_of c.in_ok-sharing.sharing)) (sym c.in_ok-sharing.ensures.same) c.in_ok-sharing.ensures.place,
+  c.in_ok-sharing.ensures.flow ∙ sym (ap (λ (o : Owning). named o.party) c.in_ok-sharing.ensures.half),
+  c.in_ok-sharing.ensures.place,
   c.in_ok-sharing.ensures.started.0,
   c.in_ok-sharing.ensures.upstream,
 )
