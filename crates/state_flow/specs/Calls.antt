@@ -100,7 +100,8 @@ module _ {T : Type 0} where
 -- WHO HAS ALL SEATS KNOWS ALL: where all seats of the flow are of the one that makes the call, what the call finds is what that
 -- one had seen.
 module _ {T : Type 0} where
-  -- All steps on the value were its own, and so was each value but the first; this step is the next, and the history before it is what the seat had seen, or was told
+  -- All steps on the value were its own, and it wrote each value but the first. This step is the next, and the history before it
+  -- is what the seat had seen, or was told
   pub record KnewAll (before : View T) (history : List T) (turn : ℕ) : Type 0 where
     pub all_its_own : turn ≡ before.steps + 2
     pub all_written : length history ≡ before.writes + 1
@@ -111,7 +112,7 @@ module _ {T : Type 0} where
     pub steps : v.turn ≡ v.steps + 1
     pub writes : length v.seen ≡ v.writes + 1
 
-  -- and this one is the next
+  -- the same after one more step, the next of all
   pub record StepsNext (before after : View T) : Type 0 where
     pub next : after.turn ≡ before.turn + 1
     pub all_its_own : MadeThemAll after

@@ -22,12 +22,12 @@ module _ {T : Type 0} where
   abbrev pub steps_in : List (View T) → ℕ
   steps_in views = sum_by (λ v. v.steps) views
 
+  abbrev pub count_steps_in : List (View T) → ℕ
+  count_steps_in views = sum_by (λ v. v.count_steps) views
+
   -- how many values they wrote
   abbrev pub writes_in : List (View T) → ℕ
   writes_in views = sum_by (λ v. v.writes) views
-
-  abbrev pub count_steps_in : List (View T) → ℕ
-  count_steps_in views = sum_by (λ v. v.count_steps) views
 
   -- a seat knows each word as it was after its own last step on it, and what it collected is picked from what it has seen
   pub record Fits (seats : ℕ) (history_at : ℕ → List T) (turns : ℕ) (count_at : ℕ → ℕ) (counts : ℕ) (v : View T) : Type 0 where
