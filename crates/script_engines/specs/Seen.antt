@@ -12,4 +12,4 @@ state_of it = it.state
 
 -- for threads: all parties that were made of it
 abbrev pub parties_of : {W : Type 0} → ForThreads W → Parties
-parties_of it = record { subscriptions = subscribing_of it.subscriptions; emitter = it.emitter; emissions = it.emissions.items }
+parties_of it = record { subscriptions = subscribing_of it.subscriptions; emitter = it.emitter; spare = it.spare; emissions = it.emissions.items }

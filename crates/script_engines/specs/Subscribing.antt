@@ -6,12 +6,13 @@ use Rattle.flow_terms.specs.declared.refusal.Refusal.TheVariants.{NoMemory, Prel
 use Rattle.flow_terms.specs.declared.ids.SubId.{SubId}
 use Rattle.flow_terms.specs.declared.answers.Next.{Next}
 use Rattle.flow_terms.specs.declared.answers.Next.TheVariants.{Value, Nothing, Closed}
+use Rattle.shared_rounds.specs.declared.round.Round.{Round}
 use Rattle.shared_rounds.specs.declared.round.Round.TheVariants as round
 use Rattle.shared_rounds.specs.Entering.{Made}
 use Rattle.shared_flow.specs.Looks.{WasLetInBy, GaveIn, MissedTwice}
 use Rattle.shared_flow.specs.Owners.{Owning, at_rest, IsLeftOut}
 use Rattle.shared_rounds.specs.Reach.{with_round}
-use Rattle.shared_flow.specs.Parties.{Subscribed, newcomer_of}
+use Rattle.shared_flow.specs.Parties.{Subscribed, newcomer_of, sharing_of}
 use Rattle.shared_flow.specs.Preludes.{GreetedOr, IsPast}
 use Rattle.script_calls.specs.Calls.{Receipts}
 use Rattle.script_engines.specs.Places.{AtPlace}
@@ -25,12 +26,12 @@ pub record Subscribing : Type 0 where
 abbrev pub subscribing_of : {W : Type 0} → Subscriptions W → Subscribing
 subscribing_of it = record { flow = it.flow; places = it.places.items }
 
--- the owner made the round that let a subscription in, which has the next place and these values still to be given; or its round left
--- it out, or there was no memory for one and nobody made a call, and before both, these values are too many
+-- the owner made the round that let a subscription in, which has half its share of the lock, the next place and these values still to be
+-- given; or its round left it out, or there was no memory for one and nobody made a call, and before both, these values are too many
 abbrev pub Subscribes : Subscribing → List ℕ → Result SubId Refusal → Subscribing → Type 0
 Subscribes old prelude (Ok id) new = (length prelude ≤ 16) × (id.0 ≡ length old.places) × ((s : Subscribed ℕ) × (s.rest ≡ prelude)
-    × (s.party ≡ newcomer_of s.party.pass old.flow.party) × WasLetInBy s.number s.reader old.flow.party new.flow.party
-    × (new ≡ record { flow = at_rest (with_round (round.Subscribe (Ok s.number)) new.flow.party.seen old.flow.party); places = old.places ++ Some s ∷ [] }))
+    × (s.party ≡ newcomer_of s.party.pass old.flow.party) × WasLetInBy s.number s.reader (sharing_of old.flow.party) new.flow.party
+    × (new ≡ record { flow = at_rest (with_round (round.Subscribe (Ok s.number)) new.flow.party.seen (sharing_of old.flow.party)); places = old.places ++ Some s ∷ [] }))
 Subscribes old prelude (Err refusal) new = ((16 < length prelude) × (refusal ≡ PreludeTooLong) × (new ≡ old))
     ⊎ ((length prelude ≤ 16) × IsLeftOut old.flow refusal new.flow × (new.places ≡ old.places))
 
@@ -55,13 +56,18 @@ EndsIn (Some s) reply place = (reply ≡ true) × (place ≡ None)
 abbrev pub with_place : Subscribing → ℕ → Option (Subscribed ℕ) → Subscribing
 with_place it place left = record it { places = slice_set it.places place left }
 
+-- the owner made this round, and nothing else has changed
+abbrev pub OwnerMade : Round → Subscribing → Subscribing → Type 0
+OwnerMade r old new = (new ≡ record old { flow = at_rest (with_round r new.flow.party.seen old.flow.party) }) × Made r old.flow.party new.flow.party
+
 -- the owner made the round that read these values, or had no memory for them
 abbrev pub Caches : Subscribing → Result (List ℕ) Refusal → Subscribing → Type 0
-Caches old (Ok values) new = new ≡ record old { flow = at_rest (with_round (round.Cache (Ok values)) new.flow.party.seen old.flow.party) }
-Caches old (Err refusal) new = (refusal ≡ NoMemory) × (new ≡ record old { flow = at_rest (with_round (round.Cache (Err NoMemory)) new.flow.party.seen old.flow.party) })
+Caches old (Ok values) new = OwnerMade (round.Cache (Ok values)) old new
+Caches old (Err refusal) new = (refusal ≡ NoMemory) × OwnerMade (round.Cache (Err NoMemory)) old new
 
+-- the owner made the round that counted so many
 abbrev pub Counts : Subscribing → ℕ → Subscribing → Type 0
-Counts old count new = new ≡ record old { flow = at_rest (with_round (round.Count count) new.flow.party.seen old.flow.party) }
+Counts old count new = OwnerMade (round.Count count) old new
 
 abbrev pub subscribing : Receipts Subscribing
 subscribing = record {

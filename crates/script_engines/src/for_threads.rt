@@ -1,9 +1,11 @@
 //! A shared flow for threads, as a script calls it.
 
-ghost use Rattle.std.specs.Prelude.{◌≡◌, None};
+ghost use Rattle.std.specs.Prelude.{◌≡◌, Some, None, IfOk, IfErr, IsOkUnless};
+ghost use Rattle.std.specs.Option.{ForSome};
 ghost use Rattle.shared_core.specs.Kept.{making_refusal};
 ghost use Rattle.script_calls.specs.Makings.{MadeUnless};
-ghost use Rattle.script_engines.specs.Parties.{IsUntouched};
+ghost use Rattle.shared_flow.specs.Parties.{Emitting};
+ghost use Rattle.script_engines.specs.Parties.{IsUntouched, Spares};
 
 use crate::subscriptions::Subscriptions;
 use flow_terms::{Begun, Emit, Next, Refusal, SubId, Ticket, Tried, Withdrawn};
@@ -25,9 +27,34 @@ pub struct ForThreads<'a, W> {
     subscriptions: Subscriptions<'a, W>,
     // Who makes each try and begins each emission.
     emitter: Emitter<u64>,
+    // Who takes its place, where its emission has to wait. It is kept where that is finished at once: its share of the lock would be
+    // lost, and nobody could say what it had emitted.
+    spare: Option<Emitter<u64>>,
     // Each emission that had to wait has an emitter of its own, which is idle where that is finished or given up.
     emissions: Vec<Emitter<u64>>,
     ghost idle: { emitter.ticket ≡ None },
+    ghost ready: { ForSome spare (λ e. e.ticket ≡ None) },
+}
+
+// Has a spare emitter stand by, which this owner makes where none does.
+fn prepare(
+    spare: &mut Option<Emitter<u64>>,
+    flow: &mut SharedFlow<u64>,
+    rt: &impl Wait,
+) -> Result<(), Refusal>
+    requires { ForSome spare.old (λ e. e.ticket ≡ None) }
+    ensures ready { IfOk result (λ _. (e : Emitting) × (spare.new ≡ Some e) × (e.ticket ≡ None) × Spares spare.old flow.old e flow.new) }
+    ensures memory { IsOkUnless result Refusal.NoMemory }
+    ensures same { IfErr result (λ _. (spare.new ≡ spare.old) × (flow.new ≡ flow.old)) }
+{
+    if spare.is_some() {
+        return Ok(());
+    }
+    let emitter = flow.emitter(rt, EMITTER)?;
+    if let Some(other) = spare.replace(emitter) {
+        let _idle = other.close(rt);
+    }
+    Ok(())
 }
 
 impl<'a, W: Wait> ForThreads<'a, W> {
@@ -43,6 +70,7 @@ impl<'a, W: Wait> ForThreads<'a, W> {
             rt,
             subscriptions: Subscriptions::new(rt, alloc, flow),
             emitter,
+            spare: None,
             emissions: Vec::new(alloc),
         })
     }
@@ -53,7 +81,7 @@ impl<'a, W: Wait> Shared for ForThreads<'a, W> {
     ghost use Rattle.script_engines.specs.Subscribing.{subscribing_of};
     ghost use Rattle.script_engines.specs.Parties.{receiving};
 
-    ghost receipts = { receipts_of (λ it. record { subscriptions = subscribing_of it.subscriptions; emitter = it.emitter; emissions = it.emissions.items }) receiving };
+    ghost receipts = { receipts_of (λ it. record { subscriptions = subscribing_of it.subscriptions; emitter = it.emitter; spare = it.spare; emissions = it.emissions.items }) receiving };
 
     fn subscribe(&mut self, prelude: &[u64]) -> Result<SubId, Refusal> {
         self.subscriptions.subscribe(prelude)
@@ -80,12 +108,16 @@ impl<'a, W: Wait> Shared for ForThreads<'a, W> {
             rt,
             subscriptions,
             emitter,
+            spare,
             mut emissions,
         } = self;
         while let Some(emission) = emissions.pop() {
             let _withdrawn = emission.close(rt);
         }
         emissions.destroy_empty();
+        if let Some(spare) = spare {
+            let _idle = spare.close(rt);
+        }
         let _idle = emitter.close(rt);
         subscriptions.close();
     }
@@ -96,7 +128,7 @@ impl<'a, W: Wait> MutableShared for ForThreads<'a, W> {
     ghost use Rattle.script_engines.specs.Subscribing.{subscribing_of};
     ghost use Rattle.script_engines.specs.Parties.{emitting};
 
-    ghost emissions = { emissions_of (λ it. record { subscriptions = subscribing_of it.subscriptions; emitter = it.emitter; emissions = it.emissions.items }) emitting };
+    ghost emissions = { emissions_of (λ it. record { subscriptions = subscribing_of it.subscriptions; emitter = it.emitter; spare = it.spare; emissions = it.emissions.items }) emitting };
 
     fn try_emit(&mut self, value: u64) -> Result<Tried<u64>, Refusal> {
         match self.emitter.try_emit(self.rt, value)? {
@@ -108,26 +140,20 @@ impl<'a, W: Wait> MutableShared for ForThreads<'a, W> {
 
     fn start_emit(&mut self, value: u64) -> Result<Begun<u64, Ticket>, Refusal> {
         self.emissions.reserve(1)?;
-        let spare = self.subscriptions.flow.emitter(self.rt, EMITTER)?;
+        prepare(&mut self.spare, &mut self.subscriptions.flow, self.rt)?;
         match self.emitter.start_emit(self.rt, value) {
-            Ok(Begun::Accepted(receipt)) => {
-                let _idle = spare.close(self.rt);
-                Ok(Begun::Accepted(receipt.number()))
-            }
-            Ok(Begun::Dropped) => {
-                let _idle = spare.close(self.rt);
-                Ok(Begun::Dropped)
-            }
+            Ok(Begun::Accepted(receipt)) => Ok(Begun::Accepted(receipt.number())),
+            Ok(Begun::Dropped) => Ok(Begun::Dropped),
             Ok(Begun::Waiting(())) => {
+                let Some(spare) = self.spare.take() else {
+                    unreachable!()
+                };
                 let place = self.emissions.len();
                 let emitter = std::mem::replace(&mut self.emitter, spare);
                 self.emissions.push_reserved(emitter);
                 Ok(Begun::Waiting(ticket_at(place)))
             }
-            Err(refusal) => {
-                let _idle = spare.close(self.rt);
-                Err(refusal)
-            }
+            Err(refusal) => Err(refusal),
         }
     }
 

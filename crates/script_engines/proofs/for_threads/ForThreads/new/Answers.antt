@@ -1,11 +1,9 @@
-use Rattle.std.proofs.Common.{◌≡◌, [], inr, refl, sym, ap, ◌∙◌, subst}
+use Rattle.std.proofs.Common.{None, inr, refl, ap, ◌∙◌}
 use Rattle.std.proofs.lemmas.Result.{err_from_is_err_and}
 use Rattle.shared_core.specs.Kept.{making_refusal}
-use Rattle.shared_flow.specs.Owners.{Owning}
-use Rattle.shared_rounds.specs.Names.{IsMadeWith}
-use Rattle.shared_flow.specs.Parties.{newcomer_of}
+use Rattle.script_engines.specs.Parties.{Parties}
 use Rattle.script_engines.specs.Subscribing.{Subscribing, subscribing_of}
-use Rattle.script_engines.proofs.Parties.{fresh}
+use Rattle.script_engines.proofs.Parties.{untouched}
 use Rattle.script_calls.proofs.Refusals.{no_reason, refused_for}
 use Rattle.script_engines.proofs.for_threads.ForThreads.new.Goals as goal
 
@@ -21,14 +19,10 @@ returns-in_err-emitter g c =
 
 pub returns : goal.returns
 returns g c =
-    let flow = c.in_ok-flow.flow in
-    let made : subscribing_of c.new-2.result ≡ record { flow = flow; places = [] } = c.new-2.ensures ∙ ap (λ (o : Owning). record { flow = o; places = [] }) c.in_ok-emitter.ensures.same in
-    let same : flow ≡ c.new-2.result.flow = sym (ap (λ (s : Subscribing). s.flow) made) in (
-      no_reason (making_refusal c.args.config) flow c.in_ok-flow.ensures.refused,
-      (
-        subst (λ (o : Owning). IsMadeWith c.args.config o.party.flow) same c.in_ok-flow.ensures.config,
-        fresh flow (subscribing_of c.new-2.result) c.in_ok-flow.ensures.rounds.0 c.in_ok-flow.ensures.rounds.1 made,
-        (c.in_ok-emitter.ensures.flow ∙ ap (λ (o : Owning). newcomer_of c.in_ok-emitter.emitter.party.pass o.party) same, c.in_ok-emitter.ensures.id, c.in_ok-emitter.ensures.idle),
-        c.new-3.ensures.items,
-      ),
+    let it : Parties = record { subscriptions = subscribing_of c.new-2.result; emitter = c.in_ok-emitter.emitter; spare = None; emissions = c.new-3.result.items } in (
+      no_reason (making_refusal c.args.config) c.in_ok-flow.flow c.in_ok-flow.ensures.refused,
+      untouched c.args.config c.in_ok-flow.flow it c.in_ok-flow.ensures.config
+          (c.in_ok-flow.ensures.rounds.0, c.in_ok-flow.ensures.rounds.1, c.in_ok-flow.ensures.rounds.2)
+          (ap (λ (s : Subscribing). s.flow) c.new-2.ensures ∙ c.in_ok-emitter.ensures.half) (ap (λ (s : Subscribing). s.places) c.new-2.ensures)
+          (c.in_ok-emitter.ensures.flow, c.in_ok-emitter.ensures.id, c.in_ok-emitter.ensures.idle) refl c.new-3.ensures.items,
     )
