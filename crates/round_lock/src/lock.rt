@@ -2,13 +2,14 @@
 ghost use Rattle.std.specs.Prelude.{ℕ, suc, ◌≡◌, ◌≢◌, [], ◌∷◌, Option, Some, None, IfOk, IfErr, IsTrue, IsFalse, ◌<◌};
 ghost use Rattle.std.specs.Arc.{arc_value};
 ghost use Rattle.round_lock.specs.declared.log.Log.{Log};
-ghost use Rattle.round_lock.specs.History.{Saw, newcomer, called, another, sharing, whole_again, own_of, turn_of};
+ghost use Rattle.round_lock.specs.History.{Saw, newcomer, called, another, sharing, whole_again, taking, own_of, turn_of};
 ghost use Rattle.round_lock.specs.Law.{HasTaken, IsAt, IsNote, HasLooked};
 ghost use Rattle.round_lock.specs.Locking.{Locking, Noting};
 
 use crate::log::Log;
 use crate::rule::{
-    Another, Called, Gives, Hears, Looks, Made, Notes, Numbered, Rounds, Takes, TakesBack, Turned,
+    Another, Called, Gives, Hears, Looks, Made, Notes, Numbered, Rounds, Takes, TakesBack, TakesIn,
+    Turned,
 };
 use atomic_table::{Refused, Seat, Table};
 use std::alloc::{AllocError, Global};
@@ -136,6 +137,18 @@ impl<S: Called<E> + Drop, E: Drop> Lock<S, E> {
         self.place
             .shared
             .join_seat::<TakesBack>(&mut self.seat, seat);
+        drop(place);
+    }
+
+    /// Takes in another owner for good, with the calls that it made, those of the owners that it took in, and their shares: who
+    /// has the whole lock so knows who made each call. The other one must not have taken the lock. Without waiting.
+    pub fn take_in(&mut self, other: Lock<S, E>)
+        requires place { other.place ≡ self.old.place }
+        requires free { other.log.held ≡ None }
+        ensures taken { self.new ≡ record self.old { log = taking other.pass self.old.log other.log } }
+    {
+        let Lock { place, seat } = other;
+        absorb::<S, E, Brand>(&self.place, &mut self.seat, seat);
         drop(place);
     }
 
@@ -337,4 +350,20 @@ fn look<S: Called<E> + Drop, E, N: Numbered>(
     ensures looked { HasLooked S.first S.step N.number seat.old.me seat.new.me }
 {
     place.shared.load::<Looks<N>>(seat, 0);
+}
+
+/// Takes in another owner's seat, for good.
+fn absorb<S: Called<E> + Drop, E, N: Numbered>(
+    place: &Place<S, E>,
+    seat: &mut Seat<Option<S>, Log<S, E>>,
+    other: Seat<Option<S>, Log<S, E>>,
+)
+    requires number { N.number ≡ other.id }
+    requires at { IsAt place.now.shared.table_id seat.old.table_id seat.old.me }
+    requires there { IsAt place.now.shared.table_id other.table_id other.me }
+    requires free { other.me.0.held ≡ None }
+    ensures seat { (seat.new.table_id ≡ seat.old.table_id) × (seat.new.id ≡ seat.old.id) }
+    ensures taken { seat.new.me ≡ (taking other.id seat.old.me.0 other.me.0, seat.old.me.1) }
+{
+    place.shared.join_seat::<TakesIn<N>>(seat, other);
 }
