@@ -71,9 +71,11 @@ module _ {S E : Type 0} (first : S → Type 0) (step : S → E → S → Type 0)
     own_is = f.own_is;
     seen_on = f.seen_on;
     heard = f.heard;
-    parts = parts_are first step items views pass v r at;
-    apart = (r.stands pass v at).apart;
-    all = λ has. made_each first step items views pass v m begun r at has;
+    taken_in = record {
+      parts_are = parts_are first step items views pass v r at;
+      apart = (r.stands pass v at).apart;
+      all = λ has. made_each first step items views pass v m begun r at has;
+    };
   }
 
   pub takes : (x : S) (items : List S) (views : List (Log S E)) (pass : ℕ) (v : Log S E) (m : S) → v.made ≡ Some m → OneHistory first step (x ∷ items) views → get_elem? views pass ≡ some v
