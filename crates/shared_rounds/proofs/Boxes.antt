@@ -1,6 +1,9 @@
 -- The one list of rounds, where what they left lies in boxes.
-use Rattle.std.proofs.Common.{◌≡◌, ◌==◌, ℕ, cond, Some, None, List, [], ◌∷◌, ◌++◌, refl, sym, ap, ◌∙◌, subst}
-use Rattle.round_lock.specs.History.{Begins, Saw, called, own_of}
+use Rattle.std.proofs.Common.{◌≡◌, ◌⊎◌, ◌==◌, ℕ, zero, suc, cond, Some, None, List, [], ◌∷◌, ◌++◌, length, refl, sym, ap, ◌∙◌, subst}
+use mathlib.Core.Option.{some, some-injective, some-ne-none}
+use lib.ListN.{get_elem?}
+use Rattle.round_lock.specs.declared.log.Part.{Part}
+use Rattle.round_lock.specs.History.{Begins, HasAll, KnowsTaken, MadeEach, Parts, Saw, TakenIn, called, own_of}
 use Rattle.round_lock.specs.History.After.{new, more}
 use Rattle.round_lock.specs.Locking.{Locking}
 use Rattle.shared_rounds.specs.declared.round.Round.{Round}
@@ -27,6 +30,30 @@ module _ {S : Type 0} (value : S → SharedSeen) where
   same_own pass [] = refl
   same_own pass (t ∷ log) = ap (λ (l : List Round). cond (t.0 == pass) (t.1 ∷ l) l) (same_own pass log)
 
+  -- nor do those of the owners that one took in
+  same_parts : (log : List (ℕ × Round × S)) (parts : List (Part Round)) → Parts log parts → Parts (rounds_in value log) parts
+  same_parts log [] are = tt
+  same_parts log (p ∷ parts) are = (are.0 ∙ same_own p.pass log, same_parts log parts are.1)
+
+  in_place : (log : List (ℕ × Round × S)) (i : ℕ) (t : ℕ × Round × SharedSeen) → get_elem? (rounds_in value log) i ≡ some t → (u : ℕ × Round × S) × (get_elem? log i ≡ some u) × (u.0 ≡ t.0)
+  in_place [] i t at = absurd (some-ne-none t (sym at))
+  in_place (x ∷ log) zero t at = (x, refl, ap (λ (u : ℕ × Round × SharedSeen). u.0) (some-injective (x.0, x.1, value x.2) t at))
+  in_place (x ∷ log) (suc i) t at = in_place log i t at
+
+  as_long : (log : List (ℕ × Round × S)) → length (rounds_in value log) ≡ length log
+  as_long [] = refl
+  as_long (x ∷ log) = ap suc (as_long log)
+
+  pub same_taken : (pass : ℕ) (own : List Round) (halved : ℕ) (parts : List (Part Round)) (log : List (ℕ × Round × S)) → KnowsTaken pass own halved parts log → KnowsTaken pass own halved parts (rounds_in value log)
+  same_taken pass own halved parts log knows = record {
+    parts_are = same_parts log parts knows.parts_are;
+    apart = knows.apart;
+    all = λ has. let each = knows.all has in record {
+      callers = λ i t at. let u = in_place log i t at in subst (λ n. (pass ≡ n) ⊎ TakenIn parts n) u.2 (each.callers i u.0 u.1);
+      number = as_long log ∙ each.number;
+    };
+  }
+
   -- what lies in a box, without it
   pub unboxed : (made : S) (log : List (ℕ × Round × S)) (s : S) → Left value made log s → IsLeftBy (value made) (rounds_in value log) (value s)
   unboxed _ _ _ (new s fresh) = new (value s) fresh
@@ -42,6 +69,7 @@ module _ {S : Type 0} (value : S → SharedSeen) where
     after = unboxed saw.made m.log.seen state saw.after;
     rounds_are = saw.own_is ∙ same_own l.pass m.log.seen;
     seen_on = in_begins m.log.seen l.log.seen saw.seen_on;
+    taken_in = same_taken l.pass l.log.own l.log.halved l.log.taken m.log.seen saw.taken_in;
   }
 
   -- what an owner of the lock is after a call is what the owner of the flow is after the round

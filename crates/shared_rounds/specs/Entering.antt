@@ -1,6 +1,6 @@
 -- What an owner finds as it takes the lock, and the round that it makes of that.
 use Rattle.std.specs.Prelude.{◌≡◌, ℕ, ◌++◌, [], ◌∷◌, Option, Some, None}
-use Rattle.round_lock.specs.History.{After, Begins, own_of}
+use Rattle.round_lock.specs.History.{After, Begins, KnowsTaken, own_of}
 use Rattle.shared_lane.specs.Sequencers.{OnlyLoaded, next}
 use Rattle.shared_rounds.specs.declared.round.Round.{Round}
 use Rattle.shared_rounds.specs.Names.{SharedSeen, IsNew}
@@ -13,13 +13,15 @@ abbrev pub IsLeftBy : SharedSeen → Rounds → SharedSeen → Type 0
 IsLeftBy = After IsNew Does
 
 -- What an owner found: the list of rounds that it has seen now left it of a new flow, which is the owner's. The owner's own rounds are
--- its part of that list, which begins with what it had seen before
+-- its part of that list, which begins with what it had seen before. So are the rounds of those that it took in; and where it has the
+-- whole lock with them, they made each round
 pub record Found (p : Party) (found : SharedSeen) (seen : Rounds) : Type 0 where
   pub made : SharedSeen
   pub flow_is : p.flow ≡ Some made.name
   pub after : IsLeftBy made seen found
   pub rounds_are : p.rounds ≡ own_of p.pass seen
   pub seen_on : Begins seen p.seen
+  pub taken_in : KnowsTaken p.pass p.rounds p.halved p.taken seen
 
 -- the owner has the lock, and a call that it made of what it found has come to this; the next number was `before` as it was found
 abbrev pub IsCalled : Reach → ℕ → Round → SharedSeen → Type 0

@@ -7,7 +7,7 @@ ghost use Rattle.shared_rounds.specs.declared.round.Round.TheVariants as round;
 ghost use Rattle.shared_rounds.specs.Flags.{looked_at};
 ghost use Rattle.shared_rounds.specs.Names.{FoundDown, FoundUp, IsFlagOf, IsNew, KnowsLane, KnowsTrack};
 ghost use Rattle.shared_rounds.specs.Entering.{Found, IsCalled, IsCalledAs, Left, LeftAs};
-ghost use Rattle.shared_rounds.specs.Reach.{party_of, reach_of};
+ghost use Rattle.shared_rounds.specs.Reach.{party_of, reach_of, with_taken};
 ghost use Rattle.shared_rounds.specs.Rounds.{Below};
 ghost use Rattle.shared_rounds.specs.Sleeping.{NobodySleeps};
 ghost use Rattle.shared_rounds.specs.Waking.{AreOutBut, Helps, ended_by as the_ended_by, taken_by as the_taken_by};
@@ -81,7 +81,7 @@ impl Access {
     /// The first owner.
     pub fn new(alloc: Global, config: Config, shared: Shared) -> Result<Access, Refusal>
         requires { (shared.name.config ≡ config) × IsNew shared }
-        ensures made { IfOk result (λ made. (made.flow ≡ Some shared.name) × (made.held ≡ None) × (made.rounds ≡ []) × (made.halved ≡ 0) × (made.seen ≡ [])) }
+        ensures made { IfOk result (λ made. (made.flow ≡ Some shared.name) × (made.held ≡ None) × (made.rounds ≡ []) × (made.halved ≡ 0) × (made.taken ≡ []) × (made.seen ≡ [])) }
         ensures memory { IsOkUnless result Refusal.NoMemory }
     {
         let state = Box::new(alloc, shared)?;
@@ -99,7 +99,7 @@ impl Access {
 
     /// Another owner of the same flow, which has made no call, and has seen as much. It has half of this owner's share of the lock.
     pub fn another(&mut self, rt: &impl Wait) -> Result<Access, Refusal>
-        ensures other { IfOk result (λ other. other ≡ record self.old { held = None; pass = other.pass; halved = suc self.old.halved; rounds = [] }) }
+        ensures other { IfOk result (λ other. other ≡ record self.old { held = None; pass = other.pass; halved = suc self.old.halved; taken = []; rounds = [] }) }
         ensures half { IfOk result (λ _. self.new ≡ record self.old { halved = suc self.old.halved }) }
         ensures memory { IsOkUnless result Refusal.NoMemory }
         ensures same { IfErr result (λ _. self.new ≡ self.old) }
@@ -132,6 +132,25 @@ impl Access {
             config: _,
         } = other;
         self.lock.take_back(lock);
+        drop(track);
+        drop(wakes);
+    }
+
+    /// Takes in another owner for good, with the rounds that it made, those of the owners that it took in, and their shares of the lock:
+    /// who has the whole lock so knows who made each round. The other one must not have the lock. Without a lock.
+    pub fn take_in(&mut self, other: Access)
+        requires lock { other.lock ≡ self.old.lock }
+        requires free { other.held ≡ None }
+        ensures taken { self.new ≡ record self.old { taken = with_taken (party_of other) self.old.taken } }
+    {
+        let Access {
+            lock,
+            track,
+            wakes,
+            alloc: _,
+            config: _,
+        } = other;
+        self.lock.take_in(lock);
         drop(track);
         drop(wakes);
     }
@@ -320,7 +339,7 @@ fn taken_by(round: &Round) -> Option<u64>
 // Puts it under a lock, whose first owner has made no call.
 fn locked(alloc: Global, state: Box<Shared>) -> Result<Lock<Box<Shared>, Round>, AllocError>
     requires { IsNew state.value }
-    ensures { IfOk result (λ lock. reach_of (λ s. s.value) lock ≡ record { lock = lock.place; flow = Some state.value.name; held = None; pass = lock.pass; halved = 0; rounds = []; seen = [] }) }
+    ensures { IfOk result (λ lock. reach_of (λ s. s.value) lock ≡ record { lock = lock.place; flow = Some state.value.name; held = None; pass = lock.pass; halved = 0; taken = []; rounds = []; seen = [] }) }
 {
     Lock::new(alloc, state)
 }
