@@ -51,3 +51,18 @@ returns-in-Some g c =
         search rules,
       ),
     )
+
+pub returns-in-Err : goal.returns-in-Err
+returns-in-Err g c =
+    let ready = c.in_ok-prepare.ensures.ready in
+    inr (
+      c.start_emit.result,
+      c.start_emit.new.self,
+      c.start_emit.ensures.round,
+      search rules,
+      rw (c.in-Err.is) (
+        ready.0,
+        ready.3,
+        with_equal (record (with_spare (parties_of c.args.self.now) c.prepare.new.flow ready.0) { emitter = c.start_emit.new.self }) c.prepare.new.spare c.reserve.new.self.items ready.1 c.in_ok-reserve.ensures.items,
+      ),
+    )
