@@ -13,8 +13,8 @@ use Rattle.shared_core.specs.Flow.{empty}
 use Rattle.shared_core.specs.Kept.{making_refusal, parameters_of}
 use Rattle.shared_core.specs.Shown as core
 use Rattle.shared_rounds.specs.Names.{IsMadeWith}
-use Rattle.shared_flow.specs.Owners.{at_rest}
-use Rattle.shared_flow.specs.Parties.{named, newcomer_of}
+use Rattle.shared_flow.specs.Owners.{HasMadeNoCall}
+use Rattle.shared_flow.specs.Parties.{named}
 use Rattle.state_flow.specs.Calls.{Sets}
 use Rattle.state_flow.specs.Views.{opening, giver, taker}
 use Rattle.script_commands.specs.declared.source_flow.SourceFlow.{SourceFlow}
@@ -60,10 +60,10 @@ abbrev pub StartsOr : {M : Type 0} → Option Refusal → Starting → (Started 
 StartsOr (Some refusal) starting makes reply = reply ≡ Err refusal
 StartsOr None starting makes reply = (started : Started) × StartsAs starting started × makes started reply
 
--- a flow for threads of the config, of which nobody has made a call but what will emit this source into it, which isn't collected yet
+-- a flow for threads of the config, of which nobody has made a call: there are the owner and what will emit this source into it, to which
+-- it gave half its share of the lock; and the source isn't collected yet
 abbrev pub IsShared : {U : Type 0} → Config → Started → Origin → Subscribing → Sharings SourceFlow U → Type 0
-IsShared config started origin shown it = IsMadeWith config shown.flow.party.flow
-    × (shown ≡ record { flow = at_rest (newcomer_of shown.flow.party.pass shown.flow.party); places = [] })
+IsShared config started origin shown it = IsMadeWith config shown.flow.party.flow × HasMadeNoCall 1 shown.flow × (shown.places ≡ [])
     × (named it.place.owner.party ≡ named shown.flow.party) × IsNewPlace shown.flow.party it.place
     × (started_by it.strategy ≡ started) × Shows it.strategy [] × (origin_in it.source.source ≡ origin) × (it.course ≡ Idle)
 
