@@ -50,7 +50,7 @@ leave-requires-in-Err g c =
 pub take_back-requires : goal.take_back-requires
 take_back-requires g c =
     let halves = are_halves (round.Subscribe (Err c.in-Err.refusal)) c.self.inside.access c.another.new.self c.enter-inside.new.self c.leave-in-Err.new.self c.in_ok-access.access
-        c.enter-inside.result.guarded.state.value c.in_ok-access.ensures.other c.in_ok-access.ensures.half c.enter-inside.ensures.taken c.leave-in-Err.ensures.left in
+    c.enter-inside.result.guarded.state.value c.in_ok-access.ensures.other c.in_ok-access.ensures.half c.enter-inside.ensures.taken c.leave-in-Err.ensures.left in
     record { lock = halves.lock; half = halves.half; idle = halves.idle }
 
 pub returns-in-Err-clause-kept : goal.returns-in-Err-clause-kept
