@@ -2,7 +2,7 @@
 
 import re
 
-from harness import Page, examples, same
+from harness import Page, examples, same, text_of
 
 FRAME = """(() => {
   const picture = document.querySelector('.picture'), figure = document.querySelector('#pictures figure');
@@ -23,6 +23,9 @@ def test_each_example_is_in_sight_from_the_beginning(browser, folder):
         page.choose_example(example["name"])
         seen = page.tab.ask(FRAME)
         same(f"{example['name']}: script and picture are on the first screen", (seen["top"] < 200, seen["bottom"] < 700, seen["pictureTop"] < 200 or seen["isHidden"]), (True,) * 3)
+        comments = "\n".join(it if it.startswith("#") else "" for it in text_of(example).split("\n"))
+        page.write(comments)
+        same(f"{example['name']}: its comments are in sight", page.tab.ask("(({ scrollWidth, clientWidth }) => scrollWidth <= clientWidth)(document.getElementById('script'))"), True)
         if not seen["isHidden"]:
             same(f"{example['name']}: all of its columns are in sight", (seen["wants"] <= seen["width"], seen["zoom"] >= 65, seen["underNames"]), (True, True, 0))
     page.close()

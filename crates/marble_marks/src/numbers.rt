@@ -81,9 +81,9 @@ fn add_move(
     ensures few { OnOk result (standing.new.accepted + length standing.new.waiting.items ≤ standing.old.accepted + length standing.old.waiting.items + 1) }
 {
     add_at_once(marks, row, standing.accepted(), it)?;
-    standing.take(alloc, it.step)?;
+    standing.take(it.step)?;
     let first = standing.accepted();
-    let values = standing.settle()?;
+    let values = standing.settle(alloc)?;
     add_late(marks, it.column, row, first, &values)
 }
 

@@ -86,13 +86,6 @@ impl Seat {
         }
     }
 
-    /// This one, unless it is on this row.
-    fn not_on(self, row: usize) -> Option<Seat>
-        ensures { result ≡ not_on row self }
-    {
-        if self.row == row { None } else { Some(self) }
-    }
-
     /// How many more values it has places for, where it has so many in all.
     fn free(self, places: usize, accepted: usize) -> usize
         ensures { result ≡ free places accepted self }
@@ -101,33 +94,20 @@ impl Seat {
     }
 }
 
-/// These, after the one on this row has received a value.
-fn all_given(
-    alloc: Global,
-    seats: &[Seat],
-    row: usize,
-    accepted: usize,
-) -> Result<Vec<Seat>, AllocError>
-    ensures { IfOk result (λ after. after.items ≡ map (given_on row accepted) seats.now) }
+/// The one on this row receives a value.
+fn give(seats: &mut Vec<Seat>, row: usize, accepted: usize)
+    ensures { seats.new.items ≡ map (given_on row accepted) seats.old.items }
 {
-    let mut after = Vec::new(alloc);
-    for seat in seats {
-        after.push(seat.given_on(row, accepted))?;
+    for seat in seats.iter_mut() {
+        *seat = seat.given_on(row, accepted);
     }
-    Ok(after)
 }
 
-/// These without the one on this row.
-fn without(alloc: Global, seats: &[Seat], row: usize) -> Result<Vec<Seat>, AllocError>
-    ensures { IfOk result (λ after. after.items ≡ filter_map (not_on row) seats.now) }
+/// The one on this row ends.
+fn take_out(seats: &mut Vec<Seat>, row: usize)
+    ensures { seats.new.items ≡ filter_map (not_on row) seats.old.items }
 {
-    let mut after = Vec::new(alloc);
-    for seat in seats {
-        if let Some(other) = seat.not_on(row) {
-            after.push(other)?;
-        }
-    }
-    Ok(after)
+    seats.retain(|seat| seat.row != row);
 }
 
 /// For how many of so many values each of these has a place.
@@ -180,7 +160,7 @@ impl Standing {
     }
 
     /// After what a line does.
-    pub(crate) fn take(&mut self, alloc: Global, step: Step) -> Result<(), AllocError>
+    pub(crate) fn take(&mut self, step: Step) -> Result<(), AllocError>
         requires { self.old.accepted + length self.old.waiting.items < 18446744073709551615 }
         ensures stepped { OnOk result (stand_in self.new ≡ stepped step (stand_in self.old)) }
         ensures few { OnOk result (self.new.accepted + length self.new.waiting.items ≤ self.old.accepted + length self.old.waiting.items + 1) }
@@ -201,11 +181,11 @@ impl Standing {
             }
             Step::Joined { row, prelude } => self.join(row, prelude),
             Step::Took { row } => {
-                self.seats = all_given(alloc, &self.seats, row, self.accepted)?;
+                give(&mut self.seats, row, self.accepted);
                 Ok(())
             }
             Step::Ended { row } => {
-                self.seats = without(alloc, &self.seats, row)?;
+                take_out(&mut self.seats, row);
                 Ok(())
             }
             Step::Emptied => {
@@ -216,12 +196,15 @@ impl Standing {
     }
 
     /// Lets in what waits, as far as there is room, and gives it, the one that waited longest first.
-    pub(crate) fn settle(&mut self) -> Result<Vec<u64>, AllocError>
+    pub(crate) fn settle(&mut self, alloc: Global) -> Result<Vec<u64>, AllocError>
         requires { self.old.accepted + length self.old.waiting.items < 18446744073709551616 }
         ensures settled { OnOk result (stand_in self.new ≡ settled (stand_in self.old)) }
         ensures values { IfOk result (λ values. values.items ≡ let_in_values (stand_in self.old)) }
         ensures few { OnOk result (self.new.accepted + length self.new.waiting.items ≤ self.old.accepted + length self.old.waiting.items) }
     {
+        if self.waiting.is_empty() {
+            return Ok(Vec::new(alloc));
+        }
         let count = room_for(self.places, self.accepted, self.waiting.len(), &self.seats);
         let rest = self.waiting.split_off(count)?;
         let values = std::mem::replace(&mut self.waiting, rest);

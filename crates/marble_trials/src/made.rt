@@ -104,7 +104,7 @@ impl Dice {
     }
 
     /// One of these, of which there is at least one.
-    fn one_of(&mut self, all: &[usize]) -> usize {
+    pub(crate) fn one_of(&mut self, all: &[usize]) -> usize {
         all.get(self.below(all.len())).copied().unwrap_or(1)
     }
 

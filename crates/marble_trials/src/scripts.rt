@@ -12,7 +12,7 @@ use std::fmt::Write;
 use std::random::RandomSource;
 use std::test::Fail;
 
-/// How many scripts there are.
+/// How many short scripts there are of each size.
 const SCRIPTS: u64 = 300;
 
 /// How many scripts of many names there are.
@@ -20,6 +20,15 @@ const LONG_SCRIPTS: u64 = 12;
 
 /// So few that names are bound again and again, which no run of a script answers so.
 const NAMES: &[&str] = &["a", "b", "c", "d", "e", "f", "g", "h"];
+
+/// The names of flows, where these have names of their own.
+const FLOWS: &[&str] = &["a", "b"];
+
+/// The names of all others there.
+const PARTIES: &[&str] = &["c", "d", "e", "f", "g", "h"];
+
+/// The kinds of lines by which emissions wait, and by which they are let in.
+const WAITING: &[usize] = &[0, 2, 4, 6, 6, 6, 7, 7, 7, 10, 11, 14, 15];
 
 /// Many names are parts of this.
 const LETTERS: &str = "abcdefghijklmnopqrstuvwxyzABCDEFGHIJKLMNOPQRSTUVWXYZ";
@@ -29,6 +38,8 @@ const LETTERS: &str = "abcdefghijklmnopqrstuvwxyzABCDEFGHIJKLMNOPQRSTUVWXYZ";
 enum Size {
     /// Few names that are bound again and again.
     Short,
+    /// The same, of two flows whose emissions wait and are let in, mostly while somebody is subscribed.
+    Waiting,
     /// Hundreds of names, each bound now and then.
     Long,
 }
@@ -75,15 +86,37 @@ struct Answered {
     answers: Vec<Made>,
 }
 
+/// One of these names.
+fn one_of(dice: &mut Dice, names: &[&'static str]) -> &'static str {
+    names.get(dice.below(names.len())).copied().unwrap_or("a")
+}
+
 /// One of the names.
 fn name(dice: &mut Dice, size: Size) -> &'static str {
     match size {
-        Size::Short => NAMES.get(dice.below(NAMES.len())).copied().unwrap_or("a"),
+        Size::Short => one_of(dice, NAMES),
+        Size::Waiting => one_of(dice, PARTIES),
         Size::Long => {
             let first = dice.below(46);
             let end = first.saturating_add(dice.below(6)).saturating_add(1);
             LETTERS.get(first..end).unwrap_or("a")
         }
+    }
+}
+
+/// The name that a line of this kind begins with.
+fn host(dice: &mut Dice, size: Size, kind: usize) -> &'static str {
+    match (size, kind) {
+        (Size::Waiting, 0 | 2 | 4 | 6 | 14 | 15) => one_of(dice, FLOWS),
+        _ => name(dice, size),
+    }
+}
+
+/// The kind of a line.
+fn kind_of_line(dice: &mut Dice, size: Size) -> usize {
+    match size {
+        Size::Waiting => dice.one_of(WAITING),
+        _ => dice.below(19),
     }
 }
 
@@ -182,9 +215,9 @@ struct Filling {
 }
 
 impl Filling {
-    fn new(dice: &mut Dice, size: Size) -> Filling {
+    fn new(dice: &mut Dice, size: Size, kind: usize) -> Filling {
         Filling {
-            host: name(dice, size),
+            host: host(dice, size, kind),
             other: name(dice, size),
             few: dice.below(3),
             number: dice.below(4),
@@ -246,8 +279,8 @@ fn answer_for(dice: &mut Dice, line: usize, kind: usize) -> Option<Made> {
 impl Answered {
     /// Adds a line, and its answer, where it has one.
     fn push_line(&mut self, dice: &mut Dice, size: Size, line: usize) -> Result<(), AllocError> {
-        let kind = dice.below(19);
-        push_line(&mut self.script, Filling::new(dice, size), kind)?;
+        let kind = kind_of_line(dice, size);
+        push_line(&mut self.script, Filling::new(dice, size, kind), kind)?;
         if let Some(made) = answer_for(dice, line, kind) {
             self.answers.push(made)?;
         }
@@ -258,7 +291,7 @@ impl Answered {
 /// A script with answers.
 fn make_answered(alloc: Global, dice: &mut Dice, size: Size) -> Result<Answered, AllocError> {
     let count = match size {
-        Size::Short => dice.below(80),
+        Size::Short | Size::Waiting => dice.below(80),
         Size::Long => dice.below(200).saturating_add(400),
     };
     let mut made = Answered {
@@ -356,8 +389,10 @@ where
 /// Marks are what they were.
 #[test]
 fn marks_are_what_they_were(rt: HostRuntime) -> Result<(), Fail> {
-    let other = first_other(&rt, Size::Short, SCRIPTS)?;
-    assert_eq!(rt; other, None);
+    for size in [Size::Short, Size::Waiting] {
+        let other = first_other(&rt, size, SCRIPTS)?;
+        assert_eq!(rt; other, None);
+    }
     Ok(())
 }
 

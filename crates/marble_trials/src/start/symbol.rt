@@ -259,50 +259,39 @@ fn begun_frame(row: Row) -> Option<Frame> {
     }
 }
 
+/// A round frame with this strike.
+fn round(class: &'static str, strike: Strike) -> Option<Frame> {
+    Some(Frame {
+        class,
+        round: 11,
+        strike,
+    })
+}
+
+/// A frame with square corners and this strike.
+fn square(class: &'static str, strike: Strike) -> Option<Frame> {
+    Some(Frame {
+        class,
+        round: 2,
+        strike,
+    })
+}
+
 /// The frame of a mark that has one.
 fn frame_of(kind: Kind) -> Option<Frame> {
     match kind {
-        Kind::Accepted(_) => Some(Frame {
-            class: "accepted",
-            round: 11,
-            strike: Strike::None,
-        }),
-        Kind::LetIn(_, _) => Some(Frame {
-            class: "accepted before",
-            round: 11,
-            strike: Strike::None,
-        }),
-        Kind::Received(_) => Some(Frame {
-            class: "received",
-            round: 11,
-            strike: Strike::None,
-        }),
-        Kind::FromPrelude(_) => Some(Frame {
-            class: "received prelude",
-            round: 2,
-            strike: Strike::None,
-        }),
-        Kind::Lost(_) => Some(Frame {
-            class: "lost",
-            round: 11,
-            strike: Strike::Cross,
-        }),
-        Kind::Dropped(_) => Some(Frame {
-            class: "dropped",
-            round: 11,
-            strike: Strike::Stroke,
-        }),
-        Kind::Full(_) => Some(Frame {
-            class: "full",
-            round: 2,
-            strike: Strike::Walls,
-        }),
+        Kind::Accepted(_) => round("accepted", Strike::None),
+        Kind::LetIn(_, _) => round("accepted before", Strike::None),
+        Kind::Received(_) => round("received", Strike::None),
+        Kind::FromPrelude(_) => square("received prelude", Strike::None),
+        Kind::Lost(_) => round("lost", Strike::Cross),
+        Kind::Dropped(_) => round("dropped", Strike::Stroke),
+        Kind::Full(_) => square("full", Strike::Walls),
         Kind::Begun(row) => begun_frame(row),
-        Kind::Done | Kind::Removed | Kind::Left | Kind::Gone | Kind::Said => Some(Frame {
-            class: "said",
-            round: 2,
-            strike: Strike::None,
-        }),
+        Kind::Done | Kind::Removed | Kind::Left | Kind::Gone | Kind::Said => square(
+            "said",
+            Strike::None,
+        ),
         _ => None,
     }
 }
