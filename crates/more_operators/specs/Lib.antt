@@ -1,0 +1,4 @@
+pub mod Numbered
+pub mod DistinctBy
+pub mod DropWhile
+pub mod Reduce
