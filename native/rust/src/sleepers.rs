@@ -21,7 +21,7 @@
 //!
 //! [`wake_all`]: Sleepers::wake_all
 
-use std::collections::btree_map::{BTreeMap, IntoValues};
+use std::collections::BTreeMap;
 use std::mem;
 use std::sync::atomic::{AtomicU64, AtomicUsize, Ordering::SeqCst};
 use std::sync::{Arc, Mutex, MutexGuard, PoisonError};
@@ -29,7 +29,7 @@ use std::task::Waker;
 use std::thread::Thread;
 
 /// One that sleeps.
-pub(crate) enum Sleeper {
+pub enum Sleeper {
     /// A task, which is polled again.
     Task(Waker),
     /// A thread, which parked itself.
@@ -46,17 +46,21 @@ impl Sleeper {
 }
 
 /// Those who are to be woken. Where a waker of others panics, the rest are woken all the same.
-struct Woken(IntoValues<u64, Sleeper>);
+pub(crate) struct Woken<I: Iterator<Item = Sleeper>>(I);
 
-impl Woken {
-    fn wake(&mut self) {
+impl<I: Iterator<Item = Sleeper>> Woken<I> {
+    pub(crate) fn of(sleepers: impl IntoIterator<IntoIter = I>) -> Woken<I> {
+        Woken(sleepers.into_iter())
+    }
+
+    pub(crate) fn wake(&mut self) {
         for sleeper in self.0.by_ref() {
             sleeper.wake();
         }
     }
 }
 
-impl Drop for Woken {
+impl<I: Iterator<Item = Sleeper>> Drop for Woken<I> {
     fn drop(&mut self) {
         self.wake();
     }
@@ -107,7 +111,7 @@ impl Sleepers {
 
     /// Wakes all who sleep. One load where nobody does.
     #[inline]
-    fn wake_all(&self) {
+    pub(crate) fn wake_all(&self) {
         if self.count.load(SeqCst) != 0 {
             self.wake_listed();
         }
@@ -119,7 +123,7 @@ impl Sleepers {
         let woken = mem::take(&mut *listed);
         self.count.store(0, SeqCst);
         drop(listed);
-        Woken(woken.into_values()).wake();
+        Woken::of(woken.into_values()).wake();
     }
 
     /// Whether nobody is left who may emit.
