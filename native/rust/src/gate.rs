@@ -24,7 +24,8 @@
 //! done once all have its own. So there two numbers match, that of the emission and the one before it.
 //!
 //! A look under the lock goes over all emissions that wait, as far as there is room, and stores the gate for the first
-//! one that waits still. Steps a and 2 are inside the library, whose every atomic step is sequentially consistent.
+//! one that waits still. Steps a and 2 are inside the library, whose every atomic step is sequentially consistent. A test
+//! below makes these steps in every order, for up to three receivers, and finds what is lost where two are exchanged.
 
 use std::sync::atomic::{AtomicU64, Ordering::SeqCst};
 
@@ -100,5 +101,110 @@ mod tests {
         assert_eq!(passing, [0]);
         gate.open();
         assert!(!gate.is_passed_by(0, 1));
+    }
+
+    /// One step of the argument above, as one thread makes it.
+    #[derive(Clone, Copy, PartialEq)]
+    enum Step {
+        Lock,
+        CloseGate,
+        Look,
+        Unlock,
+        MoveCursor,
+        LoadGate,
+    }
+    use Step::*;
+
+    const EMISSION: &[Step] = &[Lock, CloseGate, Look, Unlock];
+    const RECEIPT: &[Step] = &[MoveCursor, LoadGate, Lock, Look, Unlock];
+
+    /// One emission that waits for the receipt of `g` by all, and who has made which steps.
+    #[derive(Clone)]
+    struct Run<'a> {
+        threads: Vec<(&'a [Step], usize)>,
+        passed: Vec<bool>,
+        is_closed: bool,
+        is_begun: bool,
+        is_locked: bool,
+        is_let_in: bool,
+    }
+
+    impl Run<'_> {
+        /// The next step of a thread, if it isn't done and doesn't wait for the lock.
+        fn next(&self, thread: usize) -> Option<Step> {
+            let (steps, at) = self.threads[thread];
+            let step = *steps.get(at)?;
+            (step != Lock || !self.is_locked).then_some(step)
+        }
+
+        fn make(&mut self, thread: usize, step: Step) {
+            self.threads[thread].1 += 1;
+            match step {
+                Lock => self.is_locked = true,
+                Unlock => self.is_locked = false,
+                CloseGate => self.is_closed = true,
+                MoveCursor => self.passed[thread] = true,
+                // Where the gate hasn't its number, a receipt is done.
+                LoadGate if !self.is_closed => self.threads[thread].0 = &[],
+                LoadGate => {}
+                Look => {
+                    self.is_begun |= thread == 0;
+                    if self.is_begun && self.passed[1..].iter().all(|&passed| passed) {
+                        self.is_let_in = true;
+                        self.is_closed = false;
+                    }
+                }
+            }
+        }
+
+        /// Whether each order of the steps that are left lets the emission in.
+        fn always_lets_in(&self) -> bool {
+            let mut is_done = true;
+            for thread in 0..self.threads.len() {
+                let Some(step) = self.next(thread) else {
+                    continue;
+                };
+                is_done = false;
+                let mut later = self.clone();
+                later.make(thread, step);
+                if !later.always_lets_in() {
+                    return false;
+                }
+            }
+            !is_done || self.is_let_in
+        }
+    }
+
+    /// So many receivers stand at `g`, and make these steps each, beside an emission that makes those.
+    fn lets_in(emission: &[Step], receipt: &[Step], receivers: usize) -> bool {
+        let mut threads = vec![(emission, 0)];
+        threads.extend(vec![(receipt, 0); receivers]);
+        let run = Run {
+            passed: vec![false; threads.len()],
+            threads,
+            is_closed: false,
+            is_begun: false,
+            is_locked: false,
+            is_let_in: false,
+        };
+        run.always_lets_in()
+    }
+
+    #[test]
+    fn each_order_of_the_steps_lets_the_emission_in() {
+        for receivers in 1..=3 {
+            assert!(lets_in(EMISSION, RECEIPT, receivers));
+        }
+    }
+
+    #[test]
+    fn steps_in_another_order_forget_it() {
+        assert!(!lets_in(&[Lock, Look, CloseGate, Unlock], RECEIPT, 1));
+        assert!(!lets_in(
+            EMISSION,
+            &[LoadGate, MoveCursor, Lock, Look, Unlock],
+            1
+        ));
+        assert!(!lets_in(EMISSION, &[MoveCursor, LoadGate], 1));
     }
 }
