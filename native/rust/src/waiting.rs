@@ -57,6 +57,8 @@ pub struct Berth {
     number: u64,
     /// Whether it may be listed: who never sleeps takes no lock for it.
     is_listed: Cell<bool>,
+    /// Where it was listed last.
+    place: Cell<usize>,
 }
 
 impl Berth {
@@ -65,6 +67,7 @@ impl Berth {
             sleepers: Arc::clone(sleepers),
             number: sleepers.number(),
             is_listed: Cell::new(false),
+            place: Cell::new(0),
         }
     }
 
@@ -74,13 +77,14 @@ impl Berth {
 
     fn list(&self, sleeper: Sleeper) {
         self.is_listed.set(true);
-        self.sleepers.list(self.number, sleeper);
+        let place = self.sleepers.list(self.number, sleeper, self.place.get());
+        self.place.set(place);
     }
 
     /// Takes it off the list, where it may be there.
     pub(crate) fn strike(&self) {
         if self.is_listed.replace(false) {
-            self.sleepers.strike(self.number);
+            self.sleepers.strike(self.number, self.place.get());
         }
     }
 }

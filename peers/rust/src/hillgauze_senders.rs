@@ -7,11 +7,12 @@ use crate::churn::Churns;
 use crate::polled::Polled;
 use crate::talks::Talks;
 use crate::tasks::{Lags, Noted, Notes};
+use futures::task::noop_waker_ref;
 use hillgauze::{Config, Emission, Policy, Receiver, Sender, Slots, Storage, Words};
 use std::future::Future;
 use std::marker::PhantomData;
 use std::pin::Pin;
-use std::task::{Context, Waker};
+use std::task::{Context, Poll};
 
 /// How the values are kept.
 pub trait Kept: Storage<u64> + Sized + 'static {
@@ -96,7 +97,10 @@ impl<S: Kept> Blocked for Senders<S> {
     }
 
     fn sum_of(receiver: Receiver<u64, S>, count: u64) -> u64 {
-        receiver.into_iter().take(count as usize).fold(0, u64::wrapping_add)
+        receiver
+            .into_iter()
+            .take(count as usize)
+            .fold(0, u64::wrapping_add)
     }
 }
 
@@ -138,6 +142,10 @@ impl<S: Kept> Churns for Guests<S> {
     }
 }
 
+fn poll<F: Future + Unpin>(future: &mut F) -> Poll<F::Output> {
+    Pin::new(future).poll(&mut Context::from_waker(noop_waker_ref()))
+}
+
 /// Emissions that wait for one place, by futures that nobody wakes: who has one polls.
 pub struct Emissions<S: Kept> {
     // Before their sender, which they borrow.
@@ -161,9 +169,7 @@ impl<S: Kept> Queues for Emissions<S> {
 
     fn begin(&mut self, emitter: usize, value: u64) {
         let mut emission = self.sender.emit(value);
-        let is_done = Pin::new(&mut emission)
-            .poll(&mut Context::from_waker(Waker::noop()))
-            .is_ready();
+        let is_done = poll(&mut emission).is_ready();
         self.waiting[emitter] = (!is_done).then_some(emission);
     }
 
@@ -171,9 +177,7 @@ impl<S: Kept> Queues for Emissions<S> {
         let Some(mut emission) = self.waiting[emitter].take() else {
             return true;
         };
-        let is_done = Pin::new(&mut emission)
-            .poll(&mut Context::from_waker(Waker::noop()))
-            .is_ready();
+        let is_done = poll(&mut emission).is_ready();
         if !is_done {
             self.waiting[emitter] = Some(emission);
         }
