@@ -249,7 +249,7 @@ impl<T, S: Storage<T>> Flow<T, S> {
             Ok(Begun::Accepted(number)) => {
                 after.let_go(value);
                 self.accepted(emitting, number, after);
-                return First::Done(Outcome::Accepted(number));
+                First::Done(Outcome::Accepted(number))
             }
             Ok(Begun::Waiting(ticket)) => {
                 first.keep(value);
@@ -259,17 +259,18 @@ impl<T, S: Storage<T>> Flow<T, S> {
                     // It may be on its way.
                     after.accepted();
                 }
-                return First::Begun;
+                First::Begun
             }
-            Ok(Begun::Dropped) => {}
+            Ok(Begun::Dropped) => {
+                S::take_back(&self.slots, number, &mut value);
+                after.let_go(value);
+                First::Done(Outcome::Dropped)
+            }
             Err(_spent) => {
                 S::take_back(&self.slots, number, &mut value);
-                return First::Done(Outcome::Spent(value.expect("it came back")));
+                First::Done(Outcome::Spent(value.expect("it came back")))
             }
         }
-        S::take_back(&self.slots, number, &mut value);
-        after.let_go(value);
-        First::Done(Outcome::Dropped)
     }
 
     // Lets the first emission of the line in, where there is room by now, and says whether it is done.

@@ -3,7 +3,7 @@
 
 use crate::calls::{dropping, with_places};
 use crate::counted::{Count, Counted};
-use hillgauze::{Config, Emitted, Policy, Receiver, RecvTimeoutError, Sender, Storage};
+use hillgauze::{Config, Emitted, Policy, Receiver, RecvTimeoutError, Sender, Storage, Words};
 use std::future::{poll_fn, Future};
 use std::pin::pin;
 use std::sync::atomic::{AtomicBool, Ordering::SeqCst};
@@ -88,8 +88,11 @@ fn next<T, S: Storage<T>>(by: By, receiver: &mut Receiver<T, S>) -> Option<T> {
     }
 }
 
+/// The numbers that a receiver got, and how many were dropped for it.
+type Heard = (Vec<u64>, u64);
+
 /// All numbers that a receiver gets until the end.
-fn hearing(by: By, mut receiver: Receiver<Counted>) -> JoinHandle<(Vec<u64>, u64)> {
+fn hearing(by: By, mut receiver: Receiver<Counted>) -> JoinHandle<Heard> {
     thread::spawn(move || {
         let mut numbers = Vec::new();
         while let Some(value) = next(by, &mut receiver) {
@@ -101,7 +104,7 @@ fn hearing(by: By, mut receiver: Receiver<Counted>) -> JoinHandle<(Vec<u64>, u64
 
 /// Two senders emit a million values between them, and three receivers get them; what each emitter's accepted values
 /// were, and what each receiver got and lost.
-fn two_to_three(config: Config) -> (Vec<Vec<u64>>, Vec<(Vec<u64>, u64)>) {
+fn two_to_three(config: Config) -> (Vec<Vec<u64>>, Vec<Heard>) {
     let count = Count::default();
     let sender = Sender::new(config).unwrap();
     let heard: Vec<_> = WAYS
@@ -202,6 +205,18 @@ fn no_wake_up_is_lost_between_two() {
     }
 }
 
+/// Emits two thousand numbers that tell whose they are.
+fn emit_as(emitter: u64, sender: &Sender<u64, Words>) {
+    let by = if emitter % 2 == 0 {
+        By::Task
+    } else {
+        By::Thread
+    };
+    for value in 0..2_000 {
+        emit(by, sender, emitter << 32 | value);
+    }
+}
+
 /// Eight emitters wait for one place, or for none, most of the time, and two receivers make room; each way to wait.
 #[test]
 fn many_emitters_wait_for_room_and_none_is_forgotten() {
@@ -218,18 +233,9 @@ fn many_emitters_wait_for_room_and_none_is_forgotten() {
             })
         });
         let emitting: Vec<_> = (0..8)
-            .map(|emitter: u64| {
+            .map(|emitter| {
                 let sender = sender.clone();
-                thread::spawn(move || {
-                    let by = if emitter % 2 == 0 {
-                        By::Task
-                    } else {
-                        By::Thread
-                    };
-                    for value in 0..2_000 {
-                        emit(by, &sender, emitter << 32 | value);
-                    }
-                })
+                thread::spawn(move || emit_as(emitter, &sender))
             })
             .collect();
         drop(sender);
