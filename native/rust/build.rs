@@ -132,7 +132,7 @@ fn explain() {
         archive(&here().join("lib"), FLOWS).display()
     );
     warn("the library of the proved flows isn't there, so what calls them will end with a message");
-    warn("build it by `rt lib` in crates/hillgauze_c, which takes Rattle's toolchain and an hour of a processor at most");
+    warn("build it by `rt lib` in crates/hillgauze_c, which takes Rattle's toolchain and some ten processor minutes");
     warn(&format!(
         "or unpack what tools/pack_native made: into native/rust/lib, or where {FOLDER} names it"
     ));

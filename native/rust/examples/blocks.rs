@@ -49,7 +49,7 @@ fn main() -> Result<(), Box<dyn Error>> {
         let receiver = sender.subscribe()?;
         summing.push(thread::spawn(move || sum(receiver, sensor)));
     }
-    let readings: Vec<Reading> = (-5_000..5_001)
+    let readings: Vec<Reading> = (-2_000..8_000)
         .flat_map(|tenths| [0, 1].map(|sensor| Reading { sensor, tenths }))
         .collect();
     emit_all(&readings, &sender)?;
