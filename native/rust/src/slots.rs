@@ -2,11 +2,14 @@
 //! number, and says which slot has the value.
 //!
 //! # Why a receiver finds what its word tells of
-//! There are at least two slots more than a receiver has places, so a slot is filled again by an emission whose number is
-//! greater by at least `places + 2`. Where nothing is dropped for a receiver, the one before that emission was accepted
-//! first, and by then each receiver had received the value before its own and was done with it: so no value is replaced
-//! that somebody has still to take. Where the oldest are dropped, a receiver may take a word and be late for its slot. It
-//! finds another number there, or no value, and has lost the value, as if the policy had dropped it just before.
+//! There are at least two slots more than a receiver has places, of which a flow without any has one: its lane keeps one
+//! value. A slot is filled before its emission is tried, with the number that comes next. Then the number before was
+//! accepted, and for that each receiver had received what is `places` before it, and was done with all that is before that
+//! one: it takes a value out of its slot before it asks for the next. So the values that somebody may still be taking, and
+//! the one that is put, have at most `places + 2` numbers in a row, and each its own slot.
+//!
+//! Where the oldest are dropped, a receiver may take a word and be late for its slot. It finds another number there, or no
+//! value, and has lost the value, as if the policy had dropped it just before.
 //!
 //! # Why a value is dropped once
 //! It lies in an `Option` in one slot, and leaves it by being moved: to the last receiver that was to get it, to the
@@ -86,7 +89,7 @@ impl<T> SlotStore<T> {
 
     /// The slots of a flow with so many places.
     pub(crate) fn new(places: u64, replay: u64) -> SlotStore<T> {
-        let count = (places as usize + 2).next_power_of_two();
+        let count = (places.max(1) as usize + 2).next_power_of_two();
         let empty = || Slot {
             number: NONE,
             left: 0,

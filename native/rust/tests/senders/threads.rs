@@ -312,14 +312,20 @@ fn come_and_go(guest: u64, sender: &Sender<Counted>, is_over: &AtomicBool) -> u6
 /// isn't comes once, and none is forgotten.
 #[test]
 fn emissions_may_be_given_up_at_any_time() {
+    for (places, values) in [(1, 5_000), (0, 500), (2, 5_000)] {
+        give_up_some(places, values);
+    }
+}
+
+fn give_up_some(places: u64, values: u64) {
     let count = Count::default();
-    let sender = Sender::new(with_places(1)).unwrap();
+    let sender = Sender::new(with_places(places)).unwrap();
     let heard = hearing(By::Thread, sender.subscribe().unwrap());
     let emitting: Vec<_> = (0..4)
         .map(|emitter| {
             let (sender, count) = (sender.clone(), count.clone());
             thread::spawn(move || {
-                (0..5_000)
+                (0..values)
                     .map(|value| emitter << 32 | value)
                     .filter(|&number| emits_or_gives_up(number, &sender, count.value(number)))
                     .collect::<Vec<u64>>()
