@@ -219,8 +219,8 @@ static void blocks_there_and_back(uint64_t places) {
 
 /* ---- From a reader that is closed ---- */
 
-static struct parcel left[2];
-static char closed[2];
+static struct parcel left[3];
+static char closed[3];
 
 struct leaver {
     hillgauze_reader reader;
@@ -236,12 +236,12 @@ static void *leave(void *place) {
     return NULL;
 }
 
-/* The sequencer finds one reader gone by a count, and another by the place that it gives to the next. */
+/* The sequencer finds one reader gone by a count, another by the place that it gives to the next, and one by room. */
 static void closings(void) {
     hillgauze_sequencer sequencer = HILLGAUZE_NULL;
     hillgauze_config config = {.extra = 1, .subscribers = 1, .emits = 1};
-    struct leaver leavers[2] = {{HILLGAUZE_NULL, 0}, {HILLGAUZE_NULL, 1}};
-    pthread_t threads[2];
+    struct leaver leavers[3] = {{HILLGAUZE_NULL, 0}, {HILLGAUZE_NULL, 1}, {HILLGAUZE_NULL, 2}};
+    pthread_t threads[3];
     expect("lane_new", hillgauze_lane_new(&sequencer, &config), HILLGAUZE_DONE, 0);
     expect("lane_admit", hillgauze_lane_admit(&sequencer, &leavers[0].reader), HILLGAUZE_DONE, 0);
     threads[0] = start(leave, &leavers[0]);
@@ -260,9 +260,16 @@ static void closings(void) {
     AFTER(&closed[1]);
     expect_parcel("lane_admit", &left[1], 7);
 
-    pthread_join(threads[0], NULL);
-    pthread_join(threads[1], NULL);
-    expect("close", hillgauze_reader_close(&next), HILLGAUZE_DONE, 0);
+    leavers[2].reader = next;
+    expect("try_emit", hillgauze_lane_try_emit(&sequencer, 0, 1), HILLGAUZE_ACCEPTED, 0);
+    threads[2] = start(leave, &leavers[2]);
+    try_until_accepted(&sequencer, 1, 2);
+    AFTER(&closed[2]);
+    expect_parcel("try_emit", &left[2], 7);
+
+    for (int i = 0; i < 3; i++) {
+        pthread_join(threads[i], NULL);
+    }
     expect("free", hillgauze_lane_free(&sequencer), HILLGAUZE_DONE, 0);
 }
 

@@ -1,6 +1,6 @@
 /*
  * Hillgauze for C: shared flows and state flows whose every call is proved. docs/NATIVE.md says how to build and
- * link.
+ * link. No call here waits; hillgauze_wait.h has some that do, and isn't proved.
  *
  * A handle is a struct with one pointer, which this side never reads or writes. It is null, or has one object.
  * Begin with HILLGAUZE_NULL. A call that makes something puts it in a null handle; a call that ends something
@@ -15,9 +15,9 @@
  * 2. A handle was begun with HILLGAUZE_NULL, and since then only these functions wrote it. It may be moved to
  *    another place in memory: then the old place is no handle any more. It isn't copied.
  * 3. One call at a time on one handle. Any thread may make it, and each kind of handle may go from thread to
- *    thread; a lock, a thread's start or join, or a sequentially consistent atomic orders two calls on two threads.
- *    Handles of one lane, or of one state flow, may be used at once, each by its own thread: no call takes a lock,
- *    waits, or blocks another.
+ *    thread. Two calls on two threads are ordered by whatever makes one happen before the other: a lock, a thread's
+ *    start or join, a release and the acquire that reads it. Handles of one lane, or of one state flow, may be used at
+ *    once, each by its own thread: no call takes a lock, waits, or blocks another, but for malloc's.
  * 4. No call comes from a signal handler, or from the forked child of a process with threads.
  * 5. malloc, realloc and free come from one allocator, and align a block to each power of two up to 16 that divides
  *    its size. Only hillgauze_shared_new, hillgauze_lane_new, hillgauze_lane_admit, hillgauze_state_new and
@@ -36,6 +36,8 @@
  *   than the value's by at least `replay` and `extra` together, or by at least 1 where both are 0;
  * - the first is hillgauze_reader_close, and the second finds the reader's place free: hillgauze_lane_count, which
  *   doesn't count it any more, or hillgauze_lane_admit, which gives it to another reader;
+ * - the first is hillgauze_reader_close, and in the second, under another policy than DROP_OLDEST, an emission is
+ *   accepted that takes the place of a value which the reader had pending, by as much as above;
  * - the first changes the value of a state flow, by hillgauze_state_set or hillgauze_state_compare_and_set, and the
  *   second finds the value that it set, or one that was set after it: hillgauze_state_value,
  *   hillgauze_collector_try_next with a VALUE, or hillgauze_state_compare_and_set that is DONE;
@@ -58,6 +60,12 @@
 #ifdef __cplusplus
 extern "C" {
 #endif
+
+/* The version of the library and of this header. */
+#define HILLGAUZE_VERSION "0.1.0"
+#define HILLGAUZE_VERSION_MAJOR 0
+#define HILLGAUZE_VERSION_MINOR 1
+#define HILLGAUZE_VERSION_PATCH 0
 
 /* A shared flow on one thread at a time. */
 typedef struct hillgauze_shared {

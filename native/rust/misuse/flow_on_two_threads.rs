@@ -4,9 +4,9 @@ use std::thread;
 
 fn main() {}
 
-fn count_on_two_threads(flow: &SharedState<u64>) {
+fn count_on_two_threads(flow: &SharedState<u64>, only: SubId) {
     thread::scope(|scope| {
-        scope.spawn(|| flow.pending(SubId(0))); // here
+        scope.spawn(|| flow.pending(only)); // here
         flow.subscription_count()
     });
 }

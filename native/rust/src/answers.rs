@@ -1,14 +1,56 @@
 //! What the calls answer.
 
-/// The number of a subscription of a [`SharedState`](crate::SharedState), counted up from
-/// [`first`](crate::Config::first).
-#[derive(Clone, Copy, Debug, PartialEq, Eq, Hash)]
-pub struct SubId(pub u64);
+use std::sync::atomic::{AtomicU64, Ordering::Relaxed};
 
-/// The number of a ticket, which stands for an emission that wasn't finished at once. Counted up from
-/// [`first`](crate::Config::first).
+/// Which flow a ticket or a subscription is of. No two flows of a process have the same.
 #[derive(Clone, Copy, Debug, PartialEq, Eq, Hash)]
-pub struct Ticket(pub u64);
+pub(crate) struct FlowId(u64);
+
+impl FlowId {
+    /// The one of a new flow.
+    pub(crate) fn next() -> FlowId {
+        static NEXT: AtomicU64 = AtomicU64::new(0);
+        FlowId(NEXT.fetch_add(1, Relaxed))
+    }
+}
+
+macro_rules! numbers_of_a_flow {
+    ($($(#[$line:meta])* $name:ident;)*) => {$(
+        $(#[$line])*
+        #[derive(Clone, Copy, Debug, PartialEq, Eq, Hash)]
+        pub struct $name {
+            flow: FlowId,
+            number: u64,
+        }
+
+        impl $name {
+            pub(crate) fn new(flow: FlowId, number: u64) -> $name {
+                $name { flow, number }
+            }
+
+            /// Its number, counted up from [`first`](crate::Config::first). A number alone stands for nothing: only
+            /// what the flow gave is taken by it.
+            pub fn number(self) -> u64 {
+                self.number
+            }
+
+            /// Its number, where it is of this flow.
+            #[inline]
+            pub(crate) fn of(self, flow: FlowId) -> Option<u64> {
+                (self.flow == flow).then_some(self.number)
+            }
+        }
+    )*};
+}
+
+numbers_of_a_flow! {
+    /// A subscription of a [`SharedState`](crate::SharedState), as that one gave it. Another flow answers as if it
+    /// weren't live.
+    SubId;
+    /// A ticket, which stands for an emission that wasn't finished at once. For another flow than the one that gave it,
+    /// it isn't out.
+    Ticket;
+}
 
 /// The answer of a try.
 #[must_use]

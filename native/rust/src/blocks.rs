@@ -1,4 +1,4 @@
-//! Values on their way to the library and back, block by block: their words stand on the stack meanwhile.
+//! Values on their way to the library and back, block by block.
 
 use crate::refusal::Refusal;
 use crate::word::Word;
@@ -7,19 +7,11 @@ use std::mem::MaybeUninit;
 /// How many words a block has: as many as a reader takes at once.
 pub(crate) const BLOCK: usize = 64;
 
-/// Room for the words of a block. None is set before it is needed: that would cost as much as to pass on some values.
-pub(crate) struct Words([MaybeUninit<u64>; BLOCK]);
+/// The words of a block on their way to the library. None is set before it is needed: that would cost as much as to pass on
+/// some values.
+struct Block([MaybeUninit<u64>; BLOCK]);
 
-impl Words {
-    pub(crate) fn room() -> Words {
-        Words([MaybeUninit::uninit(); BLOCK])
-    }
-
-    /// Where the library puts words.
-    pub(crate) fn as_mut_ptr(&mut self) -> *mut u64 {
-        self.0.as_mut_ptr().cast()
-    }
-
+impl Block {
     /// Writes the words of these values, of which there are no more than a block has, and gives those.
     fn of<T: Word>(&mut self, values: &[T]) -> &[u64] {
         let words = &mut self.0[..values.len()];
@@ -30,16 +22,22 @@ impl Words {
         // SAFETY: each of these words was written just now, and such a word lies there as a u64 does.
         unsafe { &*(words as *const [u64]) }
     }
+}
 
-    /// Adds the values of so many words, from the first on.
-    ///
-    /// # Safety
-    /// The library has written these words.
-    pub(crate) unsafe fn add_to<T: Word>(&self, values: &mut Vec<T>, count: u64) {
-        let words = &self.0[..count as usize];
-        // SAFETY: as this function asks.
-        values.extend(words.iter().map(|word| T::from_word(unsafe { word.assume_init() })));
+/// Room for the words of a block on their way from the library, which asks for words that are set, and sets them again.
+/// It is made for the first block, and kept.
+#[derive(Default)]
+pub(crate) struct Room(Option<Box<[u64; BLOCK]>>);
+
+impl Room {
+    pub(crate) fn words(&mut self) -> &mut [u64; BLOCK] {
+        self.0.get_or_insert_with(|| Box::new([0; BLOCK]))
     }
+}
+
+/// Adds the values of these words.
+pub(crate) fn add_all<T: Word>(values: &mut Vec<T>, words: &[u64]) {
+    values.extend(words.iter().map(|&word| T::from_word(word)));
 }
 
 /// Emits the values block by block, up to the first that isn't accepted, and says how many were; `emit` does so for the
@@ -48,7 +46,7 @@ pub(crate) fn emit_all<T: Word>(
     values: &[T],
     mut emit: impl FnMut(&[u64]) -> Result<u64, Refusal>,
 ) -> Result<u64, Refusal> {
-    let mut block = Words::room();
+    let mut block = Block([MaybeUninit::uninit(); BLOCK]);
     let mut accepted = 0;
     let mut rest = values;
     loop {

@@ -1,5 +1,6 @@
 //! A seat that collects the values of a state flow.
 
+use crate::iterators::{Iter, TryIter};
 use crate::raw::{self, Handle};
 use crate::sleepers::{Emitter, Sleepers};
 use crate::state_seat::StateSeat;
@@ -72,6 +73,16 @@ impl<T: Word> Collector<T> {
     /// The next value, or the end as `None`; where there is neither, the task is woken when it is worth another look.
     pub fn poll_next(&mut self, context: &mut Context<'_>) -> Poll<Option<T>> {
         self.poll(context)
+    }
+
+    /// What is new now, value by value; it ends where nothing is, and then may go on later.
+    pub fn try_iter(&mut self) -> TryIter<'_, Collector<T>> {
+        TryIter::over(self)
+    }
+
+    /// The values as they come, each by [`recv`](Collector::recv), until nobody is left who could set.
+    pub fn iter(&mut self) -> Iter<'_, Collector<T>> {
+        Iter::over(self)
     }
 
     /// Ends the collecting, and gives the seat back: what Kotlin does where the coroutine that collects is cancelled.

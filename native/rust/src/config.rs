@@ -37,7 +37,7 @@ pub struct Config {
     pub replay: u64,
     /// How many values more than these a subscriber may have pending.
     pub extra: u64,
-    /// What a flow without room does with an emission. One that drops values wants a place.
+    /// What a flow without room does with an emission. One that drops values wants a place, by `replay` or by `extra`.
     pub policy: Policy,
     /// How many subscribers there may be at once: 1 to 1,024.
     pub subscribers: u32,
@@ -48,11 +48,14 @@ pub struct Config {
 }
 
 impl Default for Config {
-    /// No replay and no places as in Kotlin, with 8 subscribers and 8 tickets, counted from 0.
+    /// No replay, 64 places, 8 subscribers and 8 tickets, counted from 0; a flow without room lets emissions wait.
+    ///
+    /// Kotlin's `MutableSharedFlow()` has no places: that is `extra: 0`, where each emission waits until every subscriber
+    /// has its value, and a try is `Full` for as long as somebody is subscribed.
     fn default() -> Config {
         Config {
             replay: 0,
-            extra: 0,
+            extra: 64,
             policy: Policy::Suspend,
             subscribers: 8,
             emits: 8,

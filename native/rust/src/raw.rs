@@ -93,7 +93,35 @@ impl RawConfig {
     }
 }
 
-unsafe extern "C" {
+/// Declares the functions of the library. Where the library isn't there, as `build.rs` found, each is one that says so:
+/// then a program that calls it compiles and links, and ends with that.
+macro_rules! functions {
+    ($(pub(crate) fn $name:ident($($parameter:ident: $kind:ty),* $(,)?) -> Reply;)*) => {
+        #[cfg(not(hillgauze_absent))]
+        unsafe extern "C" {
+            $(pub(crate) fn $name($($parameter: $kind),*) -> Reply;)*
+        }
+
+        $(
+            #[cfg(hillgauze_absent)]
+            pub(crate) unsafe fn $name($($parameter: $kind),*) -> Reply {
+                let _unused = ($($parameter),*);
+                absent(stringify!($name))
+            }
+        )*
+    };
+}
+
+#[cfg(hillgauze_absent)]
+#[cold]
+fn absent(name: &str) -> Reply {
+    panic!(
+        "{name}: this program was built without the library of the proved flows, which `build.rs` of the crate \
+         hillgauze didn't find. Its README says how to build it, and where it is looked for."
+    )
+}
+
+functions! {
     pub(crate) fn hillgauze_shared_new(flow: *mut Shared, config: *const RawConfig) -> Reply;
     pub(crate) fn hillgauze_shared_try_emit(flow: *mut Shared, emitter: u32, value: u64) -> Reply;
     pub(crate) fn hillgauze_shared_try_emit_all(

@@ -1,10 +1,10 @@
 //! One subscriber's end of a lane.
 
 use crate::answers::{Closed, Taken};
-use crate::blocks::{Words, BLOCK};
-use crate::raw::{self, Handle};
+use crate::iterators::{IntoIter, Iter, TryIter};
+use crate::lane::Cursor;
 use crate::sleepers::Sleepers;
-use crate::waiting::{Berth, Receive, RecvTimeoutError};
+use crate::waiting::{Berth, Many, Receive, ReceiveMany, RecvTimeoutError};
 use crate::word::Word;
 use std::fmt;
 use std::marker::PhantomData;
@@ -18,7 +18,8 @@ use std::time::Duration;
 /// [`try_next`](Reader::try_next) and [`try_next_all`](Reader::try_next_all) are the library's own calls. What waits
 /// stands over them on Rust's side, and isn't proved: [`recv`](Reader::recv), [`recv_many`](Reader::recv_many) and
 /// [`recv_timeout`](Reader::recv_timeout) let the thread sleep, [`poll_next`](Reader::poll_next) and
-/// [`poll_recv_many`](Reader::poll_recv_many) let a task sleep. As an iterator it gives what is there now:
+/// [`poll_recv_many`](Reader::poll_recv_many) let a task sleep. A `for` loop waits for each value, and
+/// [`try_iter`](Reader::try_iter) gives what is there now:
 ///
 /// ```
 /// use hillgauze::{Config, Sequencer, Tried};
@@ -27,23 +28,23 @@ use std::time::Duration;
 /// for value in ['a', 'b', 'c'] {
 ///     assert!(matches!(sequencer.try_emit(0, value)?, Tried::Accepted(_)));
 /// }
-/// let reader = sequencer.admit()?;
-/// assert_eq!(reader.collect::<String>(), "bc");
+/// let mut reader = sequencer.admit()?;
+/// assert_eq!(reader.try_iter().collect::<String>(), "bc");
 /// # Ok::<(), hillgauze::Refusal>(())
 /// ```
 ///
 /// A reader that is dropped is closed: its place can be used again, and it holds nobody back.
 #[must_use = "a reader that is dropped is closed"]
 pub struct Reader<T: Word> {
-    handle: Handle<raw::Reader>,
+    cursor: Cursor,
     berth: Berth,
     values: PhantomData<T>,
 }
 
 impl<T: Word> Reader<T> {
-    pub(crate) fn over(handle: Handle<raw::Reader>, sleepers: &Arc<Sleepers>) -> Reader<T> {
+    pub(crate) fn over(cursor: Cursor, sleepers: &Arc<Sleepers>) -> Reader<T> {
         Reader {
-            handle,
+            cursor,
             berth: Berth::new(sleepers),
             values: PhantomData,
         }
@@ -51,8 +52,7 @@ impl<T: Word> Reader<T> {
 
     /// Takes the next value, without a lock.
     pub fn try_next(&mut self) -> Taken<T> {
-        // SAFETY: the handle is live, and no other call has it.
-        unsafe { raw::hillgauze_reader_try_next(self.handle.at()) }.taken()
+        self.cursor.try_next()
     }
 
     /// Takes the next values at once, without a lock, and adds them to `values`: as many as are there, `most` of them at
@@ -72,17 +72,7 @@ impl<T: Word> Reader<T> {
     /// # Ok::<(), hillgauze::Refusal>(())
     /// ```
     pub fn try_next_all(&mut self, values: &mut Vec<T>, most: usize) -> Taken<u64> {
-        let mut block = Words::room();
-        let words = block.as_mut_ptr();
-        let room = most.min(BLOCK);
-        // SAFETY: the handle is live, no other call has it, and there is room for `room` words.
-        let reply = unsafe { raw::hillgauze_reader_try_next_all(self.handle.at(), words, room) };
-        let taken = reply.taken_at_once();
-        if let Taken::Value(count) = taken {
-            // SAFETY: the library has put so many words there.
-            unsafe { block.add_to(values, count) };
-        }
-        taken
+        self.cursor.try_next_all(values, most)
     }
 
     /// The next value; waits until there is one, by a short spin and then a sleep of the thread. `None` once the
@@ -130,9 +120,7 @@ impl<T: Word> Reader<T> {
     /// # Ok::<(), hillgauze::Refusal>(())
     /// ```
     pub fn recv_many(&mut self, values: &mut Vec<T>, limit: usize) -> usize {
-        self.many(values, limit)
-            .and_then(|mut many| many.wait())
-            .unwrap_or(0)
+        Many::of(self, values, limit).map_or(0, |mut many| many.wait().unwrap_or(0))
     }
 
     /// The same where a task waits, as by [`poll_next`](Reader::poll_next).
@@ -155,19 +143,20 @@ impl<T: Word> Reader<T> {
         values: &mut Vec<T>,
         limit: usize,
     ) -> Poll<usize> {
-        match self.many(values, limit) {
+        match Many::of(self, values, limit) {
             Some(mut many) => many.poll(context).map(|count| count.unwrap_or(0)),
             None => Poll::Ready(0),
         }
     }
 
-    // It as one that receives several values at once, where some are asked for.
-    fn many<'a>(&'a mut self, values: &'a mut Vec<T>, limit: usize) -> Option<Many<'a, T>> {
-        (limit > 0).then_some(Many {
-            reader: self,
-            values,
-            limit,
-        })
+    /// What is there now, value by value; it ends where nothing is, and then may go on later.
+    pub fn try_iter(&mut self) -> TryIter<'_, Reader<T>> {
+        TryIter::over(self)
+    }
+
+    /// The values as they come, each by [`recv`](Reader::recv), until the end.
+    pub fn iter(&mut self) -> Iter<'_, Reader<T>> {
+        Iter::over(self)
     }
 
     /// The next value, or the end as `None`; where there is neither, the task is woken when it is worth another look.
@@ -190,20 +179,17 @@ impl<T: Word> Reader<T> {
 
     /// The number of the emission at which it began: that of the oldest value of the replay cache, as it was then.
     pub fn start(&self) -> u64 {
-        // SAFETY: the handle is live, and no other call has it.
-        unsafe { raw::hillgauze_reader_start(self.handle.at()) }.count()
+        self.cursor.start()
     }
 
     /// How many values it received.
     pub fn received(&self) -> u64 {
-        // SAFETY: the handle is live, and no other call has it.
-        unsafe { raw::hillgauze_reader_received(self.handle.at()) }.count()
+        self.cursor.received()
     }
 
     /// How many values were dropped for it, as far as it has seen.
     pub fn dropped(&self) -> u64 {
-        // SAFETY: the handle is live, and no other call has it.
-        unsafe { raw::hillgauze_reader_dropped(self.handle.at()) }.count()
+        self.cursor.dropped()
     }
 
     /// Closes it, and says what became of it: a drop with an answer.
@@ -234,44 +220,28 @@ impl<T: Word> Receive for Reader<T> {
     }
 }
 
-/// A reader that receives several values at once, and tells how many.
-struct Many<'a, T: Word> {
-    reader: &'a mut Reader<T>,
-    values: &'a mut Vec<T>,
-    limit: usize,
-}
-
-impl<T: Word> Receive for Many<'_, T> {
-    type Item = usize;
-
-    fn berth(&self) -> &Berth {
-        &self.reader.berth
-    }
-
-    fn receive(&mut self) -> Option<usize> {
-        let mut left = self.limit;
-        while left > 0 {
-            match self.reader.try_next_all(self.values, left) {
-                Taken::Value(count) => {
-                    left -= count as usize;
-                    if count < BLOCK as u64 {
-                        break;
-                    }
-                }
-                Taken::Nothing => break,
-                Taken::Overtaken => {}
-            }
-        }
-        (left < self.limit).then_some(self.limit - left)
+impl<T: Word> ReceiveMany for Reader<T> {
+    fn receive_many(&mut self, values: &mut Vec<T>, most: usize) -> Taken<u64> {
+        self.try_next_all(values, most)
     }
 }
 
-/// What is there now, value by value; each further call looks again.
-impl<T: Word> Iterator for Reader<T> {
+/// The values as they come, until the end. Each further one waits.
+impl<T: Word> IntoIterator for Reader<T> {
     type Item = T;
+    type IntoIter = IntoIter<Reader<T>>;
 
-    fn next(&mut self) -> Option<T> {
-        self.receive()
+    fn into_iter(self) -> IntoIter<Reader<T>> {
+        IntoIter::over(self)
+    }
+}
+
+impl<'a, T: Word> IntoIterator for &'a mut Reader<T> {
+    type Item = T;
+    type IntoIter = Iter<'a, Reader<T>>;
+
+    fn into_iter(self) -> Iter<'a, Reader<T>> {
+        self.iter()
     }
 }
 

@@ -9,7 +9,7 @@ use std::fmt;
 /// ```
 /// use hillgauze::{Config, Policy, Refusal, Sequencer};
 ///
-/// let config = Config { policy: Policy::DropOldest, ..Config::default() };
+/// let config = Config { extra: 0, policy: Policy::DropOldest, ..Config::default() };
 /// let refusal = Sequencer::<u64>::new(config).err();
 /// assert_eq!(refusal, Some(Refusal::PolicyNeedsBuffer));
 /// assert_eq!(Refusal::PolicyNeedsBuffer.number(), 2);

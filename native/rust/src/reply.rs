@@ -1,6 +1,6 @@
 //! What the library answers, and what that says in the words of this crate.
 
-use crate::answers::{Begun, Emit, Next, Taken, Ticket, Tried, Withdrawn};
+use crate::answers::{Begun, Emit, FlowId, Next, Taken, Ticket, Tried, Withdrawn};
 use crate::refusal::Refusal;
 use crate::word::Word;
 
@@ -118,11 +118,11 @@ impl Reply {
         }
     }
 
-    pub(crate) fn begun(self) -> Begun {
+    pub(crate) fn begun(self, flow: FlowId) -> Begun {
         match self.certain() {
             ACCEPTED => Begun::Accepted(self.word),
             DROPPED => Begun::Dropped,
-            WAITING => Begun::Waiting(Ticket(self.word)),
+            WAITING => Begun::Waiting(Ticket::new(flow, self.word)),
             _ => self.unforeseen(),
         }
     }

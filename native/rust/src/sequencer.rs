@@ -3,20 +3,21 @@
 use crate::answers::{Begun, Emit, Ticket, Tried, Withdrawn};
 use crate::blocks::emit_all;
 use crate::config::Config;
-use crate::raw::{self, Handle, RawConfig};
+use crate::lane::Lane;
 use crate::reader::Reader;
 use crate::refusal::Refusal;
-use crate::reply::Reply;
 use crate::sleepers::Emitter;
 use crate::word::Word;
 use std::fmt;
 use std::marker::PhantomData;
 
 /// The one party of a lane that emits, on one thread at a time: Kotlin's `MutableSharedFlow`, whose subscribers are
-/// [`Reader`]s on threads of their own. No call takes a lock on the way of a value, and none waits.
+/// [`Reader`]s on threads of their own. None of its calls waits for room. A call takes a lock only where a receiver sleeps:
+/// then it takes their list, and wakes each on its own thread, by wakers that may be code of others.
 ///
-/// Where several threads emit, put it under a lock of your own. When it is dropped nobody emits any more: readers take
-/// what was accepted, and then have ended.
+/// Where several threads emit, or an emission is to wait for room, a [`Sender`](crate::Sender) has what that takes. When
+/// the sequencer is dropped nobody emits any more, and what waits with a ticket is gone: readers take what was accepted,
+/// and then have ended.
 ///
 /// ```
 /// use hillgauze::{Config, Sequencer, Tried};
@@ -41,7 +42,7 @@ use std::marker::PhantomData;
 /// # Ok::<(), hillgauze::Refusal>(())
 /// ```
 pub struct Sequencer<T: Word> {
-    handle: Handle<raw::Sequencer>,
+    lane: Lane,
     emitter: Emitter,
     /// How many tickets are out. Where there is none nothing waits, so a call accepts its own emission or none.
     tickets: u32,
@@ -54,14 +55,8 @@ impl<T: Word> Sequencer<T> {
     ///
     /// Refused, in this order: `TooLarge`, `PolicyNeedsBuffer`, `BadLimit`, `NoMemory`.
     pub fn new(config: Config) -> Result<Sequencer<T>, Refusal> {
-        let handle = Handle::null();
-        let config = RawConfig::of(config);
-        // SAFETY: the handle is null, and both pointers are good for the call.
-        unsafe { raw::hillgauze_lane_new(handle.at(), &config) }
-            .granted()?
-            .done();
         Ok(Sequencer {
-            handle,
+            lane: Lane::new(config)?,
             emitter: Emitter::first(),
             tickets: 0,
             values: PhantomData,
@@ -73,12 +68,17 @@ impl<T: Word> Sequencer<T> {
     /// It first lets waiting emissions in, and what it let in stands whatever it answers. `Full` (under `Suspend`
     /// alone) where an emission waits still or some reader is too far behind, `Dropped` under `DropLatest` alone. Under
     /// `DropOldest` a reader that is too far behind loses its oldest value. Refused as `Spent` where the numbers are
-    /// used up. The emitter's number has no part in the answer.
+    /// used up.
+    ///
+    /// On a lane without places, where `replay` and `extra` are both 0, it is `Full` for as long as somebody reads,
+    /// however much is received, so a loop of tries never ends there: a value is handed over by
+    /// [`start_emit`](Sequencer::start_emit) alone. With places it stays `Full` until the slowest reader receives or is
+    /// closed.
+    ///
+    /// `emitter` is a number of your own for who emits, as the theorems tell emitters apart. It has no part in any answer,
+    /// and nobody receives it: 0 serves.
     pub fn try_emit(&mut self, emitter: u32, value: T) -> Result<Tried, Refusal> {
-        // SAFETY: the handle is live, and no other call has it.
-        let reply =
-            unsafe { raw::hillgauze_lane_try_emit(self.handle.at(), emitter, value.to_word()) };
-        let tried = reply.granted().map(Reply::tried);
+        let tried = self.lane.try_emit(emitter, value.to_word());
         if self.tickets > 0 || matches!(tried, Ok(Tried::Accepted(_))) {
             self.emitter.wake_all();
         }
@@ -108,12 +108,7 @@ impl<T: Word> Sequencer<T> {
     /// ```
     pub fn try_emit_all(&mut self, emitter: u32, values: &[T]) -> Result<u64, Refusal> {
         emit_all(values, |words| {
-            let (words, count) = (words.as_ptr(), words.len());
-            // SAFETY: the handle is live, no other call has it, and there are `count` words.
-            let reply = unsafe {
-                raw::hillgauze_lane_try_emit_all(self.handle.at(), emitter, words, count)
-            };
-            let accepted = reply.granted().map(Reply::count);
+            let accepted = self.lane.try_emit_all(emitter, words);
             // After each block: code of others, which makes words of the next one, may panic.
             if self.tickets > 0 || matches!(accepted, Ok(1..)) {
                 self.emitter.wake_all();
@@ -129,10 +124,7 @@ impl<T: Word> Sequencer<T> {
     /// `Spent` where the numbers of emissions or of tickets are used up, then as `EmitsFull` where it would need a
     /// ticket and all are out.
     pub fn start_emit(&mut self, emitter: u32, value: T) -> Result<Begun, Refusal> {
-        // SAFETY: the handle is live, and no other call has it.
-        let reply =
-            unsafe { raw::hillgauze_lane_start_emit(self.handle.at(), emitter, value.to_word()) };
-        let begun = reply.granted().map(Reply::begun);
+        let begun = self.lane.start_emit(emitter, value.to_word());
         if let Ok(Begun::Waiting(_)) = begun {
             self.tickets += 1;
         }
@@ -145,9 +137,7 @@ impl<T: Word> Sequencer<T> {
     /// Says whether an emission is done, and takes back the ticket of one that is: what Kotlin's `emit` waits for. It
     /// lets nothing in: [`scan`](Sequencer::scan) does.
     pub fn poll_emit(&mut self, ticket: Ticket) -> Emit {
-        // SAFETY: the handle is live, and no other call has it.
-        let reply = unsafe { raw::hillgauze_lane_poll_emit(self.handle.at(), ticket.0) };
-        let emit = reply.emit();
+        let emit = self.lane.poll_emit(ticket);
         if let Emit::Done(_) = emit {
             self.tickets -= 1;
         }
@@ -157,9 +147,7 @@ impl<T: Word> Sequencer<T> {
     /// Takes back a ticket: what cancelling the caller of Kotlin's `emit` does. An emission that waits is withdrawn and
     /// was never accepted; one that was accepted stays with the readers.
     pub fn cancel_emit(&mut self, ticket: Ticket) -> Withdrawn {
-        // SAFETY: the handle is live, and no other call has it.
-        let reply = unsafe { raw::hillgauze_lane_cancel_emit(self.handle.at(), ticket.0) };
-        let withdrawn = reply.withdrawn();
+        let withdrawn = self.lane.cancel_emit(ticket);
         if withdrawn != Withdrawn::Gone {
             self.tickets -= 1;
         }
@@ -168,8 +156,7 @@ impl<T: Word> Sequencer<T> {
 
     /// Accepts waiting emissions, the oldest first, while there is room, and answers how many.
     pub fn scan(&mut self) -> u32 {
-        // SAFETY: the handle is live, and no other call has it.
-        let settled = unsafe { raw::hillgauze_lane_scan(self.handle.at()) }.small_count();
+        let settled = self.lane.scan();
         if settled > 0 {
             self.emitter.wake_all();
         }
@@ -181,36 +168,27 @@ impl<T: Word> Sequencer<T> {
     ///
     /// Refused as `NoMemory`, as `Spent` where the numbers of readers are used up, then as `SubscribersFull`.
     pub fn admit(&mut self) -> Result<Reader<T>, Refusal> {
-        let reader = Handle::null();
-        // SAFETY: the sequencer's handle is live, the reader's is null, and no other call has them.
-        unsafe { raw::hillgauze_lane_admit(self.handle.at(), reader.at()) }
-            .granted()?
-            .done();
-        Ok(Reader::over(reader, self.emitter.sleepers()))
+        Ok(Reader::over(self.lane.admit()?, self.emitter.sleepers()))
     }
 
     /// How many readers there are, as this call finds them: Kotlin's `subscriptionCount`, as a plain number.
     pub fn live(&self) -> u32 {
-        // SAFETY: the handle is live, and no other call has it.
-        unsafe { raw::hillgauze_lane_count(self.handle.at()) }.small_count()
+        self.lane.live()
     }
 
     /// Empties the replay cache: Kotlin's `resetReplayCache`. Readers keep what they have pending.
     pub fn reset_replay(&mut self) {
-        // SAFETY: the handle is live, and no other call has it.
-        unsafe { raw::hillgauze_lane_reset(self.handle.at()) }.done();
+        self.lane.reset_replay();
     }
 
     /// How many values the replay cache holds.
     pub fn replay_len(&self) -> u64 {
-        // SAFETY: the handle is live, and no other call has it.
-        unsafe { raw::hillgauze_lane_cache_len(self.handle.at()) }.count()
+        self.lane.replay_len()
     }
 
     /// The value of the replay cache at an index, counted from the oldest on: one of Kotlin's `replayCache`.
     pub fn replay_at(&self, index: u64) -> Option<T> {
-        // SAFETY: the handle is live, and no other call has it.
-        unsafe { raw::hillgauze_lane_cache_at(self.handle.at(), index) }.value()
+        self.lane.replay_at(index)
     }
 }
 

@@ -1,7 +1,7 @@
 //! A shared flow on one thread.
 
-use crate::answers::{Begun, Emit, Next, SubId, Ticket, Tried, Withdrawn};
-use crate::blocks::{emit_all, Words, BLOCK};
+use crate::answers::{Begun, Emit, FlowId, Next, SubId, Ticket, Tried, Withdrawn};
+use crate::blocks::{add_all, emit_all, Room, BLOCK};
 use crate::config::Config;
 use crate::raw::{self, Handle, RawConfig};
 use crate::refusal::Refusal;
@@ -35,6 +35,8 @@ const PRELUDE: usize = 17;
 /// ```
 pub struct SharedState<T: Word> {
     handle: Handle<raw::Shared>,
+    flow: FlowId,
+    room: Room,
     values: PhantomData<T>,
 }
 
@@ -51,15 +53,23 @@ impl<T: Word> SharedState<T> {
             .done();
         Ok(SharedState {
             handle,
+            flow: FlowId::next(),
+            room: Room::default(),
             values: PhantomData,
         })
     }
 
     /// Emits a value where that can be done at once: Kotlin's `tryEmit`, with three answers.
     ///
-    /// `Full` (under `Suspend` alone) where the emission would have to wait, and wherever somebody is live in a flow
-    /// without places; `Dropped` under `DropLatest` alone. Refused as `Spent` where the numbers are used up. The
-    /// emitter's number has no part in the answer.
+    /// `Full` (under `Suspend` alone) where the emission would have to wait; `Dropped` under `DropLatest` alone. Refused
+    /// as `Spent` where the numbers are used up.
+    ///
+    /// In a flow without places, where `replay` and `extra` are both 0, it is `Full` for as long as somebody is
+    /// subscribed, however much is received: there a value is handed over by [`start_emit`](SharedState::start_emit)
+    /// alone. With places it stays `Full` until the slowest subscription receives or ends.
+    ///
+    /// `emitter` is a number of your own for who emits, as the theorems tell emitters apart. It has no part in any answer,
+    /// and nobody receives it: 0 serves.
     pub fn try_emit(&mut self, emitter: u32, value: T) -> Result<Tried, Refusal> {
         // SAFETY: the handle is live, and no other call has it.
         let reply =
@@ -106,19 +116,25 @@ impl<T: Word> SharedState<T> {
         // SAFETY: the handle is live, and no other call has it.
         let reply =
             unsafe { raw::hillgauze_shared_start_emit(self.handle.at(), emitter, value.to_word()) };
-        Ok(reply.granted()?.begun())
+        Ok(reply.granted()?.begun(self.flow))
     }
 
     /// Asks whether an emission is finished: Kotlin's `emit`, where it resumes. `Done` takes the ticket back.
     pub fn poll_emit(&mut self, ticket: Ticket) -> Emit {
+        let Some(ticket) = ticket.of(self.flow) else {
+            return Emit::Gone;
+        };
         // SAFETY: the handle is live, and no other call has it.
-        unsafe { raw::hillgauze_shared_poll_emit(self.handle.at(), ticket.0) }.emit()
+        unsafe { raw::hillgauze_shared_poll_emit(self.handle.at(), ticket) }.emit()
     }
 
     /// Gives an emission up and takes its ticket back: Kotlin's `emit`, cancelled while it is suspended.
     pub fn cancel_emit(&mut self, ticket: Ticket) -> Withdrawn {
+        let Some(ticket) = ticket.of(self.flow) else {
+            return Withdrawn::Gone;
+        };
         // SAFETY: the handle is live, and no other call has it.
-        unsafe { raw::hillgauze_shared_cancel_emit(self.handle.at(), ticket.0) }.withdrawn()
+        unsafe { raw::hillgauze_shared_cancel_emit(self.handle.at(), ticket) }.withdrawn()
     }
 
     /// A new subscription, which begins at the oldest value of the replay cache: Kotlin's `collect`, as it begins.
@@ -127,7 +143,7 @@ impl<T: Word> SharedState<T> {
     pub fn subscribe(&mut self) -> Result<SubId, Refusal> {
         // SAFETY: the handle is live, and no other call has it.
         let reply = unsafe { raw::hillgauze_shared_subscribe(self.handle.at()) };
-        Ok(SubId(reply.granted()?.made()))
+        Ok(SubId::new(self.flow, reply.granted()?.made()))
     }
 
     /// A new subscription, which receives these values before all others, and alone: Kotlin's `onSubscription`.
@@ -143,14 +159,17 @@ impl<T: Word> SharedState<T> {
         let reply = unsafe {
             raw::hillgauze_shared_subscribe_with(self.handle.at(), words.as_ptr(), count)
         };
-        Ok(SubId(reply.granted()?.made()))
+        Ok(SubId::new(self.flow, reply.granted()?.made()))
     }
 
     /// Receives the oldest value that the subscription has pending: Kotlin's `collect`, for one value. After it
     /// emissions that wait are accepted while there is room.
     pub fn next(&mut self, subscription: SubId) -> Next<T> {
+        let Some(subscription) = subscription.of(self.flow) else {
+            return Next::Closed;
+        };
         // SAFETY: the handle is live, and no other call has it.
-        unsafe { raw::hillgauze_shared_next(self.handle.at(), subscription.0) }.next()
+        unsafe { raw::hillgauze_shared_next(self.handle.at(), subscription) }.next()
     }
 
     /// Receives the oldest values that the subscription has pending, one after another, `most` of them at most, and adds
@@ -164,19 +183,24 @@ impl<T: Word> SharedState<T> {
         values: &mut Vec<T>,
         most: usize,
     ) -> Next<u64> {
-        let mut block = Words::room();
+        let Some(subscription) = subscription.of(self.flow) else {
+            return if most == 0 {
+                Next::Value(0)
+            } else {
+                Next::Closed
+            };
+        };
+        let block = self.room.words();
         let mut left = most;
         loop {
-            let room = left.min(BLOCK);
-            let words = block.as_mut_ptr();
-            // SAFETY: the handle is live, no other call has it, and there is room for `room` words.
+            let (words, room) = (block.as_mut_ptr(), left.min(BLOCK));
+            // SAFETY: the handle is live, no other call has it, and there are at least `room` words, all of them set.
             let reply = unsafe {
-                raw::hillgauze_shared_try_next_all(self.handle.at(), subscription.0, words, room)
+                raw::hillgauze_shared_try_next_all(self.handle.at(), subscription, words, room)
             };
             match reply.received() {
                 Next::Value(count) => {
-                    // SAFETY: the library has put so many words there.
-                    unsafe { block.add_to(values, count) };
+                    add_all(values, &block[..count as usize]);
                     left -= count as usize;
                     if left == 0 || count < room as u64 {
                         return Next::Value((most - left) as u64);
@@ -191,14 +215,20 @@ impl<T: Word> SharedState<T> {
     /// Ends a subscription and gives up what it has pending: Kotlin's `collect`, cancelled. Answers whether it was
     /// live.
     pub fn cancel(&mut self, subscription: SubId) -> bool {
+        let Some(subscription) = subscription.of(self.flow) else {
+            return false;
+        };
         // SAFETY: the handle is live, and no other call has it.
-        unsafe { raw::hillgauze_shared_cancel(self.handle.at(), subscription.0) }.was_live()
+        unsafe { raw::hillgauze_shared_cancel(self.handle.at(), subscription) }.was_live()
     }
 
     /// How many values the subscription has pending; 0 where it isn't live.
     pub fn pending(&self, subscription: SubId) -> u64 {
+        let Some(subscription) = subscription.of(self.flow) else {
+            return 0;
+        };
         // SAFETY: the handle is live, and no other call has it.
-        unsafe { raw::hillgauze_shared_pending(self.handle.at(), subscription.0) }.count()
+        unsafe { raw::hillgauze_shared_pending(self.handle.at(), subscription) }.count()
     }
 
     /// How many subscriptions are live: Kotlin's `subscriptionCount`, as a plain number.

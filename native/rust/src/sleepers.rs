@@ -21,7 +21,6 @@
 //!
 //! [`wake_all`]: Sleepers::wake_all
 
-use std::collections::btree_map::{BTreeMap, IntoValues};
 use std::mem;
 use std::sync::atomic::{AtomicU64, AtomicUsize, Ordering::SeqCst};
 use std::sync::{Arc, Mutex, MutexGuard, PoisonError};
@@ -29,7 +28,7 @@ use std::task::Waker;
 use std::thread::Thread;
 
 /// One that sleeps.
-pub(crate) enum Sleeper {
+pub enum Sleeper {
     /// A task, which is polled again.
     Task(Waker),
     /// A thread, which parked itself.
@@ -46,27 +45,95 @@ impl Sleeper {
 }
 
 /// Those who are to be woken. Where a waker of others panics, the rest are woken all the same.
-struct Woken(IntoValues<u64, Sleeper>);
+pub(crate) struct Woken<I: Iterator<Item = Sleeper>>(I);
 
-impl Woken {
-    fn wake(&mut self) {
+impl<I: Iterator<Item = Sleeper>> Woken<I> {
+    pub(crate) fn of(sleepers: impl IntoIterator<IntoIter = I>) -> Woken<I> {
+        Woken(sleepers.into_iter())
+    }
+
+    pub(crate) fn wake(&mut self) {
         for sleeper in self.0.by_ref() {
             sleeper.wake();
         }
     }
 }
 
-impl Drop for Woken {
+impl<I: Iterator<Item = Sleeper>> Drop for Woken<I> {
     fn drop(&mut self) {
         self.wake();
+    }
+}
+
+/// Those who sleep, each with the number of its receiver, which is listed once at most: at the place where it was put, as
+/// long as it stays listed. Who was struck off leaves its place empty.
+#[derive(Default)]
+struct List {
+    places: Vec<Option<(u64, Sleeper)>>,
+    /// How many places aren't empty.
+    count: usize,
+    /// Memory for the next list, once this one is taken.
+    spare: Vec<Option<(u64, Sleeper)>>,
+}
+
+impl List {
+    /// Whether this receiver is at that place.
+    fn has(&self, number: u64, place: usize) -> bool {
+        matches!(self.places.get(place), Some(Some((other, _))) if *other == number)
+    }
+
+    /// Lists a receiver, at the place where it was last, if it is there or that is empty. Gives its place, and what it was
+    /// listed with before.
+    fn put(&mut self, number: u64, sleeper: Sleeper, place: usize) -> (usize, Option<Sleeper>) {
+        let entry = Some((number, sleeper));
+        if self.has(number, place) {
+            let before = mem::replace(&mut self.places[place], entry);
+            return (place, before.map(|(_, sleeper)| sleeper));
+        }
+        self.count += 1;
+        let place = self.empty_place(place);
+        match self.places.get_mut(place) {
+            Some(empty) => *empty = entry,
+            None => self.places.push(entry),
+        }
+        (place, None)
+    }
+
+    /// An empty place: that one, or the one after the last. Where most are empty, one of those is looked for.
+    fn empty_place(&self, place: usize) -> usize {
+        if matches!(self.places.get(place), Some(None)) {
+            return place;
+        }
+        if self.places.len() < 2 * self.count + 8 {
+            return self.places.len();
+        }
+        let empty = self.places.iter().position(Option::is_none);
+        empty.unwrap_or(self.places.len())
+    }
+
+    /// Takes a receiver off the list, if it is there.
+    fn take(&mut self, number: u64, place: usize) -> Option<Sleeper> {
+        if !self.has(number, place) {
+            return None;
+        }
+        self.count -= 1;
+        let (_, sleeper) = self.places[place].take()?;
+        while let Some(None) = self.places.last() {
+            self.places.pop();
+        }
+        Some(sleeper)
+    }
+
+    fn take_all(&mut self) -> Vec<Option<(u64, Sleeper)>> {
+        self.count = 0;
+        mem::replace(&mut self.places, mem::take(&mut self.spare))
     }
 }
 
 /// The sleepers of one flow, shared by all who emit and all who receive.
 #[derive(Default)]
 pub(crate) struct Sleepers {
-    /// By the number of the receiver, which is listed once at most.
-    listed: Mutex<BTreeMap<u64, Sleeper>>,
+    listed: Mutex<List>,
     /// How many are listed. Stored under the lock, loaded without it.
     count: AtomicUsize,
     /// The number of the next receiver.
@@ -82,32 +149,34 @@ impl Sleepers {
     }
 
     // No code of others runs under the lock, so a panic leaves the list whole.
-    fn lock(&self) -> MutexGuard<'_, BTreeMap<u64, Sleeper>> {
+    fn lock(&self) -> MutexGuard<'_, List> {
         self.listed.lock().unwrap_or_else(PoisonError::into_inner)
     }
 
-    /// Lists a receiver as sleeping, in place of what it was listed with before.
-    pub(crate) fn list(&self, number: u64, sleeper: Sleeper) {
+    /// Lists a receiver as sleeping, in place of what it was listed with before. It tells the place where it was last, and
+    /// gets the one where it is.
+    pub(crate) fn list(&self, number: u64, sleeper: Sleeper, place: usize) -> usize {
         let mut listed = self.lock();
-        let before = listed.insert(number, sleeper);
-        self.count.store(listed.len(), SeqCst);
+        let (place, before) = listed.put(number, sleeper, place);
+        self.count.store(listed.count, SeqCst);
         // A waker that is let go may run code of others, so after the lock.
         drop(listed);
         drop(before);
+        place
     }
 
     /// Takes a receiver off the list.
-    pub(crate) fn strike(&self, number: u64) {
+    pub(crate) fn strike(&self, number: u64, place: usize) {
         let mut listed = self.lock();
-        let before = listed.remove(&number);
-        self.count.store(listed.len(), SeqCst);
+        let before = listed.take(number, place);
+        self.count.store(listed.count, SeqCst);
         drop(listed);
         drop(before);
     }
 
     /// Wakes all who sleep. One load where nobody does.
     #[inline]
-    fn wake_all(&self) {
+    pub(crate) fn wake_all(&self) {
         if self.count.load(SeqCst) != 0 {
             self.wake_listed();
         }
@@ -116,10 +185,14 @@ impl Sleepers {
     #[cold]
     fn wake_listed(&self) {
         let mut listed = self.lock();
-        let woken = mem::take(&mut *listed);
+        let mut woken = listed.take_all();
         self.count.store(0, SeqCst);
         drop(listed);
-        Woken(woken.into_values()).wake();
+        Woken::of(woken.drain(..).flatten().map(|(_, sleeper)| sleeper)).wake();
+        let mut listed = self.lock();
+        let spare = mem::replace(&mut listed.spare, woken);
+        drop(listed);
+        drop(spare);
     }
 
     /// Whether nobody is left who may emit.
@@ -195,14 +268,48 @@ mod tests {
         });
         for waker in &wakers {
             let sleepers = emitter.sleepers();
-            sleepers.list(
-                sleepers.number(),
-                Sleeper::Task(Waker::from(Arc::clone(waker))),
-            );
+            let sleeper = Sleeper::Task(Waker::from(Arc::clone(waker)));
+            sleepers.list(sleepers.number(), sleeper, 0);
         }
         assert!(catch_unwind(AssertUnwindSafe(|| emitter.wake_all())).is_err());
         assert!(wakers.iter().all(|waker| waker.count.load(SeqCst) == 1));
         emitter.wake_all();
         assert!(wakers.iter().all(|waker| waker.count.load(SeqCst) == 1));
+    }
+
+    /// Who is listed is woken once, and who was struck off isn't, however many come and go. Places are used again.
+    #[test]
+    fn who_is_struck_off_is_not_woken_and_its_place_is_used_again() {
+        let emitter = Emitter::first();
+        let sleepers = emitter.sleepers();
+        let counting = || {
+            Arc::new(Counting {
+                count: AtomicUsize::new(0),
+                panics: false,
+            })
+        };
+        let task = |waker: &Arc<Counting>| Sleeper::Task(Waker::from(Arc::clone(waker)));
+        let (stays, goes) = (counting(), counting());
+        let numbers: Vec<u64> = (0..40).map(|_| sleepers.number()).collect();
+        let mut places = vec![0; 40];
+        for round in 0..100 {
+            for (index, &number) in numbers.iter().enumerate() {
+                let waker = if index == 39 { &stays } else { &goes };
+                places[index] = sleepers.list(number, task(waker), places[index]);
+                if index % 3 == round % 3 {
+                    places[index] = sleepers.list(number, task(waker), places[index]);
+                }
+            }
+            for index in (0..39).filter(|index| index % 2 == round % 2).chain(0..39) {
+                sleepers.strike(numbers[index], places[index]);
+            }
+            assert_eq!(sleepers.count.load(SeqCst), 1);
+            if round % 10 == 9 {
+                emitter.wake_all();
+                assert_eq!(stays.count.load(SeqCst), round / 10 + 1);
+            }
+        }
+        assert_eq!(goes.count.load(SeqCst), 0);
+        assert!(sleepers.lock().places.len() <= 90);
     }
 }

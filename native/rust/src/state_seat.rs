@@ -10,8 +10,9 @@ use std::marker::PhantomData;
 use std::sync::Arc;
 
 /// A seat at a state flow, from which one thread at a time reads and sets the value: Kotlin's `MutableStateFlow`.
-/// Another thread gets a seat of its own by [`take_seat`](StateSeat::take_seat). No call takes a lock on the way of a
-/// value, or waits.
+/// Another thread gets a seat of its own by [`take_seat`](StateSeat::take_seat). No call waits. One that sets takes a lock
+/// only where a collector sleeps: then it takes their list, and wakes each on its own thread, by wakers that may be code
+/// of others.
 ///
 /// A state flow always has a value, and setting an equal one does nothing. A seat that is dropped takes with it what
 /// could be taken of it; the flow is freed with the last of its seats.
@@ -82,6 +83,27 @@ impl<T: Word> StateSeat<T> {
             self.emitter.wake_all();
         }
         was_equal
+    }
+
+    /// Sets the value to what `next` makes of it, and gives the one before and the one after: Kotlin's `update`, and both
+    /// `getAndUpdate` and `updateAndGet`. Where another seat sets the value meanwhile, `next` is asked again of that one.
+    ///
+    /// ```
+    /// use hillgauze::StateSeat;
+    ///
+    /// let mut seat = StateSeat::new(20u64, 1)?;
+    /// assert_eq!(seat.update(|value| value + 1), (20, 21));
+    /// assert_eq!(seat.value(), 21);
+    /// # Ok::<(), hillgauze::Refusal>(())
+    /// ```
+    pub fn update(&mut self, mut next: impl FnMut(T) -> T) -> (T, T) {
+        loop {
+            let before = self.value();
+            let after = next(before);
+            if self.compare_and_set(before, after) {
+                return (before, after);
+            }
+        }
     }
 
     /// How many collectors there are, as this call finds them: Kotlin's `subscriptionCount.value`.

@@ -1,6 +1,9 @@
 //! How a receiver waits for its next value: a short spin, then a sleep. Outside the proof, as the sleepers are.
 
+use crate::answers::Taken;
+use crate::blocks::BLOCK;
 use crate::sleepers::{Sleeper, Sleepers};
+use std::cell::Cell;
 use std::error::Error;
 use std::fmt;
 use std::hint;
@@ -33,7 +36,7 @@ impl fmt::Display for RecvTimeoutError {
 impl Error for RecvTimeoutError {}
 
 /// What a look found.
-pub(crate) enum Found<T> {
+pub enum Found<T> {
     Value(T),
     Nothing,
     Ended,
@@ -49,9 +52,13 @@ impl<T> Found<T> {
 }
 
 /// A receiver's place among the sleepers of its flow.
-pub(crate) struct Berth {
+pub struct Berth {
     sleepers: Arc<Sleepers>,
     number: u64,
+    /// Whether it may be listed: who never sleeps takes no lock for it.
+    is_listed: Cell<bool>,
+    /// Where it was listed last.
+    place: Cell<usize>,
 }
 
 impl Berth {
@@ -59,6 +66,8 @@ impl Berth {
         Berth {
             sleepers: Arc::clone(sleepers),
             number: sleepers.number(),
+            is_listed: Cell::new(false),
+            place: Cell::new(0),
         }
     }
 
@@ -67,11 +76,16 @@ impl Berth {
     }
 
     fn list(&self, sleeper: Sleeper) {
-        self.sleepers.list(self.number, sleeper);
+        self.is_listed.set(true);
+        let place = self.sleepers.list(self.number, sleeper, self.place.get());
+        self.place.set(place);
     }
 
-    fn strike(&self) {
-        self.sleepers.strike(self.number);
+    /// Takes it off the list, where it may be there.
+    pub(crate) fn strike(&self) {
+        if self.is_listed.replace(false) {
+            self.sleepers.strike(self.number, self.place.get());
+        }
     }
 }
 
@@ -82,7 +96,7 @@ impl Drop for Berth {
 }
 
 /// One that receives values of a flow, and can wait for the next one.
-pub(crate) trait Receive {
+pub trait Receive {
     type Item;
 
     fn berth(&self) -> &Berth;
@@ -157,8 +171,61 @@ pub(crate) trait Receive {
     }
 }
 
+/// One that can receive several values at once.
+pub trait ReceiveMany: Receive {
+    /// Adds the next values, as many as are there, `most` of them and a block at most.
+    fn receive_many(&mut self, values: &mut Vec<Self::Item>, most: usize) -> Taken<u64>;
+}
+
+/// One that receives several values at once, and tells how many.
+pub(crate) struct Many<'a, R: ReceiveMany> {
+    receiver: &'a mut R,
+    values: &'a mut Vec<R::Item>,
+    limit: usize,
+}
+
+impl<'a, R: ReceiveMany> Many<'a, R> {
+    /// Where some are asked for.
+    pub(crate) fn of(
+        receiver: &'a mut R,
+        values: &'a mut Vec<R::Item>,
+        limit: usize,
+    ) -> Option<Many<'a, R>> {
+        (limit > 0).then_some(Many {
+            receiver,
+            values,
+            limit,
+        })
+    }
+}
+
+impl<R: ReceiveMany> Receive for Many<'_, R> {
+    type Item = usize;
+
+    fn berth(&self) -> &Berth {
+        self.receiver.berth()
+    }
+
+    fn receive(&mut self) -> Option<usize> {
+        let mut left = self.limit;
+        while left > 0 {
+            match self.receiver.receive_many(self.values, left) {
+                Taken::Value(count) => {
+                    left -= count as usize;
+                    if count < BLOCK as u64 {
+                        break;
+                    }
+                }
+                Taken::Nothing => break,
+                Taken::Overtaken => {}
+            }
+        }
+        (left < self.limit).then_some(self.limit - left)
+    }
+}
+
 /// Parks the thread until it is woken, or until a moment. False where that moment has come.
-fn sleep_until(end: Option<Instant>) -> bool {
+pub(crate) fn sleep_until(end: Option<Instant>) -> bool {
     let Some(end) = end else {
         thread::park();
         return true;

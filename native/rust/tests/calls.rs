@@ -2,7 +2,7 @@
 
 use hillgauze::{
     Begun, Closed, Config, Emit, Next, Policy, Reader, Refusal, Sequencer, SharedState, StateSeat,
-    SubId, Taken, Ticket, Tried, Withdrawn,
+    Taken, Ticket, Tried, Withdrawn,
 };
 
 const LIMIT: u64 = 1 << 62;
@@ -17,6 +17,14 @@ fn one_subscriber(extra: u64, emits: u32, first: u64) -> Config {
     }
 }
 
+/// The ticket of an emission that waits, which has this number.
+fn waiting(begun: Result<Begun, Refusal>, number: u64) -> Ticket {
+    match begun {
+        Ok(Begun::Waiting(ticket)) if ticket.number() == number => ticket,
+        other => panic!("{other:?}, and not a ticket {number}"),
+    }
+}
+
 #[test]
 fn numbers_spent() {
     let config = Config {
@@ -24,12 +32,13 @@ fn numbers_spent() {
         ..one_subscriber(2, 2, LIMIT - 1)
     };
     let mut flow = SharedState::new(config).unwrap();
-    assert_eq!(flow.subscribe(), Ok(SubId(LIMIT - 1)));
+    let only = flow.subscribe().unwrap();
+    assert_eq!(only.number(), LIMIT - 1);
     assert_eq!(flow.subscribe(), Err(Refusal::Spent));
     assert_eq!(flow.try_emit(0, 7u64), Ok(Tried::Accepted(LIMIT - 1)));
     assert_eq!(flow.try_emit(0, 8), Err(Refusal::Spent));
-    assert_eq!(flow.next(SubId(LIMIT - 1)), Next::Value(7));
-    assert_eq!(flow.next(SubId(LIMIT - 1)), Next::Nothing);
+    assert_eq!(flow.next(only), Next::Value(7));
+    assert_eq!(flow.next(only), Next::Nothing);
 
     let mut spent = SharedState::new(Config {
         first: LIMIT,
@@ -48,8 +57,7 @@ fn numbers_spent() {
 fn spent_before_full() {
     let mut flow = SharedState::new(one_subscriber(0, 1, LIMIT - 1)).unwrap();
     let only = flow.subscribe().unwrap();
-    let ticket = Ticket(LIMIT - 1);
-    assert_eq!(flow.start_emit(0, 7u64), Ok(Begun::Waiting(ticket)));
+    let ticket = waiting(flow.start_emit(0, 7u64), LIMIT - 1);
     assert_eq!(flow.start_emit(0, 8), Err(Refusal::Spent));
     assert_eq!(flow.next(only), Next::Value(7));
     assert_eq!(flow.poll_emit(ticket), Emit::Done(LIMIT - 1));
@@ -64,8 +72,8 @@ fn withdrawn_tickets_stay_spent() {
     let mut flow = SharedState::new(one_subscriber(1, 2, LIMIT - 2)).unwrap();
     flow.subscribe().unwrap();
     assert_eq!(flow.try_emit(0, 1u64), Ok(Tried::Accepted(LIMIT - 2)));
-    for ticket in [LIMIT - 2, LIMIT - 1].map(Ticket) {
-        assert_eq!(flow.start_emit(0, 2), Ok(Begun::Waiting(ticket)));
+    for number in [LIMIT - 2, LIMIT - 1] {
+        let ticket = waiting(flow.start_emit(0, 2), number);
         assert_eq!(flow.cancel_emit(ticket), Withdrawn::Removed);
     }
     assert_eq!(flow.start_emit(0, 4), Err(Refusal::Spent));
@@ -196,10 +204,10 @@ fn lane_suspends() {
     assert_eq!(tried, [Tried::Accepted(0), Tried::Accepted(1), Tried::Full]);
     assert_eq!(reader.try_next(), Taken::Value(7));
     assert_eq!(sequencer.start_emit(5, 9), Ok(Begun::Accepted(2)));
-    assert_eq!(sequencer.start_emit(5, 10), Ok(Begun::Waiting(Ticket(0))));
+    let ticket = waiting(sequencer.start_emit(5, 10), 0);
     assert_eq!(reader.try_next(), Taken::Value(8));
     assert_eq!(sequencer.scan(), 1);
-    assert_eq!(sequencer.poll_emit(Ticket(0)), Emit::Done(3));
+    assert_eq!(sequencer.poll_emit(ticket), Emit::Done(3));
     assert_eq!(reader.try_next(), Taken::Value(9));
     assert_eq!(reader.try_next(), Taken::Value(10));
     assert_eq!(reader.try_next(), Taken::Nothing);
@@ -270,16 +278,16 @@ fn a_block_lets_in_what_waits() {
     let mut reader = sequencer.admit().unwrap();
     let mut came = Vec::new();
     assert_eq!(sequencer.try_emit_all(0, &[1u64, 2, 3]), Ok(2));
-    assert_eq!(sequencer.start_emit(0, 3), Ok(Begun::Waiting(Ticket(0))));
-    assert_eq!(sequencer.start_emit(0, 4), Ok(Begun::Waiting(Ticket(1))));
+    let first = waiting(sequencer.start_emit(0, 3), 0);
+    let second = waiting(sequencer.start_emit(0, 4), 1);
     assert_eq!(sequencer.try_emit_all(0, &[5, 6]), Ok(0));
     assert_eq!(reader.recv_many(&mut came, 1), 1);
     assert_eq!(sequencer.try_emit_all(0, &[5, 6]), Ok(0));
-    assert_eq!(sequencer.poll_emit(Ticket(0)), Emit::Done(2));
-    assert_eq!(sequencer.poll_emit(Ticket(1)), Emit::Waiting);
+    assert_eq!(sequencer.poll_emit(first), Emit::Done(2));
+    assert_eq!(sequencer.poll_emit(second), Emit::Waiting);
     assert_eq!(reader.recv_many(&mut came, 1), 1);
     assert_eq!(sequencer.try_emit_all(0, &[]), Ok(0));
-    assert_eq!(sequencer.poll_emit(Ticket(1)), Emit::Done(3));
+    assert_eq!(sequencer.poll_emit(second), Emit::Done(3));
     assert_eq!(reader.recv_many(&mut came, 9), 2);
     assert_eq!(sequencer.try_emit_all(0, &[5, 6]), Ok(2));
     assert_eq!(reader.recv_many(&mut came, 9), 2);
@@ -336,4 +344,52 @@ fn a_seat_alone_reads_what_it_sets() {
     let mut collector = seat.collect();
     assert_eq!(collector.try_next(), Some(5));
     assert_eq!(collector.cancel().value(), 5);
+}
+
+/// A subscription and a ticket are of the flow that gave them: another one, which gave the same numbers, takes neither.
+#[test]
+fn another_flow_takes_no_subscription_and_no_ticket() {
+    let mut flows = [(); 2].map(|()| SharedState::new(one_subscriber(1, 1, 5)).unwrap());
+    let [own, other] = &mut flows;
+    let (of_own, of_other) = (own.subscribe().unwrap(), other.subscribe().unwrap());
+    assert_eq!(of_own.number(), of_other.number());
+    assert_ne!(of_own, of_other);
+    for flow in [&mut *own, &mut *other] {
+        assert_eq!(flow.try_emit(0, 7u64), Ok(Tried::Accepted(5)));
+    }
+    let (ticket, foreign) = (
+        waiting(own.start_emit(0, 8), 5),
+        waiting(other.start_emit(0, 9), 5),
+    );
+    assert_eq!(own.next(of_other), Next::Closed);
+    assert_eq!(own.try_next_all(of_other, &mut Vec::new(), 9), Next::Closed);
+    assert_eq!((own.pending(of_other), own.cancel(of_other)), (0, false));
+    assert_eq!(own.poll_emit(foreign), Emit::Gone);
+    assert_eq!(own.cancel_emit(foreign), Withdrawn::Gone);
+    assert_eq!((own.pending(of_own), own.subscription_count()), (1, 1));
+    assert_eq!(own.poll_emit(ticket), Emit::Waiting);
+    assert_eq!(own.cancel_emit(ticket), Withdrawn::Removed);
+
+    let mut lanes = [(); 2].map(|()| Sequencer::<u64>::new(one_subscriber(0, 1, 0)).unwrap());
+    let readers = lanes.each_mut().map(|lane| lane.admit().unwrap());
+    let [ticket, foreign] = lanes
+        .each_mut()
+        .map(|lane| waiting(lane.start_emit(0, 7), 0));
+    assert_eq!(lanes[0].poll_emit(foreign), Emit::Gone);
+    assert_eq!(lanes[0].cancel_emit(foreign), Withdrawn::Gone);
+    drop(readers);
+    assert_eq!(lanes[0].poll_emit(ticket), Emit::Done(0));
+}
+
+/// What NATIVE.md and the crate's page show, with a flow that nothing is asked of.
+#[test]
+fn a_flow_by_default_has_room_for_who_tries() {
+    let mut sequencer = Sequencer::new(Config::default()).unwrap();
+    let mut reader = sequencer.admit().unwrap();
+    for value in 0..64u64 {
+        assert_eq!(sequencer.try_emit(0, value), Ok(Tried::Accepted(value)));
+    }
+    assert_eq!(sequencer.try_emit(0, 64), Ok(Tried::Full));
+    assert_eq!(reader.try_next(), Taken::Value(0));
+    assert_eq!(sequencer.try_emit(0, 64), Ok(Tried::Accepted(64)));
 }

@@ -172,3 +172,13 @@ fn refusals_have_the_same_numbers() {
     header.retain(|_, number| *number <= 100);
     assert_eq!(declared, header);
 }
+
+/// The header, the crate and what is packed have one version.
+#[test]
+fn the_versions_are_one() {
+    let defined = |name: &str| between(HEADER, &format!("#define HILLGAUZE_VERSION{name} "), "\n");
+    let version = env!("CARGO_PKG_VERSION");
+    assert_eq!(defined(""), format!("\"{version}\""));
+    let numbers = ["_MAJOR", "_MINOR", "_PATCH"].map(defined);
+    assert_eq!(numbers.join("."), version);
+}

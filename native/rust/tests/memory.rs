@@ -5,7 +5,10 @@
 //! allocates goes past them. Only glibc gives its own functions a second name for that.
 #![cfg(all(target_os = "linux", target_env = "gnu"))]
 
-use hillgauze::{Config, Reader, Refusal, Sequencer, SharedState, StateSeat, Taken, Tried};
+use hillgauze::{
+    Config, Emitted, Reader, Receiver, Refusal, Sender, Sequencer, SharedState, StateSeat, Taken,
+    Tried,
+};
 use std::alloc::{GlobalAlloc, Layout};
 use std::cell::Cell;
 use std::ffi::c_void;
@@ -210,4 +213,56 @@ fn a_seat_is_refused() {
     assert!(requests > 0);
     flows.0.set(8);
     assert_eq!(flows.1.try_next(), Some(8));
+}
+
+#[test]
+fn a_flow_of_senders_is_refused() {
+    let requests = refuse_each(
+        &mut (),
+        |()| Sender::<String>::new(config()),
+        |(), sender| drop(sender),
+        |()| (),
+    );
+    assert!(requests > 0);
+}
+
+/// Where a receiver is refused nobody waits for it, and no value is kept for it.
+#[test]
+fn a_receiver_is_refused() {
+    let sender = Sender::new(config()).unwrap();
+    let mut receiver = sender.subscribe().unwrap();
+    for value in ["7", "8"] {
+        assert!(matches!(
+            sender.try_emit(value.to_string()),
+            Ok(Emitted::Accepted(_))
+        ));
+    }
+    assert_eq!(receiver.try_recv().unwrap(), "7");
+    let mut flows = (sender, receiver);
+    for by_receiver in [false, true] {
+        let requests = refuse_each(
+            &mut flows,
+            |(sender, receiver)| {
+                if by_receiver {
+                    receiver.resubscribe()
+                } else {
+                    sender.subscribe()
+                }
+            },
+            |_, mut late: Receiver<String>| assert_eq!(late.try_recv().unwrap(), "8"),
+            |(sender, receiver)| {
+                assert_eq!((sender.receiver_count(), sender.replay_len()), (1, 1));
+                assert_eq!((receiver.received(), receiver.dropped()), (1, 0));
+            },
+        );
+        assert_eq!(requests, 2);
+    }
+    let (sender, mut receiver) = flows;
+    for number in 0..9 {
+        assert_eq!(
+            receiver.try_recv().unwrap(),
+            if number == 0 { "8" } else { "9" }
+        );
+        assert!(sender.try_emit("9".to_string()).is_ok());
+    }
 }

@@ -179,7 +179,7 @@ fn asked_for_blocks(mut reader: Reader<u64>, last: u64) -> (Vec<u64>, Closed) {
     while values.last() != Some(&last) {
         let (before, most) = (values.len(), size());
         if most % 10 == 0 {
-            values.extend(reader.next());
+            values.extend(reader.try_iter().take(1));
             continue;
         }
         match reader.try_next_all(&mut values, most) {

@@ -4,7 +4,11 @@
 use crate::figures::{cost, timed, Figure};
 #[cfg(feature = "hillgauze")]
 use crate::hillgauze_rust::{Tickets, TicketsOfOneThread};
+#[cfg(feature = "hillgauze")]
+use crate::hillgauze_senders::Emissions;
 use futures::task::noop_waker;
+#[cfg(feature = "hillgauze")]
+use hillgauze::{Slots, Words};
 use std::future::Future;
 use std::pin::Pin;
 use std::task::{Context, Poll};
@@ -33,6 +37,10 @@ pub fn measure() {
         receipt::<TokioQueue>(emitters);
         #[cfg(feature = "hillgauze")]
         receipt::<Tickets>(emitters);
+        #[cfg(feature = "hillgauze")]
+        receipt::<Emissions<Slots>>(emitters);
+        #[cfg(feature = "hillgauze")]
+        receipt::<Emissions<Words>>(emitters);
         #[cfg(feature = "hillgauze")]
         receipt::<TicketsOfOneThread>(emitters);
     }

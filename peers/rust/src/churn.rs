@@ -4,8 +4,12 @@ use crate::async_broadcasts::AsyncBroadcast;
 use crate::figures::{cost, timed, Figure};
 #[cfg(feature = "hillgauze")]
 use crate::hillgauze_rust::{Guests, GuestsOfOneThread};
+#[cfg(feature = "hillgauze")]
+use crate::hillgauze_senders;
 use crate::polled::Polled;
 use crate::tokio_broadcast::Broadcast;
+#[cfg(feature = "hillgauze")]
+use hillgauze::{Slots, Words};
 
 const TURNS: u64 = 1_000_000;
 
@@ -25,6 +29,10 @@ pub fn measure() {
         turn::<AsyncGuests>(live);
         #[cfg(feature = "hillgauze")]
         turn::<Guests>(live);
+        #[cfg(feature = "hillgauze")]
+        turn::<hillgauze_senders::Guests<Slots>>(live);
+        #[cfg(feature = "hillgauze")]
+        turn::<hillgauze_senders::Guests<Words>>(live);
         #[cfg(feature = "hillgauze")]
         turn::<GuestsOfOneThread>(live);
     }

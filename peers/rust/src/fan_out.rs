@@ -5,6 +5,8 @@ use crate::crossbeams::Channels;
 use crate::figures::{rate, sum_below, Figure};
 #[cfg(feature = "hillgauze")]
 use crate::hillgauze_rust::{RustLane, RustLaneBy};
+#[cfg(feature = "hillgauze")]
+use crate::hillgauze_senders::Senders;
 use crate::lane_model::{Lane, LookingLane};
 use crate::mutex_queue::MutexQueue;
 use crate::orders::{Strong, Weak};
@@ -13,6 +15,8 @@ use crate::ring::Ring;
 use crate::tokio_broadcast::HeldBroadcast;
 use crate::{blocked, blocks, polled};
 use blocked::Blocked;
+#[cfg(feature = "hillgauze")]
+use hillgauze::{Slots, Words};
 use blocks::Blocks;
 use polled::Polled;
 
@@ -46,6 +50,10 @@ pub fn measure() {
         fan_out.by_polls::<RustLane>();
         #[cfg(feature = "hillgauze")]
         fan_out.by_waits::<RustLane>();
+        #[cfg(feature = "hillgauze")]
+        fan_out.by_waits::<Senders<Slots>>();
+        #[cfg(feature = "hillgauze")]
+        fan_out.by_waits::<Senders<Words>>();
         fan_out.by_polls::<Lane>();
         fan_out.by_polls::<LookingLane>();
         fan_out.by_polls::<Ring<Strong>>();

@@ -34,7 +34,7 @@ impl Polled for RustLane {
 
     #[inline]
     fn try_next(reader: &mut Reader<u64>) -> Option<u64> {
-        reader.next()
+        reader.try_iter().next()
     }
 }
 
@@ -164,7 +164,7 @@ impl Queues for Tickets {
     }
 
     fn receive(&mut self) -> Option<u64> {
-        self.reader.next()
+        self.reader.try_iter().next()
     }
 }
 

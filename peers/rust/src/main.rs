@@ -12,6 +12,8 @@ mod fan_out;
 mod figures;
 #[cfg(feature = "hillgauze")]
 mod hillgauze_rust;
+#[cfg(feature = "hillgauze")]
+mod hillgauze_senders;
 mod lane_model;
 mod lossy;
 mod lossy_ring;
@@ -30,10 +32,11 @@ mod split;
 mod state;
 mod states;
 mod talks;
+mod tasks;
 mod tokio_broadcast;
 mod wake;
 
-const SCENARIOS: [(&str, fn()); 13] = [
+const SCENARIOS: [(&str, fn()); 15] = [
     ("receipts", receipts::measure),
     ("receipts-by16", receipts::measure_by_block),
     ("fan-out", fan_out::measure),
@@ -44,6 +47,8 @@ const SCENARIOS: [(&str, fn()); 13] = [
     ("cold", cold::measure),
     ("ping-pong", ping_pong::measure),
     ("wake", wake::measure),
+    ("tasks", tasks::measure_notes),
+    ("lag", tasks::measure_lags),
     ("asleep", asleep::measure),
     ("churn", churn::measure),
     ("machine", machine::measure),

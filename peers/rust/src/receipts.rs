@@ -6,12 +6,16 @@ use crate::crossbeams::Channels;
 use crate::figures::{cost, sum_below, timed, Figure};
 #[cfg(feature = "hillgauze")]
 use crate::hillgauze_rust::RustLane;
+#[cfg(feature = "hillgauze")]
+use crate::hillgauze_senders::Senders;
 use crate::lane_model::Lane;
 use crate::mutex_queue::MutexQueue;
 use crate::orders::{Strong, Weak};
 use crate::polled::Polled;
 use crate::ring::Ring;
 use crate::tokio_broadcast::Broadcast;
+#[cfg(feature = "hillgauze")]
+use hillgauze::{Slots, Words};
 
 const VALUES: u64 = 2_000_000;
 const CAPACITY: usize = 64;
@@ -25,6 +29,10 @@ pub fn measure() {
         by_values::<MutexQueue>(readers);
         #[cfg(feature = "hillgauze")]
         by_values::<RustLane>(readers);
+        #[cfg(feature = "hillgauze")]
+        by_values::<Senders<Slots>>(readers);
+        #[cfg(feature = "hillgauze")]
+        by_values::<Senders<Words>>(readers);
         by_values::<Lane>(readers);
         by_values::<Ring<Strong>>(readers);
         by_values::<Ring<Weak>>(readers);

@@ -5,11 +5,15 @@ use crate::crossbeams::Channels;
 use crate::figures::{cost, Figure};
 #[cfg(feature = "hillgauze")]
 use crate::hillgauze_rust::RustLane;
+#[cfg(feature = "hillgauze")]
+use crate::hillgauze_senders::Senders;
 use crate::states::Watch;
 #[cfg(feature = "hillgauze")]
 use crate::talks::RustState;
 use crate::talks::Talks;
 use crate::tokio_broadcast::Broadcast;
+#[cfg(feature = "hillgauze")]
+use hillgauze::{Slots, Words};
 use std::sync::atomic::{AtomicU64, Ordering::SeqCst};
 use std::sync::Arc;
 use std::thread;
@@ -30,6 +34,10 @@ pub fn measure() {
         }
         #[cfg(feature = "hillgauze")]
         by::<RustLane>(readers);
+        #[cfg(feature = "hillgauze")]
+        by::<Senders<Slots>>(readers);
+        #[cfg(feature = "hillgauze")]
+        by::<Senders<Words>>(readers);
         #[cfg(feature = "hillgauze")]
         by::<RustState>(readers);
     }

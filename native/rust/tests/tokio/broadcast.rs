@@ -22,13 +22,20 @@ fn send(sequencer: &mut Sequencer<u32>, values: impl IntoIterator<Item = u32>) {
     }
 }
 
+fn waiting(begun: Result<Begun, Refusal>) -> Ticket {
+    match begun {
+        Ok(Begun::Waiting(ticket)) => ticket,
+        other => panic!("it doesn't wait: {other:?}"),
+    }
+}
+
 fn poll(task: &Task, reader: &mut Reader<u32>) -> Poll<Option<u32>> {
     task.poll(|context| reader.poll_next(context))
 }
 
 /// What is there now.
 fn all(reader: &mut Reader<u32>) -> Vec<u32> {
-    reader.collect()
+    reader.try_iter().collect()
 }
 
 #[test]
@@ -233,15 +240,16 @@ fn whatever_lets_an_emission_in_wakes_and_nothing_else_does() {
     assert_eq!(poll(&task, &mut quick), Poll::Pending);
     assert_eq!(sequencer.try_emit(0, 2), Ok(Tried::Full));
     assert!(!task.is_woken());
-    assert_eq!(sequencer.start_emit(0, 2), Ok(Begun::Waiting(Ticket(0))));
+    let first = waiting(sequencer.start_emit(0, 2));
     assert_eq!(poll(&task, &mut quick), Poll::Pending);
     assert_eq!(slow.try_next(), Taken::Value(1));
     assert_eq!(sequencer.try_emit(0, 3), Ok(Tried::Full));
     assert!(task.is_woken());
     assert_eq!(poll(&task, &mut quick), Poll::Ready(Some(2)));
 
-    assert_eq!(sequencer.poll_emit(Ticket(0)), Emit::Done(1));
-    assert_eq!(sequencer.start_emit(0, 4), Ok(Begun::Waiting(Ticket(1))));
+    assert_eq!(sequencer.poll_emit(first), Emit::Done(1));
+    let second = waiting(sequencer.start_emit(0, 4));
+    assert_eq!((first.number(), second.number()), (0, 1));
     assert_eq!(poll(&task, &mut quick), Poll::Pending);
     assert_eq!(slow.try_next(), Taken::Value(2));
     assert_eq!(sequencer.scan(), 1);

@@ -1,0 +1,8 @@
+// error: E0277
+use hillgauze::Sender;
+
+struct Single;
+
+fn main() {}
+
+fn keep(_sender: Sender<Single>) {} // here
