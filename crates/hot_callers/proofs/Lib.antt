@@ -1,3 +1,5 @@
 mod Looks
+mod Sublists
+mod Speaking
 mod Exchanging
 mod StateExchanging

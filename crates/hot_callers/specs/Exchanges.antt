@@ -1,19 +1,20 @@
 -- What came of a flow into which one thread emitted, and from which another received.
-use Rattle.std.specs.Prelude.{◌≡◌, ℕ, List, [], ◌∷◌, ◌++◌, None, Result}
+use Rattle.std.specs.Prelude.{◌≡◌, ℕ, List, [], ◌∷◌, ◌++◌, None, Result, map}
 use Rattle.flow_terms.specs.declared.refusal.Refusal.{Refusal}
 use Rattle.flow_terms.specs.declared.answers.Tried.{Tried}
-use Rattle.round_lock.specs.History.{Begins, own_of}
+use Rattle.round_lock.specs.History.{Begins, HasAll, own_of}
 use Rattle.shared_core.specs.declared.config.Config.{Config}
+use Rattle.shared_core.specs.Story.{Interleaves}
 use Rattle.shared_lane.specs.declared.meeting.Met.{Met}
 use Rattle.shared_rounds.specs.declared.round.Round.{Round}
 use Rattle.shared_rounds.specs.declared.round.Round.TheVariants as round
 use Rattle.shared_rounds.specs.Entering.{Made}
 use Rattle.shared_flow.specs.Laws.{IsOneFlow, knowing}
 use Rattle.shared_flow.specs.Lives.{Life, IsSubscriptionOf, ReceivesPreludeCacheThenLater, received_in}
-use Rattle.shared_flow.specs.Looks.{WasLetInBy}
+use Rattle.shared_flow.specs.Looks.{WasEnded, WasLetInBy}
 use Rattle.shared_rounds.specs.Names.{SharedSeen}
 use Rattle.shared_flow.specs.Owners.{HasHeard, Meets}
-use Rattle.shared_flow.specs.Parties.{Emitting, Subscribed, named, sharing_of}
+use Rattle.shared_flow.specs.Parties.{Emitting, Subscribed, newcomer_of, sharing_of, taking_of}
 use Rattle.shared_rounds.specs.Reach.{Party, Rounds}
 use Rattle.hot_callers.specs.SharedCalls.{HasTaken}
 
@@ -23,9 +24,9 @@ AreTries id [] rounds = rounds ≡ []
 AreTries id (word ∷ words) rounds = (answer : Result (Tried ℕ) Refusal) × (more : List Round)
     × (rounds ≡ round.Try (record { emitter = id; word = word }) answer ∷ more) × AreTries id words more
 
--- the party is at the same flow, and has the same number in its list of rounds
+-- a party is what it was, but for its rounds, and for the list of rounds that it has seen
 abbrev pub IsSameParty : Party → Party → Type 0
-IsSameParty p q = (named q ≡ named p) × (q.pass ≡ p.pass)
+IsSameParty p q = q ≡ record p { rounds = q.rounds; seen = q.seen }
 
 -- the emitter's rounds grew by tries of these words, and nothing is in flight
 abbrev pub TriesEach : List ℕ → Emitting → Emitting → Type 0
@@ -43,18 +44,41 @@ pub record MeetsBoth (p q : Party) (e f : Emitting) (s t : Subscribed ℕ) : Typ
   pub emitter : HasHeard meets.made.before e.party f.party
   pub only : f ≡ record e { party = f.party }
 
--- Between these two moments of an owner a subscription was let in, with half its share of the lock, took values that others emitted, and
--- met the owner.
-pub record ReceivesBetween (p q : Party) (prelude received : List ℕ) : Type 0 where
+-- an owner ended a subscription and took it in for good, with its rounds and its share of the lock
+pub record TakesIn (p q : Party) (s : Subscribed ℕ) : Type 0 where
+  pub counts : Met
+  pub left : Party
+  pub ended : WasEnded s.number s.reader counts s.party left
+  pub after : q ≡ taking_of left p
+
+-- An owner ended a subscription and an emitter, and took both in for good. Then it made one more round, which tells it who made each.
+pub record EndsBoth (p q : Party) (e : Emitting) (s : Subscribed ℕ) : Type 0 where
+  pub then : Party
+  pub takes_in : TakesIn p then s
+  pub count : ℕ
+  pub made : Made (round.Count count) (taking_of e.party then) q
+
+-- so it did with two emitters
+pub record EndsEmitters (p q : Party) (e d : Emitting) : Type 0 where
+  pub count : ℕ
+  pub made : Made (round.Count count) (taking_of d.party (taking_of e.party p)) q
+
+-- Between these two moments of an owner a subscription was let in, with half its share of the lock, took values that others emitted, met
+-- the owner, and was ended. An emitter heard of all rounds before that meeting.
+pub record ReceivesBetween (p q : Party) (prelude received : List ℕ) (emitter : Party) : Type 0 where
   pub began : Subscribed ℕ
   pub took : Subscribed ℕ
   pub met : Subscribed ℕ
   pub then : Party
+  pub last : Party
   pub counts : Met
+  pub is_newcomer : began.party ≡ newcomer_of began.party.pass p
   pub let_in : WasLetInBy began.number began.reader (sharing_of p) then
   pub prelude_is : began.rest ≡ prelude
   pub takes : TakesEach [] began received took
-  pub meets : Meets then q took met counts
+  pub meets : Meets then last took met counts
+  pub heard : emitter.rounds ≡ own_of emitter.pass meets.made.before
+  pub takes_in : TakesIn last q met
 
 -- an owner told two emitters, in one round: both have heard of all rounds before that, of which their own are a part
 pub record TellsBoth (p q : Party) (e f : Emitting) (d g : Emitting) : Type 0 where
@@ -62,6 +86,8 @@ pub record TellsBoth (p q : Party) (e f : Emitting) (d g : Emitting) : Type 0 wh
   pub made : Made (round.Hold count) p q
   pub first : HasHeard made.before e.party f.party
   pub second : HasHeard made.before d.party g.party
+  pub only_first : f ≡ record e { party = f.party }
+  pub only_second : g ≡ record d { party = g.party }
 
 -- There is one list of rounds, which has left the flow as it is now, and ends with one of its owner, by which it met a subscription. Over
 -- its life this received, beside what is left of its prelude and what is pending, its prelude, the replay cache at its start, and the
@@ -82,26 +108,40 @@ pub record Receives (config : Config) (prelude received : List ℕ) : Type 0 whe
   pub is_subscription : IsSubscriptionOf made log now life
   pub receives : ReceivesPreludeCacheThenLater (λ word. word) life (knowing now life.reader)
 
+-- the list goes on from another one by these rounds
+abbrev pub GoesOnBy : List Round → Rounds → Rounds → Type 0
+GoesOnBy rounds log list = (more : Rounds) × (list ≡ log ++ more) × (map (λ (t : ℕ × Round × SharedSeen). t.1) more ≡ rounds)
+
 -- of these rounds those of one party are tries of these words, in order, by an emitter with this id
 abbrev pub Emits : ℕ → List ℕ → Rounds → Type 0
 Emits id words rounds = (pass : ℕ) × AreTries id words (own_of pass rounds)
 
--- One thread emitted these words, and another received; and the flow's owner has seen that list of rounds. It was the first owner, and
--- its share of the lock was halved twice, for the emitter and for the subscription: so there was nobody else.
+-- One thread emitted these words, and another received: what came, with some others, is the prelude and then these words, each in its
+-- order and once. So nobody else emitted, nothing is doubled, and nothing is out of order. What the others are, `receives` and `emits` tell:
+-- what is left of the prelude, what is pending, what the policy dropped, and words that weren't accepted.
+-- The flow's owner was the first one. Its share of the lock was halved twice, for the emitter and for the subscription, and it took both in:
+-- so it has the whole lock, and there was nobody else. Of the list of rounds it has seen two since: the subscription's end, and its own last.
 pub record Exchange (config : Config) (prelude words received : List ℕ) (owner : Party) : Type 0 where
+  pub received_with_others_is_prelude_then_words : (others : List ℕ) × Interleaves received others (prelude ++ words)
   pub receives : Receives config prelude received
   pub emits : Emits 1 words receives.before
-  pub seen : owner.seen ≡ receives.log
+  pub seen : (number count : ℕ) × GoesOnBy (round.Cancel number ∷ round.Count count ∷ []) receives.log owner.seen
   pub halved : owner.halved ≡ 2
+  pub has_all : HasAll owner.halved owner.taken
 
--- What one emitter had emitted before the subscription began, and both while it received; then it was cancelled, and they went on: the list
--- of rounds that the owner saw in the end begins with the one up to the meeting, and has all that both emitted. The owner was the first
--- one, and its share of the lock was halved three times, for the emitters and for the subscription: so there was nobody else.
-pub record LateExchange (config : Config) (prelude first second received : List ℕ) (owner : Party) : Type 0 where
+-- Two emitted, each in a thread, and a third received: what came, with some others, is the prelude and then, mixed, the words that both had
+-- emitted until the subscription was ended, each emitter's in its order and once. The second emitted more later, of which nothing came.
+-- The list of rounds that the owner saw in the end begins with the one up to the meeting, and has all that both emitted. The owner was the
+-- first one. Its share of the lock was halved three times, for the emitters and for the subscription, and it took all three in: so it has the
+-- whole lock, and there was nobody else.
+pub record LateExchange (config : Config) (prelude first second late received : List ℕ) (owner : Party) : Type 0 where
+  pub received_with_others_is_prelude_then_both :
+      (both others : List ℕ) × Interleaves first second both × Interleaves received others (prelude ++ both)
   pub receives : Receives config prelude received
   pub rounds : Rounds
   pub goes_on : Begins rounds receives.log
   pub emits_first : Emits 1 first rounds
-  pub emits_second : Emits 2 second rounds
+  pub emits_second : Emits 2 (second ++ late) rounds
   pub seen : Begins owner.seen rounds
   pub halved : owner.halved ≡ 3
+  pub has_all : HasAll owner.halved owner.taken

@@ -2,7 +2,7 @@
 
 ghost use Rattle.std.specs.Prelude.{◌≡◌, ◌++◌, None, IfOk};
 ghost use Rattle.shared_core.specs.Preludes.{prelude_values};
-ghost use Rattle.hot_callers.specs.Exchanges.{Exchange, LateExchange, MeetsBoth, ReceivesBetween, TakesEach, TellsBoth, TriesEach};
+ghost use Rattle.hot_callers.specs.Exchanges.{EndsBoth, EndsEmitters, Exchange, LateExchange, MeetsBoth, ReceivesBetween, TakesEach, TellsBoth, TriesEach};
 
 use cold_flow::Refusal;
 use shared_core::{Config, Prelude};
@@ -127,17 +127,36 @@ fn meet_both(
     held.release(rt);
 }
 
+// The owner ends both, and takes them in, with their rounds and their shares of the lock. By the round that it makes then it knows who made
+// each.
+fn end_both(
+    rt: &impl Wait,
+    flow: &mut SharedFlow<u64>,
+    emitter: Emitter<u64>,
+    subscription: Subscription<u64>,
+)
+    requires emitter { emitter.party.lock ≡ flow.old.party.lock }
+    requires subscription { subscription.party.lock ≡ flow.old.party.lock }
+    requires idle { emitter.ticket ≡ None }
+    ensures { EndsBoth flow.old.party flow.new.party emitter subscription }
+{
+    flow.cancel(rt, subscription);
+    flow.close(rt, emitter);
+    flow.subscription_count(rt);
+}
+
 /// What came of an exchange.
 #[derive(Drop)]
 pub struct Exchanged {
-    /// The owner of the flow, with the list of rounds that it has seen.
+    /// The owner of the flow, which has taken the others in, with the list of rounds that it has seen.
     pub flow: SharedFlow<u64>,
     /// What was received, in its order.
     pub received: Vec<u64>,
 }
 
-/// Makes a flow, emits values in one thread and receives in another, which looks so often for one. Both are lent to the threads, meet
-/// their flow then, and are spent. Nobody else has a share of the flow's lock.
+/// Makes a flow, emits values in one thread and receives in another, which looks so often for one. What is received is of the prelude and
+/// then of these values, each in its order and once; nobody else emits. Both are lent to the threads, meet their flow then, and are ended
+/// by its owner, which takes them in.
 ///
 /// Refused as `SharedFlow::new` is, and as `NoMemory`.
 pub fn emit_and_receive<R>(
@@ -171,13 +190,12 @@ where
         &mut received,
     );
     meet_both(rt, &mut flow, &mut emitter, &mut subscription);
-    subscription.cancel(rt);
-    emitter.close(rt);
+    end_both(rt, &mut flow, emitter, subscription);
     taken?;
     Ok(Exchanged { flow, received })
 }
 
-// A subscription begins, receives what two emit meanwhile, meets its flow, and is cancelled.
+// A subscription begins, receives what two emit meanwhile, meets its flow, as does the second emitter, and is ended.
 fn receive_between<R>(
     rt: &R,
     flow: &mut SharedFlow<u64>,
@@ -191,9 +209,10 @@ fn receive_between<R>(
 where
     R: Threads + Wait + Sync + AllocGlobal,
     requires idle { (one.old.ticket ≡ None) × (two.old.ticket ≡ None) }
+    requires two { two.old.party.lock ≡ flow.old.party.lock }
     ensures one { IfOk result (λ _. TriesEach first.now one.old one.new) }
     ensures two { IfOk result (λ _. TriesEach second.now two.old two.new) }
-    ensures receives { IfOk result (λ received. ReceivesBetween flow.old.party flow.new.party (prelude_values prelude) received.items) }
+    ensures receives { IfOk result (λ received. ReceivesBetween flow.old.party flow.new.party (prelude_values prelude) received.items two.new.party) }
 {
     let mut subscription = flow.subscribe_with(rt, prelude)?;
     let mut received = Vec::new(rt.alloc());
@@ -207,8 +226,8 @@ where
         turns,
         &mut received,
     );
-    flow.meet(rt, &mut subscription);
-    subscription.cancel(rt);
+    meet_both(rt, flow, two, &mut subscription);
+    flow.cancel(rt, subscription);
     taken?;
     Ok(received)
 }
@@ -229,8 +248,20 @@ fn tell_both(
     held.release(rt);
 }
 
-/// Does so with two emitters, each in a thread of its own. The first has tried the `early` values before the subscription begins; the
-/// second tries the `late` ones after it was cancelled, of which it has received nothing, and the list of rounds goes on.
+// The owner ends both emitters, and takes them in. By the round that it makes then it knows who made each.
+fn end_emitters(rt: &impl Wait, flow: &mut SharedFlow<u64>, one: Emitter<u64>, two: Emitter<u64>)
+    requires lock { (one.party.lock ≡ flow.old.party.lock) × (two.party.lock ≡ flow.old.party.lock) }
+    requires idle { (one.ticket ≡ None) × (two.ticket ≡ None) }
+    ensures { EndsEmitters flow.old.party flow.new.party one two }
+{
+    flow.close(rt, one);
+    flow.close(rt, two);
+    flow.subscription_count(rt);
+}
+
+/// Does so with two emitters, each in a thread of its own. What is received is of the prelude and then, mixed, of what both emit. The first
+/// has tried the `early` values before the subscription begins; the second tries the `late` ones after it was ended, of which it has
+/// received nothing, and the list of rounds goes on.
 ///
 /// Refused as `SharedFlow::new` is, and as `NoMemory`.
 pub fn emit_and_receive_between<R>(
@@ -245,7 +276,7 @@ pub fn emit_and_receive_between<R>(
 ) -> Result<Exchanged, Refusal>
 where
     R: Threads + Wait + Sync + AllocGlobal,
-    ensures { IfOk result (λ exchanged. LateExchange config (prelude_values prelude) (early.now ++ first.now) (second.now ++ late.now) exchanged.received.items exchanged.flow.party) }
+    ensures { IfOk result (λ exchanged. LateExchange config (prelude_values prelude) (early.now ++ first.now) second.now late.now exchanged.received.items exchanged.flow.party) }
 {
     each_subscription_receives_prelude_cache_then_later::<u64>();
     let mut flow = SharedFlow::new(rt.alloc(), config)?;
@@ -271,7 +302,6 @@ where
     };
     try_each(rt, &mut two, late);
     tell_both(rt, &mut flow, &mut one, &mut two);
-    one.close(rt);
-    two.close(rt);
+    end_emitters(rt, &mut flow, one, two);
     Ok(Exchanged { flow, received })
 }

@@ -1,10 +1,9 @@
-use Rattle.std.proofs.Common.{ℕ, List, suc, sym, ap, subst, ◌∙◌}
+use Rattle.std.proofs.Common.{ℕ, List, [], sym, ap, subst}
 use Rattle.shared_rounds.specs.Names.{IsMadeWith}
 use Rattle.shared_flow.specs.Owners.{Owning}
 use Rattle.shared_rounds.specs.Reach.{Party}
-use Rattle.shared_flow.specs.Parties.{sharing_of}
 use Rattle.hot_callers.specs.Exchanges.{Exchange, TakesEach}
-use Rattle.hot_callers.proofs.Exchanging.{exchanged, receives, emits_in}
+use Rattle.hot_callers.proofs.Exchanging.{IsQuietWith, exchanged, quiet_new, quiet_newcomer, quiet_sharing}
 use Rattle.hot_callers.proofs.exchange_calling.emit_and_receive.Goals as goal
 
 pub returns : goal.returns
@@ -13,17 +12,19 @@ returns g c =
     let words = c.args.values.now in
     let received = c.in_two_threads-taken.new.received.items in
     let owner = c.emitter.new.self in
-    let made = subst (λ (o : Owning). IsMadeWith config o.party.flow) (sym c.in_ok-emitter.ensures.half) c.in_ok-flow.ensures.config in
+    let half = c.in_ok-emitter.ensures.half in
+    let new = c.in_ok-flow.flow.party in
+    let rounds = c.in_ok-flow.ensures.rounds in
+    let quiet = quiet_new new rounds.1 rounds.2 rounds.3 in
+    let shared = subst (λ (o : Owning). IsQuietWith 1 [] o.party) (sym half) (quiet_sharing 0 [] new quiet) in
+    let made = subst (λ (o : Owning). IsMadeWith config o.party.flow) (sym half) c.in_ok-flow.ensures.config in
     let takes = subst (λ (l : List ℕ). TakesEach l c.in-Ok.subscription received c.in_two_threads-taken.new.subscription) c.new-received.ensures.items c.in_two_threads-taken.ensures.receives in
     let met = c.meet_both.ensures in
-    let last = c.meet_both.new.flow.party in
-    let it = receives (sharing_of owner.party) c.subscribe_with.new.self.party last c.in-Ok.subscription c.in_two_threads-taken.new.subscription c.meet_both.new.subscription
-    met.counts config received made (ap (λ (o : Owning). o.party.flow) c.in-Ok.ensures.round)
-    c.each_subscription_receives_prelude_cache_then_later.ensures c.in-Ok.ensures.begins takes met.meets in
-    let emits = emits_in 1 words met.meets.made.before c.in_ok-emitter.emitter c.in_two_threads-taken.new.emitter c.meet_both.new.emitter.party
-    (ap (λ (p : Party). p.rounds) c.in_ok-emitter.ensures.flow) c.in_ok-emitter.ensures.id c.in_two_threads-taken.ensures.emits met.emitter in
+    let last = c.end_both.new.flow.party in
     subst (λ (prelude : List ℕ). Exchange config prelude words received last) c.in-Ok.ensures.prelude
-    (exchanged config c.in-Ok.subscription.rest words received owner.party c.subscribe_with.new.self.party last c.in-Ok.subscription c.in_two_threads-taken.new.subscription
-    c.meet_both.new.subscription met.counts it emits (ap (λ (p : Party). p.seen) met.meets.made.after)
-    (ap (λ (o : Owning). o.party.halved) c.in_ok-emitter.ensures.half ∙ ap suc c.in_ok-flow.ensures.rounds.2)
-    (ap (λ (o : Owning). o.party.halved) c.in-Ok.ensures.round) met.meets)
+    (exchanged config words received owner.party c.subscribe_with.new.self.party c.meet_both.new.flow.party last c.in-Ok.subscription c.in_two_threads-taken.new.subscription
+    c.meet_both.new.subscription c.in_ok-emitter.emitter c.in_two_threads-taken.new.emitter c.meet_both.new.emitter met.counts made
+    c.each_subscription_receives_prelude_cache_then_later.ensures shared c.in-Ok.ensures.flow c.in-Ok.ensures.begins takes met.meets
+    (ap (λ (p : Party). p.rounds) c.in_ok-emitter.ensures.flow) c.in_ok-emitter.ensures.id
+    (quiet_newcomer 0 [] new c.in_ok-emitter.emitter.party quiet c.in_ok-emitter.ensures.flow).0
+    c.in_two_threads-taken.ensures.emits met.emitter c.end_both.ensures)

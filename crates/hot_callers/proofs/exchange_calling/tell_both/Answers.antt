@@ -28,5 +28,7 @@ returns g c =
       made = made_since (round.Hold last.kept.count) p last.flow.now.party c.release.new.self.0.party same on it;
       first = subst (λ (l : Rounds). HasHeard l e.party f.party) (sym it.before_is) first;
       second = subst (λ (l : Rounds). HasHeard l d.party h.party) (sym it.before_is) second;
+      only_first = c.tell_emitter.ensures.emitter;
+      only_second = c.tell_emitter-2.ensures.emitter;
     } in
     subst (λ (x : Party). TellsBoth p x e f d h) (search rules) both
