@@ -70,6 +70,12 @@ impl Bell {
         self.sleepers.fetch_add(1, Ordering::SeqCst);
     }
 
+    /// How many sleep, or are about to.
+    #[cfg(test)]
+    pub(crate) fn sleepers(&self) -> u64 {
+        self.sleepers.load(Ordering::SeqCst)
+    }
+
     /// One is up again.
     pub(crate) fn rise(&self) {
         self.sleepers.fetch_sub(1, Ordering::SeqCst);

@@ -1,10 +1,11 @@
 //! Threads that watch a state: what they are given, that they wake, and that they are let go at any moment.
 
-use crate::{Collected, Stopper, WatchedSeat, Watcher};
-use std::alloc::AllocGlobal;
+use crate::{Collected, Refusal, Stopper, WatchedSeat, Watcher};
+use std::alloc::{AllocGlobal, Global};
 use std::hint::spin_loop;
 use std::process::Abort;
 use std::sync::Wait;
+use std::sync::atomic::{AtomicU64, Ordering};
 use std::test::Fail;
 use std::thread;
 use std::thread::Threads;
@@ -393,6 +394,140 @@ fn one_is_let_go_at_any_moment(rt: HostRuntime) -> Result<(), Fail> {
     Ok(())
 }
 
+/// How many stops of each kind come just as a watcher lies down.
+const CLOSE: u64 = 1_000;
+
+/// How many turns of a loop a stop comes after its watcher began to wait, and how many more at most: the watcher looks on for about as
+/// many, and lies down then.
+const SOONEST: u64 = 192;
+
+const SPREAD: u64 = 128;
+
+/// How many milliseconds a watcher waits for its stop.
+const LIMIT: u64 = 10_000;
+
+/// How often a thread looks at most whether the other one has come so far.
+const TURNS: u64 = 100_000_000;
+
+/// Lets go a watcher, with all that watch its state or alone.
+#[derive(Drop)]
+enum Stops {
+    All(WatchedSeat<u64>),
+    Alone(Stopper),
+}
+
+impl Stops {
+    fn stop(&self) {
+        match self {
+            Stops::All(seat) => seat.stop(),
+            Stops::Alone(stopper) => stopper.stop(),
+        }
+    }
+}
+
+/// The seat to watch from, and who lets its watcher go.
+fn stopped(alloc: Global, is_alone: bool) -> Result<(WatchedSeat<u64>, Stops), Refusal> {
+    let mut seat = WatchedSeat::new(alloc, 0, 2)?;
+    let mut watching = seat.take_seat(0)?;
+    if !is_alone {
+        return Ok((watching, Stops::All(seat)));
+    }
+    let stopper = watching.watcher_stopper(alloc)?;
+    Ok((watching, Stops::Alone(stopper)))
+}
+
+/// Seats to watch from, each of a state of its own, and who lets go the watcher of each.
+fn all_stopped(
+    alloc: Global,
+    is_alone: bool,
+) -> Result<(Vec<WatchedSeat<u64>>, Vec<Stops>), Refusal> {
+    let mut watching = Vec::new(alloc);
+    let mut stopping = Vec::new(alloc);
+    for _ in 0..CLOSE {
+        let (seat, stops) = stopped(alloc, is_alone)?;
+        watching.push(seat)?;
+        stopping.push(stops)?;
+    }
+    Ok((watching, stopping))
+}
+
+/// Watches from one seat after another, each time until it is let go, and says before each wait which one it is. How many were told so
+/// before their time was up, to the first that wasn't: who looks a last time then finds a stop, too, that woke nobody.
+fn watch_each<R: Wait + Clock + Abort>(
+    rt: &R,
+    watching: Vec<WatchedSeat<u64>>,
+    begun: &AtomicU64,
+) -> u64 {
+    let mut count: u64 = 0;
+    for seat in watching {
+        let mut watcher = seat.collect();
+        let _first = watcher.try_next();
+        let start = Instant::now(rt).expect(rt, "a clock");
+        begun.store(count.saturating_add(1), Ordering::SeqCst);
+        let heard = heard_within(rt, &mut watcher, LIMIT);
+        let waited = start.elapsed(rt).expect(rt, "a clock");
+        drop(watcher.cancel());
+        if heard != STOPPED || waited >= Duration::from_millis(LIMIT) {
+            begun.store(u64::MAX, Ordering::SeqCst);
+            return count;
+        }
+        count = count.saturating_add(1);
+    }
+    count
+}
+
+/// Looks on until so many waits have begun. Whether they have.
+fn have_begun(begun: &AtomicU64, count: u64) -> bool {
+    for _ in 0..TURNS {
+        if begun.load(Ordering::SeqCst) >= count {
+            return true;
+        }
+        spin_loop();
+    }
+    false
+}
+
+/// Lets go one watcher after another, each just as it lies down.
+fn stop_each(stopping: Vec<Stops>, begun: &AtomicU64) {
+    let mut count: u64 = 0;
+    for stops in stopping {
+        count = count.saturating_add(1);
+        if !have_begun(begun, count) {
+            return;
+        }
+        spin(SOONEST + count % SPREAD);
+        stops.stop();
+    }
+}
+
+/// How many of those watchers were let go by their stop.
+fn let_go_close<R>(rt: &R, is_alone: bool) -> Result<u64, Refusal>
+where
+    R: AllocGlobal + Abort + Threads + Wait + Clock + Sync,
+{
+    let (watching, stopping) = all_stopped(rt.alloc(), is_alone)?;
+    let begun = AtomicU64::new(0);
+    let (count, ()) = thread::join(
+        rt,
+        || watch_each(rt, watching, &begun),
+        || stop_each(stopping, &begun),
+    );
+    Ok(count)
+}
+
+/// A stop that comes just as its watcher looks a last time and falls asleep isn't missed. One that rang before it was marked would
+/// ring too soon for that watcher to see it, and wake nobody later.
+#[test]
+fn a_stop_just_before_the_sleep_is_heard(rt: HostRuntime) -> Result<(), Fail> {
+    let found = [let_go_close(&rt, true)?, let_go_close(&rt, false)?];
+    assert_eq!(rt;
+        found,
+        [CLOSE; 2],
+        "how many were let go, alone, and with all"
+    );
+    Ok(())
+}
+
 /// Waits until it is let go, and sets 3 some time after that. The last value that it was given.
 fn watch_and_set(rt: &impl Wait, watcher: &mut Watcher<u64>, seat: &mut WatchedSeat<u64>) -> u64 {
     let latest = watch_to(rt, watcher, MOST);
@@ -505,6 +640,42 @@ fn a_wait_ends_with_its_time(rt: HostRuntime) -> Result<(), Fail> {
     assert!(rt;
         waited >= Duration::from_millis(20),
         "a wait ended before its time"
+    );
+    Ok(())
+}
+
+/// Who waits no more is not counted among those that sleep, whether it was given a value as it looked on, or its time was up, or it
+/// was let go. One that stayed counted would make a call of the system of each set, for ever.
+#[test]
+fn who_waits_no_more_is_not_counted(rt: HostRuntime) -> Result<(), Fail> {
+    const WAITS: u64 = 100_000;
+    let Pair {
+        mut seat,
+        mut watcher,
+    } = paired(&rt);
+    let mut count: u64 = 0;
+    for value in 1..=WAITS {
+        seat.set(value);
+        if heard(&rt, &mut watcher) == value {
+            count = count.saturating_add(1);
+        }
+    }
+    let looked_on = watcher.sleepers();
+    let nothing = heard_within(&rt, &mut watcher, 1);
+    let in_time = watcher.sleepers();
+    seat.stop();
+    let stopped = heard(&rt, &mut watcher);
+    let let_go = watcher.sleepers();
+    let left = left_of(watcher);
+    assert_eq!(rt;
+        [count, nothing, stopped, left],
+        [WAITS, NOTHING, STOPPED, NOTHING],
+        "what the waits came to"
+    );
+    assert_eq!(rt;
+        [looked_on, in_time, let_go],
+        [0; 3],
+        "how many were counted after them"
     );
     Ok(())
 }

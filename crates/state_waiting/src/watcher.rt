@@ -164,6 +164,12 @@ impl<T: Word> Watcher<T> {
         self.bell.is_let_go() || self.is_stopped_alone()
     }
 
+    // How many watchers of the state sleep, or are about to.
+    #[cfg(test)]
+    pub(crate) fn sleepers(&self) -> u64 {
+        self.bell.sleepers()
+    }
+
     // Whether a stopper of its own was used.
     fn is_stopped_alone(&self) -> bool {
         match &self.stopper {
