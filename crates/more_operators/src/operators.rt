@@ -1,7 +1,20 @@
-//! The operators, one a file.
+//! The operators, one a file: the flow, its run, its poll. What `on_each` is given, and what several of them share, stands in files of
+//! its own.
 
+pub mod act;
+pub mod debounce;
 pub mod distinct_by;
 pub mod drop_while;
 pub mod filter_map;
+pub mod holding;
+pub mod on_each;
+pub mod on_empty;
+pub mod on_start;
+pub mod onward;
+pub mod relay;
+pub mod retry;
 pub mod running_reduce;
+pub mod scan;
+pub mod take_while;
+pub mod transform_while;
 pub mod with_index;
