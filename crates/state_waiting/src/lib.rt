@@ -22,11 +22,8 @@
 //! What a slow collector misses: each value that was replaced before it asked, and never the last one.
 #![tactic(auto)]
 
-mod bell;
 mod collected;
-mod limit;
 mod seat;
-mod stopper;
 #[cfg(test)]
 mod tests;
 mod watcher;
@@ -34,5 +31,5 @@ mod watcher;
 pub use collected::Collected;
 pub use flow_terms::{Refusal, Word};
 pub use seat::WatchedSeat;
-pub use stopper::Stopper;
+pub use state_bell::Stopper;
 pub use watcher::Watcher;

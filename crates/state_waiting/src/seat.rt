@@ -4,10 +4,9 @@ ghost use Rattle.state_flow.specs.Views.{opening, giver, taker};
 ghost use Rattle.state_flow.specs.Calls.{Reads, Sets, Compares, TakesBack, Counts, Begins};
 ghost use Rattle.flow_terms.specs.declared.refusal.Refusal.TheVariants.{BadLimit, SubscribersFull, NoMemory};
 
-use crate::bell::Bell;
-use crate::stopper::Stopper;
 use crate::watcher::Watcher;
 use flow_terms::{Refusal, Word};
+use state_bell::{Bell, Stopper};
 use state_flow::{StateFlow, StateSeat};
 use std::alloc::Global;
 use std::marker::Model;

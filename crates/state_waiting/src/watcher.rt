@@ -3,12 +3,10 @@ ghost use Rattle.std.specs.Prelude.{◌≡◌, Some, IfSome, IfNone};
 ghost use Rattle.state_flow.specs.Calls.{Collects, Ends};
 ghost use Rattle.state_waiting.specs.Waits.{AskedOn, Awaits, AwaitsWithin, Comes, MissedOn};
 
-use crate::bell::{Bell, pause};
 use crate::collected::{Collected, Turn};
-use crate::limit::Limit;
 use crate::seat::WatchedSeat;
-use crate::stopper::Stopper;
 use flow_terms::Word;
+use state_bell::{Bell, Limit, Stopper, pause};
 use state_flow::Collector;
 use std::marker::Model;
 use std::sync::{Arc, Wait};

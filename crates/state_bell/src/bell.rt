@@ -11,7 +11,7 @@ const PAUSE: u32 = 64;
 
 /// Lets some time pass before the next ask. The thread keeps its processor meanwhile: where others want it, who yields has it back
 /// only after a time slice of theirs, some milliseconds, while a thread that sleeps goes on soon after it was woken.
-pub(crate) fn pause() {
+pub fn pause() {
     for _ in 0..PAUSE {
         hint::spin_loop();
     }
@@ -27,7 +27,7 @@ pub(crate) fn pause() {
 /// A sleeper compares the low 32 bits of the turn. One that is held up between its load and its sleep while 4,294,967,296 rings
 /// come, or a multiple of that, sleeps until the next ring.
 #[derive(Drop)]
-pub(crate) struct Bell {
+pub struct Bell {
     // What threads sleep on: each ring adds to it.
     turn: AtomicU64,
     // How many sleep, or are about to.
@@ -37,7 +37,7 @@ pub(crate) struct Bell {
 }
 
 impl Bell {
-    pub(crate) fn new(alloc: Global) -> Result<Arc<Bell>, AllocError> {
+    pub fn new(alloc: Global) -> Result<Arc<Bell>, AllocError> {
         let bell = Bell {
             turn: AtomicU64::new(0),
             sleepers: AtomicU64::new(0),
@@ -47,7 +47,7 @@ impl Bell {
     }
 
     /// Wakes all who sleep, after a change of what they sleep for. Where nobody does it is one load.
-    pub(crate) fn ring(&self) {
+    pub fn ring(&self) {
         if self.sleepers.load(Ordering::SeqCst) != 0 {
             self.turn.fetch_add(1, Ordering::SeqCst);
             self.turn.wake_all();
@@ -55,18 +55,18 @@ impl Bell {
     }
 
     /// Lets go all who sleep, and who will.
-    pub(crate) fn let_go(&self) {
+    pub fn let_go(&self) {
         self.let_go.store(true, Ordering::SeqCst);
         self.ring();
     }
 
     /// Whether all were let go.
-    pub(crate) fn is_let_go(&self) -> bool {
+    pub fn is_let_go(&self) -> bool {
         self.let_go.load(Ordering::SeqCst)
     }
 
     /// One more is about to sleep.
-    pub(crate) fn lie_down(&self) {
+    pub fn lie_down(&self) {
         self.sleepers.fetch_add(1, Ordering::SeqCst);
     }
 
@@ -77,22 +77,22 @@ impl Bell {
     }
 
     /// One is up again.
-    pub(crate) fn rise(&self) {
+    pub fn rise(&self) {
         self.sleepers.fetch_sub(1, Ordering::SeqCst);
     }
 
     /// The turn, as far as a sleeper compares it.
-    pub(crate) fn turn(&self) -> u32 {
+    pub fn turn(&self) -> u32 {
         (self.turn.load(Ordering::SeqCst) % (1 << 32)) as u32
     }
 
     /// Sleeps until a ring, unless one came since this turn. It may also return for no reason.
-    pub(crate) fn sleep(&self, rt: &impl Wait, turn: u32) {
+    pub fn sleep(&self, rt: &impl Wait, turn: u32) {
         self.turn.park(rt, turn);
     }
 
     /// The same, for no longer than `time`.
-    pub(crate) fn sleep_for(&self, rt: &impl Wait, turn: u32, time: Duration) {
+    pub fn sleep_for(&self, rt: &impl Wait, turn: u32, time: Duration) {
         self.turn.park_timeout(rt, turn, time);
     }
 }

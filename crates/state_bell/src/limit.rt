@@ -4,13 +4,13 @@ use std::time::{Clock, Duration, Instant};
 
 /// A wait's longest time, and when it began to run: nothing where the clock couldn't be read.
 #[derive(Drop)]
-pub(crate) struct Limit {
+pub struct Limit {
     start: Option<Instant>,
     time: Duration,
 }
 
 impl Limit {
-    pub(crate) fn from_now(clock: &impl Clock, time: Duration) -> Limit {
+    pub fn from_now(clock: &impl Clock, time: Duration) -> Limit {
         Limit {
             start: Instant::now(clock).ok(),
             time,
@@ -18,7 +18,7 @@ impl Limit {
     }
 
     /// How much of it is left: nothing where the clock can't be read.
-    pub(crate) fn left(&self, clock: &impl Clock) -> Duration {
+    pub fn left(&self, clock: &impl Clock) -> Duration {
         let Some(start) = self.start else {
             return Duration::ZERO;
         };

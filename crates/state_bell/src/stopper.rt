@@ -1,16 +1,12 @@
 //! Who lets go one watcher alone.
-ghost use Rattle.std.specs.Prelude.{◌≡◌, IfErr};
-ghost use Rattle.flow_terms.specs.declared.refusal.Refusal.TheVariants.{NoMemory};
 
 use crate::bell::Bell;
-use flow_terms::Refusal;
 use std::alloc::{AllocError, Global};
 use std::sync::Arc;
 use std::sync::atomic::{AtomicBool, Ordering};
 
-/// Lets go one [`Watcher`](crate::Watcher), and none beside it: Kotlin's `Job.cancel` of a coroutine that collects. It is made by
-/// [`WatchedSeat::watcher_stopper`](crate::WatchedSeat::watcher_stopper), before the watching begins. Any number of them may be had,
-/// on any thread.
+/// Lets go one watcher of a state, and none beside it: Kotlin's `Job.cancel` of a coroutine that collects. It is had of the seat or
+/// the watcher that it is for. Any number of them may be had, on any thread.
 pub struct Stopper {
     mark: Arc<Mark>,
 }
@@ -31,9 +27,8 @@ struct Mark {
 }
 
 impl Stopper {
-    pub(crate) fn new(alloc: Global, bell: &Arc<Bell>) -> Result<Stopper, Refusal>
-        ensures { IfErr result (λ refusal. refusal ≡ NoMemory) }
-    {
+    /// A stopper of a watcher that sleeps by this bell. It is refused by the allocator alone.
+    pub fn new(alloc: Global, bell: &Arc<Bell>) -> Result<Stopper, AllocError> {
         let mark = Mark {
             is_stopped: AtomicBool::new(false),
             bell: Arc::try_clone(bell)?,
@@ -45,7 +40,7 @@ impl Stopper {
 
     /// From now on the watcher is let go: each of its waits, one that is on and each later one, is answered `Stopped` once it was
     /// given what was set before. Others that sleep on the state wake, find nothing new, and sleep on. It is for good; to stop once
-    /// more does nothing, nor does it after the watcher's [`cancel`](crate::Watcher::cancel).
+    /// more does nothing, nor does it once the watcher has ended.
     ///
     /// It takes no lock and no memory. That a wake arrives isn't claimed.
     pub fn stop(&self) {
@@ -53,7 +48,7 @@ impl Stopper {
         self.mark.bell.ring();
     }
 
-    /// Whether this watcher alone was let go. What [`WatchedSeat::stop`](crate::WatchedSeat::stop) lets go isn't asked.
+    /// Whether this watcher alone was let go. A stop of all who wait on the state isn't asked.
     pub fn is_stopped(&self) -> bool {
         self.mark.is_stopped.load(Ordering::SeqCst)
     }

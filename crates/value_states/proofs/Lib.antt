@@ -1,0 +1,4 @@
+pub mod Histories
+pub mod Calling
+pub mod Given
+pub mod Asking

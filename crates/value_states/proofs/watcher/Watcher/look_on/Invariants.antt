@@ -1,0 +1,5 @@
+use Rattle.value_states.specs.Watching.{MissedOn}
+use Rattle.value_states.proofs.watcher.Watcher.look_on.Given as goal
+
+abbrev pub invariant-loop : goal.invariant-loop
+invariant-loop g l = MissedOn l.initial.self l.self
