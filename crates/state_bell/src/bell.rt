@@ -70,9 +70,8 @@ impl Bell {
         self.sleepers.fetch_add(1, Ordering::SeqCst);
     }
 
-    /// How many sleep, or are about to.
-    #[cfg(test)]
-    pub(crate) fn sleepers(&self) -> u64 {
+    /// How many sleep, or are about to: who tests a state asks it, to see that nobody stays counted.
+    pub fn sleepers(&self) -> u64 {
         self.sleepers.load(Ordering::SeqCst)
     }
 
