@@ -139,16 +139,21 @@ pub trait Receive {
         self.look()
     }
 
-    /// Waits for the next value, until a moment where there is one.
+    /// Waits for the next value, until a moment where there is one. Many are woken at once, so who is looks first, and
+    /// takes no lock of theirs where it finds something.
     fn wait_until(&mut self, end: Option<Instant>) -> Result<Self::Item, RecvTimeoutError> {
         let mut found = self.spin();
         while let Found::Nothing = found {
             found = self.list_and_look(Sleeper::Thread(thread::current()));
-            if matches!(found, Found::Nothing) && !sleep_until(end) {
-                self.berth().strike();
-                return Err(RecvTimeoutError::Timeout);
+            if matches!(found, Found::Nothing) {
+                if !sleep_until(end) {
+                    self.berth().strike();
+                    return Err(RecvTimeoutError::Timeout);
+                }
+                found = self.look();
             }
         }
+        self.berth().strike();
         found.value().ok_or(RecvTimeoutError::Ended)
     }
 
