@@ -30,8 +30,8 @@
 //! that waits is asleep until there is room, [`emit`](Sender::emit) as a task and
 //! [`emit_blocking`](Sender::emit_blocking) as a thread. Of a [`Sequencer`] it has a [`Ticket`], or the try is `Full`.
 //!
-//! An emission waits for each receiver, the emitter's own among them. So who emits and receives does that on two threads,
-//! or in two tasks, or with more places than it emits between two receipts.
+//! An emission waits for each receiver, the emitter's own among them. So who emits and receives does that on two threads
+//! or in two tasks.
 //!
 //! ```
 //! use hillgauze::{Config, Policy, Sequencer, Tried};
