@@ -156,6 +156,9 @@ typedef struct hillgauze_config {
 /*
  * Each call may be refused as NULL_HANDLE or OTHER_KIND. A call that puts something in a handle is refused as
  * HANDLE_TAKEN where that one isn't null. Other refusals stand beside the call, in the order in which they come.
+ *
+ * `emitter` is a number of the caller's own for who emits, as the theorems tell emitters apart. It has no part in any
+ * answer, and nobody receives it: 0 serves.
  */
 
 /* ---- The shared flow on one thread ---- */

@@ -181,6 +181,10 @@ static inline hillgauze_reply hillgauze_look_for_room(void *handle, uint64_t *wo
  * Emits as hillgauze_lane_try_emit does, on a lane with places, and sleeps while that is FULL: for `most` nanoseconds at
  * most, or without an end. ACCEPTED, DROPPED, FULL where the time is over, or CLOSED where the end was told. Refused as
  * that is. A lane without places is FULL for as long as somebody reads.
+ *
+ * Where several threads emit, the sequencer lies behind a lock of theirs. They may hold it while this sleeps, since who
+ * reads makes room without it. This waits for each reader: a thread that emits and is itself late with a reader of its
+ * own sleeps for good.
  */
 static inline hillgauze_reply hillgauze_lane_emit(hillgauze_sequencer *sequencer, hillgauze_bells *bells,
                                                   uint32_t emitter, uint64_t value, int64_t most) {

@@ -4,6 +4,8 @@ use hillgauze::{Config, Receiver, Sender, Words};
 use std::error::Error;
 use std::thread;
 
+type Failure = Box<dyn Error + Send + Sync>;
+
 #[derive(Clone, Copy, PartialEq, Eq)]
 struct Reading {
     sensor: u16,
@@ -15,31 +17,27 @@ hillgauze::word!(Reading {
     tenths: i32
 });
 
-/// Emits all of them, in order. Where there is no room for the next one, that one waits for it.
-fn emit_all(readings: &[Reading], sender: &Sender<Reading, Words>) -> Result<(), Box<dyn Error>> {
+/// Emits all of them, in order: one that waits for room, and then as many as there is room for.
+fn emit_all(readings: &[Reading], sender: &Sender<Reading, Words>) -> Result<(), Failure> {
     let mut rest = readings;
-    while !rest.is_empty() {
-        rest = &rest[sender.try_emit_all(rest)? as usize..];
-        if let [next, later @ ..] = rest {
-            sender
-                .emit_blocking(*next)
-                .map_err(|error| error.to_string())?;
-            rest = later;
-        }
+    while let [next, later @ ..] = rest {
+        sender.emit_blocking(*next)?;
+        let accepted = sender.try_emit_all(later)?;
+        rest = &later[accepted as usize..];
     }
     Ok(())
 }
 
 fn sum(mut receiver: Receiver<Reading, Words>, sensor: u16) -> i64 {
     let (mut sum, mut block) = (0, Vec::with_capacity(256));
-    while receiver.recv_many(&mut block, 256) > 0 {
+    while receiver.recv_many_blocking(&mut block, 256) > 0 {
         let own = block.drain(..).filter(|reading| reading.sensor == sensor);
         sum += own.map(|reading| i64::from(reading.tenths)).sum::<i64>();
     }
     sum
 }
 
-fn main() -> Result<(), Box<dyn Error>> {
+fn main() -> Result<(), Failure> {
     let sender = Sender::of_words(Config {
         extra: 512,
         ..Config::default()

@@ -9,7 +9,7 @@ fn main() -> Result<(), Refusal> {
         ..Config::default()
     })?;
     let mut reader = sequencer.admit()?;
-    let summing = thread::spawn(move || std::iter::from_fn(|| reader.recv()).sum::<u64>());
+    let summing = thread::spawn(move || std::iter::from_fn(|| reader.recv_blocking()).sum::<u64>());
     for value in 1..=100 {
         while sequencer.try_emit(0, value)? == Tried::Full {
             thread::yield_now();

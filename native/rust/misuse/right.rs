@@ -14,8 +14,11 @@ fn main() {
         sequencer.try_emit(0, 1).unwrap();
         sequencer
     });
+    fn may_go_to_another_thread(_: impl Send) {}
+    may_go_to_another_thread(reader.recv());
+    may_go_to_another_thread(reader.recv_many(&mut Vec::new(), 2));
     let reading = thread::spawn(move || {
-        reader.recv();
+        reader.recv_blocking();
         reader.close()
     });
     drop((emitting.join(), reading.join()));
@@ -26,6 +29,7 @@ fn main() {
         scope.spawn(|| seat.set(1));
         scope.spawn(|| other.set(2));
     });
-    let collector = other.collect();
+    let mut collector = other.collect();
+    may_go_to_another_thread(collector.recv());
     seat.give_back(collector.cancel()).unwrap();
 }

@@ -22,5 +22,6 @@ fn main() {
     let words: Sender<u32, Words> = Sender::of_words(Config::default()).unwrap();
     let mut word: Receiver<u32, Words> = words.subscribe().unwrap();
     words.try_emit_all(&[1, 2]).unwrap();
-    word.recv_many(&mut Vec::new(), 2);
+    may_go_to_another_thread(word.recv_many(&mut Vec::new(), 2));
+    word.recv_many_blocking(&mut Vec::new(), 2);
 }

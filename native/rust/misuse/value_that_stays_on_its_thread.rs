@@ -19,5 +19,5 @@ impl Word for OfThisThread {
 }
 
 fn receive_elsewhere(mut reader: Reader<OfThisThread>) {
-    thread::spawn(move || drop(reader.recv())); // here
+    thread::spawn(move || drop(reader.recv_blocking())); // here
 }

@@ -4,7 +4,7 @@ use crate::iterators::{Iter, TryIter};
 use crate::raw::{self, Handle};
 use crate::sleepers::{Emitter, Sleepers};
 use crate::state_seat::StateSeat;
-use crate::waiting::{Berth, Receive, RecvTimeoutError};
+use crate::waiting::{Berth, Receive, Recv, RecvTimeoutError};
 use crate::word::Word;
 use std::fmt;
 use std::marker::PhantomData;
@@ -17,7 +17,8 @@ use std::time::Duration;
 /// asked, never the last value, and receives none out of order.
 ///
 /// [`try_next`](Collector::try_next) is the library's own call. What waits stands over it on Rust's side, and isn't
-/// proved. A collector can't set, so a flow of which only collectors are left has ended for those who wait, until one
+/// proved: a task waits by [`recv`](Collector::recv), a thread by [`recv_blocking`](Collector::recv_blocking) or
+/// [`recv_timeout`](Collector::recv_timeout). A collector can't set, so a flow of which only collectors are left has ended for those who wait, until one
 /// of them is [cancelled](Collector::cancel) and sets again.
 ///
 /// ```
@@ -28,10 +29,10 @@ use std::time::Duration;
 /// assert_eq!(collector.try_next(), Some(0));
 /// seat.set(1);
 /// seat.set(2);
-/// assert_eq!(collector.recv(), Some(2));
+/// assert_eq!(collector.recv_blocking(), Some(2));
 /// assert_eq!(collector.try_next(), None);
 /// drop(seat);
-/// assert_eq!(collector.recv(), None);
+/// assert_eq!(collector.recv_blocking(), None);
 /// # Ok::<(), hillgauze::Refusal>(())
 /// ```
 ///
@@ -59,9 +60,33 @@ impl<T: Word> Collector<T> {
         unsafe { raw::hillgauze_collector_try_next(self.handle.at()) }.value()
     }
 
-    /// The next value; waits until there is one, by a short spin and then a sleep of the thread. `None` where nobody is
-    /// left who could set, and there is nothing new.
-    pub fn recv(&mut self) -> Option<T> {
+    /// The next value, by a task that waits until there is one. `None` where nobody is left who could set, and there is
+    /// nothing new. Dropping it loses nothing: a value is given with the answer alone.
+    ///
+    /// ```
+    /// use hillgauze::Collector;
+    ///
+    /// async fn until_ready(mut is_ready: Collector<bool>) -> Option<bool> {
+    ///     loop {
+    ///         match is_ready.recv().await {
+    ///             Some(false) => {}
+    ///             ready_or_ended => return ready_or_ended,
+    ///         }
+    ///     }
+    /// }
+    /// ```
+    pub fn recv(&mut self) -> Recv<'_, Collector<T>> {
+        Recv::by(self)
+    }
+
+    /// The same as a poll. This has the shape of `poll_next` of the `Stream` of `futures`.
+    pub fn poll_next(&mut self, context: &mut Context<'_>) -> Poll<Option<T>> {
+        self.poll(context)
+    }
+
+    /// The next value, by this thread, which spins shortly and then sleeps until there is one. `None` as by
+    /// [`recv`](Collector::recv).
+    pub fn recv_blocking(&mut self) -> Option<T> {
         self.wait()
     }
 
@@ -70,17 +95,12 @@ impl<T: Word> Collector<T> {
         self.wait_for(most)
     }
 
-    /// The next value, or the end as `None`; where there is neither, the task is woken when it is worth another look.
-    pub fn poll_next(&mut self, context: &mut Context<'_>) -> Poll<Option<T>> {
-        self.poll(context)
-    }
-
     /// What is new now, value by value; it ends where nothing is, and then may go on later.
     pub fn try_iter(&mut self) -> TryIter<'_, Collector<T>> {
         TryIter::over(self)
     }
 
-    /// The values as they come, each by [`recv`](Collector::recv), until nobody is left who could set.
+    /// The values as they come, each by [`recv_blocking`](Collector::recv_blocking), until nobody is left who could set.
     pub fn iter(&mut self) -> Iter<'_, Collector<T>> {
         Iter::over(self)
     }

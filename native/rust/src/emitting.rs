@@ -148,9 +148,9 @@ enum Step<T> {
 ///
 /// It begins where it is polled first. Where it has to wait it stands in the line of the flow, behind those that came
 /// before it, and is accepted in its turn, by whoever makes room, also while its task isn't polled. Where it is dropped
-/// before that, it is taken back, and its value with it: Kotlin's `emit`, cancelled. Who has to know what became of it, as
-/// where a `select!` gave it up, calls [`withdraw`](Emission::withdraw). One that is forgotten (`mem::forget`) stays in the line, and
-/// is accepted in its turn, or withdrawn at the flow's end.
+/// before that, it is taken back, and its value with it: Kotlin's `emit`, cancelled. Who has to know what became of it puts
+/// `&mut emission` into a `select!`, and calls [`withdraw`](Emission::withdraw) where that took something else. One that is
+/// forgotten (`mem::forget`) stays in the line, and is accepted in its turn, or withdrawn at the flow's end.
 #[must_use = "an emission begins where it is polled"]
 pub struct Emission<'a, T, S: Storage<T> = Slots> {
     flow: &'a Flow<T, S>,

@@ -30,6 +30,9 @@
 //! that waits is asleep until there is room, [`emit`](Sender::emit) as a task and
 //! [`emit_blocking`](Sender::emit_blocking) as a thread. Of a [`Sequencer`] it has a [`Ticket`], or the try is `Full`.
 //!
+//! An emission waits for each receiver, the emitter's own among them. So who emits and receives does that on two threads
+//! or in two tasks.
+//!
 //! ```
 //! use hillgauze::{Config, Policy, Sequencer, Tried};
 //!
@@ -53,34 +56,32 @@
 //! whole list.
 //!
 //! # Blocks
-//! Values may go by the block, which costs less: [`Sequencer::try_emit_all`] looks at the readers once for as many as
-//! there is room for, and [`Reader::recv_many`] takes as many as are there, up to 64 by one step.
+//! Words may go by the block, which costs less: [`Sender::try_emit_all`] and [`Sequencer::try_emit_all`] look at the
+//! receivers once for as many as there is room for, and `recv_many` takes as many as are there, up to 64 by one step.
 //!
 //! ```
-//! use hillgauze::{Config, Sequencer};
+//! use hillgauze::{Config, Sender};
 //! use std::thread;
 //!
-//! let mut sequencer = Sequencer::new(Config { extra: 256, ..Config::default() })?;
-//! let mut reader = sequencer.admit()?;
+//! let sender = Sender::of_words(Config { extra: 256, ..Config::default() })?;
+//! let mut receiver = sender.subscribe()?;
 //! let summing = thread::spawn(move || {
 //!     let (mut sum, mut values) = (0, Vec::new());
-//!     while reader.recv_many(&mut values, 100) > 0 {
+//!     while receiver.recv_many_blocking(&mut values, 100) > 0 {
 //!         sum += values.drain(..).sum::<u64>();
 //!     }
 //!     sum
 //! });
 //! let values: Vec<u64> = (1..=1000).collect();
 //! let mut rest = &values[..];
-//! while !rest.is_empty() {
-//!     let accepted = sequencer.try_emit_all(0, rest)?;
-//!     if accepted == 0 {
-//!         thread::yield_now();
-//!     }
-//!     rest = &rest[accepted as usize..];
+//! while let [next, later @ ..] = rest {
+//!     sender.emit_blocking(*next)?; // waits for room
+//!     let accepted = sender.try_emit_all(later)?;
+//!     rest = &later[accepted as usize..];
 //! }
-//! drop(sequencer);
+//! drop(sender);
 //! assert_eq!(summing.join().unwrap(), 500_500);
-//! # Ok::<(), hillgauze::Refusal>(())
+//! # Ok::<(), Box<dyn std::error::Error>>(())
 //! ```
 //!
 //! # Want of memory
@@ -130,13 +131,13 @@ pub use emitting::{Emission, EmitError, EmitTimeoutError, Emitted, TryEmitError}
 pub use iterators::{IntoIter, Iter, TryIter};
 pub use keep::{Slots, Storage, Words};
 pub use reader::Reader;
-pub use receiver::{Received, Receiver, Recv, TryRecvError};
+pub use receiver::{Received, Receiver, TryRecvError};
 pub use refusal::Refusal;
 pub use sender::Sender;
 pub use sequencer::Sequencer;
 pub use shared_state::SharedState;
 pub use state_seat::StateSeat;
-pub use waiting::RecvTimeoutError;
+pub use waiting::{Recv, RecvMany, RecvTimeoutError};
 #[doc(hidden)]
 pub use word::Fields;
 pub use word::Word;

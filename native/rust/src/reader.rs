@@ -4,7 +4,7 @@ use crate::answers::{Closed, Taken};
 use crate::iterators::{IntoIter, Iter, TryIter};
 use crate::lane::Cursor;
 use crate::sleepers::Sleepers;
-use crate::waiting::{Berth, Many, Receive, ReceiveMany, RecvTimeoutError};
+use crate::waiting::{Berth, Many, Receive, ReceiveMany, Recv, RecvMany, RecvTimeoutError};
 use crate::word::Word;
 use std::fmt;
 use std::marker::PhantomData;
@@ -16,9 +16,9 @@ use std::time::Duration;
 /// its start on, once, in order, but for what the policy drops.
 ///
 /// [`try_next`](Reader::try_next) and [`try_next_all`](Reader::try_next_all) are the library's own calls. What waits
-/// stands over them on Rust's side, and isn't proved: [`recv`](Reader::recv), [`recv_many`](Reader::recv_many) and
-/// [`recv_timeout`](Reader::recv_timeout) let the thread sleep, [`poll_next`](Reader::poll_next) and
-/// [`poll_recv_many`](Reader::poll_recv_many) let a task sleep. A `for` loop waits for each value, and
+/// stands over them on Rust's side, and isn't proved: a task waits by [`recv`](Reader::recv) and
+/// [`recv_many`](Reader::recv_many), a thread by [`recv_blocking`](Reader::recv_blocking),
+/// [`recv_many_blocking`](Reader::recv_many_blocking), [`recv_timeout`](Reader::recv_timeout) or a `for` loop.
 /// [`try_iter`](Reader::try_iter) gives what is there now:
 ///
 /// ```
@@ -75,9 +75,32 @@ impl<T: Word> Reader<T> {
         self.cursor.try_next_all(values, most)
     }
 
-    /// The next value; waits until there is one, by a short spin and then a sleep of the thread. `None` once the
-    /// sequencer is gone and each value was received or dropped.
-    pub fn recv(&mut self) -> Option<T> {
+    /// The next value, by a task that waits until there is one. `None` once the sequencer is gone and each value was
+    /// received or dropped. Dropping it loses nothing: a value is received with the answer alone.
+    ///
+    /// ```
+    /// use hillgauze::Reader;
+    ///
+    /// async fn sum(mut reader: Reader<u64>) -> u64 {
+    ///     let mut sum = 0;
+    ///     while let Some(value) = reader.recv().await {
+    ///         sum += value;
+    ///     }
+    ///     sum
+    /// }
+    /// ```
+    pub fn recv(&mut self) -> Recv<'_, Reader<T>> {
+        Recv::by(self)
+    }
+
+    /// The same as a poll. This has the shape of `poll_next` of the `Stream` of `futures`.
+    pub fn poll_next(&mut self, context: &mut Context<'_>) -> Poll<Option<T>> {
+        self.poll(context)
+    }
+
+    /// The next value, by this thread, which spins shortly and then sleeps until there is one. `None` as by
+    /// [`recv`](Reader::recv).
+    pub fn recv_blocking(&mut self) -> Option<T> {
         self.wait()
     }
 
@@ -101,9 +124,30 @@ impl<T: Word> Reader<T> {
         self.wait_for(most)
     }
 
-    /// The next values, which it adds to `values`: as many as are there, `limit` of them at most. Waits until there is
-    /// one, as [`recv`](Reader::recv) does. Answers how many came: 0 where `limit` is 0, and once the sequencer is gone
-    /// and each value was received or dropped.
+    /// The next values, which it adds to `values`, by a task that waits until there is one: as many as are there, `limit`
+    /// of them at most. Answers how many came: 0 where `limit` is 0, and once the sequencer is gone and each value was
+    /// received or dropped. Dropping it loses nothing.
+    ///
+    /// ```
+    /// use hillgauze::Reader;
+    ///
+    /// async fn sum(mut reader: Reader<u64>) -> u64 {
+    ///     let (mut sum, mut values) = (0, Vec::new());
+    ///     while reader.recv_many(&mut values, 100).await > 0 {
+    ///         sum += values.drain(..).sum::<u64>();
+    ///     }
+    ///     sum
+    /// }
+    /// ```
+    pub fn recv_many<'a>(
+        &'a mut self,
+        values: &'a mut Vec<T>,
+        limit: usize,
+    ) -> RecvMany<'a, Reader<T>> {
+        RecvMany::by(self, values, limit)
+    }
+
+    /// The same by this thread, which spins shortly and then sleeps until there is one.
     ///
     /// ```
     /// use hillgauze::{Config, Sequencer};
@@ -113,30 +157,17 @@ impl<T: Word> Reader<T> {
     /// assert_eq!(sequencer.try_emit_all(0, &['a', 'b', 'c'])?, 3);
     /// drop(sequencer);
     /// let mut values = Vec::new();
-    /// assert_eq!(reader.recv_many(&mut values, 2), 2);
-    /// assert_eq!(reader.recv_many(&mut values, 2), 1);
-    /// assert_eq!(reader.recv_many(&mut values, 2), 0);
+    /// assert_eq!(reader.recv_many_blocking(&mut values, 2), 2);
+    /// assert_eq!(reader.recv_many_blocking(&mut values, 2), 1);
+    /// assert_eq!(reader.recv_many_blocking(&mut values, 2), 0);
     /// assert_eq!(values, ['a', 'b', 'c']);
     /// # Ok::<(), hillgauze::Refusal>(())
     /// ```
-    pub fn recv_many(&mut self, values: &mut Vec<T>, limit: usize) -> usize {
+    pub fn recv_many_blocking(&mut self, values: &mut Vec<T>, limit: usize) -> usize {
         Many::of(self, values, limit).map_or(0, |mut many| many.wait().unwrap_or(0))
     }
 
-    /// The same where a task waits, as by [`poll_next`](Reader::poll_next).
-    ///
-    /// ```
-    /// use hillgauze::Reader;
-    /// use std::future::poll_fn;
-    ///
-    /// async fn sum(mut reader: Reader<u64>) -> u64 {
-    ///     let (mut sum, mut values) = (0, Vec::new());
-    ///     while poll_fn(|context| reader.poll_recv_many(context, &mut values, 100)).await > 0 {
-    ///         sum += values.drain(..).sum::<u64>();
-    ///     }
-    ///     sum
-    /// }
-    /// ```
+    /// The same as a poll.
     pub fn poll_recv_many(
         &mut self,
         context: &mut Context<'_>,
@@ -154,27 +185,9 @@ impl<T: Word> Reader<T> {
         TryIter::over(self)
     }
 
-    /// The values as they come, each by [`recv`](Reader::recv), until the end.
+    /// The values as they come, each by [`recv_blocking`](Reader::recv_blocking), until the end.
     pub fn iter(&mut self) -> Iter<'_, Reader<T>> {
         Iter::over(self)
-    }
-
-    /// The next value, or the end as `None`; where there is neither, the task is woken when it is worth another look.
-    /// This has the shape of `poll_next` of the `Stream` of `futures`, and any executor can wait on it:
-    ///
-    /// ```
-    /// use hillgauze::{Reader, Word};
-    ///
-    /// async fn sum(mut reader: Reader<u64>) -> u64 {
-    ///     let mut sum = 0;
-    ///     while let Some(value) = std::future::poll_fn(|context| reader.poll_next(context)).await {
-    ///         sum += value;
-    ///     }
-    ///     sum
-    /// }
-    /// ```
-    pub fn poll_next(&mut self, context: &mut Context<'_>) -> Poll<Option<T>> {
-        self.poll(context)
     }
 
     /// The number of the emission at which it began: that of the oldest value of the replay cache, as it was then.

@@ -6,12 +6,10 @@ use crate::iterators::{IntoIter, Iter, TryIter};
 use crate::keep::{Slots, Storage, Words};
 use crate::lane::Cursor;
 use crate::refusal::Refusal;
-use crate::waiting::{Berth, Found, Many, Receive, ReceiveMany, RecvTimeoutError};
+use crate::waiting::{Berth, Found, Many, Receive, ReceiveMany, Recv, RecvMany, RecvTimeoutError};
 use crate::word::Word;
 use std::error::Error;
 use std::fmt;
-use std::future::Future;
-use std::pin::Pin;
 use std::sync::Arc;
 use std::task::{Context, Poll};
 use std::time::Duration;
@@ -112,8 +110,8 @@ impl<T, S: Storage<T>> Receiver<T, S> {
     ///     sum
     /// }
     /// ```
-    pub fn recv(&mut self) -> Recv<'_, T, S> {
-        Recv(self)
+    pub fn recv(&mut self) -> Recv<'_, Receiver<T, S>> {
+        Recv::by(self)
     }
 
     /// The same as a poll. This has the shape of `poll_next` of the `Stream` of `futures`.
@@ -270,9 +268,30 @@ impl<T, S: Storage<T>> Receive for Receiver<T, S> {
 }
 
 impl<T: Word> Receiver<T, Words> {
-    /// The next values, which it adds to `values`: as many as are there, `limit` of them at most. Waits by this thread until
-    /// there is one. Answers how many came: 0 where `limit` is 0, and once the flow has ended and each value was received
-    /// or dropped.
+    /// The next values, which it adds to `values`, by a task that waits until there is one: as many as are there, `limit`
+    /// of them at most. Answers how many came: 0 where `limit` is 0, and once the flow has ended and each value was
+    /// received or dropped. Dropping it loses nothing.
+    ///
+    /// ```
+    /// use hillgauze::{Receiver, Words};
+    ///
+    /// async fn sum(mut receiver: Receiver<u64, Words>) -> u64 {
+    ///     let (mut sum, mut values) = (0, Vec::new());
+    ///     while receiver.recv_many(&mut values, 100).await > 0 {
+    ///         sum += values.drain(..).sum::<u64>();
+    ///     }
+    ///     sum
+    /// }
+    /// ```
+    pub fn recv_many<'a>(
+        &'a mut self,
+        values: &'a mut Vec<T>,
+        limit: usize,
+    ) -> RecvMany<'a, Receiver<T, Words>> {
+        RecvMany::by(self, values, limit)
+    }
+
+    /// The same by this thread, which spins shortly and then sleeps until there is one.
     ///
     /// ```
     /// use hillgauze::{Config, Sender};
@@ -282,17 +301,17 @@ impl<T: Word> Receiver<T, Words> {
     /// assert_eq!(sender.try_emit_all(&['a', 'b', 'c', 'd'])?, 3);
     /// drop(sender);
     /// let mut values = Vec::new();
-    /// assert_eq!(receiver.recv_many(&mut values, 2), 2);
-    /// assert_eq!(receiver.recv_many(&mut values, 2), 1);
-    /// assert_eq!(receiver.recv_many(&mut values, 2), 0);
+    /// assert_eq!(receiver.recv_many_blocking(&mut values, 2), 2);
+    /// assert_eq!(receiver.recv_many_blocking(&mut values, 2), 1);
+    /// assert_eq!(receiver.recv_many_blocking(&mut values, 2), 0);
     /// assert_eq!(values, ['a', 'b', 'c']);
     /// # Ok::<(), hillgauze::Refusal>(())
     /// ```
-    pub fn recv_many(&mut self, values: &mut Vec<T>, limit: usize) -> usize {
+    pub fn recv_many_blocking(&mut self, values: &mut Vec<T>, limit: usize) -> usize {
         Many::of(self, values, limit).map_or(0, |mut many| many.wait().unwrap_or(0))
     }
 
-    /// The same where a task waits.
+    /// The same as a poll.
     pub fn poll_recv_many(
         &mut self,
         context: &mut Context<'_>,
@@ -354,30 +373,5 @@ impl<'a, T, S: Storage<T>> IntoIterator for &'a mut Receiver<T, S> {
 impl<T, S: Storage<T>> fmt::Debug for Receiver<T, S> {
     fn fmt(&self, f: &mut fmt::Formatter<'_>) -> fmt::Result {
         f.debug_struct("Receiver").finish_non_exhaustive()
-    }
-}
-
-/// The receipt of a value by a task: what [`Receiver::recv`] gives.
-#[must_use = "nothing is received before it is polled"]
-pub struct Recv<'a, T, S: Storage<T> = Slots>(&'a mut Receiver<T, S>);
-
-impl<T, S: Storage<T>> Future for Recv<'_, T, S> {
-    type Output = Option<T>;
-
-    fn poll(mut self: Pin<&mut Self>, context: &mut Context<'_>) -> Poll<Option<T>> {
-        self.0.poll(context)
-    }
-}
-
-/// Its task isn't woken for it any more.
-impl<T, S: Storage<T>> Drop for Recv<'_, T, S> {
-    fn drop(&mut self) {
-        self.0.berth.strike();
-    }
-}
-
-impl<T, S: Storage<T>> fmt::Debug for Recv<'_, T, S> {
-    fn fmt(&self, f: &mut fmt::Formatter<'_>) -> fmt::Result {
-        f.debug_struct("Recv").finish_non_exhaustive()
     }
 }

@@ -25,7 +25,7 @@ use std::time::Duration;
 /// oldest value, or the new value is dropped. Those that wait are accepted in the order in which they began to.
 ///
 /// The flow ends once no sender is left, or by [`close`](Sender::close): its receivers take what was accepted, and then
-/// have ended. Kotlin's flows never end.
+/// have ended. So one that receives until the end drops its own sender first. Kotlin's flows never end.
 ///
 /// ```
 /// use hillgauze::{Config, Sender};

@@ -27,7 +27,7 @@ use std::marker::PhantomData;
 /// let mut reader = sequencer.admit()?;
 /// let summing = thread::spawn(move || {
 ///     let mut sum = 0;
-///     while let Some(value) = reader.recv() {
+///     while let Some(value) = reader.recv_blocking() {
 ///         sum += value;
 ///     }
 ///     sum
@@ -102,7 +102,7 @@ impl<T: Word> Sequencer<T> {
     /// let mut reader = sequencer.admit()?;
     /// assert_eq!(sequencer.try_emit_all(0, &['a', 'b', 'c', 'd', 'e'])?, 3);
     /// let mut values = Vec::new();
-    /// assert_eq!(reader.recv_many(&mut values, 10), 3);
+    /// assert_eq!(reader.recv_many_blocking(&mut values, 10), 3);
     /// assert_eq!(values, ['a', 'b', 'c']);
     /// # Ok::<(), hillgauze::Refusal>(())
     /// ```

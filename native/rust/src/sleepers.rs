@@ -16,6 +16,9 @@
 //! comes before 2, and the sleeper finds the value at its second look. Steps a and 2 are inside the library, whose
 //! every atomic step is sequentially consistent.
 //!
+//! Who found something strikes itself off, unless it loads a count of 0. It stored a greater one when it listed itself, so
+//! that is a later store, of one who found the list empty: it was taken off.
+//!
 //! The end is told in the same way: the last emitter counts itself off, then wakes all; a sleeper that lists itself and
 //! looks again loads that count before it looks into the flow, so that the last value is found before the end is.
 //!
@@ -165,8 +168,11 @@ impl Sleepers {
         place
     }
 
-    /// Takes a receiver off the list.
+    /// Takes a receiver off the list, that listed itself before. One load where nobody is listed.
     pub(crate) fn strike(&self, number: u64, place: usize) {
+        if self.count.load(SeqCst) == 0 {
+            return;
+        }
         let mut listed = self.lock();
         let before = listed.take(number, place);
         self.count.store(listed.count, SeqCst);

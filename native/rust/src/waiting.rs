@@ -6,7 +6,9 @@ use crate::sleepers::{Sleeper, Sleepers};
 use std::cell::Cell;
 use std::error::Error;
 use std::fmt;
+use std::future::Future;
 use std::hint;
+use std::pin::Pin;
 use std::sync::Arc;
 use std::task::{Context, Poll};
 use std::thread;
@@ -137,16 +139,21 @@ pub trait Receive {
         self.look()
     }
 
-    /// Waits for the next value, until a moment where there is one.
+    /// Waits for the next value, until a moment where there is one. Many are woken at once, so who is looks first, and
+    /// takes no lock of theirs where it finds something.
     fn wait_until(&mut self, end: Option<Instant>) -> Result<Self::Item, RecvTimeoutError> {
         let mut found = self.spin();
         while let Found::Nothing = found {
             found = self.list_and_look(Sleeper::Thread(thread::current()));
-            if matches!(found, Found::Nothing) && !sleep_until(end) {
-                self.berth().strike();
-                return Err(RecvTimeoutError::Timeout);
+            if matches!(found, Found::Nothing) {
+                if !sleep_until(end) {
+                    self.berth().strike();
+                    return Err(RecvTimeoutError::Timeout);
+                }
+                found = self.look();
             }
         }
+        self.berth().strike();
         found.value().ok_or(RecvTimeoutError::Ended)
     }
 
@@ -221,6 +228,77 @@ impl<R: ReceiveMany> Receive for Many<'_, R> {
             }
         }
         (left < self.limit).then_some(self.limit - left)
+    }
+}
+
+/// The receipt of a value by a task: what `recv` of a receiver, a reader or a collector gives.
+#[must_use = "nothing is received before it is polled"]
+pub struct Recv<'a, R: Receive>(&'a mut R);
+
+impl<'a, R: Receive> Recv<'a, R> {
+    pub(crate) fn by(receiver: &'a mut R) -> Recv<'a, R> {
+        Recv(receiver)
+    }
+}
+
+impl<R: Receive> Future for Recv<'_, R> {
+    type Output = Option<R::Item>;
+
+    fn poll(mut self: Pin<&mut Self>, context: &mut Context<'_>) -> Poll<Option<R::Item>> {
+        self.0.poll(context)
+    }
+}
+
+/// Its task isn't woken for it any more.
+impl<R: Receive> Drop for Recv<'_, R> {
+    fn drop(&mut self) {
+        self.0.berth().strike();
+    }
+}
+
+impl<R: Receive> fmt::Debug for Recv<'_, R> {
+    fn fmt(&self, f: &mut fmt::Formatter<'_>) -> fmt::Result {
+        f.debug_struct("Recv").finish_non_exhaustive()
+    }
+}
+
+/// The receipt of several values by a task: what `recv_many` of a receiver or a reader gives.
+#[must_use = "nothing is received before it is polled"]
+pub struct RecvMany<'a, R: ReceiveMany>(Option<Many<'a, R>>);
+
+impl<'a, R: ReceiveMany> RecvMany<'a, R> {
+    pub(crate) fn by(
+        receiver: &'a mut R,
+        values: &'a mut Vec<R::Item>,
+        limit: usize,
+    ) -> RecvMany<'a, R> {
+        RecvMany(Many::of(receiver, values, limit))
+    }
+}
+
+impl<R: ReceiveMany> Future for RecvMany<'_, R> {
+    type Output = usize;
+
+    fn poll(mut self: Pin<&mut Self>, context: &mut Context<'_>) -> Poll<usize> {
+        match &mut self.0 {
+            Some(many) => many.poll(context).map(|count| count.unwrap_or(0)),
+            None => Poll::Ready(0),
+        }
+    }
+}
+
+/// Its task isn't woken for it any more.
+impl<R: ReceiveMany> Drop for RecvMany<'_, R> {
+    fn drop(&mut self) {
+        if let Some(many) = &self.0 {
+            many.berth().strike();
+        }
+    }
+}
+
+impl<R: ReceiveMany> fmt::Debug for RecvMany<'_, R> {
+    fn fmt(&self, f: &mut fmt::Formatter<'_>) -> fmt::Result {
+        f.debug_struct("RecvMany").finish_non_exhaustive()
     }
 }
 

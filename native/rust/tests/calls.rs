@@ -139,8 +139,11 @@ fn accepted_by_both(config: Config) -> [(u64, Vec<u64>); 2] {
     let of_lane = sequencer.try_emit_all(0, &values).unwrap();
     drop(sequencer);
     let mut from_lane = Vec::new();
-    assert_eq!(reader.recv_many(&mut from_lane, 200), from_lane.len());
-    assert_eq!(reader.recv_many(&mut from_lane, 200), 0);
+    assert_eq!(
+        reader.recv_many_blocking(&mut from_lane, 200),
+        from_lane.len()
+    );
+    assert_eq!(reader.recv_many_blocking(&mut from_lane, 200), 0);
     [(of_flow, from_flow), (of_lane, from_lane)]
 }
 
@@ -256,18 +259,18 @@ fn a_reader_takes_64_at_once() {
     assert_eq!(reader.try_next_all(&mut came, 0), Taken::Nothing);
     assert_eq!(sequencer.try_emit_all(0, &values), Ok(100));
     assert_eq!(reader.try_next_all(&mut came, 0), Taken::Value(0));
-    assert_eq!(reader.recv_many(&mut came, 0), 0);
+    assert_eq!(reader.recv_many_blocking(&mut came, 0), 0);
     assert_eq!(reader.try_next_all(&mut came, 2), Taken::Value(2));
     assert_eq!(reader.try_next_all(&mut came, usize::MAX), Taken::Value(64));
     assert_eq!(counts(&reader), (0, 66, 0));
     assert_eq!(reader.try_next(), Taken::Value(16));
     assert_eq!(sequencer.try_emit_all(0, &values), Ok(67));
-    assert_eq!(reader.recv_many(&mut came, 99), 99);
-    assert_eq!(reader.recv_many(&mut came, usize::MAX), 1);
+    assert_eq!(reader.recv_many_blocking(&mut came, 99), 99);
+    assert_eq!(reader.recv_many_blocking(&mut came, usize::MAX), 1);
     let wanted = [7].iter().chain(&values[..66]).chain(&values[67..]);
     assert!(came.iter().eq(wanted.chain(&values[..67])));
     drop(sequencer);
-    assert_eq!(reader.recv_many(&mut came, usize::MAX), 0);
+    assert_eq!(reader.recv_many_blocking(&mut came, usize::MAX), 0);
     assert_eq!(counts(&reader), (0, 167, 0));
 }
 
@@ -281,16 +284,16 @@ fn a_block_lets_in_what_waits() {
     let first = waiting(sequencer.start_emit(0, 3), 0);
     let second = waiting(sequencer.start_emit(0, 4), 1);
     assert_eq!(sequencer.try_emit_all(0, &[5, 6]), Ok(0));
-    assert_eq!(reader.recv_many(&mut came, 1), 1);
+    assert_eq!(reader.recv_many_blocking(&mut came, 1), 1);
     assert_eq!(sequencer.try_emit_all(0, &[5, 6]), Ok(0));
     assert_eq!(sequencer.poll_emit(first), Emit::Done(2));
     assert_eq!(sequencer.poll_emit(second), Emit::Waiting);
-    assert_eq!(reader.recv_many(&mut came, 1), 1);
+    assert_eq!(reader.recv_many_blocking(&mut came, 1), 1);
     assert_eq!(sequencer.try_emit_all(0, &[]), Ok(0));
     assert_eq!(sequencer.poll_emit(second), Emit::Done(3));
-    assert_eq!(reader.recv_many(&mut came, 9), 2);
+    assert_eq!(reader.recv_many_blocking(&mut came, 9), 2);
     assert_eq!(sequencer.try_emit_all(0, &[5, 6]), Ok(2));
-    assert_eq!(reader.recv_many(&mut came, 9), 2);
+    assert_eq!(reader.recv_many_blocking(&mut came, 9), 2);
     assert_eq!(came, [1, 2, 3, 4, 5, 6]);
 }
 

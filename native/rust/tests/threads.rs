@@ -4,7 +4,7 @@ use hillgauze::{
     Closed, Collector, Config, Policy, Reader, RecvTimeoutError, Sequencer, StateSeat, Taken,
     Tried, Word,
 };
-use std::future::{poll_fn, Future};
+use std::future::Future;
 use std::panic::{catch_unwind, AssertUnwindSafe};
 use std::pin::pin;
 use std::sync::atomic::{AtomicBool, Ordering::SeqCst};
@@ -41,7 +41,7 @@ fn emit(sequencer: &mut Sequencer<u64>, value: u64) -> Option<u64> {
 /// All that the reader receives until the end, by sleeping.
 fn slept(mut reader: Reader<u64>) -> (Vec<u64>, Closed) {
     let mut values = Vec::new();
-    while let Some(value) = reader.recv() {
+    while let Some(value) = reader.recv_blocking() {
         values.push(value);
     }
     (values, reader.close())
@@ -163,7 +163,7 @@ fn slept_for_blocks(mut reader: Reader<u64>) -> (Vec<u64>, Closed) {
     let mut values = Vec::new();
     loop {
         let (before, most) = (values.len(), size());
-        let count = reader.recv_many(&mut values, most);
+        let count = reader.recv_many_blocking(&mut values, most);
         assert!(count <= most && values.len() == before + count);
         if count == 0 {
             return (values, reader.close());
@@ -305,7 +305,7 @@ fn two_threads_count_one_state_up() {
     let mut collector = one.take_seat(0).unwrap().collect();
     let collecting = thread::spawn(move || {
         let mut values = Vec::new();
-        while let Some(value) = collector.recv() {
+        while let Some(value) = collector.recv_blocking() {
             values.push(value);
         }
         values
@@ -384,7 +384,7 @@ fn block_on<T>(future: impl Future<Output = T>) -> T {
 }
 
 fn next<T: Word>(reader: &mut Reader<T>) -> Option<T> {
-    block_on(poll_fn(|context| reader.poll_next(context)))
+    block_on(reader.recv())
 }
 
 /// Sends back each turn that comes.
@@ -412,9 +412,7 @@ fn no_wake_up_is_lost_between_two() {
 /// The next values, as many as come, up to three.
 fn next_few<T: Word>(reader: &mut Reader<T>) -> Vec<T> {
     let mut values = Vec::new();
-    let count = block_on(poll_fn(|context| {
-        reader.poll_recv_many(context, &mut values, 3)
-    }));
+    let count = block_on(reader.recv_many(&mut values, 3));
     assert_eq!(values.len(), count);
     values
 }
@@ -458,7 +456,7 @@ fn no_wake_up_is_lost_between_two_by_the_block() {
     assert!(next_few(&mut answered).is_empty());
 }
 
-/// A thread that sleeps in `recv_many` is woken by a block, and at the end.
+/// A thread that sleeps in `recv_many_blocking` is woken by a block, and at the end.
 #[test]
 fn a_block_wakes_a_thread() {
     let mut sequencer = lane(Policy::Suspend, 8);
@@ -467,7 +465,7 @@ fn a_block_wakes_a_thread() {
     let mut collector = heard.take_seat(0).unwrap().collect();
     let listening = thread::spawn(move || {
         let mut values = Vec::new();
-        while reader.recv_many(&mut values, 8) > 0 {
+        while reader.recv_many_blocking(&mut values, 8) > 0 {
             heard.set(values.len() as u64);
         }
         values
@@ -478,6 +476,37 @@ fn a_block_wakes_a_thread() {
     }
     drop(sequencer);
     assert_eq!(listening.join().unwrap().len(), 4000);
+}
+
+/// A task that gave up its wait isn't woken for it, and has received nothing.
+#[test]
+fn a_wait_that_is_given_up_wakes_nobody_and_loses_nothing() {
+    let mut sequencer = lane(Policy::Suspend, 4);
+    let (mut one, mut many) = (sequencer.admit().unwrap(), sequencer.admit().unwrap());
+    let mut seat = StateSeat::new(0u64, 2).unwrap();
+    let mut collector = seat.take_seat(0).unwrap().collect();
+    assert_eq!(block_on(collector.recv()), Some(0));
+    let noting = Arc::new(Noting(AtomicBool::new(false)));
+    let waker = Waker::from(Arc::clone(&noting));
+    let mut context = Context::from_waker(&waker);
+    let mut came = Vec::new();
+    assert!(pin!(one.recv()).poll(&mut context).is_pending());
+    assert!(pin!(many.recv_many(&mut came, 3))
+        .poll(&mut context)
+        .is_pending());
+    assert!(pin!(collector.recv()).poll(&mut context).is_pending());
+    assert_eq!(emit(&mut sequencer, 7), Some(0));
+    seat.set(8);
+    assert!(!noting.0.load(SeqCst));
+    assert_eq!(block_on(one.recv()), Some(7));
+    assert_eq!(block_on(many.recv_many(&mut came, 0)), 0);
+    assert_eq!(block_on(many.recv_many(&mut came, 3)), 1);
+    assert_eq!(came, [7]);
+    assert_eq!(block_on(collector.recv()), Some(8));
+    drop((sequencer, seat));
+    assert_eq!(block_on(one.recv()), None);
+    assert_eq!(block_on(many.recv_many(&mut came, 3)), 0);
+    assert_eq!(block_on(collector.recv()), None);
 }
 
 /// A value of whose words some can't be made.

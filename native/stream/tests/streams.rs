@@ -66,7 +66,7 @@ fn a_reader_and_a_collector_are_streams_too() {
     for number in 0..3u64 {
         assert_eq!(sequencer.try_emit(0, number), Ok(Tried::Accepted(number)));
     }
-    assert_eq!(values.get_mut().recv(), Some(0));
+    assert_eq!(values.get_mut().recv_blocking(), Some(0));
     drop(sequencer);
     assert_eq!(values.get_ref().received(), 1);
     assert_eq!(all(values), [1, 2]);

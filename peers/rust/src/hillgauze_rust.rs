@@ -79,7 +79,7 @@ impl Blocked for RustLane {
     fn sum_of(mut reader: Reader<u64>, count: u64) -> u64 {
         let mut sum = 0u64;
         for _ in 0..count {
-            sum = sum.wrapping_add(reader.recv().unwrap());
+            sum = sum.wrapping_add(reader.recv_blocking().unwrap());
         }
         sum
     }
@@ -107,7 +107,7 @@ impl<const BLOCK: usize> Blocked for RustLaneBy<BLOCK> {
         let (mut taken, mut sum) = (0, 0u64);
         while taken < count {
             values.clear();
-            taken += reader.recv_many(&mut values, BLOCK) as u64;
+            taken += reader.recv_many_blocking(&mut values, BLOCK) as u64;
             sum = sum.wrapping_add(sum_of_values(&values));
         }
         sum

@@ -124,7 +124,7 @@ impl Talks for RustLane {
     }
 
     fn hear(reader: &mut Self::Reader) -> u64 {
-        reader.recv().unwrap()
+        reader.recv_blocking().unwrap()
     }
 }
 
@@ -156,6 +156,6 @@ impl Talks for RustState {
     }
 
     fn hear(collector: &mut Collector<u64>) -> u64 {
-        collector.recv().unwrap()
+        collector.recv_blocking().unwrap()
     }
 }

@@ -56,13 +56,13 @@ fn words_go_the_same_way() {
     assert_eq!(sender.try_emit_all(&[-2, -3, -4]), Ok(2));
     assert_eq!(sender.try_emit(-4), Err(TryEmitError::Full(-4)));
     let mut values = vec![0];
-    assert_eq!(receiver.recv_many(&mut values, 2), 2);
+    assert_eq!(receiver.recv_many_blocking(&mut values, 2), 2);
     assert_eq!(sender.try_emit_all(&[-4, -5, -6]), Ok(2));
-    assert_eq!(receiver.recv_many(&mut values, 9), 3);
+    assert_eq!(receiver.recv_many_blocking(&mut values, 9), 3);
     assert_eq!(values, [0, -1, -2, -3, -4, -5]);
     sender.close();
     assert_eq!(sender.try_emit_all(&[-6]), Ok(0));
-    assert_eq!(receiver.recv_many(&mut values, 9), 0);
+    assert_eq!(receiver.recv_many_blocking(&mut values, 9), 0);
     assert_eq!(
         receiver.close(),
         Closed {

@@ -308,6 +308,66 @@ fn come_and_go(guest: u64, sender: &Sender<Counted>, is_over: &AtomicBool) -> u6
     got
 }
 
+/// What a member emits each time it is there.
+const SAID: u64 = 10;
+
+/// Members come and go while others stay, and each emits and receives. One receives all from the first value on: what a
+/// member received is one piece of that, from the number on at which it began.
+#[test]
+fn who_comes_and_goes_gets_one_piece_of_the_whole() {
+    const MEMBERS: u64 = 6;
+    for (replay, places) in [(2, 2), (0, 1), (0, 0), (1, 8)] {
+        let sender = Sender::new(Config {
+            replay,
+            ..with_places(places)
+        })
+        .unwrap();
+        let mut receiver = sender.subscribe().unwrap();
+        let members: Vec<_> = (0..MEMBERS)
+            .map(|member| {
+                let sender = sender.clone();
+                thread::spawn(move || pieces_of(member, &sender))
+            })
+            .collect();
+        drop(sender);
+        let whole: Vec<u64> = std::iter::from_fn(|| next(By::Thread, &mut receiver)).collect();
+        let mut came = whole.clone();
+        came.sort_unstable();
+        assert!(came.into_iter().eq(0..MEMBERS * TIMES * SAID));
+        for (start, piece) in members
+            .into_iter()
+            .flat_map(|pieces| pieces.join().unwrap())
+        {
+            assert!(whole[start..].starts_with(&piece), "a piece has a gap");
+        }
+    }
+}
+
+/// How often a member comes.
+const TIMES: u64 = 150;
+
+/// What a member received each time that it was there, until its own last value, and where that begins.
+fn pieces_of(member: u64, sender: &Sender<u64>) -> Vec<(usize, Vec<u64>)> {
+    let by = [By::Task, By::Thread][member as usize % 2];
+    let be_there = |time| {
+        let mut receiver = sender.subscribe().unwrap();
+        let first = (member * TIMES + time) * SAID;
+        let last = first + SAID - 1;
+        let hearing = thread::spawn(move || {
+            let mut piece = Vec::new();
+            while piece.last() != Some(&last) {
+                piece.extend(next(by, &mut receiver));
+            }
+            (receiver.start() as usize, piece)
+        });
+        for value in first..=last {
+            emit(by, sender, value);
+        }
+        hearing.join().unwrap()
+    };
+    (0..TIMES).map(be_there).collect()
+}
+
 /// Emissions are given up at any time, by a limit of time or by a drop after a poll: what is given up comes to nobody, what
 /// isn't comes once, and none is forgotten.
 #[test]

@@ -191,7 +191,7 @@ fn received_after_the_end(extra: u64, last: u32) -> (Vec<u32>, u64) {
     send(&mut sequencer, 1..=last);
     drop(sequencer);
     let mut values = Vec::new();
-    while let Some(value) = reader.recv() {
+    while let Some(value) = reader.recv_blocking() {
         values.push(value);
     }
     (values, reader.dropped())

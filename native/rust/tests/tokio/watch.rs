@@ -73,8 +73,8 @@ fn the_last_value_is_found_before_the_end() {
 fn where_nobody_sets_a_collector_gets_the_value_and_then_the_end() {
     let (seat, mut collector) = watched_by_one(1);
     drop(seat);
-    assert_eq!(collector.recv(), Some(1));
-    assert_eq!(collector.recv(), None);
+    assert_eq!(collector.recv_blocking(), Some(1));
+    assert_eq!(collector.recv_blocking(), None);
 }
 
 #[test]
@@ -119,8 +119,8 @@ fn a_collector_that_becomes_a_seat_can_set_again() {
     let (seat, mut collectors) = watched(1, 2);
     let mut waiting = collectors.remove(0);
     drop(seat);
-    assert_eq!(waiting.recv(), Some(1));
-    assert_eq!(waiting.recv(), None);
+    assert_eq!(waiting.recv_blocking(), Some(1));
+    assert_eq!(waiting.recv_blocking(), None);
     let mut seat = collectors.remove(0).cancel();
     let task = Task::default();
     assert_eq!(poll(&task, &mut waiting), Poll::Pending);
