@@ -11,6 +11,8 @@ mod core_rows;
 #[cfg(test)]
 mod flow_body;
 #[cfg(test)]
+mod given_back;
+#[cfg(test)]
 mod lane_blocks;
 #[cfg(test)]
 mod lane_body;
