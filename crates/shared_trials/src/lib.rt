@@ -9,17 +9,11 @@ mod block_threads;
 #[cfg(test)]
 mod exchange_rows;
 #[cfg(test)]
-mod given_back;
-#[cfg(test)]
 mod ledger;
 #[cfg(test)]
 mod meeting;
 #[cfg(test)]
 mod memory_rows;
-#[cfg(test)]
-mod pages;
-#[cfg(test)]
-mod parkers;
 #[cfg(test)]
 mod scarce;
 #[cfg(test)]

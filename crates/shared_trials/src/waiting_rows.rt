@@ -43,7 +43,7 @@ pub(crate) fn received<R: Wait>(
 
 // How often, of so many values, one that waits for the next lets it in itself: its looks before it would sleep find nothing, since
 // the emission waits for another subscription, whose receipt wakes nobody, and its look under the lock lets that emission in.
-pub(crate) fn let_in<R: Wait + Abort>(
+fn let_in<R: Wait + Abort>(
     rt: &R,
     flow: &mut SharedFlow<u64>,
     parker: &mut Parker,
