@@ -1,9 +1,9 @@
 //! What the operators of the example are given: Kotlin's lambdas.
 
-ghost use Rattle.std.specs.Prelude.{◌≡◌, ◌+◌, ◌%◌, ◌^◌, nat_lt};
+ghost use Rattle.std.specs.Prelude.{◌≡◌, ◌+◌, ◌/◌, ◌%◌, ◌^◌, ◌==◌, Some, None, nat_lt, if◌then◌else◌};
 
-use crate::operators::act::Act;
 use cold_flow::Apply;
+use more_operators::Act;
 
 /// Kotlin's `{ sum, value -> sum + value }`, modulo 2^64.
 #[derive(Clone, Copy)]
@@ -32,6 +32,24 @@ impl Apply<u64> for Below {
 
     fn apply(&self, value: u64) -> bool {
         value < self.limit
+    }
+}
+
+/// Kotlin's `{ if (it % 2 == 0) it / 2 else null }`.
+#[derive(Clone, Copy)]
+pub struct Half;
+
+impl Apply<u64> for Half {
+    type Out = Option<u64>;
+
+    ghost gives = { λ _ value. if value % 2 == 0 then Some (value / 2) else None };
+
+    fn apply(&self, value: u64) -> Option<u64> {
+        if value % 2 == 0 {
+            Some(value / 2)
+        } else {
+            None
+        }
     }
 }
 

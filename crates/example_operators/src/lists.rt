@@ -1,22 +1,25 @@
 //! Chains over the operators. What comes out of each is its contract.
 
-ghost use Rattle.std.specs.Prelude.{◌≡◌, ◌⊎◌, ◌-◌, ℕ, None, nat_lt, IfOk};
+ghost use Rattle.std.specs.Prelude.{◌≡◌, ◌⊎◌, ◌-◌, ℕ, [], ◌∷◌, None, true, nat_lt, filter_map as chosen_values, IfOk};
 ghost use Rattle.std.specs.List.{range_with_len};
+ghost use Rattle.flow_terms.specs.declared.few.Few.TheVariants.{One};
 ghost use Rattle.cold_flow.specs.declared.cause.Cause.TheVariants.{Finished, Failed};
-ghost use Rattle.cold_flow.specs.Trace.{ended_by};
-ghost use Rattle.example_operators.specs.Quiet.{debounced};
-ghost use Rattle.example_operators.specs.Retry.{retried, IsUnstarted};
-ghost use Rattle.example_operators.specs.Scan.{scan_trace};
-ghost use Rattle.example_operators.specs.While.{while_trace};
+ghost use Rattle.cold_flow.specs.Trace.{ended_by, on_values};
+ghost use Rattle.more_operators.specs.DropWhile.{dropped_while};
+ghost use Rattle.more_operators.specs.Empty.{or_else};
+ghost use Rattle.more_operators.specs.Quiet.{debounced};
+ghost use Rattle.more_operators.specs.Retry.{behind, retried, IsUnstarted};
+ghost use Rattle.more_operators.specs.Scan.{scan_trace};
+ghost use Rattle.more_operators.specs.While.{while_trace};
+ghost use Rattle.example_operators.specs.Pairs.{pairs_after};
 
 use crate::lambdas::{Below, Tally};
-use crate::operators::debounce::{debounce, list_at};
-use crate::operators::on_each::on_each;
-use crate::operators::retry::retry;
-use crate::operators::scan::scan;
-use crate::operators::take_while::take_while;
-use cold_flow::{Apply, Collected, Event, Flow, Refusal, failing, range, to_list};
+use crate::pairs::zip_with_next;
+use cold_flow::{Apply, Collected, Event, Few, Flow, Refusal, failing, range, to_list};
 use futures::task::Context;
+use more_operators::{
+    debounce, drop_while, filter_map, list_at, on_each, on_empty, on_start, retry, scan, take_while,
+};
 use std::alloc::Global;
 
 /// Kotlin's `(1..<to).asFlow().scan(0, function).takeWhile { it < limit }.toList()`.
@@ -31,6 +34,47 @@ pub fn states<G: Apply<(u64, u64), Out = u64>>(
         (scan_trace (G.gives function) 0 (ended_by (range_with_len 1 (to - 1)) Finished))) }
 {
     let flow = take_while(scan(range::<()>(1, to), 0, function), Below { limit });
+    to_list(alloc, flow.start()?, cx)
+}
+
+/// Six operators: Kotlin's `(1..<to).asFlow().onStart { emit(first) }.mapNotNull(choose).dropWhile(early).takeWhile(wanted)
+/// .onEmpty { emit(0) }.scan(0, function).toList()`.
+pub fn six<
+    C: Apply<u64, Out = Option<u64>>,
+    H: Apply<u64, Out = bool>,
+    J: Apply<u64, Out = bool>,
+    G: Apply<(u64, u64), Out = u64>,
+>(
+    alloc: Global,
+    to: u64,
+    first: u64,
+    choose: C,
+    early: H,
+    wanted: J,
+    function: G,
+    cx: &mut Context<'_>,
+) -> Result<Collected<u64, ()>, Refusal>
+    ensures { let whole = ended_by (range_with_len 1 (to - 1)) Finished in
+        let chosen = on_values (chosen_values (C.gives choose)) (behind (first ∷ []) whole) in
+        let passed = while_trace (J.gives wanted) (on_values (dropped_while (H.gives early) true) chosen) in
+        IfOk result (λ list. ended_by list.values.items list.cause ≡ scan_trace (G.gives function) 0 (or_else (One 0) passed)) }
+{
+    let chosen = filter_map(on_start(range::<()>(1, to), Few::One(first)), choose);
+    let passed = take_while(drop_while(chosen, early), wanted);
+    let flow = scan(on_empty(passed, Few::One(0)), 0, function);
+    to_list(alloc, flow.start()?, cx)
+}
+
+/// Kotlin's `(1..<to).asFlow().toList().zipWithNext()`, by an operator of one's own.
+pub fn pairs(
+    alloc: Global,
+    to: u64,
+    cx: &mut Context<'_>,
+) -> Result<Collected<(u64, u64), ()>, Refusal>
+    ensures { IfOk result (λ list. ended_by list.values.items list.cause
+        ≡ on_values (pairs_after None) (ended_by (range_with_len 1 (to - 1)) Finished)) }
+{
+    let flow = zip_with_next(range::<()>(1, to));
     to_list(alloc, flow.start()?, cx)
 }
 

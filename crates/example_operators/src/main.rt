@@ -1,15 +1,15 @@
-//! Operators of one's own over cold flows: `scan`, `on_each`, `take_while`, `retry` and `debounce`.
+//! An operator of one's own over cold flows, and chains of those of `more_operators`.
 #![tactic(auto)]
 
 mod lambdas;
 mod lists;
-mod operators;
+mod pairs;
 
 use cold_flow::{Collected, Flow, Refusal, Run, range};
 use futures::task::{Context, Doorbell, Poll, Solo};
-use lambdas::{Add, Tally};
-use lists::{counted, quiet, states, tries};
-use operators::on_each::on_each;
+use lambdas::{Add, Below, Half, Tally};
+use lists::{counted, pairs, quiet, six, states, tries};
+use more_operators::on_each;
 use std::alloc::{AllocGlobal, Global};
 use std::io;
 
@@ -58,6 +58,19 @@ const MOMENTS: [u64; 9] = [0, 90, 180, 1_190, 1_190, 2_200, 2_200, 2_200, 2_200]
 
 /// All of them, with the context of one task.
 fn run<R: Print + AllocGlobal>(rt: &R, cx: &mut Context<'_>) -> Result<(), Fault> {
+    let list = pairs(rt.alloc(), 4, cx)?;
+    println!(rt; "{:?}, {:?}", list.values, list.cause)?;
+    let list = six(
+        rt.alloc(),
+        10,
+        2,
+        Half,
+        Below { limit: 2 },
+        Below { limit: 4 },
+        Add,
+        cx,
+    )?;
+    println!(rt; "{:?}, {:?}", list.values, list.cause)?;
     let list = states(rt.alloc(), 100, Add, 20, cx)?;
     println!(rt; "{:?}, {:?}", list.values, list.cause)?;
     let list = counted(rt.alloc(), 4, cx)?;

@@ -2,7 +2,7 @@ use Rattle.std.proofs.Common.{ℕ, nat_lt}
 use Rattle.std.proofs.lemmas.Result.{IfOk-weaker}
 use Rattle.cold_flow.specs.declared.cause.Cause.TheVariants.{Failed}
 use Rattle.cold_flow.specs.Trace.{ended_by}
-use Rattle.example_operators.specs.RetryLaws.{retried-whole}
+use Rattle.more_operators.specs.RetryLaws.{retried-whole}
 use Rattle.example_operators.proofs.lists.tries.Goals as goal
 
 pub returns : goal.returns
