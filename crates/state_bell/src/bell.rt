@@ -37,6 +37,7 @@ pub struct Bell {
 }
 
 impl Bell {
+    /// A bell that nobody sleeps by, and by which nobody was let go. Refused where there is no memory.
     pub fn new(alloc: Global) -> Result<Arc<Bell>, AllocError> {
         let bell = Bell {
             turn: AtomicU64::new(0),
