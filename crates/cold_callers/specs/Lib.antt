@@ -1,3 +1,4 @@
 pub mod Countdown
 pub mod Halves
 pub mod Lists
+pub mod More

@@ -4,8 +4,10 @@
 
 mod cold_calling;
 mod merge_calling;
+mod more_calling;
 mod source_calling;
 
 pub use cold_calling::{Countdown, CountdownRun, chain, mapped_list, taken_down};
 pub use merge_calling::{joined_list, zipped_lists};
+pub use more_calling::six;
 pub use source_calling::{Halve, Repeated, gathered_halves, mapped_halves, repeated_list};

@@ -7,7 +7,7 @@ ghost use Rattle.cold_flow.specs.declared.cause.Cause.TheVariants.{Finished, Fai
 ghost use Rattle.cold_flow.specs.Trace.{ended_by, on_values};
 ghost use Rattle.more_operators.specs.DropWhile.{dropped_while};
 ghost use Rattle.more_operators.specs.Empty.{or_else};
-ghost use Rattle.more_operators.specs.Quiet.{debounced};
+ghost use Rattle.more_operators.specs.Paced.{debounced};
 ghost use Rattle.more_operators.specs.Retry.{behind, retried, IsUnstarted};
 ghost use Rattle.more_operators.specs.Scan.{scan_trace};
 ghost use Rattle.more_operators.specs.While.{while_trace};

@@ -3,8 +3,9 @@ pub mod Each
 pub mod While
 pub mod Retry
 pub mod RetryLaws
-pub mod Quiet
-pub mod QuietLaws
+pub mod Paced
+pub mod PacedLaws
+pub mod Expires
 pub mod Numbered
 pub mod DistinctBy
 pub mod DropWhile

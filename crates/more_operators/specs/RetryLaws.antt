@@ -1,5 +1,5 @@
 -- Laws of `retry`.
-use Rattle.std.specs.Prelude.{◌≡◌, ◌⊎◌, ◌+◌, ◌<◌, ℕ, zero, suc, Bool, true, false, IsTrue, List, [], ◌∷◌, ◌++◌, Option, Some, refl}
+use Rattle.std.specs.Prelude.{◌≡◌, ◌⊎◌, ◌+◌, ◌-◌, ◌<◌, ◌≤◌, ℕ, zero, suc, Bool, true, false, IsTrue, List, [], ◌∷◌, ◌++◌, Option, Some, refl}
 use Rattle.std.specs.Prelude.{cond, T, if◌then◌else◌}
 use Rattle.std.specs.Iterator.{Count, IsFinite, size}
 use Rattle.std.proofs.Common.{eqb, eqb-true, ap, sym, ◌∙◌, subst, inl, inr, append_assoc, arith}
@@ -10,7 +10,7 @@ use Rattle.flow_terms.specs.declared.refusal.Refusal.TheVariants.{NoMemory}
 use Rattle.cold_flow.specs.Trace.{Trace, ◌⊑◌, so_far, ended_by, led_by}
 use Rattle.cold_flow.specs.Poll.{Traces, Within, After, Fixes, OrRefused, IsWithinPolls}
 use Rattle.cold_flow.specs.Laws.{ended-begins}
-use Rattle.more_operators.specs.Retry.{behind, has_failed, retried, unstarted, IsUnstarted, is_retried, OrUnstarted, MayRetry, retried_polls}
+use Rattle.more_operators.specs.Retry.{behind, has_failed, retried, retried_when, unstarted, IsUnstarted, IsUnstartedWhen, is_retried, OrUnstarted, MayRetry, retried_polls}
 
 -- ---- what a start gives
 
@@ -37,17 +37,17 @@ not-zero : (n : ℕ) (b : Bool) → eqb (suc n) 0 ≡ b → b ≡ false
 not-zero n false e = refl
 not-zero n true e = absurd (let wrong : suc n ≡ 0 = eqb-true (suc n) 0 e in omega arith)
 
-module _ {E : Type 0} (test : E → Bool) where
-  tested : (n : ℕ) (e : E) → is_retried test (suc n) (Failed e) ≡ test e
-  tested n e = ap (λ (b : Bool). if b then false else test e) (not-zero n (eqb (suc n) 0) refl)
+module _ {E : Type 0} (test : ℕ → E → Bool) where
+  tested : (n : ℕ) (e : E) → is_retried test (suc n) (Failed e) ≡ test (suc n) e
+  tested n e = ap (λ (b : Bool). if b then false else test (suc n) e) (not-zero n (eqb (suc n) 0) refl)
 
-  has-not : (n : ℕ) (k : Cause E) → is_retried test (suc n) k ≡ false → has_failed test (Some k) ≡ false
+  has-not : (n : ℕ) (k : Cause E) → is_retried test (suc n) k ≡ false → has_failed (test (suc n)) (Some k) ≡ false
   has-not n Finished e = refl
   has-not n (Failed fault) e = sym (tested n fault) ∙ e
   has-not n Cancelled e = refl
   has-not n (Refused r) e = refl
 
-  has-so : (n : ℕ) (k : Cause E) → is_retried test (suc n) k ≡ true → has_failed test (Some k) ≡ true
+  has-so : (n : ℕ) (k : Cause E) → is_retried test (suc n) k ≡ true → has_failed (test (suc n)) (Some k) ≡ true
   has-so n Finished e = absurd (cc)
   has-so n (Failed fault) e = sym (tested n fault) ∙ e
   has-so n Cancelled e = absurd (cc)
@@ -61,7 +61,7 @@ module _ {E : Type 0} (test : E → Bool) where
 
 -- ---- what a poll leaves
 
-module _ {A E : Type 0} (test : E → Bool) (starts : Bool) (again : Traces A E) where
+module _ {A E : Type 0} (test : ℕ → E → Bool) (starts : Bool) (again : Traces A E) where
   pub retry-begins : (n : ℕ) (standing : Traces A E) → standing (so_far []) → MayRetry test starts again n standing (so_far [])
   retry-begins zero standing h = h
   retry-begins (suc n) standing h = inl (h, refl)
@@ -101,7 +101,7 @@ module _ {A E : Type 0} (test : E → Bool) (starts : Bool) (again : Traces A E)
   retry_ends (suc n) standing k other h = inl (h, has-not test n k other)
 
   -- a run that stood has failed, and t came of the next one
-  follows : (n : ℕ) (standing : Traces A E) (k : Cause E) (t : Trace A E) → has_failed test (Some k) ≡ true → standing (ended_by [] k)
+  follows : (n : ℕ) (standing : Traces A E) (k : Cause E) (t : Trace A E) → has_failed (test (suc n)) (Some k) ≡ true → standing (ended_by [] k)
       → OrUnstarted starts (MayRetry test starts again n again) t → MayRetry test starts again (suc n) standing t
   follows n standing Finished t fails failed came = absurd (cc)
   follows n standing (Failed e) t fails failed came =
@@ -162,51 +162,74 @@ module _ {A E : Type 0} (test : E → Bool) where
   next-begins b values rest whole u is same begins =
       rw is (subst (λ (xs : List A). behind values rest ⊑ behind xs u) same (behind-begins values rest u begins))
 
-module _ {A E : Type 0} (test : E → Bool) (starts : Bool) (again : Traces A E) (whole : Trace A E) (fixed : Fixes whole again) where
+module _ {A E : Type 0} (test : ℕ → E → Bool) (whole : Trace A E) where
+  -- each failure up to the first passed the test, and up to one more
+  one-failed : (n : ℕ) → has_failed (test (suc n)) whole.1 ≡ true → (i : ℕ) → i ≤ 0 → has_failed (test (suc n - i)) whole.1 ≡ true
+  one-failed n so i within =
+      let e : suc n ≡ suc n - i = omega (arith, within) in subst (λ (m : ℕ). has_failed (test m) whole.1 ≡ true) e so
+
+  more-failed : (n m : ℕ) → has_failed (test (suc n)) whole.1 ≡ true
+      → ((i : ℕ) → i ≤ m → has_failed (test (n - i)) whole.1 ≡ true) → (i : ℕ) → i ≤ suc m → has_failed (test (suc n - i)) whole.1 ≡ true
+  more-failed n m so each zero within =
+      let e : suc n ≡ suc n - 0 = omega arith in subst (λ (k : ℕ). has_failed (test k) whole.1 ≡ true) e so
+  more-failed n m so each (suc i) within =
+      let e : n - i ≡ suc n - suc i = omega arith in
+      let fewer : i ≤ m = omega (arith, within) in subst (λ (k : ℕ). has_failed (test k) whole.1 ≡ true) e (each i fewer)
+
+  -- what a test of the fault alone says
+  pub by-fault : (alone : E → Bool) (n : ℕ) (t : Trace A E)
+      → (t ⊑ retried alone n whole) ⊎ IsUnstartedWhen (λ _. alone) n whole t → (t ⊑ retried alone n whole) ⊎ IsUnstarted alone n whole t
+  by-fault alone n t (inl begins) = inl begins
+  by-fault alone n t (inr h) = inr (h.0, h.1, h.2 0 (omega arith), h.3)
+
+module _ {A E : Type 0} (test : ℕ → E → Bool) (starts : Bool) (again : Traces A E) (whole : Trace A E) (fixed : Fixes whole again) where
   -- the run whose failure was followed by another gave the whole trace
   failed-whole : (values : List A) (fault : E) → again (ended_by values (Failed fault)) → ended_by values (Failed fault) ≡ whole
   failed-whole values fault failed = ended-begins values (Failed fault) whole (fixed (ended_by values (Failed fault)) failed)
 
-  failed-so : (values : List A) (fault : E) → again (ended_by values (Failed fault)) → test fault ≡ true → has_failed test whole.1 ≡ true
-  failed-so values fault failed passes =
-      sym (ap (λ (s : Trace A E). has_failed test s.1) (failed-whole values fault failed)) ∙ passes
+  failed-so : (n : ℕ) (values : List A) (fault : E) → again (ended_by values (Failed fault)) → test n fault ≡ true
+      → has_failed (test n) whole.1 ≡ true
+  failed-so n values fault failed passes =
+      sym (ap (λ (s : Trace A E). has_failed (test n) s.1) (failed-whole values fault failed)) ∙ passes
 
   -- where no start can be refused, all that is given begins the trace retried
-  pub retries-begin : IsTrue starts → (n : ℕ) (t : Trace A E) → MayRetry test starts again n again t → t ⊑ retried test n whole
+  pub retries-begin : IsTrue starts → (n : ℕ) (t : Trace A E) → MayRetry test starts again n again t → t ⊑ retried_when test n whole
   retries-begin can zero t h = fixed t h
   retries-begin can (suc n) t (inl h) =
-      first-begins test (has_failed test whole.1) t whole (retried test n whole) refl (fixed t h.0) h.1
+      first-begins (test (suc n)) (has_failed (test (suc n)) whole.1) t whole (retried_when test n whole) refl (fixed t h.0) h.1
   retries-begin can (suc n) t (inr h) =
       let first : ended_by h.values (Failed h.fault) ≡ whole = failed-whole h.values h.fault h.failed in
-      let so : has_failed test whole.1 ≡ true = failed-so h.values h.fault h.failed h.passes in
-      let came : h.rest ⊑ retried test n whole =
+      let so : has_failed (test (suc n)) whole.1 ≡ true = failed-so (suc n) h.values h.fault h.failed h.passes in
+      let came : h.rest ⊑ retried_when test n whole =
       retries-begin can n h.rest (none-refused starts (MayRetry test starts again n again) h.rest can h.came) in
-      rw h.is (next-begins test (has_failed test whole.1) h.values h.rest whole (retried test n whole) so (ap (λ (s : Trace A E). s.0) first) came)
+      rw h.is (next-begins (test (suc n)) (has_failed (test (suc n)) whole.1) h.values h.rest whole (retried_when test n whole) so
+      (ap (λ (s : Trace A E). s.0) first) came)
 
   -- else it does, or one of the starts was refused
-  pub retries-exactly : (n : ℕ) (t : Trace A E) → MayRetry test starts again n again t → (t ⊑ retried test n whole) ⊎ IsUnstarted test n whole t
+  pub retries-exactly : (n : ℕ) (t : Trace A E) → MayRetry test starts again n again t
+      → (t ⊑ retried_when test n whole) ⊎ IsUnstartedWhen test n whole t
   retries-exactly zero t h = inl (fixed t h)
   retries-exactly (suc n) t (inl h) =
-      inl (first-begins test (has_failed test whole.1) t whole (retried test n whole) refl (fixed t h.0) h.1)
+      inl (first-begins (test (suc n)) (has_failed (test (suc n)) whole.1) t whole (retried_when test n whole) refl (fixed t h.0) h.1)
   retries-exactly (suc n) t (inr h) =
       let first : ended_by h.values (Failed h.fault) ≡ whole = failed-whole h.values h.fault h.failed in
       let same : h.values ≡ whole.0 = ap (λ (s : Trace A E). s.0) first in
-      let so : has_failed test whole.1 ≡ true = failed-so h.values h.fault h.failed h.passes in
+      let so : has_failed (test (suc n)) whole.1 ≡ true = failed-so (suc n) h.values h.fault h.failed h.passes in
       elim (may-refuse starts (MayRetry test starts again n again) h.rest h.came) [
         | inl came ↦ elim (retries-exactly n h.rest came) [
           | inl begins ↦ inl (rw h.is
-              (next-begins test (has_failed test whole.1) h.values h.rest whole (retried test n whole) so same begins))
+              (next-begins (test (suc n)) (has_failed (test (suc n)) whole.1) h.values h.rest whole (retried_when test n whole) so same begins))
           | inr u ↦ inr (
             suc u.0,
             omega (arith, u.1),
-            so,
+            more-failed test whole n u.0 so u.2,
             h.is ∙ ap (behind h.values) u.3 ∙ ap (λ (xs : List A). behind xs (unstarted u.0 whole)) same,
           )
         ]
         | inr is ↦ inr (
           0,
           omega arith,
-          so,
+          one-failed test whole n so,
           h.is ∙ ap (behind h.values) is ∙ ap (λ (xs : List A). ended_by xs (Refused NoMemory)) (append-nil h.values ∙ same),
         )
       ]

@@ -2,6 +2,7 @@
 //! its own.
 
 pub mod act;
+pub mod again;
 pub mod debounce;
 pub mod distinct_by;
 pub mod drop_while;
@@ -11,10 +12,14 @@ pub mod on_each;
 pub mod on_empty;
 pub mod on_start;
 pub mod onward;
+pub mod paced;
 pub mod relay;
 pub mod retry;
+pub mod retry_when;
 pub mod running_reduce;
+pub mod sample;
 pub mod scan;
 pub mod take_while;
+pub mod timeout;
 pub mod transform_while;
 pub mod with_index;

@@ -2,7 +2,7 @@ use Rattle.std.proofs.Common.{◌-◌}
 use Rattle.std.specs.List.{range_with_len}
 use Rattle.cold_flow.specs.declared.cause.Cause.TheVariants.{Finished}
 use Rattle.cold_flow.specs.Trace.{ended_by}
-use Rattle.more_operators.specs.QuietLaws.{fixed-fresh}
+use Rattle.more_operators.specs.PacedLaws.{fixed-fresh}
 use Rattle.example_operators.proofs.lists.quiet.Goals as goal
 
 pub returns : goal.returns

@@ -1,4 +1,4 @@
--- Laws of `debounce`.
+-- Laws of values that are held until they are due.
 use Rattle.std.specs.Prelude.{◌≡◌, ℕ, Bool, IsTrue, List, [], ◌∷◌, ◌++◌, Option, Some, None, refl}
 use Rattle.std.proofs.Common.{ap, sym, ◌∙◌, subst, inl, inr, append_assoc}
 use Rattle.futures.specs.declared.task.Poll.{Poll}
@@ -9,8 +9,8 @@ use Rattle.cold_flow.specs.declared.event.Event.TheVariants.{Value, End}
 use Rattle.cold_flow.specs.Trace.{Trace, ◌⊑◌, so_far, ended_by, led_by}
 use Rattle.cold_flow.specs.Poll.{Traces, Narrows, IsReady, Fixes, Unless, end_of}
 use Rattle.cold_flow.specs.Laws.{ended-begins}
-use Rattle.more_operators.specs.declared.operators.debounce.Held.{Held}
-use Rattle.more_operators.specs.Quiet.{held_at, due_at, last_event, Answers, Debounces, step, given_at, debounced}
+use Rattle.more_operators.specs.declared.operators.paced.Held.{Held}
+use Rattle.more_operators.specs.Paced.{held_at, due_at, last_event, Answers, Paces, step, given_at, paced}
 
 module _ {A E : Type 0} where
   -- what begins a trace that a value leads is led by it
@@ -44,18 +44,18 @@ abbrev pub Exactly : {A E : Type 0} → Poll (Event A E) × Option (Held A) × T
 Exactly s result kept ended may prompt =
     (result ≡ s.0) × (kept ≡ s.1) × Fixes s.2 (Unless ended may) × IsTrue prompt
 
-module _ {A E : Type 0} (now : ℕ) (held kept : Option (Held A)) (result : Poll (Event A E)) where
+module _ {A E : Type 0} (gives_last : Bool) (now : ℕ) (held kept : Option (Held A)) (result : Poll (Event A E)) where
   -- an end, which is that of the whole trace
   end-exactly : (k : Cause E) (t : Trace A E) (may : Traces A E) (prompt : Bool) → ended_by [] k ⊑ t → IsTrue prompt
-      → result ≡ Ready (last_event held k) → kept ≡ None → Exactly (step now None held t) result kept (Some k) may prompt
+      → result ≡ Ready (last_event gives_last held k) → kept ≡ None → Exactly (step gives_last now None held t) result kept (Some k) may prompt
   end-exactly k t may prompt whole on answers keeps =
-      subst (λ (u : Trace A E). Exactly (step now None held u) result kept (Some k) may prompt) (ended-begins [] k t whole)
+      subst (λ (u : Trace A E). Exactly (step gives_last now None held u) result kept (Some k) may prompt) (ended-begins [] k t whole)
       (answers, keeps, λ u h. h, on)
 
   -- an answer of the source
   answers-exactly : (old new : Traces A E) (ended : Option (Cause E)) (prompt : Bool) (t : Trace A E) (answer : Poll (Event A E))
       → new (so_far []) → Fixes t old → Narrows old answer new → ended ≡ end_of answer → IsReady answer → IsTrue prompt
-      → Answers now held answer result kept → Exactly (step now None held t) result kept ended new prompt
+      → Answers gives_last now held answer result kept → Exactly (step gives_last now None held t) result kept ended new prompt
   answers-exactly old new ended prompt t Pending begun fixed narrows is ready on h = absurd ready
   answers-exactly old new ended prompt ([], end) (Ready (Value v)) begun fixed narrows is ready on h =
       absurd (led-nothing v end (so_far []) (fixed (led_by v (so_far [])) (narrows (so_far []) begun)))
@@ -70,19 +70,19 @@ module _ {A E : Type 0} (now : ℕ) (held kept : Option (Held A)) (result : Poll
       rw is (end-exactly k t new prompt (fixed (ended_by [] k) narrows) on h.0 h.1)
 
 module _ {A E S : Type 0} (may : S → Traces A E) (ended : S → Option (Cause E)) (prompt : S → Bool)
-    (polled : S → Poll (Event A E) → S → Type 0) (begins : (s : S) → may s (so_far [])) (old new : S) where
+    (polled : S → Poll (Event A E) → S → Type 0) (begins : (s : S) → may s (so_far [])) (old new : S) (gives_last : Bool) where
   -- one poll
   polls-exactly : (now : ℕ) (due : Option A) (over : Option (Cause E)) (held kept : Option (Held A)) (t : Trace A E)
       (result : Poll (Event A E)) → over ≡ ended old → Fixes t (Unless over (may old)) → IsTrue (prompt old)
-      → Debounces may ended prompt polled now due over held old result kept new
-      → Exactly (step now due held t) result kept (ended new) (may new) (prompt new)
+      → Paces may ended prompt polled gives_last now due over held old result kept new
+      → Exactly (step gives_last now due held t) result kept (ended new) (may new) (prompt new)
   polls-exactly now (Some x) over held kept t result is fixed on h =
       (h.0, h.1, rw (h.2, ← is) fixed, rw h.2 on)
   polls-exactly now None (Some k) held kept t result is fixed on h =
-      rw (h.2, ← is) (end-exactly now held kept result k t (may old) (prompt old) (fixed (ended_by [] k) (inl refl)) on h.0 h.1)
+      rw (h.2, ← is) (end-exactly gives_last now held kept result k t (may old) (prompt old) (fixed (ended_by [] k) (inl refl)) on h.0 h.1)
   polls-exactly now None None held kept t result is fixed on h =
       let ready = h.1.at_once on in
-      answers-exactly now held kept result (may old) (may new) (ended new) (prompt new) t h.0 (begins new) fixed h.1.narrows h.1.ends
+      answers-exactly gives_last now held kept result (may old) (may new) (ended new) (prompt new) t h.0 (begins new) fixed h.1.narrows h.1.ends
       ready.0 ready.1 h.2
 
 -- what is given with a poll that gave something, and with one that gave nothing
@@ -96,27 +96,27 @@ module _ {A E : Type 0} (items more : List (ℕ × Event A E)) (now : ℕ) where
   gives_none result is same rest = rw (is, same) refl
 
 -- a list of what is given that stands so far as items, and goes on with what is given of some trace at the moments that are left
-abbrev pub Left : {A E : Type 0} → Traces A E → Option (Cause E) → Bool → ℕ → Option (Held A) → List ℕ → List (ℕ × Event A E)
+abbrev pub Left : {A E : Type 0} → Traces A E → Option (Cause E) → Bool → (ℕ → ℕ → Bool) → Bool → Option (Held A) → List ℕ → List (ℕ × Event A E)
     → List (ℕ × Event A E) → Type 0
-Left {A} {E} may ended prompt timeout held moments items list =
-    (rest : Trace A E) × Fixes rest (Unless ended may) × IsTrue prompt × (list ≡ items ++ debounced timeout held rest moments)
+Left {A} {E} may ended prompt is_due gives_last held moments items list =
+    (rest : Trace A E) × Fixes rest (Unless ended may) × IsTrue prompt × (list ≡ items ++ paced is_due gives_last held rest moments)
 
 module _ {A E S : Type 0} (may : S → Traces A E) (ended : S → Option (Cause E)) (prompt : S → Bool)
-    (polled : S → Poll (Event A E) → S → Type 0) (begins : (s : S) → may s (so_far [])) (old new : S) (timeout now : ℕ)
+    (polled : S → Poll (Event A E) → S → Type 0) (begins : (s : S) → may s (so_far [])) (old new : S) (is_due : ℕ → ℕ → Bool) (gives_last : Bool) (now : ℕ)
     (held kept : Option (Held A)) (result : Poll (Event A E))
-    (polls : Debounces may ended prompt polled now (due_at timeout now held) (ended old) held old result kept new) where
+    (polls : Paces may ended prompt polled gives_last now (due_at is_due now held) (ended old) held old result kept new) where
   pub left_after : (moments : List ℕ) (items more list : List (ℕ × Event A E))
       → ((rest : List (ℕ × Event A E)) → items ++ given_at now result rest ≡ more ++ rest)
-      → Left (may old) (ended old) (prompt old) timeout held (now ∷ moments) items list
-      → Left (may new) (ended new) (prompt new) timeout kept moments more list
+      → Left (may old) (ended old) (prompt old) is_due gives_last held (now ∷ moments) items list
+      → Left (may new) (ended new) (prompt new) is_due gives_last kept moments more list
   left_after moments items more list e h =
-      let s = step now (due_at timeout now held) held h.0 in
-      let p = polls-exactly may ended prompt polled begins old new now (due_at timeout now held) (ended old) held kept h.0 result refl
+      let s = step gives_last now (due_at is_due now held) held h.0 in
+      let p = polls-exactly may ended prompt polled begins old new gives_last now (due_at is_due now held) (ended old) held kept h.0 result refl
       h.1 h.2 polls in (
         s.2,
         p.2,
         p.3,
-        h.3 ∙ ap (λ (r : Poll (Event A E)). items ++ given_at now r (debounced timeout s.1 s.2 moments)) (sym p.0)
-            ∙ ap (λ (c : Option (Held A)). items ++ given_at now result (debounced timeout c s.2 moments)) (sym p.1)
-            ∙ e (debounced timeout kept s.2 moments),
+        h.3 ∙ ap (λ (r : Poll (Event A E)). items ++ given_at now r (paced is_due gives_last s.1 s.2 moments)) (sym p.0)
+            ∙ ap (λ (c : Option (Held A)). items ++ given_at now result (paced is_due gives_last c s.2 moments)) (sym p.1)
+            ∙ e (paced is_due gives_last kept s.2 moments),
       )
