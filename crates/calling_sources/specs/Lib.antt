@@ -1,0 +1,2 @@
+pub mod Calling
+pub mod CallingLaws

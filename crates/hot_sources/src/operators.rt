@@ -1,0 +1,5 @@
+//! Operators over a run.
+
+pub mod filter;
+pub mod map;
+pub mod passing;

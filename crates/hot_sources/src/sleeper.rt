@@ -1,0 +1,61 @@
+//! What a thread sleeps by while it waits for a run.
+ghost use Rattle.std.specs.Prelude.{◌≡◌, IfErr};
+ghost use Rattle.flow_terms.specs.declared.refusal.Refusal.TheVariants.{NoMemory};
+
+use flow_terms::Refusal;
+use futures::task::{Context, Doorbell, Queue};
+use std::alloc::AllocGlobal;
+use std::random::RandomSource;
+use std::sync::Wait;
+
+/// What a thread sleeps by, while it waits for a run by [`next_of`](crate::next_of) or [`take_of`](crate::take_of). Make one for each
+/// thread that waits, and use it for all of the thread's waits.
+pub struct Sleeper {
+    queue: Queue,
+    // Whether a turn is set that no wait has taken yet: the next wait begins with it.
+    is_set: bool,
+}
+
+// By hand: who lets one go proves this call alone, and nothing of what it is made of.
+impl Drop for Sleeper {
+    fn drop(self) {
+        let Sleeper { queue, is_set: _ } = self;
+        drop(queue);
+    }
+}
+
+impl Sleeper {
+    /// A sleeper, with a random name by which wakers tell it from others. Refused as `NoMemory`, and so it is where no random
+    /// bytes are to be had.
+    pub fn new<R>(rt: &R) -> Result<Sleeper, Refusal>
+    where
+        R: RandomSource + AllocGlobal,
+        ensures { IfErr result (λ refusal. refusal ≡ NoMemory) }
+    {
+        match Queue::new(rt, Doorbell::parking()) {
+            Ok(queue) => Ok(Sleeper {
+                queue,
+                is_set: false,
+            }),
+            Err(_) => Err(Refusal::NoMemory),
+        }
+    }
+
+    /// Begins to wait: its first turn comes at once. Refused as `NoMemory`, which the first wait of a sleeper can be.
+    pub(crate) fn begin(&mut self) -> Result<(), Refusal>
+        ensures { IfErr result (λ refusal. refusal ≡ NoMemory) }
+    {
+        if self.is_set {
+            return Ok(());
+        }
+        self.queue.add()?.schedule();
+        self.is_set = true;
+        Ok(())
+    }
+
+    /// Sleeps until the thread has to ask again. Nothing only where it doesn't wait.
+    pub(crate) fn turn(&mut self, rt: &impl Wait) -> Option<Context<'_>> {
+        self.is_set = false;
+        self.queue.next(rt)
+    }
+}

@@ -1,0 +1,4 @@
+//! What a run is made of that borrows what it receives from.
+
+pub mod collecting;
+pub mod receiving;

@@ -1,0 +1,67 @@
+//! A thread that sleeps for a run.
+
+ghost use Rattle.std.specs.Prelude.{◌≡◌, IfOk, IfErr, MatchOption, ◌++◌};
+ghost use Rattle.futures.specs.declared.task.Poll.TheVariants.{Ready};
+ghost use Rattle.flow_terms.specs.declared.refusal.Refusal.TheVariants.{NoMemory};
+ghost use Rattle.cold_flow.specs.Poll.{Narrows, end_of};
+ghost use Rattle.hot_sources.specs.Waiting.{Came, TookSome, TookAll, EndedAfter};
+
+use crate::sleeper::Sleeper;
+use cold_flow::{Cause, Event, Refusal, Run};
+use futures::task::Poll;
+use std::sync::Wait;
+
+/// The next value of `chain`, or its end, for which the thread sleeps: one turn of Kotlin's `collect`.
+///
+/// It polls the run, and sleeps where that answers pending until a source of it wakes the thread. That a wake arrives isn't claimed.
+/// Refused as `NoMemory` where the sleeper finds no memory to wait by, and then nothing was asked.
+pub fn next_of<S: Run>(
+    rt: &impl Wait,
+    sleeper: &mut Sleeper,
+    chain: &mut S,
+) -> Result<Event<S::Item, S::Fault>, Refusal>
+    ensures narrows { IfOk result (λ event. Narrows (S.may chain.old) (Ready event) (S.may chain.new)) }
+    ensures ends { IfOk result (λ event. S.ended chain.new ≡ end_of (Ready event)) }
+    ensures came { IfOk result (λ event. Came S.polled chain.old event chain.new) }
+    ensures refused { IfErr result (λ refusal. (refusal ≡ NoMemory) × (chain.new ≡ chain.old)) }
+{
+    sleeper.begin()?;
+    'turns: for _ in rt.forever() {
+        let Some(mut cx) = sleeper.turn(rt) else {
+            continue;
+        };
+        let polled = chain.poll_next(&mut cx);
+        cx.end(&polled);
+        if let Poll::Ready(event) = polled {
+            return Ok(event);
+        }
+    }
+    unreachable!()
+}
+
+/// Adds the next `count` values of `chain` to `out`, for each of which the thread sleeps: Kotlin's `take(count).toList()`. Where the
+/// run ends before, it answers why, and `out` has the values up to that.
+///
+/// Nothing behind the last of them is taken, and the run goes on, or `cancel` ends it. Refused as `NoMemory` where `out` has no room
+/// and gets none, before a value is taken for it, or there is none to wait by; `out` has the values that were taken until then.
+pub fn take_of<S: Run>(
+    rt: &impl Wait,
+    sleeper: &mut Sleeper,
+    chain: &mut S,
+    count: usize,
+    out: &mut Vec<S::Item>,
+) -> Result<Option<Cause<S::Fault>>, Refusal>
+    ensures took { IfOk result (λ ending. MatchOption ending
+        (TookAll S.polled count chain.old out.old.items out.new.items chain.new)
+        (λ cause. EndedAfter S.polled S.may chain.old out.old.items out.new.items cause chain.new)) }
+    ensures refused { IfErr result (λ refusal. (refusal ≡ NoMemory) × TookSome S.polled chain.old out.old.items out.new.items chain.new) }
+{
+    'values: for _taken in 0..count {
+        out.reserve(1)?;
+        match next_of(rt, sleeper, chain)? {
+            Event::Value(value) => out.push_reserved(value),
+            Event::End(cause) => return Ok(Some(cause)),
+        }
+    }
+    Ok(None)
+}

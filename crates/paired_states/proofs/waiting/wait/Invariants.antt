@@ -1,0 +1,11 @@
+use Rattle.std.proofs.Common.{◌≡◌}
+use Rattle.state_waiting.specs.Waits.{MissedOn}
+use Rattle.paired_states.proofs.waiting.wait.Given as goal
+
+abbrev pub invariant-turns : goal.invariant-turns
+invariant-turns g l = record {
+  first_flow : l.first.flow ≡ l.initial.first.flow;
+  second_flow : l.second.flow ≡ l.initial.second.flow;
+  first_missed : MissedOn l.initial.first.view l.first.view;
+  second_missed : MissedOn l.initial.second.view l.second.view;
+}
