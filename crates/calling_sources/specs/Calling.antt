@@ -1,5 +1,5 @@
 -- What a source gives that calls the code of its user.
-use Rattle.std.specs.Prelude.{◌≡◌, ◌⊎◌, Bool, true, false, List, [], ◌∷◌}
+use Rattle.std.specs.Prelude.{◌≡◌, ◌⊎◌, Bool, true, false, [], ◌∷◌}
 use Rattle.cold_flow.specs.declared.builders.scripted.Step.{Step}
 use Rattle.cold_flow.specs.declared.builders.scripted.Step.TheVariants.{Value, Fail}
 use Rattle.cold_flow.specs.declared.cause.Cause.TheVariants.{Finished, Failed}

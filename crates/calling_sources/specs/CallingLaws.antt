@@ -1,10 +1,10 @@
 -- Laws of sources that call the code of their user.
-use Rattle.std.specs.Prelude.{◌≡◌, Bool, true, false, List, [], ◌∷◌, refl}
-use Rattle.std.proofs.Common.{inl, inr, ap, sym}
+use Rattle.std.specs.Prelude.{Bool, true, false, List, [], ◌∷◌, refl}
+use Rattle.std.proofs.Common.{inl, inr, ap}
 use Rattle.cold_flow.specs.declared.builders.scripted.Step.{Step}
-use Rattle.cold_flow.specs.declared.builders.scripted.Step.TheVariants.{Value, Pending, Fail}
+use Rattle.cold_flow.specs.declared.builders.scripted.Step.TheVariants.{Value, Fail}
 use Rattle.cold_flow.specs.declared.cause.Cause.TheVariants.{Finished, Failed, Cancelled}
-use Rattle.cold_flow.specs.Trace.{Trace, ◌⊑◌, so_far, ended_by, led_by}
+use Rattle.cold_flow.specs.Trace.{Trace, ◌⊑◌, so_far, ended_by}
 use Rattle.cold_flow.specs.Poll.{After}
 use Rattle.cold_flow.specs.Laws.{begins-any, led-begins, begins-cause}
 use Rattle.calling_sources.specs.Calling.{GivesOnce, OnceOrDone}

@@ -10,7 +10,7 @@ use Rattle.cold_flow.specs.declared.event.Event.{Event}
 use Rattle.cold_flow.specs.declared.event.Event.TheVariants.{Value, End}
 use Rattle.cold_flow.specs.Polled.{Gave}
 use Rattle.cold_flow.specs.Polled.Gave.{nothing, one_more, waited}
-use Rattle.hot_sources.specs.Passing.{PassesOn, PassesAll, given_by}
+use Rattle.hot_sources.specs.Passing.{PassesOn, PassesAll}
 
 module _ {R A E : Type 0} (polled : R → Poll (Event A E) → R → Type 0) where
   -- polls, and then more polls

@@ -1,9 +1,8 @@
 -- Laws of what a thread that waits for a run was given by it.
 use Rattle.std.specs.Prelude.{◌≡◌, ℕ, ◌+◌, List, [], ◌∷◌, ◌++◌, length, refl}
-use Rattle.std.proofs.Common.{sym, ◌∙◌, ap, subst, append_assoc, length-append}
+use Rattle.std.proofs.Common.{sym, ◌∙◌, ap, append_assoc, length-append}
 use Rattle.std.proofs.lemmas.List.{append-nil}
 use Rattle.futures.specs.declared.task.Poll.{Poll}
-use Rattle.futures.specs.declared.task.Poll.TheVariants.{Ready}
 use Rattle.cold_flow.specs.declared.cause.Cause.{Cause}
 use Rattle.cold_flow.specs.declared.event.Event.{Event}
 use Rattle.cold_flow.specs.declared.event.Event.TheVariants.{Value, End}
@@ -12,7 +11,7 @@ use Rattle.cold_flow.specs.Poll.{After, Within}
 use Rattle.cold_flow.specs.Gather.{Gathered}
 use Rattle.cold_flow.specs.GatherLaws.{gathers_value, gathers_end, gathers_none}
 use Rattle.cold_flow.specs.Polled.{Gave}
-use Rattle.cold_flow.specs.Polled.Gave.{nothing, one_more, waited}
+use Rattle.cold_flow.specs.Polled.Gave.{nothing, one_more}
 use Rattle.hot_sources.specs.PassingLaws.{gave_still}
 use Rattle.hot_sources.specs.Waiting.{Came, TookSome, TookAll, EndedAfter}
 

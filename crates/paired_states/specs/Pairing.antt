@@ -1,5 +1,5 @@
 -- What asks of the collectors of two states came to.
-use Rattle.std.specs.Prelude.{◌⊎◌, Option, Some, None, IsSome}
+use Rattle.std.specs.Prelude.{◌⊎◌, Option, None, IsSome}
 use Rattle.state_flow.specs.declared.view.View.{View}
 use Rattle.state_flow.specs.Calls.{Collects}
 use Rattle.state_waiting.specs.Waits.{AskedOn}

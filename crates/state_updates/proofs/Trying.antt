@@ -1,5 +1,5 @@
 -- Tries of an update, one after another.
-use Rattle.std.proofs.Common.{◌≡◌, ℕ, ◌+◌, ◌*◌, ◌<◌, ◌≤◌, List, [], ◌++◌, length, true, false, refl, sym, ◌∙◌, ap, subst, append_assoc, add-zero, arith}
+use Rattle.std.proofs.Common.{◌≡◌, ℕ, ◌+◌, ◌*◌, List, [], ◌++◌, length, true, false, sym, ◌∙◌, ap, subst, append_assoc, add-zero, arith}
 use Rattle.state_flow.specs.declared.view.View.{View}
 use Rattle.state_flow.specs.History.{Continues}
 use Rattle.state_flow.specs.Views.{stepped_to, writing}

@@ -1,4 +1,4 @@
-use Rattle.std.proofs.Common.{refl, ◌≡◌, ◌∙◌, arith, sym, subst}
+use Rattle.std.proofs.Common.{refl, ◌∙◌, arith}
 use Rattle.state_updates.proofs.Trying.{missed_none, missed_more, missed_by, updates_after}
 use Rattle.state_updates.proofs.updating.try_update.Goals as goal
 

@@ -1,4 +1,4 @@
-use Rattle.std.proofs.Common.{refl, ◌≡◌, ◌+◌, ◌∙◌}
+use Rattle.std.proofs.Common.{refl, ◌+◌, ◌∙◌}
 use Rattle.state_updates.proofs.Trying.{missed_none, missed_more, updates_after}
 use Rattle.state_updates.proofs.updating.update_until_set.Goals as goal
 

@@ -1,4 +1,4 @@
-use Rattle.std.proofs.Common.{arith, refl, inl, inr, sym, ◌∙◌}
+use Rattle.std.proofs.Common.{arith, refl, inl, sym, ◌∙◌}
 use Rattle.cold_flow.specs.Trace.{on_values}
 use Rattle.cold_flow.specs.Laws.{Through-within, told-some}
 use Rattle.cold_flow.specs.LoopLaws.{asked_more, asked_last, asked_fewer, going_no_end}

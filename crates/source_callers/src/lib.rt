@@ -1,0 +1,11 @@
+//! Callers of sources that are there once, and of sources that do something. They are proved from the contracts of the crates
+//! below alone.
+#![tactic(auto)]
+
+mod calling_calling;
+mod receiving_calling;
+mod updating_calling;
+
+pub use calling_calling::{Always, Instead, NoMore, load_or};
+pub use receiving_calling::{Even, Half, five_halves};
+pub use updating_calling::{count_one, count_within};
