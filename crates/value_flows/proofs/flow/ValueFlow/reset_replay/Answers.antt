@@ -1,0 +1,11 @@
+use Rattle.std.proofs.Common.{refl}
+use Rattle.value_flows.proofs.Calling.{forgets, held_is}
+use Rattle.value_flows.proofs.flow.ValueFlow.reset_replay.Goals as goal
+
+pub put-requires : goal.put-requires
+put-requires g c = record {
+  call = (c.enter-guarded.result.state, held_is c.self.inside.lock c.enter-guarded.result.state c.enter-guarded.new.lock c.enter-guarded.ensures.holds, refl);
+}
+
+pub returns : goal.returns
+returns g c = forgets c.self.inside.lock c.args.self.now c.self.view_is c.enter-guarded.result.state c.enter-guarded.new.lock c.put.new.self c.enter-guarded.ensures.holds c.put.ensures.given

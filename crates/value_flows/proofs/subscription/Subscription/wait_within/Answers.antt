@@ -1,0 +1,21 @@
+use Rattle.std.proofs.Common.{subst}
+use Rattle.value_flows.specs.Receiving.{Comes, not_once, once_more}
+use Rattle.value_flows.proofs.Asking.{is_over}
+use Rattle.value_flows.proofs.subscription.Subscription.wait_within.Goals as goal
+
+pub loop-init : goal.loop-init
+loop-init g c = not_once c.args.self.now
+
+pub loop-preserved : goal.loop-preserved
+loop-preserved g c =
+    let before = c.loop.self in
+    let after = c.turn.new.self in
+    let none = subst (λ came. Comes before came after) c.in-Asleep.is c.turn.ensures in
+    once_more c.args.self.now before after c.loop.invariant none
+
+pub returns-in-Over : goal.returns-in-Over
+returns-in-Over g c =
+    let before = c.loop.self in
+    let after = c.turn.new.self in
+    let came = subst (λ came. Comes before came after) c.in-Over.is c.turn.ensures in
+    is_over c.args.self.now before after c.in-Over.awaited c.loop.invariant came

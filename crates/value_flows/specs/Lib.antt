@@ -1,0 +1,10 @@
+pub mod Making
+pub mod Cursors
+pub mod Accepted
+pub mod Does
+pub mod Calls
+pub mod Emitting
+pub mod Keeping
+pub mod Receiving
+pub mod Waits
+pub mod Laws
