@@ -14,8 +14,8 @@ returns g c =
     inside c.map-chain.result c.filter.result c.receiving.result (λ q. q.source) (λ r. r.source) (λ s. s.subscription.now) c.args.news.now
     c.map-chain.ensures.0 c.filter.ensures.0 c.receiving.ensures.subscription in
     let named =
-        inside c.map-chain.result c.filter.result c.receiving.result (λ q. q.source) (λ r. r.source) (λ s. s.subscription.ghost_name) c.receiving-arg-1.given
-        c.map-chain.ensures.0 c.filter.ensures.0 c.receiving.ensures.same_reference in
+    inside c.map-chain.result c.filter.result c.receiving.result (λ q. q.source) (λ r. r.source) (λ s. s.subscription.ghost_name) c.receiving-arg-1.given
+    c.map-chain.ensures.0 c.filter.ensures.0 c.receiving.ensures.same_reference in
     let lent = c.news-1.given.1 (sym (received.0 ∙ named)) in
     let same = halved filtered.0 mapped.0 took.0 filtered.2 mapped.2 in (
       filtered.0,
