@@ -30,12 +30,12 @@ module _ (answers : Step ℕ ℕ → Type 0) where
   -- what is tried again gives what one call gives
   retried-once : (starts : Bool) → IsTrue starts → (again : Traces ℕ ℕ) → Within (GivesOnce answers) again
       → (n : ℕ) (standing : Traces ℕ ℕ) → Within (GivesOnce answers) standing
-      → Within (GivesOnce answers) (MayRetry (λ _. true) starts again n standing)
+      → Within (GivesOnce answers) (MayRetry (λ _ _. true) starts again n standing)
   retried-once starts can again once zero standing first t h = first t h
   retried-once starts can again once (suc n) standing first t (inl h) = first t h.0
   retried-once starts can again once (suc n) standing first t (inr h) =
       let none : h.values ≡ [] = failed-empty h.values h.fault (first (ended_by h.values (Failed h.fault)) h.failed) in
-      let came = after-start starts (MayRetry (λ _. true) starts again n again) h.rest can h.came in
+      let came = after-start starts (MayRetry (λ _ _. true) starts again n again) h.rest can h.came in
       let same : t ≡ h.rest = h.is ∙ ap (λ (xs : List ℕ). behind xs h.rest) none in
       subst (GivesOnce answers) (sym same) (retried-once starts can again once n again once h.rest came)
 
@@ -88,7 +88,7 @@ module _ (answers : Step ℕ ℕ → Type 0) where
 
     -- all operators, one round another
     pub all_meant : (starts : Bool) → IsTrue starts → (source retrying catching_it completed : Traces ℕ ℕ) → Within (GivesOnce answers) source
-        → Within (MayRetry (λ _. true) starts source 3 source) retrying
+        → Within (MayRetry (λ _ _. true) starts source 3 source) retrying
         → Within (Through (with_finale (catching (λ (_ : ℕ). Last instead))) retrying) catching_it
         → Within (Through (with_finale (completing (λ (_ : Cause ℕ). None))) catching_it) completed
         → (t : Trace ℕ ℕ) → completed t → Meant t
