@@ -1,13 +1,17 @@
 -- A reader that has loaded its own position and the tail.
-use Rattle.std.proofs.Common.{◌≡◌, ℕ, ◌-◌, ◌<◌, ◌≤◌, length, sym, ap, subst, ◌∙◌}
+use Rattle.std.proofs.Common.{◌≡◌, ℕ, List, ◌-◌, ◌<◌, ◌≤◌, length, sym, ap, subst, ◌∙◌}
 use Rattle.atomic_table.specs.declared.shared.Seat.{Seat}
 use Rattle.lane_steps.specs.declared.view.View.{View}
 use Rattle.lane_steps.specs.declared.view.Reading.{Reading}
 use Rattle.lane_steps.specs.declared.view.Shape.{Shape}
-use Rattle.lane_steps.specs.Law.{received}
+use Rattle.lane_steps.specs.Law.{Entry, received}
 use Rattle.lane_steps.specs.Layout.{cell_index}
 use Rattle.lane_steps.specs.Steps.{position, found_at}
 use Rattle.shared_lane.specs.Kept.{IsReading}
+use Rattle.shared_lane.specs.Readers.{TookNext}
+use Rattle.shared_lane.specs.Views.{ReaderSeen}
+use Rattle.shared_lane.specs.declared.reader.Taken.{Taken}
+use Rattle.shared_lane.specs.declared.reader.Taken.TheVariants.{Value, Nothing, Overtaken}
 use Rattle.shared_lane.proofs.Stories.{position_found, received_none}
 
 -- it has found its cursor there, and took nothing
@@ -24,3 +28,9 @@ found_itself seat seat' place start at cell taken n cell' was reading shape slot
   cell_is = cell_is ∙ ap (λ (z : Shape). cell_index z n) (sym shape);
   taken_is = was.taken_is ∙ sym (ap (λ (x : Reading). length (received start x.story)) reading ∙ received_none start (n - position seat.me.0.reading) seat.me.0.reading.story);
 }
+
+-- what a reader took doesn't depend on what it was told
+pub took_untold : (r : ReaderSeen) (told : List Entry) (taken : Taken ℕ) (t : ReaderSeen) → TookNext (record r { told = told }) taken t → TookNext r taken t
+took_untold r told (Value w) t took = took
+took_untold r told Nothing t took = took
+took_untold r told Overtaken t took = took

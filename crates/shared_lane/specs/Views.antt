@@ -15,8 +15,9 @@ pub record LaneSeen : Type 0 where
   pub table : TableId
   pub shape : Shape
 
--- A reader: its place and the number of the opening of it, where it began, for each number from there on whether it was received, and the accepted emissions that it has seen.
--- `loads` are its loads, in order: the index of a word, and what it found there.
+-- A reader: its place and the number of the opening of it, where it began, for each number from there on whether it was received, the
+-- accepted emissions that it has seen, and those that it was told of since its last load of the tail. `loads` are its loads, in order: the
+-- index of a word, and what it found there.
 pub record ReaderSeen : Type 0 where
   pub table : TableId
   pub shape : Shape
@@ -25,6 +26,7 @@ pub record ReaderSeen : Type 0 where
   pub start : ℕ
   pub story : List Bool
   pub seen : List Entry
+  pub told : List Entry
   pub loads : List (ℕ × ℕ)
 
 -- A reader's end: the reader as it was, and whether it closed its cursor.
@@ -67,6 +69,7 @@ module _ {S : Type 0} where
     start = s.me.0.reading.start;
     story = s.me.0.reading.story;
     seen = s.me.0.seen;
+    told = s.me.0.told;
     loads = s.me.0.loads;
   }
 

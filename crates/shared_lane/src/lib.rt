@@ -77,7 +77,7 @@ pub use headline::{
     taking_all_is_taking_each,
 };
 pub use lane::Lane;
-pub use meeting::{Met, meet};
+pub use meeting::{Met, look, meet};
 pub use reader::{Reader, Taken};
 pub use receipt::Receipt;
 pub use sequencer::Sequencer;

@@ -1,12 +1,13 @@
 //! Sequencer and reader compare what they know.
 ghost use Rattle.std.specs.Prelude.{◌≡◌, ◌+◌, ◌≤◌};
 ghost use Rattle.lane_steps.specs.Law.{lost};
-ghost use Rattle.shared_lane.specs.Readers.{IsReaderOf, IsSameReader, WentTo, at, received_count, lost_count};
+ghost use Rattle.shared_lane.specs.declared.reader.Taken.TheVariants.{Nothing};
+ghost use Rattle.shared_lane.specs.Readers.{IsReaderOf, IsSameReader, TookNext, WentTo, at, received_count, lost_count};
 ghost use Rattle.shared_lane.specs.Sequencers.{IsSequencerOf, OnlyLoaded, seen, next};
 ghost use Rattle.shared_lane.specs.Places.{lost_by, LosesNothing};
 
 use crate::lane::Lane;
-use crate::reader::Reader;
+use crate::reader::{Reader, Taken};
 use crate::sequencer::Sequencer;
 use std::alloc::Allocator;
 
@@ -50,4 +51,24 @@ pub fn meet<A: Allocator, B: Allocator>(
         received: reader.taken,
         dropped: at - reader.start - reader.taken,
     }
+}
+
+/// A look of a reader for the next value, where one thread has both ends: it hears of all that the sequencer has accepted, and then
+/// takes the next value as [`try_next`](Reader::try_next) does, by the same loads. So `Nothing` says that all of it was received or
+/// dropped.
+pub fn look<A: Allocator, B: Allocator>(
+    lane: &Lane<B>,
+    sequencer: &mut Sequencer<A>,
+    reader: &mut Reader,
+) -> Taken<u64>
+    requires { IsSequencerOf lane.now sequencer.old × IsReaderOf lane.now reader.old }
+    ensures sequencer { sequencer.new ≡ sequencer.old }
+    ensures same { IsReaderOf lane.now reader.new × IsSameReader reader.old reader.new }
+    ensures taken { TookNext reader.old result reader.new }
+    ensures nothing { result ≡ Nothing → next sequencer.old ≤ at reader.new }
+{
+    let words = lane.words();
+    let accepted = words.copy_all(&mut sequencer.seat);
+    words.hear(&mut reader.seat, accepted);
+    reader.try_next(lane)
 }

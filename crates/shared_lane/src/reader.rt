@@ -2,6 +2,7 @@
 ghost use Rattle.std.specs.Prelude.{◌≡◌, ◌+◌, ◌<◌};
 ghost use Rattle.lane_steps.specs.Law.{Begins};
 ghost use Rattle.shared_lane.specs.Views.{reader_of};
+ghost use Rattle.shared_lane.specs.declared.reader.Taken.TheVariants.{Nothing};
 ghost use Rattle.shared_lane.specs.Kept.{IsReading};
 ghost use Rattle.shared_lane.specs.Readers.{IsReaderOf, IsReceiptOf, IsSameReader, TookNext, at, received_count, lost_count, end_of};
 
@@ -92,6 +93,7 @@ impl Reader {
         requires { IsReaderOf lane.now self.old }
         ensures same { IsReaderOf lane.now self.new × IsSameReader self.old self.new }
         ensures taken { TookNext self.old result self.new }
+        ensures told { result ≡ Nothing → Begins self.new.seen self.old.told }
     {
         let words = lane.words();
         let at = words.load_own(&mut self.seat, self.place);
