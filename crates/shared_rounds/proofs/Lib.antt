@@ -9,4 +9,5 @@ pub mod Doing
 pub mod Trying
 pub mod Numbers
 pub mod Reaching
+pub mod Roomy
 pub mod Boxes

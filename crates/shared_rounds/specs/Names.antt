@@ -46,9 +46,13 @@ IsGuarded config lane q = IsSequencerOf lane q × GoesBy config q
 abbrev pub IsNew : SharedSeen → Type 0
 IsNew s = IsGuarded s.name.config s.name.lane s.sequencer × IsFresh s.name.config s.sequencer × NobodySleeps s.subscriptions × NobodySleeps s.emissions
 
--- all subscriptions and emissions of the flow have room to sleep
+-- all subscriptions and emissions of a flow with this config have room to sleep
+abbrev pub HaveBeds : Config → Slab Sleeper → Slab Sleeper → Type 0
+HaveBeds config subscriptions emissions = (config.subscribers ≤ subscriptions.capacity) × (config.emits ≤ emissions.capacity)
+
+-- all of the flow have
 abbrev pub HasRoom : SharedSeen → Type 0
-HasRoom s = (s.name.config.subscribers ≤ s.subscriptions.capacity) × (s.name.config.emits ≤ s.emissions.capacity)
+HasRoom s = HaveBeds s.name.config s.subscriptions s.emissions
 
 -- an owner knows its flow, and the lane is that flow's
 abbrev pub KnowsLane : Option FlowName → LaneSeen → Type 0

@@ -1,11 +1,13 @@
--- Who sleeps where.
-use Rattle.std.specs.Prelude.{◌≢◌, ◌≡◌, ◌↔◌, ◌⊎◌, ℕ, List, Option, Some, None, Contains}
+-- Who sleeps where, and the room for those whom a call wakes.
+use Rattle.std.specs.Prelude.{◌≢◌, ◌≡◌, ◌↔◌, ◌⊎◌, ℕ, ◌+◌, ◌≤◌, List, Option, Some, None, Contains, vec_capacity}
 use Rattle.std.specs.BinaryHeap.{IsHeap}
 use Rattle.std.specs.Ordering.{nat_cmp, ordering_then}
 use Rattle.slab.specs.Slab.{Slab, get, slab_len}
 use Rattle.flow_terms.specs.declared.ids.Ticket.{Ticket}
+use Rattle.shared_core.specs.declared.config.Config.{Config}
 use Rattle.shared_lane.specs.Ordering.{IsBefore}
 use Rattle.shared_rounds.specs.declared.sleepers.Sleeper.{Sleeper}
+use Rattle.shared_rounds.specs.declared.sleepers.Wakes.{Wakes}
 
 -- the one with this number sleeps in the bed with this key
 abbrev pub SleepsAt : Slab Sleeper → Option ℕ → ℕ → Type 0
@@ -50,3 +52,11 @@ IsTicketHeap pair heap = IsHeap (λ x y. ordering_then (nat_cmp (pair y).0 (pair
 -- none of the tickets in a list is before this one
 abbrev pub NoneBefore : Option Ticket → List (ℕ × ℕ) → Type 0
 NoneBefore first lain = (ticket key : ℕ) → Contains lain (ticket, key) → IsBefore ticket first → ⊥
+
+-- there is room for all whom one call of a flow with this config may have to wake: all subscriptions, all emissions, and one that it ends
+abbrev pub HasRoomFor : Config → Wakes → Type 0
+HasRoomFor config wakes = (config.subscribers ≤ wakes.subscriptions.capacity) × (config.emits + 1 ≤ vec_capacity wakes.wakers)
+
+-- there is as much room as before
+abbrev pub HasAsMuchRoom : Wakes → Wakes → Type 0
+HasAsMuchRoom before after = (after.subscriptions.capacity ≡ before.subscriptions.capacity) × (vec_capacity after.wakers ≡ vec_capacity before.wakers)

@@ -10,7 +10,7 @@ use Rattle.shared_lane.specs.Polls.{IsOutFor, IsFinishedBelow, stands_below}
 use Rattle.shared_rounds.specs.declared.round.Round.{Round}
 use Rattle.shared_rounds.specs.declared.round.Round.TheVariants as round
 use Rattle.shared_rounds.specs.declared.sleepers.Sleeper.{Sleeper}
-use Rattle.shared_rounds.specs.Names.{SharedSeen}
+use Rattle.shared_rounds.specs.Names.{FlowName, SharedSeen}
 use Rattle.shared_rounds.specs.Sleeping.{NobodySleeps, OnlyThese, LiesDown}
 
 -- nobody lay down, and nobody was woken
@@ -46,6 +46,11 @@ AreOutBut taken s = (key : ℕ) (sleeper : Sleeper) → get s.emissions key ≡ 
 abbrev pub AreOutWhereHeld : Option SharedSeen → Type 0
 AreOutWhereHeld None = ⊤
 AreOutWhereHeld (Some s) = AreOutBut None s
+
+-- what an owner holds is its flow
+abbrev pub HoldsItsFlow : Option FlowName → Option SharedSeen → Type 0
+HoldsItsFlow known None = ⊤
+HoldsItsFlow known (Some s) = known ≡ Some s.name
 
 -- the ticket that a round takes back: that of an emission which is finished, or is given up
 abbrev pub taken_by : Round → Option ℕ

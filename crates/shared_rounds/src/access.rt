@@ -9,7 +9,7 @@ ghost use Rattle.shared_rounds.specs.Names.{FoundDown, FoundUp, IsFlagOf, IsNew,
 ghost use Rattle.shared_rounds.specs.Entering.{Found, IsCalled, IsCalledAs, Left, LeftAs};
 ghost use Rattle.shared_rounds.specs.Reach.{party_of, reach_of, with_taken};
 ghost use Rattle.shared_rounds.specs.Rounds.{Below};
-ghost use Rattle.shared_rounds.specs.Sleeping.{NobodySleeps};
+ghost use Rattle.shared_rounds.specs.Sleeping.{NobodySleeps, HasRoomFor};
 ghost use Rattle.shared_rounds.specs.Waking.{AreOutBut, Helps, ended_by as the_ended_by, taken_by as the_taken_by};
 
 use crate::flag::Stands;
@@ -43,14 +43,14 @@ impl Model for Access {
     ghost use Rattle.std.specs.Arc.{arc_value};
     ghost use Rattle.shared_rounds.specs.Reach.{Reach, reach_of};
     ghost use Rattle.shared_rounds.specs.Names.{KnowsFlow};
-    ghost use Rattle.shared_rounds.specs.Sleeping.{NobodySleeps};
-    ghost use Rattle.shared_rounds.specs.Waking.{AreOutWhereHeld};
+    ghost use Rattle.shared_rounds.specs.Sleeping.{NobodySleeps, HasRoomFor};
+    ghost use Rattle.shared_rounds.specs.Waking.{AreOutWhereHeld, HoldsItsFlow};
 
     ghost Value = { Reach };
 
     ghost view = { λ a. reach_of (λ s. s.value) a.lock };
 
-    ghost invariant = { λ a. KnowsFlow a.config (reach_of (λ s. s.value) a.lock).flow (arc_value a.track) × NobodySleeps a.wakes.subscriptions × (a.wakes.wakers.items ≡ []) × AreOutWhereHeld (reach_of (λ s. s.value) a.lock).held };
+    ghost invariant = { λ a. KnowsFlow a.config (reach_of (λ s. s.value) a.lock).flow (arc_value a.track) × NobodySleeps a.wakes.subscriptions × (a.wakes.wakers.items ≡ []) × AreOutWhereHeld (reach_of (λ s. s.value) a.lock).held × HasRoomFor a.config a.wakes × HoldsItsFlow (reach_of (λ s. s.value) a.lock).flow (reach_of (λ s. s.value) a.lock).held };
 }
 
 // By hand: who lets one go proves this call alone, and nothing of what it is made of.
@@ -302,8 +302,10 @@ fn helped(
     taken: Option<u64>,
 ) -> Guarded<Box<Shared>>
     requires nobody { NobodySleeps wakes.old.subscriptions }
+    requires room { HasRoomFor inside.guarded.state.value.name.config wakes.old }
     requires out { AreOutBut taken inside.guarded.state.value }
-    ensures { Helps inside.before ended inside.guarded.state.value result.state.value }
+    ensures helps { Helps inside.before ended inside.guarded.state.value result.state.value }
+    ensures room { HasRoomFor inside.guarded.state.value.name.config wakes.new }
 {
     let Inside {
         mut guarded,

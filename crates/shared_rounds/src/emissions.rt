@@ -3,7 +3,7 @@ ghost use Rattle.std.specs.Prelude.{◌≡◌, ◌≢◌, ◌≤◌, ◌+◌, �
 ghost use Rattle.std.specs.BinaryHeap.{heap_items, heap_len};
 ghost use Rattle.futures.specs.Task.{IsArmed, Keeps};
 ghost use Rattle.shared_lane.specs.Ordering.{IsBefore};
-ghost use Rattle.shared_rounds.specs.Sleeping.{SleepsAt, NobodySleeps, OnlyThese, LiesDown, SleepsOn, IsTicketHeap, NoneBefore};
+ghost use Rattle.shared_rounds.specs.Sleeping.{SleepsAt, NobodySleeps, OnlyThese, LiesDown, SleepsOn, IsTicketHeap, NoneBefore, HasAsMuchRoom};
 
 use crate::sleepers::{Bed, Sleepers, Wakes};
 use futures::task::{Context, Poll};
@@ -60,6 +60,7 @@ impl SleepingEmissions {
     /// the task yields.
     pub fn sleep(&mut self, ticket: Ticket, bed: &mut Bed, cx: &mut Context<'_>)
         ensures lies { LiesDown ticket.0 self.old self.new }
+        ensures room { self.new.capacity ≡ self.old.capacity }
         ensures armed { IsArmed cx.new }
         ensures kept { Keeps cx.old cx.new }
     {
@@ -74,6 +75,7 @@ impl SleepingEmissions {
     fn lie_down(&mut self, ticket: Ticket, bed: &mut Bed) -> bool
         ensures lies { result ≡ true → SleepsAt self.new bed.new.key ticket.0 }
         ensures others { LiesDown ticket.0 self.old self.new }
+        ensures room { self.new.capacity ≡ self.old.capacity }
     {
         if self.tickets.len() >= self.tickets.capacity() || !self.sleepers.lie_down(ticket.0, bed) {
             return false;
@@ -89,6 +91,7 @@ impl SleepingEmissions {
     pub fn wake_done(&mut self, first: Option<Ticket>, gone: Option<u64>, wakes: &mut Wakes)
         ensures done { OnlyThese (SleepsOn first gone) self.old self.new }
         ensures room { self.new.capacity ≡ self.old.capacity }
+        ensures wakes { HasAsMuchRoom wakes.old wakes.new }
     {
         self.wake_before(first, wakes);
         if let Some(gone) = gone {
@@ -102,6 +105,7 @@ impl SleepingEmissions {
     fn wake_before(&mut self, first: Option<Ticket>, wakes: &mut Wakes)
         ensures others { OnlyThese (λ ticket. IsBefore ticket first → ⊥) self.old self.new }
         ensures room { self.new.capacity ≡ self.old.capacity }
+        ensures wakes { HasAsMuchRoom wakes.old wakes.new }
     {
         while let Some((ticket, key)) = take_before(&mut self.tickets, first) {
             self.sleepers.wake_in(ticket, key, wakes);
@@ -112,6 +116,7 @@ impl SleepingEmissions {
     fn wake(&mut self, ticket: u64, wakes: &mut Wakes)
         ensures others { OnlyThese (λ other. other ≢ ticket) self.old self.new }
         ensures room { self.new.capacity ≡ self.old.capacity }
+        ensures wakes { HasAsMuchRoom wakes.old wakes.new }
     {
         self.sleepers.wake(ticket, wakes);
         self.tickets.retain(|lain| lain.0.0 != ticket);

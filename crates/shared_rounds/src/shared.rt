@@ -6,7 +6,7 @@ ghost use Rattle.shared_rounds.specs.Names.{HasRoom, IsNew};
 ghost use Rattle.shared_rounds.specs.Rounds.{Does, Comes, MakesAfterScan, RaisedFor, Watched, IsAfter, IsNotAfter, IsReceiptAfter, HasSeenUpTo};
 ghost use Rattle.shared_rounds.specs.Rounds.{HasReceipt, IsLastAccepted, IsReceiptFor, IsReceiptOfOne, numbers_tried, poll_round, withdraw_round};
 ghost use Rattle.shared_rounds.specs.Rounds.{number_done as the_number_done, number_left as the_number_left};
-ghost use Rattle.shared_rounds.specs.Sleeping.{NobodySleeps, OnlyThese, LiesDown};
+ghost use Rattle.shared_rounds.specs.Sleeping.{NobodySleeps, OnlyThese, LiesDown, HasAsMuchRoom, HasRoomFor};
 ghost use Rattle.shared_lane.specs.Ordering.{IsOut};
 ghost use Rattle.shared_rounds.specs.Waking.{AreOutBut, Helps, IsTied, WakesEmissions, SleepOn};
 ghost use Rattle.flow_terms.specs.declared.refusal.Refusal.TheVariants.{Spent, EmitsFull};
@@ -54,13 +54,13 @@ pub struct Shared {
 impl Model for Shared {
     ghost use Rattle.std.specs.Arc.{arc_value};
     ghost use Rattle.std.specs.Prelude.{◌≡◌};
-    ghost use Rattle.shared_rounds.specs.Names.{SharedSeen, IsGuarded, MayWait};
+    ghost use Rattle.shared_rounds.specs.Names.{SharedSeen, HaveBeds, IsGuarded, MayWait};
 
     ghost Value = { SharedSeen };
 
     ghost view = { λ s. record { name = record { config = s.config; lane = (arc_value s.track).lane; flag = (arc_value s.track).flag }; sequencer = s.sequencer; flag = s.keeper.flag; raised = s.keeper.raised; subscriptions = s.subscriptions.sleeping; emissions = s.emissions } };
 
-    ghost invariant = { λ s. IsGuarded s.config (arc_value s.track).lane s.sequencer × (s.keeper.table ≡ (arc_value s.track).flag) × MayWait s.config (arc_value s.track) };
+    ghost invariant = { λ s. IsGuarded s.config (arc_value s.track).lane s.sequencer × (s.keeper.table ≡ (arc_value s.track).flag) × MayWait s.config (arc_value s.track) × HaveBeds s.config s.subscriptions.sleeping s.emissions };
 }
 
 // It lies under the lock in a box, so that a call moves no more than a pointer.
@@ -125,8 +125,10 @@ impl Shared {
         wakes: &mut Wakes,
     )
         requires nobody { NobodySleeps wakes.old.subscriptions }
+        requires room { HasRoomFor self.old.name.config wakes.old }
         requires out { AreOutBut taken self.old }
-        ensures { Helps before ended self.old self.new }
+        ensures helps { Helps before ended self.old self.new }
+        ensures room { HasRoomFor self.old.name.config wakes.new }
     {
         self.wake_subscriptions(before, ended, wakes);
         self.tie_flag();
@@ -137,7 +139,9 @@ impl Shared {
     // that was ended.
     #[inline(always)]
     fn wake_subscriptions(&mut self, before: u64, ended: Option<u64>, wakes: &mut Wakes)
-        requires { NobodySleeps wakes.old.subscriptions }
+        requires nobody { NobodySleeps wakes.old.subscriptions }
+        requires room { HasRoomFor self.old.name.config wakes.old }
+        ensures room { HasRoomFor self.old.name.config wakes.new }
         ensures same { self.new ≡ record self.old { subscriptions = self.new.subscriptions } }
         ensures accepted { before < next self.old.sequencer → NobodySleeps self.new.subscriptions }
         ensures none_accepted { next self.old.sequencer ≤ before → OnlyThese (λ number. ended ≢ Some number) self.old.subscriptions self.new.subscriptions }
@@ -154,6 +158,7 @@ impl Shared {
 
     // Wakes the subscription that was ended: its waker can't be thrown away.
     fn wake_ended(&mut self, ended: Option<u64>, wakes: &mut Wakes)
+        ensures wakes { HasAsMuchRoom wakes.old wakes.new }
         ensures same { self.new ≡ record self.old { subscriptions = self.new.subscriptions } }
         ensures others { OnlyThese (λ number. ended ≢ Some number) self.old.subscriptions self.new.subscriptions }
     {
@@ -182,6 +187,7 @@ impl Shared {
         ensures flag { (self.new.flag ≡ self.old.flag) × (self.new.raised ≡ self.old.raised) }
         ensures subscriptions { self.new.subscriptions ≡ self.old.subscriptions }
         ensures emissions { WakesEmissions self.old self.new }
+        ensures wakes { HasAsMuchRoom wakes.old wakes.new }
     {
         if self.emissions.is_empty() {
             return;

@@ -2,7 +2,7 @@
 ghost use Rattle.std.specs.Prelude.{◌≡◌, ◌≢◌, ◌≤◌, ◌<◌, ◌↔◌, true, false, None, IfOk, ◌+◌, ◌++◌, [], ◌∷◌, Some, length, vec_capacity};
 ghost use Rattle.slab.specs.Slab.{slab_len};
 ghost use Rattle.futures.specs.Task.{IsArmed, Keeps};
-ghost use Rattle.shared_rounds.specs.Sleeping.{SleepsAt, NobodySleeps, OnlyThese, LiesDown, StayBut, AllBut};
+ghost use Rattle.shared_rounds.specs.Sleeping.{SleepsAt, NobodySleeps, OnlyThese, LiesDown, StayBut, AllBut, HasAsMuchRoom, HasRoomFor};
 
 use futures::task::{Context, Poll, Source, Waker};
 use shared_core::Config;
@@ -59,6 +59,7 @@ impl Sleepers {
         ensures stays { SleepsAt self.old.sleeping bed.old.key number → bed.new.key ≡ bed.old.key }
         ensures lies { LiesDown number self.old.sleeping self.new.sleeping }
         ensures others { StayBut bed.new.key self.old.sleeping self.new.sleeping }
+        ensures room { self.new.sleeping.capacity ≡ self.old.sleeping.capacity }
         ensures armed { IsArmed cx.new }
         ensures kept { Keeps cx.old cx.new }
     {
@@ -74,6 +75,7 @@ impl Sleepers {
         requires { SleepsAt self.old.sleeping bed.now.key number }
         ensures sleeps { SleepsAt self.new.sleeping bed.now.key number }
         ensures others { StayBut bed.now.key self.old.sleeping self.new.sleeping }
+        ensures room { self.new.sleeping.capacity ≡ self.old.sleeping.capacity }
         ensures armed { IsArmed cx.new }
         ensures kept { Keeps cx.old cx.new }
     {
@@ -134,20 +136,24 @@ impl Sleepers {
     pub fn wake(&mut self, number: u64, wakes: &mut Wakes)
         ensures others { OnlyThese (λ n. n ≢ number) self.old.sleeping self.new.sleeping }
         ensures room { self.new.sleeping.capacity ≡ self.old.sleeping.capacity }
+        ensures wakes { HasAsMuchRoom wakes.old wakes.new }
     {
+        let mut woken = None;
         self.sleeping.retain(|_, sleeper| {
             let is_other = sleeper.number != number;
             if !is_other {
-                wakes.add(sleeper.waker.take());
+                woken = sleeper.waker.take();
             }
             is_other
         });
+        wakes.add(woken);
     }
 
     /// Wakes who sleeps in the bed with this key, if it is the one with this number.
     pub fn wake_in(&mut self, number: u64, key: usize, wakes: &mut Wakes)
         ensures others { AllBut number key self.old.sleeping self.new.sleeping }
         ensures room { self.new.sleeping.capacity ≡ self.old.sleeping.capacity }
+        ensures wakes { HasAsMuchRoom wakes.old wakes.new }
     {
         if !self.is_in(number, &Bed { key: Some(key) }) {
             return;
@@ -172,7 +178,7 @@ impl Wakes {
     /// one subscription that it ends.
     pub fn new(alloc: Global, config: &Config) -> Result<Wakes, AllocError>
         ensures none { IfOk result (λ wakes. NobodySleeps wakes.subscriptions × (wakes.wakers.items ≡ [])) }
-        ensures room { IfOk result (λ wakes. (config.now.subscribers ≤ wakes.subscriptions.capacity) × (config.now.emits + 1 ≤ vec_capacity wakes.wakers)) }
+        ensures room { IfOk result (λ wakes. HasRoomFor config.now wakes) }
     {
         let subscriptions = Slab::with_capacity(alloc, config.subscribers as usize)?;
         let wakers = Vec::with_capacity(alloc, config.emits as usize + 1)?;
@@ -209,7 +215,7 @@ impl Wakes {
     pub fn fire_unless(&mut self, is_idle: bool)
         requires { is_idle ≡ true → NobodySleeps self.old.subscriptions × (self.old.wakers.items ≡ []) }
         ensures none { NobodySleeps self.new.subscriptions × (self.new.wakers.items ≡ []) }
-        ensures room { (self.new.subscriptions.capacity ≡ self.old.subscriptions.capacity) × (vec_capacity self.new.wakers ≡ vec_capacity self.old.wakers) }
+        ensures room { HasAsMuchRoom self.old self.new }
     {
         if !is_idle {
             self.fire();
@@ -221,7 +227,7 @@ impl Wakes {
     #[inline(never)]
     fn fire(&mut self)
         ensures none { NobodySleeps self.new.subscriptions × (self.new.wakers.items ≡ []) }
-        ensures room { (self.new.subscriptions.capacity ≡ self.old.subscriptions.capacity) × (vec_capacity self.new.wakers ≡ vec_capacity self.old.wakers) }
+        ensures room { HasAsMuchRoom self.old self.new }
     {
         self.subscriptions.clear();
         self.wakers.clear();

@@ -1,12 +1,13 @@
 //! Subscriptions and the replay cache, by one who holds the lock.
-ghost use Rattle.std.specs.Prelude.{[], ◌≡◌, ◌<◌, ◌++◌, Some, Ok, Err, length, map, slice_get, IfOk, IfErr, IsOkUnless, OnOk, OnErr};
+ghost use Rattle.std.specs.Prelude.{[], ◌≡◌, ◌<◌, ◌≤◌, ◌++◌, Some, Ok, Err, length, map, slice_get, IfOk, IfErr, IsOkUnless, OnOk, OnErr};
 ghost use Rattle.std.specs.Arc.{arc_value};
 ghost use Rattle.flow_terms.specs.declared.refusal.Refusal.TheVariants.{NoMemory};
 ghost use Rattle.futures.specs.Task.{IsArmed, Keeps};
-ghost use Rattle.shared_lane.specs.Readers.{IsReaderOf};
+ghost use Rattle.shared_lane.specs.Readers.{IsReaderOf, at};
+ghost use Rattle.shared_lane.specs.declared.reader.Taken.TheVariants.{Nothing};
 ghost use Rattle.shared_lane.specs.Places.{IsOfSubscription};
 ghost use Rattle.shared_lane.specs.Caches.{IsLastOf};
-ghost use Rattle.shared_lane.specs.Sequencers.{seen};
+ghost use Rattle.shared_lane.specs.Sequencers.{next, seen};
 ghost use Rattle.shared_rounds.specs.declared.round.Round.TheVariants as round;
 ghost use Rattle.shared_rounds.specs.Names.{IsTrackOf};
 ghost use Rattle.shared_rounds.specs.Meeting.{Looked, HasMet, OnlyMet};
@@ -19,7 +20,7 @@ use crate::sleepers::Bed;
 use crate::track::{Looker, Track};
 use flow_terms::{Refusal, Word};
 use futures::task::Context;
-use shared_lane::{Met, Reader, Taken, meet};
+use shared_lane::{Met, Reader, Taken, look, meet};
 use std::alloc::{AllocError, Global};
 use std::sync::Arc;
 
@@ -76,9 +77,10 @@ impl Shared {
         ensures asleep { SleepOn self.old self.new }
         ensures reader { IsReaderOf self.old.name.lane reader.new }
         ensures looked { Looked reader.old result reader.new }
+        ensures nothing { result ≡ Nothing → next self.new.sequencer ≤ at reader.new }
     {
         self.sequencer.scan(self.track.lane());
-        let taken = reader.try_next(self.track.lane());
+        let taken = look(self.track.lane(), &mut self.sequencer, reader);
         if let Taken::Value(_) = taken {
             self.sequencer.scan(self.track.lane());
         }

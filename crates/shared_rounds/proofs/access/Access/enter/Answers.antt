@@ -5,7 +5,7 @@ use Rattle.shared_rounds.specs.Entering.{Found}
 use Rattle.shared_rounds.specs.Names.{KnowsFlow}
 use Rattle.shared_rounds.specs.Reach.{Reach, name_in, party_of, reach_of}
 use Rattle.shared_rounds.specs.Rounds.{Below}
-use Rattle.shared_rounds.specs.Waking.{AreOutWhereHeld}
+use Rattle.shared_rounds.specs.Waking.{AreOutWhereHeld, HoldsItsFlow}
 use Rattle.shared_rounds.proofs.Staying.{left_out}
 use Rattle.shared_rounds.proofs.Boxes.{found_by}
 use Rattle.shared_rounds.proofs.Numbers.{same_name, rounds_below}
@@ -24,6 +24,8 @@ invariant_of-self g c =
       c.self.invariant.1,
       c.self.invariant.2,
       subst (λ (r : Reach). AreOutWhereHeld r.held) (sym taken) (left_out (λ s. s.value) saw.made c.take-guarded.new.self.log.seen c.take-guarded.result.state saw.after),
+      c.self.invariant.4,
+      subst (λ (r : Reach). HoldsItsFlow r.flow r.held) (sym taken) (ap (name_in (λ s. s.value)) saw.made_is ∙ ap Some (sym (same_name (λ s. s.value) saw.made c.take-guarded.new.self.log.seen c.take-guarded.result.state saw.after))),
     )
 
 pub returns-clause-found : goal.returns-clause-found

@@ -3,7 +3,7 @@ use Rattle.std.specs.Arc.{arc_value}
 use Rattle.round_lock.specs.History.{own_of}
 use Rattle.shared_rounds.specs.Names.{KnowsFlow}
 use Rattle.shared_rounds.specs.Reach.{Reach, Rounds, reach_of, rounds_in, seen_in}
-use Rattle.shared_rounds.specs.Waking.{AreOutWhereHeld}
+use Rattle.shared_rounds.specs.Waking.{AreOutWhereHeld, HoldsItsFlow}
 use Rattle.shared_rounds.proofs.Boxes.{same_own}
 use Rattle.shared_rounds.proofs.access.Access.meet.Goals as goal
 
@@ -37,4 +37,6 @@ invariant_of-other c =
       c.other.invariant.1,
       c.other.invariant.2,
       subst AreOutWhereHeld (sym (ap (λ (r : Reach). r.held) met)) c.other.invariant.3,
+      c.other.invariant.4,
+      subst (λ (r : Reach). HoldsItsFlow r.flow r.held) (sym met) c.other.invariant.5,
     )

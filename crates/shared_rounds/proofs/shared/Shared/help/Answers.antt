@@ -13,8 +13,8 @@ wake_emissions-requires c =
     let same = c.tie_flag.ensures.same ∙ ap (λ (s : SharedSeen). record s { flag = tied.flag }) c.wake_subscriptions.ensures.same ∙ ap (λ l. record old { subscriptions = l; flag = tied.flag }) (sym subs) in
     still_out c.args.taken old tied (ap (λ (s : SharedSeen). s.emissions) same) (ap (λ (s : SharedSeen). s.sequencer) same) c.requires.out
 
-pub returns : goal.returns
-returns c =
+pub returns-clause-helps : goal.returns-clause-helps
+returns-clause-helps c =
     let woke = c.wake_subscriptions.ensures in
     let last = c.wake_emissions.ensures in
     let old : SharedSeen = c.args.self.now in

@@ -14,15 +14,15 @@ returns-in-Value-clause-does c = (
     search rules,
     (
       c.scan.new.self,
-      look_makes _ c.scan.new.self c.args.number c.try_next-taken.result,
+      look_makes _ c.scan.new.self c.args.number c.look-taken.result,
       (c.scan-in-Value.new.self, inr (c.scan-in-Value.new.self, c.scan-in-Value.result, search rules, search rules, search rules, refl), (refl, refl, refl, λ _. refl, λ _. refl)),
-      look_frees c.scan.new.self _ c.args.number c.try_next-taken.result,
+      look_frees c.scan.new.self _ c.args.number c.look-taken.result,
     ),
   ),
 )
 
 pub returns-in_default-clause-does : goal.returns-in_default-clause-does
-returns-in_default-clause-does c = (
+returns-in_default-clause-does c = rw c.look-taken.ensures.sequencer (
   search rules,
   search rules,
   (
@@ -33,15 +33,15 @@ returns-in_default-clause-does c = (
     search rules,
     (
       c.scan.new.self,
-      look_makes _ c.scan.new.self c.args.number c.try_next-taken.result,
+      look_makes _ c.scan.new.self c.args.number c.look-taken.result,
       (c.scan.new.self, inl refl, (refl, refl, refl, λ _. refl, λ _. refl)),
-      look_frees c.scan.new.self _ c.args.number c.try_next-taken.result,
+      look_frees c.scan.new.self _ c.args.number c.look-taken.result,
     ),
   ),
 )
 
 pub returns-in-Value-clause-freed : goal.returns-in-Value-clause-freed
-returns-in-Value-clause-freed c = look_freed c.try_next-taken.result _ _ (
+returns-in-Value-clause-freed c = look_freed c.look-taken.result _ _ (
   c.scan.new.self,
   c.scan.result,
   search rules,
@@ -51,4 +51,4 @@ returns-in-Value-clause-freed c = look_freed c.try_next-taken.result _ _ (
 )
 
 pub returns-in_default-clause-freed : goal.returns-in_default-clause-freed
-returns-in_default-clause-freed c = none_freed c.try_next-taken.result _ _ c.in_default.not-Value
+returns-in_default-clause-freed c = none_freed c.look-taken.result _ _ c.in_default.not-Value

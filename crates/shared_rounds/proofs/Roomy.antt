@@ -1,0 +1,20 @@
+-- The room for those whom a call wakes.
+use Rattle.std.proofs.Common.{◌≡◌, ◌≤◌, ◌+◌, ℕ, Option, Some, vec_capacity, sym, ap, subst, ◌∙◌}
+use Rattle.shared_core.specs.declared.config.Config.{Config}
+use Rattle.shared_rounds.specs.declared.round.Round.{Round}
+use Rattle.shared_rounds.specs.declared.sleepers.Wakes.{Wakes}
+use Rattle.shared_rounds.specs.Names.{FlowName, SharedSeen, KnowsConfig}
+use Rattle.shared_rounds.specs.Rounds.{Comes}
+use Rattle.shared_rounds.specs.Sleeping.{HasAsMuchRoom, HasRoomFor}
+use Rattle.shared_rounds.specs.Waking.{HoldsItsFlow}
+
+-- as much room is enough
+pub as_roomy : (config : Config) (before after : Wakes) → HasAsMuchRoom before after → HasRoomFor config before → HasRoomFor config after
+as_roomy config before after same had =
+    (subst (λ (n : ℕ). config.subscribers ≤ n) (sym same.0) had.0, subst (λ (n : ℕ). config.emits + 1 ≤ n) (sym same.1) had.1)
+
+-- an owner knows what the flow that it holds was made with, also after a call
+pub config_is : (config : Config) (known : Option FlowName) (held : Option SharedSeen) (found called : SharedSeen) (round : Round) → KnowsConfig config known
+    → HoldsItsFlow known held → held ≡ Some found → Comes found round called → config ≡ called.name.config
+config_is config known held found called round knows its is came =
+    knows found.name (subst (HoldsItsFlow known) is its) ∙ ap (λ (name : FlowName). name.config) (sym came.0)
