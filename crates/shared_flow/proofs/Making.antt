@@ -1,17 +1,20 @@
 -- A party's round, put together from what it found and how it left.
-use Rattle.std.proofs.Common.{◌≡◌, ◌++◌, ◌∷◌, [], ℕ, Ok, Some, refl, sym, ap, ◌∙◌, subst}
+use Rattle.std.proofs.Common.{◌≡◌, ◌+◌, ◌≤◌, ◌++◌, ◌∷◌, [], ℕ, length, inl, Ok, Some, refl, sym, ap, ◌∙◌, subst}
 use Rattle.round_lock.specs.History.{Begins, KnowsTaken, own_of}
 use Rattle.std.proofs.lemmas.List.{append-nil}
 use Rattle.std.proofs.lemmas.Option.{same_Some}
 use Rattle.shared_lane.specs.declared.meeting.Met.{Met}
+use Rattle.shared_lane.specs.declared.reader.Taken.TheVariants.{Nothing}
+use Rattle.shared_lane.specs.Readers.{at}
+use Rattle.shared_lane.specs.Sequencers.{next}
 use Rattle.shared_lane.specs.Views.{ReaderSeen}
 use Rattle.shared_lane.proofs.Sameness.{loaded_twice}
 use Rattle.shared_rounds.specs.declared.round.Round.{Round}
 use Rattle.shared_rounds.specs.declared.round.Round.TheVariants as round
 use Rattle.shared_rounds.specs.Entering.{Found, Left, Made, MadeOf}
-use Rattle.shared_flow.specs.Looks.{WasEnded, WasLetInBy, WasMadeWithin}
+use Rattle.shared_flow.specs.Looks.{MissedUnder, WasEnded, WasLetInBy, WasMadeWithin}
 use Rattle.shared_rounds.specs.Names.{SharedSeen}
-use Rattle.shared_rounds.specs.Meeting.{HasMet}
+use Rattle.shared_rounds.specs.Meeting.{HasMet, Looked}
 use Rattle.shared_flow.specs.Owners.{HasHeard, Keeping, Meets}
 use Rattle.shared_rounds.specs.Reach.{with_round, Party, Reach, Rounds, party_of}
 use Rattle.shared_flow.specs.Parties.{Subscribed}
@@ -52,6 +55,15 @@ was_ended number p q t found called reader met taken saw named went closed =
       closed = subst (λ (s : SharedSeen). HasClosed s reader met went.left) same
           (closed.0, closed.1, closed.2, closed.3, closed.4, (closed.5.0, closed.5.1, closed.5.2, closed.5.3, closed.5.4, closed.5.5, loaded_twice closed.5.2 called.sequencer went.left.sequencer closed.5.6 went.only));
     }
+
+-- so it did, after a look that found nothing of all that it had accepted
+pub missed_all : (number : ℕ) (p q t : Reach) (found called : SharedSeen) (r m : ReaderSeen) → q ≡ record p { held = Some found; seen = q.seen } → Found (party_of p) found q.seen
+    → Left (round.Pending number) called q t → Looked r Nothing m → next called.sequencer ≤ at m → MissedUnder number r m (party_of p) (party_of t)
+unfolding made
+missed_all number p q t found called r m taken saw went looked all = record {
+  made = made (round.Pending number) p q t found taken saw went;
+  missed = inl (looked, subst (λ (n : ℕ). n ≤ at m) (λ i. (sym went.only.1 i).first + length (sym went.only.2 i)) all);
+}
 
 -- so it did, of which a receipt was a part
 pub was_made_within : (number : ℕ) (p q t : Reach) (found called : SharedSeen) → q ≡ record p { held = Some found; seen = q.seen }

@@ -7,7 +7,7 @@ use Rattle.futures.specs.declared.task.Poll.TheVariants.{Ready, Pending}
 use Rattle.shared_lane.specs.Views.{ReaderSeen}
 use Rattle.shared_rounds.specs.declared.round.Round.TheVariants as round
 use Rattle.shared_rounds.specs.Entering.{Made}
-use Rattle.shared_flow.specs.Looks.{OnlyLooked, OnlyNext, TookNone, by_none, MadeRoom, MadeRoomIn, HasMadeRoom, WasMadeWithin}
+use Rattle.shared_flow.specs.Looks.{MissedUnder, OnlyLooked, OnlyNext, TookNone, by_none, MadeRoom, MadeRoomIn, HasMadeRoom, WasMadeWithin}
 use Rattle.shared_flow.specs.Parties.{Subscribed}
 use Rattle.shared_flow.specs.Preludes.{IsGreeted, IsPast, GreetedOr}
 
@@ -68,6 +68,9 @@ module _ {T : Type 0} where
 
   pub pending_since : (s m t : Subscribed T) → OnlyLooked s m → Made (round.Pending m.number) m.party t.party → Made (round.Pending s.number) s.party t.party
   pending_since s m t looked it = subst (λ (x : Subscribed T). Made (round.Pending x.number) x.party t.party) looked it
+
+  pub missed_since : (s m t : Subscribed T) → OnlyLooked s m → MissedUnder m.number m.reader t.reader m.party t.party → MissedUnder s.number m.reader t.reader s.party t.party
+  missed_since s m t looked it = subst (λ (x : Subscribed T). MissedUnder x.number m.reader t.reader x.party t.party) looked it
 
   pub only_since : (s m t : Subscribed T) → OnlyLooked s m → OnlyNext m.number m.party t.party → OnlyNext s.number s.party t.party
   only_since s m t looked it = subst (λ (x : Subscribed T). OnlyNext x.number x.party t.party) looked it

@@ -1,10 +1,11 @@
 -- What a subscription was let in by, and what its looks at the lane came to.
-use Rattle.std.specs.Prelude.{◌≡◌, ◌⊎◌, ◌++◌, ℕ, false, length, replicate, Some, Ok}
+use Rattle.std.specs.Prelude.{◌≡◌, ◌⊎◌, ◌≤◌, ◌++◌, ℕ, false, length, replicate, Some, Ok}
 use Rattle.shared_lane.specs.declared.meeting.Met.{Met}
 use Rattle.shared_lane.specs.declared.reader.Taken.{Taken}
 use Rattle.shared_lane.specs.declared.reader.Taken.TheVariants.{Value, Nothing, Overtaken}
 use Rattle.shared_lane.specs.Views.{ReaderSeen}
 use Rattle.shared_lane.specs.Readers.{at}
+use Rattle.shared_lane.specs.Sequencers.{next}
 use Rattle.shared_rounds.specs.declared.round.Round.TheVariants as round
 use Rattle.shared_rounds.specs.Meeting.{Looked}
 use Rattle.shared_rounds.specs.Names.{FoundDown, FoundUp}
@@ -57,6 +58,15 @@ GaveIn read_as r v t = Gave read_as r v t ⊎ ((m : ReaderSeen) × Missed r m ×
 -- a poll looked twice, and took nothing
 abbrev pub MissedTwice : ReaderSeen → ReaderSeen → Type 0
 MissedTwice r t = (m : ReaderSeen) × Missed r m × Missed m t
+
+-- A look under the lock took nothing: all that its round left accepted lies before the reader's position; or the reader was moved just then.
+pub record MissedUnder (number : ℕ) (r t : ReaderSeen) (p q : Party) : Type 0 where
+  pub made : Made (round.Pending number) p q
+  pub missed : (Looked r Nothing t × (next made.left.sequencer ≤ at t)) ⊎ Looked r Overtaken t
+
+-- a poll's first look took nothing, and then one under the lock
+abbrev pub MissedBoth : {T : Type 0} → Subscribed T → Subscribed T → Type 0
+MissedBoth s t = (m : ReaderSeen) × Missed s.reader m × MissedUnder s.number m t.reader s.party t.party
 
 -- by looks, one after another, the reader took nothing
 pub data MissedOn : ReaderSeen → ReaderSeen → Type 0 where

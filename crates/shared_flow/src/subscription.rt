@@ -9,7 +9,7 @@ ghost use Rattle.shared_rounds.specs.declared.round.Round.TheVariants as round;
 ghost use Rattle.shared_rounds.specs.Reach.{Party, party_of};
 ghost use Rattle.shared_rounds.specs.Entering.{Made};
 ghost use Rattle.shared_flow.specs.Parties.{Subscribed, OfFlow};
-ghost use Rattle.shared_flow.specs.Looks.{Took, Gave, GaveIn, Missed, MissedTwice, MissedSome, OnlyLooked, OnlyNext, Waited, WasEnded};
+ghost use Rattle.shared_flow.specs.Looks.{Took, Gave, GaveIn, Missed, MissedTwice, MissedSome, MissedBoth, MissedUnder, OnlyLooked, OnlyNext, Waited, WasEnded};
 ghost use Rattle.shared_flow.specs.Looks.{MadeRoom, MadeRoomIn, HasMadeRoom, WasMadeWithin};
 ghost use Rattle.shared_core.specs.Preludes.{prelude_values};
 ghost use Rattle.shared_flow.specs.Preludes.{IsGreeted, IsPast, GreetedOr, TookFirst};
@@ -189,6 +189,7 @@ impl<T: Word> Subscription<T> {
         ensures ready { IfReady result (λ v. GreetedOr self.old v self.new (GaveIn T.read_as self.old.reader v self.new.reader)) }
         ensures room { IfReady result (λ v. IsGreeted self.old v self.new ⊎ MadeRoomIn self.old self.new) }
         ensures pending { OnPending result (IsPast self.old self.new × MissedTwice self.old.reader self.new.reader) }
+        ensures nothing { OnPending result (MissedBoth self.old self.new) }
         ensures armed { OnPending result (IsArmed cx.new) }
         ensures kept { Keeps cx.old cx.new }
     {
@@ -284,6 +285,7 @@ impl<T: Word> Subscription<T> {
         ensures within { IfReady result (λ v. WasMadeWithin self.old.number self.old.party self.new.party) }
         ensures ready { IfReady result (λ v. Gave T.read_as self.old.reader v self.new.reader) }
         ensures pending { OnPending result (Missed self.old.reader self.new.reader) }
+        ensures nothing { OnPending result (MissedUnder self.old.number self.old.reader self.new.reader self.old.party self.new.party) }
         ensures armed { OnPending result (IsArmed cx.new) }
         ensures kept { Keeps cx.old cx.new }
     {

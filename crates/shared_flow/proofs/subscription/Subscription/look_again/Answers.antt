@@ -1,5 +1,8 @@
-use Rattle.std.proofs.Common.{inl, sym, ap, subst}
+use Rattle.std.proofs.Common.{◌≡◌, ◌≤◌, inl, inr, sym, ap, subst, ◌∙◌}
 use Rattle.shared_lane.specs.declared.reader.Taken.{Taken}
+use Rattle.shared_lane.specs.Readers.{at}
+use Rattle.shared_lane.specs.Sequencers.{next}
+use Rattle.shared_lane.specs.Views.{SequencerSeen}
 use Rattle.shared_rounds.specs.declared.round.Round.TheVariants as round
 use Rattle.shared_rounds.specs.Meeting.{Looked}
 use Rattle.shared_rounds.specs.Names.{SharedSeen}
@@ -9,7 +12,7 @@ use Rattle.shared_rounds.specs.Waking.{SleepOn}
 use Rattle.shared_rounds.proofs.Doing.{is_called, lay_down, none_lies}
 use Rattle.shared_flow.specs.Looks.{Missed}
 use Rattle.shared_flow.specs.Parties.{Subscribed}
-use Rattle.shared_flow.proofs.Making.{made, was_made_within}
+use Rattle.shared_flow.proofs.Making.{made, missed_all, was_made_within}
 use Rattle.shared_flow.proofs.subscription.Subscription.look_again.Goals as goal
 
 pub leave-requires : goal.leave-requires
@@ -67,3 +70,21 @@ pub returns-in-Nothing-clause-pending : goal.returns-in-Nothing-clause-pending
 returns-in-Nothing-clause-pending g c =
     let looked = subst (λ (x : Taken _). Looked c.self.inside.reader x c.look.new.reader) c.in-Nothing.is c.look.ensures.looked in
     subst (λ (s : Subscribed _). Missed s.reader c.look.new.reader) c.self.view_is (inl looked)
+
+pub returns-in-Nothing-clause-nothing : goal.returns-in-Nothing-clause-nothing
+returns-in-Nothing-clause-nothing g c =
+    let found : SharedSeen = c.enter-inside.result.guarded.state.value in
+    let last : SharedSeen = c.sleep_subscription.new.self in
+    let looked = subst (λ (x : Taken _). Looked c.self.inside.reader x c.look.new.reader) c.in-Nothing.is c.look.ensures.looked in
+    let same : last.sequencer ≡ c.look.new.self.sequencer = ap (λ (s : SharedSeen). s.sequencer) c.sleep_subscription.ensures.same ∙ ap (λ (s : SharedSeen). s.sequencer) c.deref_mut-in-Nothing.ensures.value in
+    let all = subst (λ (q : SequencerSeen). next q ≤ at c.look.new.reader) (sym same) (c.look.ensures.nothing c.in-Nothing.is) in
+    rw (← c.self.view_is) (missed_all c.self.inside.number c.self.inside.access c.enter-inside.new.self c.leave-in-Nothing.new.self found last c.self.inside.reader c.look.new.reader
+    c.enter-inside.ensures.taken c.enter-inside.ensures.found c.leave-in-Nothing.ensures.left looked all)
+
+pub returns-in-Overtaken-clause-nothing : goal.returns-in-Overtaken-clause-nothing
+returns-in-Overtaken-clause-nothing g c =
+    let looked = subst (λ (x : Taken _). Looked c.self.inside.reader x c.look.new.reader) c.in-Overtaken.is c.look.ensures.looked in
+    rw (← c.self.view_is) (record {
+      made = made (round.Pending c.self.inside.number) c.self.inside.access c.enter-inside.new.self c.leave-in-Overtaken.new.self c.enter-inside.result.guarded.state.value c.enter-inside.ensures.taken c.enter-inside.ensures.found c.leave-in-Overtaken.ensures.left;
+      missed = inr looked;
+    })

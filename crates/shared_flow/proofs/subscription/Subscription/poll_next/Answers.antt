@@ -1,6 +1,6 @@
 use Rattle.std.proofs.Common.{⊎_elim, inl, inr, ap, ◌∙◌}
 use Rattle.shared_flow.specs.Parties.{Subscribed}
-use Rattle.shared_flow.proofs.Receiving.{if_both, if_ready, on_pending, pending_since, within_since}
+use Rattle.shared_flow.proofs.Receiving.{if_both, if_ready, missed_since, on_pending, pending_since, within_since}
 use Rattle.shared_flow.proofs.subscription.Subscription.poll_next.Goals as goal
 
 pub returns-in-Some-clause-ready : goal.returns-in-Some-clause-ready
@@ -24,6 +24,7 @@ returns-in-None g c =
           (λ v gave it. inr (inr (m.reader, gave.0, missed.2, gave.2, within_since s m t missed.1 it, c.look_again.ensures.same.2 ∙ ap (λ (x : Subscribed _). x.looks) missed.1)))
           c.look_again.ensures.ready c.look_again.ensures.within;
       pending = on_pending c.look_again.result _ _ (λ it. ((missed.0.0, rest), (m.reader, missed.2, it))) c.look_again.ensures.pending;
+      nothing = on_pending c.look_again.result _ _ (λ it. (m.reader, missed.2, missed_since s m t missed.1 it)) c.look_again.ensures.nothing;
       armed = c.look_again.ensures.armed;
       kept = c.look_again.ensures.kept;
     }
