@@ -1,7 +1,7 @@
--- An object over the flows, states and sharings of an engine is one of which the model knows the flow.
+-- An object over the flows, states and sharings of an engine is one of which the model knows the flow and the state.
 use Rattle.std.proofs.Common.{ℕ, Option}
 use Rattle.shared_core.specs.Shown.{Seen}
-use Rattle.script_calls.specs.Calls.{Receipts, Readings, Settings, Turns}
+use Rattle.script_calls.specs.Calls.{Receipts, Turns}
 use Rattle.script_calls.specs.Views.{receipts_of, emissions_of}
 use Rattle.script_commands.specs.declared.answer.Answer.{Answer}
 use Rattle.script_commands.specs.declared.part.Part.{Part}
@@ -13,26 +13,24 @@ use Rattle.script_objects.specs.declared.object.Object.TheVariants as objects
 use Rattle.script_objects.specs.Objects.{AsksObject, JoinsObject}
 use Rattle.script_objects.specs.Replied.{Joined}
 use Rattle.script_objects.specs.Sources.{AsksShare, AsksStated, JoinsShare, JoinsStated}
-use Rattle.script_objects.specs.States.{AsksState, JoinsState}
+use Rattle.script_states.specs.Watching.{Watch, watching, setting}
 use Rattle.script_model.proofs.Objects.{AsksKnown, JoinsKnown}
 
-module _ {F S L H K : Type 0} (seen : F → Seen ℕ) (readings : Readings S) (share_receipts : Receipts L) where
-  pub asks_known : (settings : Settings S) (share_turns : Turns H) (stated_turns : Turns K) (part : Part) (request : Request) (old new : Object F S L H K) (answer : Option Answer)
-      → AsksObject (receipts_of seen receiving) (emissions_of seen emitting) readings settings share_receipts share_turns stated_turns part request old answer new
-      → AsksKnown seen (λ before after. AsksState readings settings part request before answer after)
-      (λ before after. AsksShare share_receipts share_turns part request before answer after)
-      (λ before after. AsksStated readings stated_turns part request before answer after) part request old answer new
-  asks_known settings share_turns stated_turns part request (objects.Flow shown) new answer h = h
-  asks_known settings share_turns stated_turns part request (objects.State shown) new answer h = h
-  asks_known settings share_turns stated_turns part request (objects.Share shown) new answer h = h
-  asks_known settings share_turns stated_turns part request (objects.Stated shown) new answer h = h
-  asks_known settings share_turns stated_turns part request (objects.Buffer shown) new answer h = h
+module _ {F L H K : Type 0} (seen : F → Seen ℕ) (share_receipts : Receipts L) where
+  pub asks_known : (share_turns : Turns H) (stated_turns : Turns K) (part : Part) (request : Request) (old new : Object F Watch L H K) (answer : Option Answer)
+      → AsksObject (receipts_of seen receiving) (emissions_of seen emitting) watching setting share_receipts share_turns stated_turns part request old answer new
+      → AsksKnown seen (λ before after. AsksShare share_receipts share_turns part request before answer after)
+      (λ before after. AsksStated watching stated_turns part request before answer after) part request old answer new
+  asks_known share_turns stated_turns part request (objects.Flow shown) new answer h = h
+  asks_known share_turns stated_turns part request (objects.State shown) new answer h = h
+  asks_known share_turns stated_turns part request (objects.Share shown) new answer h = h
+  asks_known share_turns stated_turns part request (objects.Stated shown) new answer h = h
+  asks_known share_turns stated_turns part request (objects.Buffer shown) new answer h = h
 
-  pub joins_known : (part : Part) (party : Joining) (old new : Object F S L H K) (joined : Option Joined)
-      → JoinsObject (receipts_of seen receiving) (emissions_of seen emitting) readings share_receipts part party old joined new
-      → JoinsKnown seen (λ before after. JoinsState readings part party before joined after)
-      (λ before after. JoinsShare share_receipts part party before joined after)
-      (λ before after. JoinsStated readings part party before joined after) part party old joined new
+  pub joins_known : (part : Part) (party : Joining) (old new : Object F Watch L H K) (joined : Option Joined)
+      → JoinsObject (receipts_of seen receiving) (emissions_of seen emitting) watching share_receipts part party old joined new
+      → JoinsKnown seen (λ before after. JoinsShare share_receipts part party before joined after)
+      (λ before after. JoinsStated watching part party before joined after) part party old joined new
   joins_known part party (objects.Flow shown) new joined h = h
   joins_known part party (objects.State shown) new joined h = h
   joins_known part party (objects.Share shown) new joined h = h

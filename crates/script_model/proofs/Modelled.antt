@@ -1,4 +1,4 @@
--- What follows for a script whose objects are flows that show their models, buffers, and whatever else.
+-- What follows for a script whose objects are flows and states that show their models, buffers, and whatever else.
 use Rattle.std.proofs.Common.{ℕ, List, Option, Result, Vec}
 use Rattle.flow_terms.specs.declared.policy.Policy.{Policy}
 use Rattle.flow_terms.specs.declared.refusal.Refusal.{Refusal}
@@ -15,41 +15,42 @@ use Rattle.script_run.specs.declared.fault.ScriptFault.{ScriptFault}
 use Rattle.script_run.specs.declared.line_answer.LineAnswer.{LineAnswer}
 use Rattle.script_run.specs.Executing.{Joined}
 use Rattle.script_run.specs.Scripts.{Gives, Runs}
+use Rattle.script_states.specs.Watching.{Watch}
 use Rattle.script_words.specs.Starts.{Starting}
 use Rattle.flow_script.specs.Makers.{made_as}
 use Rattle.script_model.specs.Running.{GivesAnswers, RunsByModel}
 use Rattle.script_model.proofs.Answered.{gives_answers, runs_by_model}
 use Rattle.script_model.proofs.Objects.{MakesKnown, AsksKnown, JoinsKnown, StandsInside, object_meets}
 
-module _ {O F S L H K : Type 0} (makes : Made → Result O Refusal → Type 0)
+module _ {O F L H K : Type 0} (makes : Made → Result O Refusal → Type 0)
     (asks : Part → Request → O → Option Answer → O → Type 0)
     (joins : Part → Joining → O → Option Joined → O → Type 0) where
   pub gives_as_model : {Y : Type 0} (script : List ℕ) (result : Result (Vec LineAnswer Y) ScriptFault) → Gives makes asks joins script result
-      → (seen : F → Seen ℕ) (object : O → Object F S L H K)
-      (states : ℕ → S → Type 0) (shares : ℕ → ℕ → Policy → Starting → Origin → Started → Sourced L H → Type 0) (stateds : ℕ → Starting → Origin → Started → Sourced S K → Type 0)
-      (states' : Part → Request → Option Answer → S → S → Type 0) (shares' : Part → Request → Option Answer → Sourced L H → Sourced L H → Type 0) (stateds' : Part → Request → Option Answer → Sourced S K → Sourced S K → Type 0)
-      (states'' : Part → Joining → Option Joined → S → S → Type 0) (shares'' : Part → Joining → Option Joined → Sourced L H → Sourced L H → Type 0) (stateds'' : Part → Joining → Option Joined → Sourced S K → Sourced S K → Type 0)
-      → ((made : Made) (reply : Result O Refusal) → makes made reply → MakesKnown seen states shares stateds made (made_as object reply))
+      → (seen : F → Seen ℕ) (object : O → Object F Watch L H K)
+      (shares : ℕ → ℕ → Policy → Starting → Origin → Started → Sourced L H → Type 0) (stateds : ℕ → Starting → Origin → Started → Sourced Watch K → Type 0)
+      (shares' : Part → Request → Option Answer → Sourced L H → Sourced L H → Type 0) (stateds' : Part → Request → Option Answer → Sourced Watch K → Sourced Watch K → Type 0)
+      (shares'' : Part → Joining → Option Joined → Sourced L H → Sourced L H → Type 0) (stateds'' : Part → Joining → Option Joined → Sourced Watch K → Sourced Watch K → Type 0)
+      → ((made : Made) (reply : Result O Refusal) → makes made reply → MakesKnown seen shares stateds made (made_as object reply))
       → ((part : Part) (request : Request) (old new : O) (answer : Option Answer) → asks part request old answer new
-      → AsksKnown seen (states' part request answer) (shares' part request answer) (stateds' part request answer) part request (object old) answer (object new))
+      → AsksKnown seen (shares' part request answer) (stateds' part request answer) part request (object old) answer (object new))
       → ((part : Part) (party : Joining) (old new : O) (joined : Option Joined) → joins part party old joined new
-      → JoinsKnown seen (states'' part party joined) (shares'' part party joined) (stateds'' part party joined) part party (object old) joined (object new))
+      → JoinsKnown seen (shares'' part party joined) (stateds'' part party joined) part party (object old) joined (object new))
       → GivesAnswers script result
-  gives_as_model script result gives seen object states shares stateds states' shares' stateds' states'' shares'' stateds'' making asking joining =
+  gives_as_model script result gives seen object shares stateds shares' stateds' shares'' stateds'' making asking joining =
       gives_answers makes asks joins script result gives (StandsInside seen object)
-      (object_meets seen object makes asks joins states shares stateds states' shares' stateds' states'' shares'' stateds'' making asking joining)
+      (object_meets seen object makes asks joins shares stateds shares' stateds' shares'' stateds'' making asking joining)
 
   pub runs_as_model : (left rest old new : Option (List ℕ)) (result : Result (Unit {0}) ScriptFault) → Runs makes asks joins left rest old new result
-      → (seen : F → Seen ℕ) (object : O → Object F S L H K)
-      (states : ℕ → S → Type 0) (shares : ℕ → ℕ → Policy → Starting → Origin → Started → Sourced L H → Type 0) (stateds : ℕ → Starting → Origin → Started → Sourced S K → Type 0)
-      (states' : Part → Request → Option Answer → S → S → Type 0) (shares' : Part → Request → Option Answer → Sourced L H → Sourced L H → Type 0) (stateds' : Part → Request → Option Answer → Sourced S K → Sourced S K → Type 0)
-      (states'' : Part → Joining → Option Joined → S → S → Type 0) (shares'' : Part → Joining → Option Joined → Sourced L H → Sourced L H → Type 0) (stateds'' : Part → Joining → Option Joined → Sourced S K → Sourced S K → Type 0)
-      → ((made : Made) (reply : Result O Refusal) → makes made reply → MakesKnown seen states shares stateds made (made_as object reply))
+      → (seen : F → Seen ℕ) (object : O → Object F Watch L H K)
+      (shares : ℕ → ℕ → Policy → Starting → Origin → Started → Sourced L H → Type 0) (stateds : ℕ → Starting → Origin → Started → Sourced Watch K → Type 0)
+      (shares' : Part → Request → Option Answer → Sourced L H → Sourced L H → Type 0) (stateds' : Part → Request → Option Answer → Sourced Watch K → Sourced Watch K → Type 0)
+      (shares'' : Part → Joining → Option Joined → Sourced L H → Sourced L H → Type 0) (stateds'' : Part → Joining → Option Joined → Sourced Watch K → Sourced Watch K → Type 0)
+      → ((made : Made) (reply : Result O Refusal) → makes made reply → MakesKnown seen shares stateds made (made_as object reply))
       → ((part : Part) (request : Request) (before after : O) (answer : Option Answer) → asks part request before answer after
-      → AsksKnown seen (states' part request answer) (shares' part request answer) (stateds' part request answer) part request (object before) answer (object after))
+      → AsksKnown seen (shares' part request answer) (stateds' part request answer) part request (object before) answer (object after))
       → ((part : Part) (party : Joining) (before after : O) (joined : Option Joined) → joins part party before joined after
-      → JoinsKnown seen (states'' part party joined) (shares'' part party joined) (stateds'' part party joined) part party (object before) joined (object after))
+      → JoinsKnown seen (shares'' part party joined) (stateds'' part party joined) part party (object before) joined (object after))
       → RunsByModel left rest old new result
-  runs_as_model left rest old new result runs seen object states shares stateds states' shares' stateds' states'' shares'' stateds'' making asking joining =
+  runs_as_model left rest old new result runs seen object shares stateds shares' stateds' shares'' stateds'' making asking joining =
       runs_by_model makes asks joins left rest old new result runs (StandsInside seen object)
-      (object_meets seen object makes asks joins states shares stateds states' shares' stateds' states'' shares'' stateds'' making asking joining)
+      (object_meets seen object makes asks joins shares stateds shares' stateds' shares'' stateds'' making asking joining)

@@ -6,13 +6,13 @@ use Rattle.script_objects.specs.Replied.{Joined}
 pub data Finding : Type 0 where
   -- nothing
   plain : Finding
-  -- memory was refused to what it makes, or to its pipe
+  -- memory was refused to what it makes, to its pipe, or to its collector of a state
   refused : Finding
   -- the source of its buffer was pending
   waited : Finding
-  -- a state, or what shares a source, answered this to a command
+  -- what shares a source answered this to a command
   said : Option Answer → Finding
-  -- a state, or what shares a source, answered this to a party, and the party's name is this
+  -- what shares a source answered this to a party, and the party's name is this
   took : Option Joined → Finding
 
 abbrev pub was_refused : Finding → Bool

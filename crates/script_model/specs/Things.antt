@@ -1,5 +1,5 @@
 -- What a script makes, as its model has it, and what each kind of it answers.
-use Rattle.std.specs.Prelude.{ℕ, Bool, true, false, Option, Some, None}
+use Rattle.std.specs.Prelude.{ℕ, Bool, true, false, Option, Some, None, Err}
 use Rattle.flow_buffer.specs.Capacity.{refused_capacity}
 use Rattle.flow_terms.specs.declared.refusal.Refusal.{Refusal}
 use Rattle.flow_terms.specs.declared.refusal.Refusal.TheVariants.{NoMemory}
@@ -21,16 +21,19 @@ use Rattle.script_engines.specs.Preludes.{subscribed}
 use Rattle.script_objects.specs.Buffered.{ask_buffer}
 use Rattle.script_objects.specs.Buffers.{Buffering, begun}
 use Rattle.script_objects.specs.Replied.{Joined}
+use Rattle.script_states.specs.Keeping as states
 use Rattle.script_words.specs.Starts.{start_refusal}
 use Rattle.flow_script.specs.Makers.{config_of}
-use Rattle.script_model.specs.Findings.{Finding, has_waited, said_in, took_in}
+use Rattle.script_model.specs.Findings.{Finding, was_refused, has_waited, said_in, took_in}
 
 pub data Thing : Type 0 where
   -- a shared flow: the state of its model
   flow : State ℕ → Thing
   -- a buffer, with what its source gives still
   buffer : Buffering → Thing
-  -- a state, or what shares a source: what it answers isn't told by this model
+  -- a state: the values that it had, and what each of its collectors was given
+  state : states.Kept → Thing
+  -- what shares a source: what it answers isn't told by this model
   untold : Thing
 
 -- ---- what is made
@@ -57,14 +60,14 @@ refusal_by None false = None
 abbrev pub thing_of : Made → Thing
 thing_of (commands.shared replay extra policy) = flow (empty (parameters_of (config_of replay extra policy)))
 thing_of (commands.buffer capacity policy origin) = buffer (begun capacity policy origin)
-thing_of (commands.state value) = untold
+thing_of (commands.state value) = state (states.begun value)
 thing_of (commands.share replay extra policy starting origin) = untold
 thing_of (commands.stated value starting origin) = untold
 
 -- ---- what is asked: the answer, and what stands after it. Without an answer it is no command for that part, and nothing changes
 
 -- a call's reply is the answer
-abbrev pub replied : {R : Type 0} → (R → Answer) → R × State ℕ → Option Answer × State ℕ
+abbrev pub replied : {R S : Type 0} → (R → Answer) → R × S → Option Answer × S
 replied answer_of came = (Some (answer_of came.0), came.1)
 
 abbrev pub ask_flow : Part → Request → State ℕ → Option Answer × State ℕ
@@ -81,7 +84,16 @@ ask_flow Finished requests.Poll M = (Some answers.Gone, M)
 ask_flow Finished requests.Withdraw M = (Some answers.Gone, M)
 ask_flow part request M = (None, M)
 
--- what came of a thing's state came of the thing
+abbrev pub ask_state : Part → Request → states.Kept → Option Answer × states.Kept
+ask_state Whole requests.Value kept = (Some (answers.Value (states.standing kept)), kept)
+ask_state Whole (requests.Set value) kept = (Some answers.Ok, states.written value kept)
+ask_state Whole (requests.CompareAndSet expect update) kept = replied answers.Truth (states.compared expect update kept)
+ask_state Whole requests.Count kept = (Some (answers.Number (states.collector_count kept)), kept)
+ask_state (Subscription id) requests.Next kept = replied next_answer (states.next_value id.0 kept)
+ask_state (Subscription id) requests.Cancel kept = replied cancel_answer (states.cancelled id.0 kept)
+ask_state part request kept = (None, kept)
+
+-- what came of what a thing holds came of the thing
 abbrev pub as_thing : {R S : Type 0} → (S → Thing) → R × S → R × Thing
 as_thing kind came = (came.0, kind came.1)
 
@@ -89,11 +101,12 @@ as_thing kind came = (came.0, kind came.1)
 abbrev pub ask : Finding → Part → Request → Thing → Option Answer × Thing
 ask finding part request (flow M) = as_thing flow (ask_flow part request M)
 ask finding part request (buffer held) = as_thing buffer (ask_buffer part request (has_waited finding) held)
+ask finding part request (state kept) = as_thing state (ask_state part request kept)
 ask finding part request untold = (said_in finding, untold)
 
 -- ---- who joins: the answer with what the party's name is, if anything was made. Nothing where that part takes no such party
 
-abbrev pub joined : {R : Type 0} → (R → Answer) → (R → Option Part) → R × State ℕ → Option Joined × State ℕ
+abbrev pub joined : {R S : Type 0} → (R → Answer) → (R → Option Part) → R × S → Option Joined × S
 joined answer_of part_of came = (Some (answer_of came.0, part_of came.0), came.1)
 
 abbrev pub join_flow : Part → Joining → State ℕ → Option Joined × State ℕ
@@ -101,8 +114,15 @@ join_flow Whole (commands.subscription numbers) M = joined subscribe_answer subs
 join_flow Whole (commands.emission value) M = joined emit_answer emission_in (calls.start_emit 0 value M)
 join_flow part joining M = (None, M)
 
+-- by whether memory was refused
+abbrev pub join_state : Bool → Part → Joining → states.Kept → Option Joined × states.Kept
+join_state true Whole commands.collector kept = joined subscribe_answer subscription_in (Err NoMemory, kept)
+join_state false Whole commands.collector kept = joined subscribe_answer subscription_in (states.collected kept)
+join_state lacked part joining kept = (None, kept)
+
 -- WHAT A THING ANSWERS to a party that joins this part of it
 abbrev pub join : Finding → Part → Joining → Thing → Option Joined × Thing
 join finding part joining (flow M) = as_thing flow (join_flow part joining M)
 join finding part joining (buffer held) = (None, buffer held)
+join finding part joining (state kept) = as_thing state (join_state (was_refused finding) part joining kept)
 join finding part joining untold = (took_in finding, untold)

@@ -1,8 +1,11 @@
-//! The states that a script may stand on: a state flow's seat with collectors ([`Watched`]), as a script calls it.
+//! The states that a script may stand on: a state flow's seat that runs collectors ([`Watched`]), as a script calls it.
 //!
-//! A ghost member says what each call does: which step the seat or the collector made that it is of, on the history of the value.
+//! A ghost member says what each call does: which step the seat made, on the history of the value. Where the seat has all seats,
+//! what a call answers is a function of the calls before it ([`acts_as_kept`]).
 #![tactic(auto)]
 
+mod laws;
 mod watched;
 
+pub use laws::acts_as_kept;
 pub use watched::Watched;

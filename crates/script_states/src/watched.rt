@@ -7,23 +7,24 @@ ghost use Rattle.state_flow.specs.Views.{opening, giver, taker};
 use flow_terms::{Next, Refusal, SubId};
 use script_calls::places::{id_at, place_of};
 use script_calls::{MutableState, State};
-use state_flow::{Collector, StateFlow, StateSeat};
+use state_flow::{CollectingSeat, SeatCollector, StateFlow, StateSeat};
 use std::alloc::Global;
 use std::marker::Model;
 
-/// How many seats a state has: one to set and read it by, and one for each of 8 collectors.
+/// How many seats a state has, of which one seat has all: it sets and reads, and can run 8 collectors.
 const SEATS: u32 = 9;
 
-/// How many a state has that is set from a source: one more, for that.
+/// How many a state has that is set from a source: one more, by which that sets it.
 const STATED_SEATS: u32 = 10;
 
 /// A state flow with its collectors, as a script calls it. It must be spent, by [`close`](State::close).
 ///
-/// Contracts see what its seat and its collectors have seen, the cancelled ones as nothing.
+/// Contracts see what its seat has seen, and what each collector was given last, a cancelled one as nothing.
 pub struct Watched {
-    seat: StateSeat<u64>,
-    // Each collector keeps its place; a cancelled one gave its seat back.
-    collectors: Vec<Option<Collector<u64>>>,
+    // It runs the collectors, so it has all seats while they collect.
+    seat: CollectingSeat<u64>,
+    // Each collector keeps its place.
+    collectors: Vec<Option<SeatCollector>>,
 }
 
 impl Model for Watched {
@@ -45,7 +46,7 @@ impl Watched {
     {
         let seat = StateFlow::new(alloc, value, SEATS)?;
         Ok(Watched {
-            seat,
+            seat: CollectingSeat::of(seat),
             collectors: Vec::new(alloc),
         })
     }
@@ -60,7 +61,7 @@ impl Watched {
         let mut seat = StateFlow::new(alloc, value, STATED_SEATS)?;
         let setter = seat.take_seat(0)?;
         let state = Watched {
-            seat,
+            seat: CollectingSeat::of(seat),
             collectors: Vec::new(alloc),
         };
         Ok((state, setter))
@@ -78,7 +79,7 @@ impl State for Watched {
 
     fn collect(&mut self) -> Result<SubId, Refusal> {
         self.collectors.reserve(1)?;
-        let collector = self.seat.take_seat(0)?.collect();
+        let collector = self.seat.launch()?;
         let place = self.collectors.len();
         self.collectors.push_reserved(Some(collector));
         Ok(id_at(place))
@@ -91,7 +92,7 @@ impl State for Watched {
         let Some(collector) = place else {
             return Next::Closed;
         };
-        let Some(value) = collector.try_next() else {
+        let Some(value) = self.seat.try_next(collector) else {
             return Next::Nothing;
         };
         Next::Value(value)
@@ -104,7 +105,7 @@ impl State for Watched {
         let Some(collector) = place.take() else {
             return false;
         };
-        self.seat.give_back(collector.cancel());
+        self.seat.cancel(collector);
         true
     }
 
@@ -119,10 +120,11 @@ impl State for Watched {
         } = self;
         while let Some(place) = collectors.pop() {
             if let Some(collector) = place {
-                seat.give_back(collector.cancel());
+                seat.cancel(collector);
             }
         }
         collectors.destroy_empty();
+        drop(seat.into_seat());
     }
 }
 

@@ -12,7 +12,7 @@ use Rattle.state_flow.specs.declared.view.View.{View}
 use Rattle.state_flow.specs.History.{last_of, Writes, IsHistory, Picks}
 use Rattle.state_flow.proofs.Lists.{last_snoc, not_last_of_none}
 use Rattle.state_flow.specs.Views.{HasAll, stepped_to, writing, keeper, IsSeated}
-use Rattle.state_flow.specs.Calls.{Extends, StepsOnce, Reads, Compares, Collects, KnewAll, MadeThemAll, StepsNext, ReadsAlone, SetsAlone, ComparesAlone, CollectsAlone, TakesBackLast}
+use Rattle.state_flow.specs.Calls.{Extends, StepsOnce, Reads, Compares, Collects, KnewAll, StepsNext, ReadsAlone, SetsAlone, ComparesAlone, CollectsAlone, TakesBackLast}
 use Rattle.state_flow.specs.Steps.{Moment, gathered, put as was_put, compared}
 
 module _ {T : Type 0} (word : T → ℕ) (fits : T → Type 0) (apart : (x y : T) → fits x → fits y → word x ≡ word y → x ≡ y) where
@@ -168,6 +168,7 @@ module _ {T : Type 0} (word : T → ℕ) (fits : T → Type 0) (apart : (x y : T
         some_share = seated.some_share;
         few = seated.few;
         collects_is = ap (λ (z : M). z.0.collects) after ∙ seated.collects_is;
+        runs_none = ap (λ (z : M). z.0.runs) after ∙ seated.runs_none;
         untold = ap (λ (z : M). z.0.told) after;
         untold_turn = ap (λ (z : M). z.0.told_turn) after;
         holds_no_slot = ap (λ (z : M). z.1) after ∙ seated.holds_no_slot;

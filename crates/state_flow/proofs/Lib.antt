@@ -5,3 +5,4 @@ pub mod ValueSteps
 pub mod CountSteps
 pub mod Seats
 pub mod Calls
+pub mod Given

@@ -1,5 +1,5 @@
 -- The making of a flow meets the law, and a seat that is split, or joined to another, keeps it.
-use Rattle.std.proofs.Common.{◌≡◌, ◌≢◌, ℕ, zero, suc, ◌+◌, ◌<◌, ◌≤◌, Bool, true, false, cond, List, [], ◌∷◌, ◌++◌, set, sym, refl, ap, ◌∙◌, subst, ⊎_elim, inl, inr, arith}
+use Rattle.std.proofs.Common.{◌≡◌, ◌≢◌, ℕ, zero, suc, ◌+◌, ◌<◌, ◌≤◌, Bool, false, cond, List, [], ◌∷◌, ◌++◌, set, sym, refl, ap, ◌∙◌, subst, ⊎_elim, inl, inr, arith}
 use Rattle.std.specs.Prelude.{sum_by}
 use Rattle.std.proofs.lemmas.List.Sums.{sum_by_push}
 use mathlib.Core.Logic.{dite}
@@ -11,33 +11,34 @@ use Rattle.atomic_table.proofs.Lists.{at_set, set_here, set_else, at_snoc, at_lo
 use Rattle.state_flow.specs.declared.view.View.{View}
 use Rattle.state_flow.specs.History.{Continues, IsHistory}
 use Rattle.state_flow.specs.History.IsHistory.{made}
-use Rattle.state_flow.specs.Views.{opening, spent, giver, taker, keeper}
+use Rattle.state_flow.specs.Views.{opening, spent, running, giver, taker, keeper}
 use Rattle.state_flow.specs.Law.{Fits, Rule, collectors_in}
 use Rattle.state_flow.proofs.Lists.{at_inside, continues_itself, continues_none, picks_none}
 use Rattle.state_flow.proofs.Sums.{sum_by-changed}
 
-not_both : (b : Bool) → b ≡ false → b ≢ true
-not_both b p q = cc
+-- a seat that neither collects nor runs a collector
+none_of : (b : Bool) (n : ℕ) → b ≡ false → n ≡ 0 → cond b 1 0 + n ≡ 0
+none_of b n idle none = ap (λ c. cond c 1 0 + n) idle ∙ (let is : 0 + n ≡ 0 = omega arith in is)
 
 module _ {T : Type 0} (word : T → ℕ) (fits : T → Type 0) (key : T × ℕ) where
   abbrev V : Type 0
   V = View T
 
   abbrev weight : V → ℕ
-  weight v = cond v.collects 1 0
+  weight v = running v
 
   -- a sum over all seats after one of them, v, became l and a new one, t, was made of it
   split_sum : (f : V → ℕ) (vs : List V) (id : ℕ) (v l t : V) → get_elem? vs id ≡ some v → f l + f t ≡ f v → sum_by f (set vs id l ++ t ∷ []) ≡ sum_by f vs
   split_sum f vs id v l t at is = let a = sum_by-changed f vs id v l at in let b = sum_by_push f (set vs id l) t in omega arith
 
-  pub splits : (id part : ℕ) (v : V) → 0 < part → part < v.share → v.collects ≡ false → Splits (Rule word fits key) id v (giver part v) (taker part v)
-  splits id part v some_part enough idle s r at =
+  pub splits : (id part : ℕ) (v : V) → 0 < part → part < v.share → v.collects ≡ false → v.runs ≡ 0 → Splits (Rule word fits key) id v (giver part v) (taker part v)
+  splits id part v some_part enough idle runs_none s r at =
       let l : V = giver part v in
       let t : V = taker part v in
       let vs : List V = set s.views id l in
       let inside = at_inside s.views id v at in
       let mine = r.each id v at in
-      let none_collects : weight v ≡ 0 = ap (λ (b : Bool). cond b 1 0) idle in
+      let none_collects : weight v ≡ 0 = none_of v.collects v.runs idle runs_none in
       let collecting = split_sum weight s.views id v l t at (omega arith) in
       let shares = split_sum (λ (u : V). u.share) s.views id v l t at (omega arith) in
       let steps = split_sum (λ (u : V). u.steps) s.views id v l t at (omega arith) in
@@ -88,7 +89,7 @@ module _ {T : Type 0} (word : T → ℕ) (fits : T → Type 0) (key : T × ℕ) 
               counted_is = mine.counted_is;
               counted_by = mine.counted_by;
               picks = mine.picks;
-              has_share = λ c. absurd (not_both v.collects idle c);
+              within = omega arith;
               gone = λ none. absurd (omega arith);
               seats_is = λ _. mine.seats_is (omega arith);
             })
@@ -102,7 +103,7 @@ module _ {T : Type 0} (word : T → ℕ) (fits : T → Type 0) (key : T × ℕ) 
               counted_is = mine.counted_is;
               counted_by = mine.counted_by;
               picks = picks_none v.seen;
-              has_share = λ c. absurd (not_both false refl c);
+              within = let none : weight t ≡ 0 = refl in omega arith;
               gone = λ none. absurd (omega arith);
               seats_is = λ _. mine.seats_is (omega arith);
             })
@@ -111,8 +112,8 @@ module _ {T : Type 0} (word : T → ℕ) (fits : T → Type 0) (key : T × ℕ) 
         bounded = r.bounded;
       }
 
-  pub joins : (id : ℕ) (v : V) (other : ℕ) (w : V) → 0 < v.share → v.told_turn ≡ 0 → w.told_turn ≡ 0 → w.collects ≡ false → Joins (Rule word fits key) id v other w (keeper v w) spent
-  joins id v other w some_share untold untold' idle s r at apart_seats at' =
+  pub joins : (id : ℕ) (v : V) (other : ℕ) (w : V) → 0 < v.share → v.told_turn ≡ 0 → w.told_turn ≡ 0 → w.collects ≡ false → w.runs ≡ 0 → Joins (Rule word fits key) id v other w (keeper v w) spent
+  joins id v other w some_share untold untold' idle runs_none s r at apart_seats at' =
       let b : V = keeper v w in
       let one : List V = set s.views id b in
       let vs : List V = set one other spent in
@@ -123,7 +124,7 @@ module _ {T : Type 0} (word : T → ℕ) (fits : T → Type 0) (key : T × ℕ) 
       let still : get_elem? vs id ≡ some b = set_else one other id spent (λ e. apart_seats (sym e)) ∙ set_here s.views id b inside in
       let collecting = sum_by-changed weight s.views id v b at in
       let collecting' = sum_by-changed weight one other w spent at' in
-      let none_collects : weight w ≡ 0 = ap (λ (c : Bool). cond c 1 0) idle in
+      let none_collects : weight w ≡ 0 = none_of w.collects w.runs idle runs_none in
       let shares = sum_by-changed (λ (u : V). u.share) s.views id v b at in
       let shares' = sum_by-changed (λ (u : V). u.share) one other w spent at' in
       let steps = sum_by-changed (λ (u : V). u.steps) s.views id v b at in
@@ -171,7 +172,7 @@ module _ {T : Type 0} (word : T → ℕ) (fits : T → Type 0) (key : T × ℕ) 
               counted_is = sym r.none_before;
               counted_by = omega arith;
               picks = picks_none [];
-              has_share = λ c. absurd (not_both false refl c);
+              within = omega arith;
               gone = λ _. refl;
               seats_is = λ more. absurd (omega arith);
             })
@@ -184,7 +185,7 @@ module _ {T : Type 0} (word : T → ℕ) (fits : T → Type 0) (key : T × ℕ) 
               counted_is = mine.counted_is;
               counted_by = mine.counted_by;
               picks = mine.picks;
-              has_share = λ c. let old = mine.has_share c in omega arith;
+              within = let old = mine.within in omega arith;
               gone = λ none. absurd (omega arith);
               seats_is = λ _. mine.seats_is some_share;
             })
@@ -252,7 +253,7 @@ module _ {T : Type 0} (word : T → ℕ) (fits : T → Type 0) (key : T × ℕ) 
         counted_is = refl;
         counted_by = omega arith;
         picks = picks_none (key.0 ∷ []);
-        has_share = λ _. some_seats;
+        within = let none : weight (opening key.0 key.1) ≡ 0 = refl in omega arith;
         gone = λ none. absurd (omega arith);
         seats_is = λ _. refl;
       }

@@ -1,5 +1,5 @@
 -- Who has all seats between them made all steps.
-use Rattle.std.proofs.Common.{◌≡◌, ◌≢◌, ℕ, zero, suc, ◌+◌, ◌<◌, cond, List, [], ◌∷◌, set, sym, refl, ap, ◌∙◌, ⊎_elim, inl, inr, arith}
+use Rattle.std.proofs.Common.{◌≡◌, ◌≢◌, ℕ, zero, suc, ◌+◌, ◌<◌, List, [], ◌∷◌, set, sym, refl, ap, ◌∙◌, ⊎_elim, inl, inr, arith}
 use Rattle.std.specs.Prelude.{slice_index, sum_by}
 use Rattle.std.proofs.lemmas.List.Sums.{sum_by-cons}
 use mathlib.Core.Logic.{dite}
@@ -8,7 +8,7 @@ use native.Mathlib.Decide.{ℕ_discrete}
 use lib.ListN.{get_elem?}
 use Rattle.atomic_table.proofs.Lists.{at_set, set_else}
 use Rattle.state_flow.specs.declared.view.View.{View}
-use Rattle.state_flow.specs.Views.{spent, HasAll}
+use Rattle.state_flow.specs.Views.{spent, running, HasAll}
 use Rattle.state_flow.specs.Calls.{KnewAll}
 use Rattle.state_flow.specs.Law.{StateLaw, shares_in, Among, Seated, AreAll, MadeAll}
 use Rattle.state_flow.proofs.Lists.{same_at}
@@ -83,7 +83,7 @@ module _ {T : Type 0} (word : T → ℕ) (fits : T → Type 0) (key : T × ℕ) 
       let steps = sum_held (λ (v : W). v.steps) refl vs held gone all.seated shares in
       let writes = sum_held (λ (v : W). v.writes) refl vs held gone all.seated shares in
       let written = r.written in
-      let collect = sum_held (λ (v : W). cond v.collects 1 0) refl vs held gone all.seated shares in
+      let collect = sum_held (λ (v : W). running v) refl vs held gone all.seated shares in
       let at = holder vs held r.latest.0 r.latest.1.0 r.latest.1.1.0 latest_has all.seated shares in
       let mine = r.each r.latest.0 r.latest.1.0 r.latest.1.1.0 in
       let turns = r.turns_is in record {
@@ -121,6 +121,6 @@ module _ {T : Type 0} (word : T → ℕ) (fits : T → Type 0) (key : T × ℕ) 
               r.latest.1.1.1;
         }
 
-    -- no other collects
-    pub collects_alone : slice_index ws 1 ≡ cond v.collects 1 0
-    collects_alone = let made = (made_all alone has_all).collecting in let one = sum_by-cons (λ (t : ℕ × W). cond t.1.collects 1 0) (id, v) [] in made ∙ omega arith
+    -- there are no other collectors
+    pub collects_alone : slice_index ws 1 ≡ running v
+    collects_alone = let made = (made_all alone has_all).collecting in let one = sum_by-cons (λ (t : ℕ × W). running t.1) (id, v) [] in made ∙ omega arith

@@ -1,11 +1,12 @@
 -- Sums over all seats, where one seat changes.
-use Rattle.std.proofs.Common.{◌≡◌, ℕ, zero, suc, ◌+◌, ◌<◌, ◌≤◌, Bool, true, false, cond, List, [], ◌∷◌, get_or, set, sym, refl, ap, ◌∙◌, arith}
+use Rattle.std.proofs.Common.{◌≡◌, ℕ, zero, suc, ◌+◌, ◌≤◌, List, [], ◌∷◌, get_or, set, sym, refl, ap, ◌∙◌, arith}
 use Rattle.std.specs.Prelude.{sum_by}
 use Rattle.std.proofs.lemmas.List.Sums.{sum_by-set, sum_by-cons, get_or-le-sum_by}
 use mathlib.Core.Option.{some, some-injective, some-ne-none}
 use lib.ListN.{get_elem?}
 use Rattle.state_flow.specs.declared.view.View.{View}
 use Rattle.state_flow.specs.Law.{collectors_in, shares_in}
+use Rattle.state_flow.specs.Views.{running}
 use Rattle.state_flow.proofs.Lists.{at_inside}
 
 module _ {X : Type 0} where
@@ -20,16 +21,12 @@ module _ {X : Type 0} where
   pub le-sum_by : (f : X → ℕ) (xs : List X) (i : ℕ) (x : X) → get_elem? xs i ≡ some x → f x ≤ sum_by f xs
   le-sum_by f xs i x at = let a = get_or-le-sum_by f xs i x (at_inside xs i x at) in let b = ap f (value_at xs i x at) in omega arith
 
-one_at_most : (b : Bool) (n : ℕ) → (b ≡ true → 0 < n) → cond b 1 0 ≤ n
-one_at_most true n h = let k = h refl in omega arith
-one_at_most false n h = omega arith
-
--- at most as many seats collect as the shares add up to
-pub collectors_in-le-shares_in : {T : Type 0} (vs : List (View T)) → ((i : ℕ) (v : View T) → get_elem? vs i ≡ some v → v.collects ≡ true → 0 < v.share) → collectors_in vs ≤ shares_in vs
+-- there are at most as many collectors as the shares add up to
+pub collectors_in-le-shares_in : {T : Type 0} (vs : List (View T)) → ((i : ℕ) (v : View T) → get_elem? vs i ≡ some v → running v ≤ v.share) → collectors_in vs ≤ shares_in vs
 collectors_in-le-shares_in [] h = omega arith
-collectors_in-le-shares_in (x ∷ xs) h =
-    let one = one_at_most x.collects x.share (h 0 x refl) in
+collectors_in-le-shares_in {T} (x ∷ xs) h =
+    let one : running x ≤ x.share = h 0 x refl in
     let rest = collectors_in-le-shares_in xs (λ i v e. h (suc i) v e) in
-    let a = sum_by-cons (λ v. cond v.collects 1 0) x xs in
-    let b = sum_by-cons (λ v. v.share) x xs in
+    let a = sum_by-cons (λ (v : View T). running v) x xs in
+    let b = sum_by-cons (λ (v : View T). v.share) x xs in
     omega arith

@@ -1,5 +1,5 @@
 -- Each kind of step on the value keeps the law.
-use Rattle.std.proofs.Common.{◌≡◌, ◌≢◌, ℕ, ◌+◌, ◌<◌, ◌≤◌, cond, eqb, List, get_or, set, Option, Some, None, sym, refl, ap, ◌∙◌, subst, ⊎_elim, inl, arith, length, length-append, length-set, get_or-set_same, get_or-set_other, eq-eqb, ne_eqb}
+use Rattle.std.proofs.Common.{◌≡◌, ◌≢◌, ℕ, ◌+◌, ◌<◌, ◌≤◌, eqb, List, get_or, set, Option, Some, None, sym, refl, ap, ◌∙◌, subst, ⊎_elim, inl, arith, length, length-append, length-set, get_or-set_same, get_or-set_other, eq-eqb, ne_eqb}
 use mathlib.Core.Logic.{dite}
 use mathlib.Core.Option.{none, some}
 use native.Mathlib.Decide.{ℕ_discrete}
@@ -10,7 +10,7 @@ use Rattle.atomic_table.proofs.Lists.{at_set, set_here}
 use Rattle.state_flow.specs.declared.view.View.{View}
 use Rattle.state_flow.specs.History.{last_of, Continues, Writes, IsHistory, Picks}
 use Rattle.state_flow.specs.History.IsHistory.{written}
-use Rattle.state_flow.specs.Views.{stepped_to, writing}
+use Rattle.state_flow.specs.Views.{stepped_to, writing, running}
 use Rattle.state_flow.specs.Calls.{Extends}
 use Rattle.state_flow.specs.Law.{Fits, StateLaw, Rule}
 use Rattle.state_flow.specs.Steps.{Moment, looked, gathered, put as was_put, compared}
@@ -94,7 +94,7 @@ module _ {T : Type 0} (word : T → ℕ) (fits : T → Type 0) (apart : (x y : T
         let writes = sum_by-changed (λ (u : V). u.writes) vs id v w at in
         let written = r.written in
         let count_steps = sum_by-changed (λ (u : V). u.count_steps) vs id v w at in
-        let collecting = sum_by-changed (λ (u : V). cond u.collects 1 0) vs id v w at in
+        let collecting = sum_by-changed (λ (u : V). running u) vs id v w at in
         let shares = sum_by-changed (λ (u : V). u.share) vs id v w at in
         let turns_is = r.turns_is in
         let counts_is = r.counts_is in
@@ -130,7 +130,7 @@ module _ {T : Type 0} (word : T → ℕ) (fits : T → Type 0) (apart : (x y : T
                 counted_is = mine.counted_is;
                 counted_by = mine.counted_by;
                 picks = picks;
-                has_share = mine.has_share;
+                within = mine.within;
                 gone = λ none. absurd (omega arith);
                 seats_is = mine.seats_is;
               }))
@@ -142,7 +142,7 @@ module _ {T : Type 0} (word : T → ℕ) (fits : T → Type 0) (apart : (x y : T
                 counted_is = old.counted_is;
                 counted_by = old.counted_by;
                 picks = old.picks;
-                has_share = old.has_share;
+                within = old.within;
                 gone = old.gone;
                 seats_is = old.seats_is;
               })

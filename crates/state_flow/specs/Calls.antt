@@ -1,11 +1,12 @@
 -- What the calls say of a seat or a collector, as it was before the call and as it is after it.
 -- `after.seen` is the whole history at the one step that the call made on the value.
-use Rattle.std.specs.Prelude.{◌≡◌, ◌≢◌, ◌⊎◌, ℕ, ◌+◌, ◌<◌, ◌≤◌, Bool, List, [], ◌∷◌, ◌++◌, length, Option, Some, None, MatchOption, MatchBool}
+use Rattle.std.specs.Prelude.{◌≡◌, ◌≢◌, ◌⊎◌, ℕ, ◌+◌, ◌-◌, ◌<◌, ◌≤◌, Bool, List, [], ◌∷◌, ◌++◌, length, Option, Some, None, MatchOption, MatchBool}
+use Rattle.std.specs.Option.{option_map}
 use Rattle.futures.specs.declared.task.Poll.{Poll}
 use Rattle.futures.specs.declared.task.Poll.TheVariants.{Ready, Pending}
 use Rattle.state_flow.specs.declared.view.View.{View}
 use Rattle.state_flow.specs.History.{last_of, Continues, Writes, IsHistory, Picks}
-use Rattle.state_flow.specs.Views.{HasAll, stepped_to, writing, keeper, counting, starting, stopping}
+use Rattle.state_flow.specs.Views.{HasAll, stepped_to, writing, keeper, counting, starting, stopping, hosting}
 
 -- what a poll gave
 abbrev pub taken : {T : Type 0} → Poll T → Option T
@@ -97,6 +98,18 @@ module _ {T : Type 0} where
     pub only : after ≡ stopping after.counted after.count_turn before
     pub below : after.counted < 1024
 
+  -- one step that adds one to the number of collectors: the seat runs one more
+  pub record Launches (before after : View T) : Type 0 where
+    pub later : before.count_turn < after.count_turn
+    pub only : after ≡ hosting (before.runs + 1) after.counted after.count_turn before
+    pub at_most : after.counted ≤ 1024
+
+  -- one step that takes one from the number of collectors: the seat runs one fewer
+  pub record Cancels (before after : View T) : Type 0 where
+    pub later : before.count_turn < after.count_turn
+    pub only : after ≡ hosting (before.runs - 1) after.counted after.count_turn before
+    pub below : after.counted < 1024
+
 -- WHO HAS ALL SEATS KNOWS ALL: where all seats of the flow are of the one that makes the call, what the call finds is what that
 -- one had seen.
 module _ {T : Type 0} where
@@ -138,3 +151,18 @@ module _ {T : Type 0} where
   -- with the other's seats it has all: it has seen what the one of the two had seen that made the last step
   abbrev pub TakesBackLast : View T → View T → View T → Type 0
   TakesBackLast before other after = HasAll after → MadeThemAll after × ((after.seen ≡ before.seen) ⊎ (after.seen ≡ other.seen))
+
+  -- One load for a collector that the seat runs, which was given the value with this word last. It gives the history's last value,
+  -- or nothing where that is the last one that it gave
+  pub record Asks (word : T → ℕ) (before : View T) (last : Option ℕ) (given : Option T) (now : Option ℕ) (after : View T) : Type 0 where
+    pub value : T
+    pub reads : Reads before value after
+    pub alone : ReadsAlone before value after
+    pub answers : MatchOption given (last ≡ Some (word value)) (λ x. (x ≡ value) × (last ≢ Some (word value)))
+    pub now_is : now ≡ Some (word value)
+
+  -- what a collector that the seat runs was given so far, which was given the value with this word last: a subsequence of the history
+  -- without equal neighbours
+  pub record IsGiven (word : T → ℕ) (given : List T) (last : Option ℕ) (v : View T) : Type 0 where
+    pub picks : Picks given v.seen
+    pub last_is : last ≡ option_map word (last_of given)

@@ -1,18 +1,18 @@
 -- The law of a state flow: what holds of its two words and of all its seats between any two steps.
 -- Word 0 is the value, and word 1 the number of collectors. The steps on a word are numbered in their one order, which no
 -- seat knows whole: the making of the flow is step 1 on both, and a seat's `turn` is the number of its last step.
-use Rattle.std.specs.Prelude.{◌≡◌, ◌⊎◌, ℕ, ◌+◌, ◌<◌, ◌≤◌, true, List, [], ◌∷◌, length, slice_index, sum_by, count_by, Some}
+use Rattle.std.specs.Prelude.{◌≡◌, ◌⊎◌, ℕ, ◌+◌, ◌<◌, ◌≤◌, List, [], ◌∷◌, length, slice_index, sum_by, Some}
 use mathlib.Core.Option.{some}
 use lib.ListN.{get_elem?}
 use Rattle.atomic_table.specs.Table.{State}
 use Rattle.state_flow.specs.declared.view.View.{View}
 use Rattle.state_flow.specs.History.{last_of, Continues, IsHistory, Picks}
-use Rattle.state_flow.specs.Views.{spent}
+use Rattle.state_flow.specs.Views.{spent, running}
 
 module _ {T : Type 0} where
-  -- how many seats collect
+  -- how many collectors there are
   abbrev pub collectors_in : List (View T) → ℕ
-  collectors_in views = count_by (λ v. v.collects) views
+  collectors_in views = sum_by (λ v. running v) views
 
   -- how many seats can be made of all seats, themselves among them
   abbrev pub shares_in : List (View T) → ℕ
@@ -38,7 +38,7 @@ module _ {T : Type 0} where
     pub counted_is : v.counted ≡ count_at v.count_turn
     pub counted_by : v.count_turn ≤ counts
     pub picks : Picks v.collected v.seen
-    pub has_share : v.collects ≡ true → 0 < v.share
+    pub within : running v ≤ v.share
     -- a seat without share was given back, and can make no step; each other knows how many seats there are
     pub gone : v.share ≡ 0 → v ≡ spent
     pub seats_is : 0 < v.share → v.seats ≡ seats
@@ -61,7 +61,7 @@ module _ {T : Type 0} where
     pub value_word : slice_index words 0 ≡ word value
     pub proper : (i : ℕ) (x : T) → get_elem? (history_at turns) i ≡ some x → fits x
     pub latest : (i : ℕ) × ((v : View T) × ((get_elem? views i ≡ some v) × ((v.turn ≡ turns) ⊎ (v.told_turn ≡ turns))))
-    -- the other word is the number of seats that collect
+    -- the other word is the number of collectors
     pub counts : ℕ
     pub counts_is : counts ≡ count_steps_in views + 1
     pub count_at : ℕ → ℕ
@@ -98,7 +98,7 @@ module _ {T : Type 0} where
     pub shares : sum_by (λ t. t.1.share) held ≡ seats
 
   -- These made all steps: so many on the value, at the last of which one of them saw the whole history, or was told it. They
-  -- wrote each value of it but the first, and so many of them collect as the second word says
+  -- wrote each value of it but the first, and the second word says how many collectors are of them
   pub record MadeAll (history : List T) (turns collectors : ℕ) (held : List (ℕ × View T)) : Type 0 where
     pub steps : turns ≡ sum_by (λ t. t.1.steps) held + 1
     pub writes : length history ≡ sum_by (λ t. t.1.writes) held + 1
@@ -106,11 +106,11 @@ module _ {T : Type 0} where
     pub latest : ℕ × View T
     pub among : get_elem? held place ≡ some latest
     pub saw_all : (latest.1.seen ≡ history) ⊎ (latest.1.told ≡ history)
-    pub collecting : collectors ≡ count_by (λ t. t.1.collects) held
+    pub collecting : collectors ≡ sum_by (λ t. running t.1) held
 
   -- What follows for a reader. All seats have seen the one value history, each as it was after its last step on the value;
   -- what a collector received is a subsequence of that history without equal neighbours; and the second word is the number
-  -- of seats that collect, which is at most `seats`
+  -- of collectors, which is at most `seats`
   pub record HasOneHistory (first : T) (seats : ℕ) (s : State (Unit {0}) (View T)) : Type 0 where
     pub history_at : ℕ → List T
     pub begins : history_at 1 ≡ first ∷ []

@@ -1,9 +1,9 @@
 -- What each atomic step tells the seat that makes it: the seat's view `m` before, the word that was found, and the view after.
-use Rattle.std.specs.Prelude.{◌≡◌, ◌≢◌, ℕ, ◌+◌, ◌-◌, ◌<◌, ◌≤◌, cond, List, Some}
+use Rattle.std.specs.Prelude.{◌≡◌, ◌≢◌, ℕ, ◌+◌, ◌-◌, ◌<◌, ◌≤◌, List, Some}
 use Rattle.atomic_table.specs.Table.{Me, Step}
 use Rattle.state_flow.specs.declared.view.View.{View}
 use Rattle.state_flow.specs.History.{last_of, Writes, IsHistory, Picks}
-use Rattle.state_flow.specs.Views.{HasAll, stepped_to, writing, starting, stopping, counting}
+use Rattle.state_flow.specs.Views.{HasAll, running, stepped_to, writing, starting, stopping, counting, hosting}
 use Rattle.state_flow.specs.Calls.{Extends, Wrote, KnewAll}
 
 -- what a seat learns at step number `turn` on the value, which found `found`: the whole history before the step, and its last value
@@ -54,12 +54,21 @@ module _ {T : Type 0} (word : T → ℕ) (fits : T → Type 0) where
 module _ {T : Type 0} where
   abbrev pub began : At → Sat T → ℕ → Sat T → Type 0
   began st m found m' = (turn : ℕ) × ((m.0.count_turn < turn) × (found < 1024) × (m' ≡ (starting (found + 1) turn m.0, m.1))
-      × (HasAll m.0 → found ≡ cond m.0.collects 1 0))
+      × (HasAll m.0 → found ≡ running m.0))
 
   abbrev pub ended : At → Sat T → ℕ → Sat T → Type 0
   ended st m found m' = (turn : ℕ) × ((m.0.count_turn < turn) × (found ≤ 1024) × (0 < found) × (m' ≡ (stopping (found - 1) turn m.0, m.1))
-      × (HasAll m.0 → found ≡ cond m.0.collects 1 0))
+      × (HasAll m.0 → found ≡ running m.0))
 
   abbrev pub tallied : At → Sat T → ℕ → Sat T → Type 0
   tallied st m found m' = (turn : ℕ) × ((m.0.count_turn < turn) × (found ≤ 1024) × (m' ≡ (counting found turn m.0, m.1))
-      × (HasAll m.0 → found ≡ cond m.0.collects 1 0))
+      × (HasAll m.0 → found ≡ running m.0))
+
+  -- the same where the seat runs one collector more, or one fewer
+  abbrev pub launched : At → Sat T → ℕ → Sat T → Type 0
+  launched st m found m' = (turn : ℕ) × ((m.0.count_turn < turn) × (found < 1024) × (m' ≡ (hosting (m.0.runs + 1) (found + 1) turn m.0, m.1))
+      × (HasAll m.0 → found ≡ running m.0))
+
+  abbrev pub cancelled : At → Sat T → ℕ → Sat T → Type 0
+  cancelled st m found m' = (turn : ℕ) × ((m.0.count_turn < turn) × (found ≤ 1024) × (0 < found) × (m' ≡ (hosting (m.0.runs - 1) (found - 1) turn m.0, m.1))
+      × (HasAll m.0 → found ≡ running m.0))

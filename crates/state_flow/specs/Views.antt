@@ -1,5 +1,5 @@
 -- What contracts see of a seat and of a collector, and what a call changes of it.
-use Rattle.std.specs.Prelude.{◌≡◌, ℕ, ◌+◌, ◌-◌, ◌<◌, ◌≤◌, Bool, true, false, List, [], ◌∷◌}
+use Rattle.std.specs.Prelude.{◌≡◌, ℕ, ◌+◌, ◌-◌, ◌<◌, ◌≤◌, Bool, true, false, cond, List, [], ◌∷◌}
 use Rattle.atomic_table.specs.Seated.{TableId}
 use Rattle.atomic_table.specs.declared.shared.Seat.{Seat}
 use Rattle.state_flow.specs.declared.view.View.{View}
@@ -20,9 +20,26 @@ module _ {T : Type 0} where
     pub some_share : 0 < share
     pub few : share ≤ 1024
     pub collects_is : seat.me.0.collects ≡ collects
+    pub runs_none : seat.me.0.runs ≡ 0
     pub untold : seat.me.0.told ≡ []
     pub untold_turn : seat.me.0.told_turn ≡ 0
     pub holds_no_slot : seat.me.1 ≡ []
+
+  -- the same of a seat that runs collectors of its own, fewer than its share
+  pub record IsHost (seat : Seat (Unit {0}) (View T)) (flow : TableId) (share runs : ℕ) : Type 0 where
+    pub same_flow : seat.table_id ≡ flow
+    pub share_is : seat.me.0.share ≡ share
+    pub runs_is : seat.me.0.runs ≡ runs
+    pub few_run : runs < share
+    pub few : share ≤ 1024
+    pub idle : seat.me.0.collects ≡ false
+    pub untold : seat.me.0.told ≡ []
+    pub untold_turn : seat.me.0.told_turn ≡ 0
+    pub holds_no_slot : seat.me.1 ≡ []
+
+  -- how many collectors are of this seat: itself, where it collects, and those that it runs
+  abbrev pub running : View T → ℕ
+  running v = cond v.collects 1 0 + v.runs
 
   -- the first seat made the flow: that is the first step on either word. It has seen the one value, and has all seats as its share
   abbrev pub opening : T → ℕ → View T
@@ -37,6 +54,7 @@ module _ {T : Type 0} where
     count_turn = 1;
     count_steps = 0;
     collects = false;
+    runs = 0;
     collected = [];
     share = seats;
     seats = seats;
@@ -65,12 +83,16 @@ module _ {T : Type 0} where
   abbrev pub stopping : ℕ → ℕ → View T → View T
   stopping count turn v = record v { counted = count; count_turn = turn; count_steps = v.count_steps + 1; collects = false }
 
+  -- the same, by which the seat came to run so many collectors
+  abbrev pub hosting : ℕ → ℕ → ℕ → View T → View T
+  hosting runs count turn v = record v { counted = count; count_turn = turn; count_steps = v.count_steps + 1; runs = runs }
+
   -- a seat that gives `part` of its share away, and the new seat, which knows as much and has made no step
   abbrev pub giver : ℕ → View T → View T
   giver part v = record v { share = v.share - part }
 
   abbrev pub taker : ℕ → View T → View T
-  taker part v = record v { told = []; told_turn = 0; steps = 0; writes = 0; count_steps = 0; collects = false; collected = []; share = part }
+  taker part v = record v { told = []; told_turn = 0; steps = 0; writes = 0; count_steps = 0; collects = false; runs = 0; collected = []; share = part }
 
   -- A seat that took back another, with its share. It is told what that one had seen, and that one's steps count as its own
   abbrev pub keeper : View T → View T → View T
@@ -96,6 +118,7 @@ module _ {T : Type 0} where
     count_turn = 0;
     count_steps = 0;
     collects = false;
+    runs = 0;
     collected = [];
     share = 0;
     seats = 0;

@@ -15,6 +15,10 @@
 //! value where it differs from the last one given, else nothing. So what a collector receives is a subsequence of the value
 //! history without equal neighbours.
 //!
+//! # One thread that collects more than once
+//! A [`CollectingSeat`] is a seat that runs collectors of its own, as many as other seats could be made of it. Each is asked
+//! through the seat, by one load. So who has all seats of a flow knows what each of them is given.
+//!
 //! # What a slow collector misses
 //! It misses each value that was replaced before it asked: a state flow conflates. It never misses the last one, and never
 //! receives a value out of order.
@@ -53,6 +57,7 @@
 //! polled again.
 #![tactic(auto)]
 
+mod collecting_seat;
 mod collector;
 mod flow;
 mod laws;
@@ -60,9 +65,10 @@ mod plays;
 mod seat;
 mod view;
 
+pub use collecting_seat::{CollectingSeat, SeatCollector};
 pub use collector::Collector;
 pub use flow::StateFlow;
 pub use flow_terms::{Refusal, Word};
-pub use laws::one_history;
+pub use laws::{given_is_picked, one_history};
 pub use seat::StateSeat;
 pub use view::View;

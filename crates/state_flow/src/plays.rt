@@ -70,6 +70,24 @@ impl<T> Play<(), View<T>> for End {
     ghost then = { ended };
 }
 
+/// One more collector, which the seat runs.
+pub(crate) struct Launch;
+
+impl<T> Play<(), View<T>> for Launch {
+    ghost use Rattle.state_flow.specs.Steps.{launched};
+
+    ghost then = { launched };
+}
+
+/// One collector fewer that the seat runs.
+pub(crate) struct Cancel;
+
+impl<T> Play<(), View<T>> for Cancel {
+    ghost use Rattle.state_flow.specs.Steps.{cancelled};
+
+    ghost then = { cancelled };
+}
+
 /// A load of the number of collectors.
 pub(crate) struct Tally;
 

@@ -64,6 +64,13 @@ impl<T: Word, A: Allocator> StateSeat<T, A> {
         StateSeat { flow, seat, share }
     }
 
+    pub(crate) fn into_parts(self) -> (Arc<StateFlow<T, A>, A>, Seat<(), View<T>>, u32)
+        ensures { IsSeated result.1 (arc_value result.0).table.shared.table_id result.2 false × (self ≡ seen_by result.1) }
+    {
+        let StateSeat { flow, seat, share } = self;
+        (flow, seat, share)
+    }
+
     /// The value, by one load: Kotlin's `value`.
     pub fn value(&mut self) -> T
         ensures same_flow { self.new.flow ≡ self.old.flow }

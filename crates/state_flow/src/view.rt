@@ -24,6 +24,8 @@ pub struct View<T> {
     pub count_steps: u64,
     /// Whether the seat is a collector's.
     pub collects: bool,
+    /// How many collectors the seat runs that have no seat of their own.
+    pub runs: u64,
     /// What the collector was given since it began, in order.
     pub collected: LinkedList<T>,
     /// How many seats can be made of this one, itself among them.

@@ -1,12 +1,11 @@
 use Rattle.script_calls.specs.Views.{receipts_of}
 use Rattle.script_engines.specs.declared.one_thread.OneThread.{OneThread}
 use Rattle.script_engines.specs.Subscribing.{subscribing_of, subscribing}
-use Rattle.script_states.specs.Watching.{watching}
 use Rattle.script_model.proofs.Known.{asks_known, joins_known}
 use Rattle.script_model.proofs.Modelled.{gives_as_model}
 use Rattle.script_model.proofs.answers_of.Goals as goal
 
 pub returns : goal.returns
-returns g c = gives_as_model _ _ _ c.args.script.now c.answers_of.result c.answers_of.ensures (λ (it : OneThread). it.state) (λ it. it.object) _ _ _ _ _ _ _ _ _
-    (λ made reply h. h) (λ part request old new answer h. asks_known (λ (it : OneThread). it.state) watching (receipts_of subscribing_of subscribing) _ _ _ part request old.object new.object answer h)
-    (λ part party old new joined h. joins_known (λ (it : OneThread). it.state) watching (receipts_of subscribing_of subscribing) part party old.object new.object joined h)
+returns g c = gives_as_model _ _ _ c.args.script.now c.answers_of.result c.answers_of.ensures (λ (it : OneThread). it.state) (λ it. it.object) _ _ _ _ _ _
+    (λ made reply h. h) (λ part request old new answer h. asks_known (λ (it : OneThread). it.state) (receipts_of subscribing_of subscribing) _ _ part request old.object new.object answer h)
+    (λ part party old new joined h. joins_known (λ (it : OneThread). it.state) (receipts_of subscribing_of subscribing) part party old.object new.object joined h)

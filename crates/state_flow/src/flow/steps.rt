@@ -1,13 +1,15 @@
 //! The kinds of step on the two words: one function for each, and what its seat knows after it.
-ghost use Rattle.std.specs.Prelude.{◌≡◌, ◌<◌, ◌≤◌, [], true, false, cond};
+ghost use Rattle.std.specs.Prelude.{◌≡◌, ◌<◌, ◌≤◌, [], true, false};
 ghost use mathlib.Core.Option.{none};
 ghost use Rattle.atomic_table.specs.Table.{step};
-ghost use Rattle.state_flow.specs.Views.{HasAll, giver, taker, keeper};
-ghost use Rattle.state_flow.specs.Calls.{Reads, Sets, Compares, Counts, Begins, Ends, KnewAll, SetsAlone, ComparesAlone};
+ghost use Rattle.state_flow.specs.Views.{HasAll, running, giver, taker, keeper};
+ghost use Rattle.state_flow.specs.Calls.{Reads, Sets, Compares, Counts, Begins, Ends, Launches, Cancels, KnewAll, SetsAlone, ComparesAlone};
 ghost use Rattle.state_flow.specs.Steps.{gathered};
 
 use super::StateFlow;
-use crate::plays::{Begin, Compare, Cut, End, Gather, Look, Merge, Part, Put, Tally};
+use crate::plays::{
+    Begin, Cancel, Compare, Cut, End, Gather, Launch, Look, Merge, Part, Put, Tally,
+};
 use crate::view::View;
 use atomic_table::Seat;
 use flow_terms::Word;
@@ -81,7 +83,7 @@ impl<T: Word, A: Allocator> StateFlow<T, A> {
         ensures same_flow { seat.new.table_id ≡ seat.old.table_id }
         ensures same_slots { seat.new.me.1 ≡ seat.old.me.1 }
         ensures count { Counts seat.old.me.0 result seat.new.me.0 }
-        ensures alone { HasAll seat.old.me.0 → result ≡ cond seat.old.me.0.collects 1 0 }
+        ensures alone { HasAll seat.old.me.0 → result ≡ running seat.old.me.0 }
     {
         let found = self.table.shared.load::<Tally>(seat, 1);
         found as u32
@@ -91,6 +93,7 @@ impl<T: Word, A: Allocator> StateFlow<T, A> {
     pub(crate) fn begin(&self, seat: &mut Seat<(), View<T>>)
         requires same_flow { seat.old.table_id ≡ self.now.table.shared.table_id }
         requires idle { seat.old.me.0.collects ≡ false }
+        requires runs_none { seat.old.me.0.runs ≡ 0 }
         requires has_share { 0 < seat.old.me.0.share }
         ensures same_flow { seat.new.table_id ≡ seat.old.table_id }
         ensures same_slots { seat.new.me.1 ≡ seat.old.me.1 }
@@ -104,6 +107,7 @@ impl<T: Word, A: Allocator> StateFlow<T, A> {
     pub(crate) fn end(&self, seat: &mut Seat<(), View<T>>)
         requires same_flow { seat.old.table_id ≡ self.now.table.shared.table_id }
         requires collects { seat.old.me.0.collects ≡ true }
+        requires runs_none { seat.old.me.0.runs ≡ 0 }
         requires has_share { 0 < seat.old.me.0.share }
         ensures same_flow { seat.new.table_id ≡ seat.old.table_id }
         ensures same_slots { seat.new.me.1 ≡ seat.old.me.1 }
@@ -111,6 +115,29 @@ impl<T: Word, A: Allocator> StateFlow<T, A> {
         ensures alone { HasAll seat.old.me.0 → seat.new.me.0.counted ≡ 0 }
     {
         self.table.shared.fetch_sub::<End>(seat, 1, 1);
+    }
+
+    /// The seat runs one more collector.
+    pub(crate) fn launch(&self, seat: &mut Seat<(), View<T>>)
+        requires same_flow { seat.old.table_id ≡ self.now.table.shared.table_id }
+        requires room { running seat.old.me.0 < seat.old.me.0.share }
+        ensures same_flow { seat.new.table_id ≡ seat.old.table_id }
+        ensures same_slots { seat.new.me.1 ≡ seat.old.me.1 }
+        ensures launches { Launches seat.old.me.0 seat.new.me.0 }
+    {
+        self.table.shared.fetch_add::<Launch>(seat, 1, 1);
+    }
+
+    /// The seat runs one collector fewer.
+    pub(crate) fn cancel(&self, seat: &mut Seat<(), View<T>>)
+        requires same_flow { seat.old.table_id ≡ self.now.table.shared.table_id }
+        requires runs { 0 < seat.old.me.0.runs }
+        requires has_share { 0 < seat.old.me.0.share }
+        ensures same_flow { seat.new.table_id ≡ seat.old.table_id }
+        ensures same_slots { seat.new.me.1 ≡ seat.old.me.1 }
+        ensures cancels { Cancels seat.old.me.0 seat.new.me.0 }
+    {
+        self.table.shared.fetch_sub::<Cancel>(seat, 1, 1);
     }
 
     /// A new seat with a part of the share, which the caller picks for the proof too.
@@ -124,6 +151,7 @@ impl<T: Word, A: Allocator> StateFlow<T, A> {
         requires some_part { 0 < part }
         requires enough { part < seat.old.me.0.share }
         requires idle { seat.old.me.0.collects ≡ false }
+        requires runs_none { seat.old.me.0.runs ≡ 0 }
         ensures same_flow { (seat.new.table_id ≡ seat.old.table_id) × (result.table_id ≡ seat.old.table_id) }
         ensures gives { seat.new.me ≡ (giver part seat.old.me.0, seat.old.me.1) }
         ensures takes { result.me ≡ (taker part seat.old.me.0, []) }
@@ -138,6 +166,7 @@ impl<T: Word, A: Allocator> StateFlow<T, A> {
         requires has_share { 0 < seat.old.me.0.share }
         requires untold { (seat.old.me.0.told_turn ≡ 0) × (other.me.0.told_turn ≡ 0) }
         requires idle { other.me.0.collects ≡ false }
+        requires runs_none { other.me.0.runs ≡ 0 }
         requires no_slots { (seat.old.me.1 ≡ []) × (other.me.1 ≡ []) }
         ensures same_flow { seat.new.table_id ≡ seat.old.table_id }
         ensures keeps { seat.new.me ≡ (keeper seat.old.me.0 other.me.0, []) }

@@ -17,7 +17,7 @@ returns g c = record {
     collected = λ i v at. let mine = r.each i v at in
         picks_on v.collected v.seen (r.history_at r.turns) (subst (Continues (r.history_at r.turns)) (sym mine.seen_is) (r.grows v.turn r.turns mine.turn_by (omega arith))) mine.picks;
     collectors = r.collecting;
-    at_most = let few = collectors_in-le-shares_in s.views (λ i v e. (r.each i v e).has_share) in let whole = r.whole in omega arith;
+    at_most = let few = collectors_in-le-shares_in s.views (λ i v e. (r.each i v e).within) in let whole = r.whole in omega arith;
     all_steps = λ held all. made_all g.T.Word.word g.T.Word.fits key s.words s.views r held all;
   };
   two_seats = λ key s r i j v w at at' le. let a = r.each i v at in let b = r.each j w at' in
