@@ -20,7 +20,7 @@ pub struct CoreObject<'s, 'r, W> {
     object: Kinds<'s, 'r, W, OneThread>,
 }
 
-/// Makes what a line says. Refused for the plan of its start, then for what it is made with, and then with 4.
+/// Makes what a line says. Refused for the plan of its start, then for what it is made with, and then by `NoMemory`.
 fn made<'s, 'r, W: Wait>(
     rt: &'r W,
     alloc: Global,

@@ -42,7 +42,7 @@ pub(crate) fn config_of(replay: u64, extra: u64, policy: Policy) -> Config
     }
 }
 
-/// A shared flow into which a source will be emitted. Refused for the plan of its start, then with 1, 2 or 3, and then with 4.
+/// A shared flow into which a source will be emitted. Refused for its start's plan, then by its config, and then by `NoMemory`.
 pub(crate) fn share<'s, 'r, W: Wait>(
     rt: &'r W,
     alloc: Global,
@@ -61,7 +61,7 @@ pub(crate) fn share<'s, 'r, W: Wait>(
     })
 }
 
-/// A state with this value, which will be set from a source. Refused for the plan of its start, and then with 4.
+/// A state with this value, which will be set from a source. Refused for the plan of its start, and then by `NoMemory`.
 pub(crate) fn stated<'s>(
     alloc: Global,
     value: u64,

@@ -58,7 +58,7 @@ impl<T: Word, F: Flow<Item = T>, A: Allocator> StateSharing<T, F, A> {
     /// value where the strategy says so, and, where sharing is on, sets what the upstream gives, at most 32 events. Kotlin has
     /// no such call: there a sharing runs by itself.
     ///
-    /// Refused with 4 where a start of the upstream is; then the sharing is as before, its latest moment too. An upstream that
+    /// Refused by `NoMemory` where a start of the upstream is; then the sharing is as before, its latest moment too. An upstream that
     /// failed, or whose run was refused, ends sharing for good: from the next poll on it is off, and nothing is reset.
     pub fn poll(&mut self, now: u64, cx: &mut Context<'_>) -> Result<Polled, Refusal>
         ensures started { started_by (strategy_of self.new) ≡ started_by (strategy_of self.old) }

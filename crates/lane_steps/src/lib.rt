@@ -1,7 +1,7 @@
 //! The words of a lane, the law that holds of them between any two steps, and one function for each kind of step.
 //!
-//! Only `shared_lane` stands on this crate: its sequencer and its readers are made of these steps. Read `specs/Law.antt`
-//! first, then `specs/Steps.antt`.
+//! Only `shared_lane` calls these functions: its sequencer and its readers are made of these steps. Contracts of the crates
+//! above it name definitions of this one. Read `specs/Law.antt` first, then `specs/Steps.antt`.
 //!
 //! # The words
 //! ```text

@@ -60,7 +60,7 @@ fn prepare(
 impl<'a, W: Wait> ForThreads<'a, W> {
     ghost use Rattle.script_engines.specs.Seen.{parties_of};
 
-    /// A flow without subscriptions. Refused as `SharedFlow::new`, with 1, 2 or 3, and then with 4 at most.
+    /// A flow without subscriptions. Refused as `SharedFlow::new` is by its config, and then by `NoMemory` at most.
     pub fn new(rt: &'a W, alloc: Global, config: Config) -> Result<ForThreads<'a, W>, Refusal>
         ensures { MadeUnless (making_refusal config) result (λ made. IsUntouched config (parties_of made)) }
     {

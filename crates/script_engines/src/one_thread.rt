@@ -23,7 +23,7 @@ pub struct OneThread {
 }
 
 impl OneThread {
-    /// A flow without subscriptions. Refused as `SharedState::new`, and then with 4.
+    /// A flow without subscriptions. Refused as `SharedState::new`, and then by `NoMemory`.
     pub fn new(alloc: Global, config: Config) -> Result<OneThread, Refusal>
         ensures { MadeUnless (making_refusal config) result (λ made. Shows (state_of made) (empty (parameters_of config))) }
     {

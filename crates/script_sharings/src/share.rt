@@ -27,8 +27,8 @@ pub struct Share<'a, W, S: Flow<Item = u64>> {
 impl<'a, W: Wait, S: Flow<Item = u64, Fault = u64>> Share<'a, W, S> {
     ghost use Rattle.script_sharings.specs.Ticks.{sharings_of, SharesFrom};
 
-    /// A new flow, and what shares this source into it, which isn't collected yet. Refused as `SharedFlow::new`, with 1, 2 or 3, and
-    /// then with 4 at most.
+    /// A new flow, and what shares this source into it, which isn't collected yet. Refused as `SharedFlow::new` is by its config, and
+    /// then by `NoMemory` at most.
     pub fn new(
         rt: &'a W,
         alloc: Global,

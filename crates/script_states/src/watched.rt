@@ -38,7 +38,7 @@ impl Model for Watched {
 }
 
 impl Watched {
-    /// A state with this value and no collectors. Refused with 4 at most.
+    /// A state with this value and no collectors. Refused by `NoMemory` alone.
     pub fn new(alloc: Global, value: u64) -> Result<Watched, Refusal>
         ensures made { IfOk result (λ made. made.collectors ≡ []) }
         ensures opens { IfOk result (λ made. made.seat.view ≡ opening value 9) }
@@ -51,7 +51,7 @@ impl Watched {
         })
     }
 
-    /// A state with this value and no collectors, and a seat of it for what sets it. Refused with 4 at most.
+    /// A state with this value and no collectors, and a seat of it for what sets it. Refused by `NoMemory` alone.
     pub fn stated(alloc: Global, value: u64) -> Result<(Watched, StateSeat<u64>), Refusal>
         ensures made { IfOk result (λ made. made.0.collectors ≡ []) }
         ensures same_flow { IfOk result (λ made. made.1.flow ≡ made.0.seat.flow) }

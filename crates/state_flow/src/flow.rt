@@ -28,7 +28,7 @@ impl<T: Word, A: Allocator + Clone> StateFlow<T, A> {
     /// Makes a state flow that holds `value`, and gives its first seat: `MutableStateFlow(value)`. Of that seat `seats - 1`
     /// more can be taken. The flow is let go with the last of its seats.
     ///
-    /// Refused with 3 where `seats` is 0 or over 1,024, then with 4.
+    /// Refused by `BadLimit` where `seats` is 0 or over 1,024, then by `NoMemory`.
     pub fn new(alloc: A, value: T, seats: u32) -> Result<StateSeat<T, A>, Refusal>
         ensures opens { IfOk result (λ seat. seat.view ≡ opening value seats) }
         ensures few { IfOk result (λ _. (0 < seats) × (seats ≤ 1024)) }

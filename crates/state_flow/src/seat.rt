@@ -122,8 +122,8 @@ impl<T: Word, A: Allocator> StateSeat<T, A> {
     /// Takes a new seat, which begins with all that this one has seen. Of the new one `share` more can be taken; this one
     /// has `share + 1` fewer to give. Kotlin has no such call.
     ///
-    /// Refused with 4 where the flow can have no further owner, then with 5 where `share + 1` is over `spare()`. Where it
-    /// isn't, the only refusal is 4.
+    /// Refused by `NoMemory` where the flow can have no further owner, then by `SubscribersFull` where `share + 1` is over
+    /// `spare()`. Where it isn't, the only refusal is `NoMemory`.
     pub fn take_seat(&mut self, share: u32) -> Result<StateSeat<T, A>, Refusal>
         ensures same_flow { self.new.flow ≡ self.old.flow }
         ensures taken { IfOk result (λ seat. (seat.flow ≡ self.old.flow) × (seat.view ≡ taker (share + 1) self.old.view)) }

@@ -50,7 +50,7 @@ impl<T: Word> WatchedSeat<T> {
     /// Makes a state that holds `value`, and gives its first seat: `MutableStateFlow(value)`. Of that seat `seats - 1` more can be
     /// taken. The state is let go with the last of its seats.
     ///
-    /// Refused with 3 where `seats` is 0 or over 1,024, then with 4.
+    /// Refused by `BadLimit` where `seats` is 0 or over 1,024, then by `NoMemory`.
     pub fn new(alloc: Global, value: T, seats: u32) -> Result<WatchedSeat<T>, Refusal>
         ensures opens { IfOk result (λ seat. seat.view ≡ opening value seats) }
         ensures few { IfOk result (λ _. (0 < seats) × (seats ≤ 1024)) }
@@ -123,8 +123,8 @@ impl<T: Word> WatchedSeat<T> {
     /// Takes a new seat, which begins with all that this one has seen. Of the new one `share` more can be taken; this one has
     /// `share + 1` fewer to give. Kotlin has no such call.
     ///
-    /// Refused with 4 where the state can have no further owner, then with 5 where `share + 1` is over `spare()`. Where it isn't,
-    /// the only refusal is 4.
+    /// Refused by `NoMemory` where the state can have no further owner, then by `SubscribersFull` where `share + 1` is over
+    /// `spare()`. Where it isn't, the only refusal is `NoMemory`.
     pub fn take_seat(&mut self, share: u32) -> Result<WatchedSeat<T>, Refusal>
         ensures same_flow { self.new.flow ≡ self.old.flow }
         ensures taken { IfOk result (λ seat. (seat.flow ≡ self.old.flow) × (seat.view ≡ taker (share + 1) self.old.view)) }
@@ -156,7 +156,7 @@ impl<T: Word> WatchedSeat<T> {
     /// Who lets go the watcher that this seat's next `collect` makes, and none beside it, from any thread: Kotlin's `Job` of a
     /// coroutine that collects. Each one that the seat is asked for until then does the same, and so does each clone.
     ///
-    /// Refused with 4, and then the seat is as it was. The first takes memory; a further one is refused only where it can't be
+    /// Refused by `NoMemory`, and then the seat is as it was. The first takes memory; a further one is refused only where it can't be
     /// counted.
     pub fn watcher_stopper(&mut self, alloc: Global) -> Result<Stopper, Refusal>
         ensures same_flow { self.new.flow ≡ self.old.flow }
