@@ -60,17 +60,16 @@ where
 {
     let task = Solo::new(rt, Doorbell::spinning())?;
     let start = now(rt);
-    let (mut feed, drain) = split(
+    let (mut feed, mut drain) = split(
         rt.alloc(),
         range::<u64>(0, values),
         capacity,
         Policy::Suspend,
     )?;
-    let (lent, task) = (&mut feed, &task);
     let ((), total) = thread::join(
         rt,
-        move || feed_all(rt, task, lent),
-        move || drain_all(rt, drain),
+        || feed_all(rt, &task, &mut feed),
+        || drain_all(rt, &mut drain),
     );
     feed.cancel(rt);
     Ok((total, nanoseconds_since(rt, start)?))
@@ -88,7 +87,7 @@ fn feed_all<U: Run>(rt: &impl Wait, task: &Solo, feed: &mut Feed<U>) {
 }
 
 /// Takes until the end, and gives the number of values, if each was one above the one before.
-fn drain_all(rt: &impl Wait, mut drain: Drain<u64, u64>) -> u64 {
+fn drain_all(rt: &impl Wait, drain: &mut Drain<u64, u64>) -> u64 {
     let mut next: u64 = 0;
     let mut in_order = true;
     for _ in rt.forever() {
