@@ -2,64 +2,66 @@
 
 use crate::course::{Course, Emitters};
 use crate::fault::Fault;
+use cold_flow::Refusal;
 use state_waiting::{Collected, WatchedSeat, Watcher};
-use std::alloc::AllocGlobal;
+use std::alloc::{AllocGlobal, Global};
 use std::sync::Wait;
 use std::thread;
 use std::thread::Threads;
 use workload_inputs::Digest;
 
-/// One of two who answer each other: the state that it sets, and the one that it watches.
-struct Side {
-    seat: WatchedSeat<u64>,
-    watcher: Watcher<u64>,
+/// Two seats at a new state.
+fn seats(alloc: Global) -> Result<(WatchedSeat<u64>, WatchedSeat<u64>), Refusal> {
+    let mut seat = WatchedSeat::new(alloc, 0u64, 2)?;
+    let other = seat.take_seat(0)?;
+    Ok((seat, other))
 }
 
-impl Side {
-    /// A side that sets the one state and watches the other, whose first value it passes over.
-    fn new(seat: WatchedSeat<u64>, watched: WatchedSeat<u64>) -> Side {
-        let mut watcher = watched.collect();
-        drop(watcher.try_next());
-        Side { seat, watcher }
-    }
+/// A watcher, which passes over the first value of its state.
+fn watch(watched: WatchedSeat<u64>) -> Watcher<u64> {
+    let mut watcher = watched.collect();
+    drop(watcher.try_next());
+    watcher
+}
 
-    /// Answers so many values, each by the number after it. Gives what they were.
-    #[inline(never)]
-    fn answer(&mut self, rt: &impl Wait, turns: u64) -> Course {
-        let mut values = Course::new();
-        for _ in 0..turns {
-            let Collected::Value(value) = self.watcher.next(rt) else {
-                break;
-            };
-            values.number(value);
-            self.seat.set(value.wrapping_add(1));
-        }
-        self.seat.stop();
-        values
+/// Answers so many values of the one state, each by the number after it, which it sets the other to. Gives what they were.
+#[inline(never)]
+fn answer(
+    rt: &impl Wait,
+    seat: &mut WatchedSeat<u64>,
+    watcher: &mut Watcher<u64>,
+    turns: u64,
+) -> Course {
+    let mut values = Course::new();
+    for _ in 0..turns {
+        let Collected::Value(value) = watcher.next(rt) else {
+            break;
+        };
+        values.number(value);
+        seat.set(value.wrapping_add(1));
     }
-
-    fn end(self) {
-        let Side { seat: _, watcher } = self;
-        drop(watcher.cancel());
-    }
+    seat.stop();
+    values
 }
 
 /// Both answer so many times, each in a thread of its own, after the second has said this value.
 fn both_answer<R>(
     rt: &R,
-    one: &mut Side,
-    other: &mut Side,
+    seat: &mut WatchedSeat<u64>,
+    watcher: &mut Watcher<u64>,
+    other_seat: &mut WatchedSeat<u64>,
+    other_watcher: &mut Watcher<u64>,
     (value, turns): (u64, u64),
     digest: &mut Digest,
 )
 where
     R: Threads + Wait + Sync,
 {
-    other.seat.set(value);
+    other_seat.set(value);
     let (answered, also_answered) = thread::join(
         rt,
-        || one.answer(rt, turns),
-        || other.answer(rt, turns),
+        || answer(rt, seat, watcher, turns),
+        || answer(rt, other_seat, other_watcher, turns),
     );
     answered.told(digest, Emitters::One);
     also_answered.told(digest, Emitters::One);
@@ -70,14 +72,20 @@ pub(crate) fn run<R>(rt: &R, work: (u64, u64), digest: &mut Digest) -> Result<()
 where
     R: AllocGlobal + Threads + Wait + Sync,
 {
-    let mut seat = WatchedSeat::new(rt.alloc(), 0u64, 2)?;
-    let mut other_seat = WatchedSeat::new(rt.alloc(), 0u64, 2)?;
-    let watched = seat.take_seat(0)?;
-    let also_watched = other_seat.take_seat(0)?;
-    let mut one = Side::new(seat, also_watched);
-    let mut other = Side::new(other_seat, watched);
-    both_answer(rt, &mut one, &mut other, work, digest);
-    one.end();
-    other.end();
+    let (mut seat, watched) = seats(rt.alloc())?;
+    let (mut other_seat, other_watched) = seats(rt.alloc())?;
+    let mut watcher = watch(other_watched);
+    let mut other_watcher = watch(watched);
+    both_answer(
+        rt,
+        &mut seat,
+        &mut watcher,
+        &mut other_seat,
+        &mut other_watcher,
+        work,
+        digest,
+    );
+    drop(watcher.cancel());
+    drop(other_watcher.cancel());
     Ok(())
 }

@@ -150,7 +150,8 @@ impl Loop {
         alloc: Global,
         flow: &mut SharedState<u64>,
         crowd: &mut Crowd,
-        (random, digest): (&mut Random, &mut Digest),
+        random: &mut Random,
+        digest: &mut Digest,
         count: u64,
     ) -> Result<(), Fault> {
         match self.plot {
@@ -159,7 +160,7 @@ impl Loop {
                 crowd.thin_out(alloc, flow, digest)?;
                 rounds(flow, crowd, random, digest, count)
             }
-            Plot::Tickets => tickets::rounds(alloc, flow, crowd, (random, digest), count),
+            Plot::Tickets => tickets::rounds(alloc, flow, crowd, random, digest, count),
         }
     }
 
@@ -168,11 +169,12 @@ impl Loop {
         self,
         alloc: Global,
         flow: &mut SharedState<u64>,
-        (random, digest): (&mut Random, &mut Digest),
+        random: &mut Random,
+        digest: &mut Digest,
         count: u64,
     ) -> Result<(), Fault> {
         let mut crowd = Crowd::of(alloc, flow, digest, self.subscriptions)?;
-        self.play(alloc, flow, &mut crowd, (random, digest), count)
+        self.play(alloc, flow, &mut crowd, random, digest, count)
     }
 
     /// The same on a new flow.
@@ -185,7 +187,7 @@ impl Loop {
     ) -> Result<(), Fault> {
         let config = config_of(self.subscriptions, self.tickets, self.policy);
         let mut flow = SharedState::new(alloc, config)?;
-        self.begin(alloc, &mut flow, (random, digest), scale.of(self.rounds))
+        self.begin(alloc, &mut flow, random, digest, scale.of(self.rounds))
     }
 }
 

@@ -30,7 +30,7 @@ fn feed_all<U: Run>(rt: &impl Wait, task: &Solo, feed: &mut Feed<U>) {
 
 /// Takes until the end, and gives the digest of all, and of why it ended.
 #[inline(never)]
-fn drain_all(rt: &impl Wait, mut drain: Drain<u64, u64>) -> Digest {
+fn drain_all(rt: &impl Wait, drain: &mut Drain<u64, u64>) -> Digest {
     let mut digest = Digest::new();
     for _ in rt.forever() {
         match drain.next(rt) {
@@ -60,12 +60,11 @@ where
         range::<u64>(from, from.saturating_add(values)),
         Adds(random.next()),
     );
-    let (mut feed, drain) = split(rt.alloc(), source, capacity, Policy::Suspend)?;
-    let (lent, task) = (&mut feed, &task);
+    let (mut feed, mut drain) = split(rt.alloc(), source, capacity, Policy::Suspend)?;
     let ((), taken) = thread::join(
         rt,
-        move || feed_all(rt, task, lent),
-        move || drain_all(rt, drain),
+        || feed_all(rt, &task, &mut feed),
+        || drain_all(rt, &mut drain),
     );
     feed.cancel(rt);
     digest.number(taken.value());

@@ -78,7 +78,8 @@ fn poll<F: Flow<Item = u64, Fault = u64>>(
     rt: &impl Wait,
     sharing: &mut Sharing<u64, F>,
     cx: &mut Context<'_>,
-    (now, later): (&mut u64, u64),
+    now: &mut u64,
+    later: u64,
     digest: &mut Digest,
 ) -> Result<(), Refusal> {
     *now = now.wrapping_add(later);
@@ -93,11 +94,12 @@ fn stay<F: Flow<Item = u64, Fault = u64>>(
     subscription: &mut Subscription<u64>,
     sharing: &mut Sharing<u64, F>,
     cx: &mut Context<'_>,
-    (now, digest): (&mut u64, &mut Digest),
+    now: &mut u64,
+    digest: &mut Digest,
 ) -> Result<(), Refusal> {
     let mut refused = Ok(());
     for _ in 0..STAY {
-        if let Err(refusal) = poll(rt, sharing, cx, (now, 7), digest) {
+        if let Err(refusal) = poll(rt, sharing, cx, now, 7, digest) {
             refused = Err(refusal);
         }
         take(subscription, digest);
@@ -111,13 +113,14 @@ fn visit<F: Flow<Item = u64, Fault = u64>>(
     flow: &mut SharedFlow<u64>,
     sharing: &mut Sharing<u64, F>,
     cx: &mut Context<'_>,
-    (now, digest): (&mut u64, &mut Digest),
+    now: &mut u64,
+    digest: &mut Digest,
 ) -> Result<(), Refusal> {
     let mut subscription = flow.subscribe(rt)?;
-    let stayed = stay(rt, &mut subscription, sharing, cx, (now, digest));
+    let stayed = stay(rt, &mut subscription, sharing, cx, now, digest);
     subscription.cancel(rt);
     for _ in 0..3 {
-        poll(rt, sharing, cx, (now, 9), digest)?;
+        poll(rt, sharing, cx, now, 9, digest)?;
     }
     stayed
 }
@@ -128,11 +131,12 @@ fn visits<F: Flow<Item = u64, Fault = u64>>(
     flow: &mut SharedFlow<u64>,
     sharing: &mut Sharing<u64, F>,
     cx: &mut Context<'_>,
-    (count, digest): (u64, &mut Digest),
+    count: u64,
+    digest: &mut Digest,
 ) -> Result<(), Refusal> {
     let mut now = 0;
     for _ in 0..count {
-        visit(rt, flow, sharing, cx, (&mut now, digest))?;
+        visit(rt, flow, sharing, cx, &mut now, digest)?;
     }
     Ok(())
 }
@@ -143,10 +147,11 @@ fn visits_in<F: Flow<Item = u64, Fault = u64>>(
     task: &Solo,
     flow: &mut SharedFlow<u64>,
     sharing: &mut Sharing<u64, F>,
-    (count, digest): (u64, &mut Digest),
+    count: u64,
+    digest: &mut Digest,
 ) -> Result<(), Refusal> {
     let mut cx = task.begin();
-    let visited = visits(rt, flow, sharing, &mut cx, (count, digest));
+    let visited = visits(rt, flow, sharing, &mut cx, count, digest);
     cx.cancel();
     visited
 }
@@ -155,8 +160,10 @@ fn visits_in<F: Flow<Item = u64, Fault = u64>>(
 fn share<R>(
     rt: &R,
     flow: &mut SharedFlow<u64>,
-    (task, started): (&Solo, Started),
-    (random, digest): (&mut Random, &mut Digest),
+    task: &Solo,
+    started: Started,
+    random: &mut Random,
+    digest: &mut Digest,
     count: u64,
 ) -> Result<(), Fault>
 where
@@ -164,7 +171,7 @@ where
 {
     let upstream = source(rt.alloc(), random, 3000)?;
     let mut sharing = share_in(rt, flow, upstream, started)?;
-    let visited = visits_in(rt, task, flow, &mut sharing, (count, digest));
+    let visited = visits_in(rt, task, flow, &mut sharing, count, digest);
     closed(digest, sharing.close(rt));
     visited?;
     Ok(())
@@ -174,7 +181,8 @@ where
 fn shared<R>(
     rt: &R,
     task: &Solo,
-    (random, digest): (&mut Random, &mut Digest),
+    random: &mut Random,
+    digest: &mut Digest,
     started: Started,
     count: u64,
 ) -> Result<(), Fault>
@@ -182,7 +190,7 @@ where
     R: AllocGlobal + Wait,
 {
     let mut flow = SharedFlow::new(rt.alloc(), PLACES)?;
-    share(rt, &mut flow, (task, started), (random, digest), count)
+    share(rt, &mut flow, task, started, random, digest, count)
 }
 
 /// Shares sources by each kind of start.
@@ -210,7 +218,7 @@ where
         Started::Eagerly,
         Started::Lazily,
     ] {
-        shared(rt, task, (random, digest), started, scale.of(VISITS))?;
+        shared(rt, task, random, digest, started, scale.of(VISITS))?;
     }
     Ok(())
 }

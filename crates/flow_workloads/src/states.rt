@@ -74,7 +74,7 @@ fn bursts(
 
 /// Counts a state up so many times.
 #[inline(never)]
-fn count_up(rt: &impl Wait, mut seat: StateSeat<u64>, counts: u64) -> StateSeat<u64> {
+fn count_up(rt: &impl Wait, seat: &mut StateSeat<u64>, counts: u64) {
     let mut done: u64 = 0;
     for _ in rt.forever() {
         if done >= counts {
@@ -85,7 +85,6 @@ fn count_up(rt: &impl Wait, mut seat: StateSeat<u64>, counts: u64) -> StateSeat<
             done = done.wrapping_add(1);
         }
     }
-    seat
 }
 
 /// Two threads count up one state that begins at a number.
@@ -94,13 +93,13 @@ where
     R: AllocGlobal + Threads + Wait + Sync,
 {
     let mut one = StateFlow::new(rt.alloc(), from, 2)?;
-    let other = one.take_seat(0)?;
-    let (mut seat, _other) = thread::join(
+    let mut other = one.take_seat(0)?;
+    thread::join(
         rt,
-        move || count_up(rt, one, counts),
-        move || count_up(rt, other, counts),
+        || count_up(rt, &mut one, counts),
+        || count_up(rt, &mut other, counts),
     );
-    Ok(seat.value())
+    Ok(one.value())
 }
 
 /// Bursts on a new state.

@@ -70,7 +70,8 @@ pub(crate) fn rounds(
     alloc: Global,
     flow: &mut SharedState<u64>,
     crowd: &Crowd,
-    (random, digest): (&mut Random, &mut Digest),
+    random: &mut Random,
+    digest: &mut Digest,
     count: u64,
 ) -> Result<(), Fault> {
     let mut tickets = Vec::with_capacity(alloc, TICKETS as usize)?;
