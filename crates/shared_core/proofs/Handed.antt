@@ -11,7 +11,7 @@ use Rattle.flow_terms.specs.Few.{values_of}
 use Rattle.shared_core.specs.declared.prelude.Prelude.{Prelude}
 use Rattle.shared_core.specs.declared.greetings.Greeting.{Greeting}
 use Rattle.shared_core.specs.Greetings.{shown_greeting, IsLeft}
-use Rattle.shared_core.specs.Preludes.{prelude_values, GivesFirst, left_at, begun_with, IsWithout, Greets, EndsGreeting}
+use Rattle.shared_core.specs.Preludes.{prelude_values, RestSeen, GivesFirst, left_at, begun_with, IsWithout, Greets, EndsGreeting}
 use Rattle.shared_core.specs.Shown.{rest_of}
 use Rattle.shared_core.proofs.Entries.{list_any-map, map-remove}
 use Rattle.shared_core.proofs.Ticketing.{holds_there}
@@ -24,6 +24,14 @@ dropped_some zero m (y ∷ xs) x gets next = ap (λ z. z ∷ xs) (same_Some y x 
 dropped_some (suc n) m (y ∷ xs) x gets next =
     let further : suc (n + 1) ≡ m = omega (arith, next) in
     dropped_some n (n + 1) xs x gets refl ∙ ap (λ k. x ∷ drop k (y ∷ xs)) further
+
+-- a list up to the next index
+pub taken_next : {X : Type 0} (n m : ℕ) (xs : List X) (x : X) → slice_get xs n ≡ Some x → n + 1 ≡ m → take m xs ≡ take n xs ++ x ∷ []
+taken_next n m [] x gets next = absurd (none-some _ gets)
+taken_next zero m (y ∷ xs) x gets next = ap (λ k. take k (y ∷ xs)) (sym next) ∙ ap (λ z. z ∷ []) (same_Some y x gets)
+taken_next (suc n) m (y ∷ xs) x gets next =
+    let further : suc (n + 1) ≡ m = omega (arith, next) in
+    ap (λ k. take k (y ∷ xs)) (sym further) ∙ ap (λ ys. y ∷ ys) (taken_next n (n + 1) xs x gets refl)
 
 -- the first values from an index on
 pub taken_none : {X : Type 0} (k n : ℕ) (xs : List X) → length xs ≤ n → take k (drop n xs) ≡ []
@@ -108,29 +116,29 @@ module _ {T : Type 0} where
     pub ends_at : EndsGreeting n (shown greetings) (shown (remove greetings at))
     ends_at = inr (
       at,
-      g.rest,
-      shown_at greetings at g gets ∙ ap (λ m. Some (m, g.rest)) named,
+      g.rest.left,
+      shown_at greetings at g gets ∙ ap (λ m. Some (m, g.rest.left)) named,
       map-remove shown_greeting greetings at,
     )
 
     -- its first value is given, and these are left
-    module _ (later : List T) where
-      entry : (v : T) → g.rest ≡ v ∷ later → slice_get (shown greetings) at ≡ Some (n, v ∷ later)
-      entry v first = shown_at greetings at g gets ∙ ap (λ vs. Some (g.number, vs)) first ∙ ap (λ m. Some (m, v ∷ later)) named
+    module _ (later : RestSeen T) where
+      entry : (v : T) → g.rest.left ≡ v ∷ later.left → slice_get (shown greetings) at ≡ Some (n, v ∷ later.left)
+      entry v first = shown_at greetings at g gets ∙ ap (λ vs. Some (g.number, vs)) first ∙ ap (λ m. Some (m, v ∷ later.left)) named
 
-      pub greets_last : (value : Option T) → IsLeft g → GivesFirst g.rest value later → later ≡ [] → Greets n (shown greetings) value (shown (remove greetings at))
+      pub greets_last : (value : Option T) → IsLeft g → GivesFirst g.rest.left value later.left → later.left ≡ [] → Greets n (shown greetings) value (shown (remove greetings at))
       greets_last None left gives last = absurd (omega (arith, left, ap length gives.0))
       greets_last (Some v) left gives last =
-          (at, later, entry v gives, map-remove shown_greeting greetings at ∙ sym (ap (λ vs. left_at at n vs (shown greetings)) last))
+          (at, later.left, entry v gives, map-remove shown_greeting greetings at ∙ sym (ap (λ vs. left_at at n vs (shown greetings)) last))
 
-      pub greets_one : (value : Option T) → IsLeft g → GivesFirst g.rest value later → 0 < length later → Greets n (shown greetings) value (shown (set greetings at (record g { rest = later })))
+      pub greets_one : (value : Option T) → IsLeft g → GivesFirst g.rest.left value later.left → 0 < length later.left → Greets n (shown greetings) value (shown (set greetings at (record g { rest = later })))
       greets_one None left gives more = absurd (omega (arith, left, ap length gives.0))
       greets_one (Some v) left gives more = (
         at,
-        later,
+        later.left,
         entry v gives,
-        map-set shown_greeting greetings at (record g { rest = later }) ∙ ap (λ m. set (shown greetings) at (m, later)) named
-            ∙ sym (left_some at n later (shown greetings) more),
+        map-set shown_greeting greetings at (record g { rest = later }) ∙ ap (λ m. set (shown greetings) at (m, later.left)) named
+            ∙ sym (left_some at n later.left (shown greetings) more),
       )
 
   -- what is left, by the first entry with the number
@@ -143,14 +151,14 @@ module _ {T : Type 0} where
       ] none
 
   pub rest_found : (n at : ℕ) (greetings : List (Greeting T)) (g : Greeting T) → slice_get greetings at ≡ Some g → g.number ≡ n → list_any (λ g. eqb g.number n) (take at greetings) ≡ false
-      → rest_of n (shown greetings) ≡ g.rest
+      → rest_of n (shown greetings) ≡ g.rest.left
   rest_found n at [] g gets named before = absurd (none-some _ gets)
   rest_found n zero (h ∷ greetings) g gets named before =
       let this = same_Some h g gets in
-      ap (λ b. cond b h.rest (rest_of n (shown greetings))) (eq-eqb h.number n (ap (λ (x : Greeting T). x.number) this ∙ named))
-      ∙ ap (λ (x : Greeting T). x.rest) this
+      ap (λ b. cond b h.rest.left (rest_of n (shown greetings))) (eq-eqb h.number n (ap (λ (x : Greeting T). x.number) this ∙ named))
+      ∙ ap (λ (x : Greeting T). x.rest.left) this
   rest_found n (suc at) (h ∷ greetings) g gets named before =
-      elim (eqb h.number n) as (λ b. (b || list_any (λ g. eqb g.number n) (take at greetings)) ≡ false → cond b h.rest (rest_of n (shown greetings)) ≡ g.rest) [
+      elim (eqb h.number n) as (λ b. (b || list_any (λ g. eqb g.number n) (take at greetings)) ≡ false → cond b h.rest.left (rest_of n (shown greetings)) ≡ g.rest.left) [
         | true ↦ λ no. absurd (cc)
         | false ↦ λ later. rest_found n at greetings g gets named later
       ] before

@@ -8,6 +8,11 @@ use Rattle.shared_core.specs.declared.prelude.Prelude.{Prelude}
 abbrev pub prelude_values : {T : Type 0} → Prelude T → List T
 prelude_values prelude = values_of prelude.first ++ (values_of prelude.second ++ (values_of prelude.third ++ values_of prelude.fourth))
 
+-- what contracts see of a prelude that is being given: its values that were given, and those that are left
+pub record RestSeen (T : Type 0) : Type 0 where
+  pub given : List T
+  pub left : List T
+
 -- the first of these values was given, or there is none
 abbrev pub GivesFirst : {T : Type 0} → List T → Option T → List T → Type 0
 GivesFirst old None new = (old ≡ []) × (new ≡ [])

@@ -43,7 +43,7 @@ pub invariant_of-self-else-is_empty : goal.invariant_of-self-else-is_empty
 invariant_of-self-else-is_empty g c =
     let given : Greeting _ = record c.index_mut.result.now { rest = c.give-value.new.self } in (
       All-set IsLeft c.self.inside.items.items c.in_ok-at.at given
-          (some_left c.give-value.new.self c.is_empty.result c.is_empty.ensures.1 c.if-is_empty.false) c.self.invariant.0,
+          (some_left c.give-value.new.self.left c.is_empty.result c.is_empty.ensures.1 c.if-is_empty.false) c.self.invariant.0,
       c.self.invariant.1,
     )
 
@@ -61,7 +61,7 @@ returns-then-is_empty-clause-greeted g c =
     let removed = c.remove-greeting.ensures.items ∙ remove-set items at (record read { rest = later }) in
     subst (λ (q : Queued _). Greets n q.values value (shown c.remove-greeting.new.self.items)) c.self.view_is
     (subst (λ xs. Greets n (shown items) value (shown xs)) (sym removed)
-    (greets_last n at items read (found.1 ∙ ap Some (sym same)) (ap (λ (x : Greeting _). x.number) same ∙ found.2) later value left c.give-value.ensures (c.is_empty.ensures.0 c.if-is_empty.true)))
+    (greets_last n at items read (found.1 ∙ ap Some (sym same)) (ap (λ (x : Greeting _). x.number) same ∙ found.2) later value left c.give-value.ensures.left (c.is_empty.ensures.0 c.if-is_empty.true)))
 
 pub returns-else-is_empty-clause-greeted : goal.returns-else-is_empty-clause-greeted
 returns-else-is_empty-clause-greeted g c =
@@ -74,6 +74,6 @@ returns-else-is_empty-clause-greeted g c =
     let found = rw c.deref.ensures.value at c.in_ok-at.ensures.found in
     let same = read_there items at read found.0 c.index_mut.ensures.value found.1 in
     let left = left_there items at read found.0 c.index_mut.ensures.value found.1 c.self.invariant.0 in
-    let more = some_left later c.is_empty.result c.is_empty.ensures.1 c.if-is_empty.false in
+    let more = some_left later.left c.is_empty.result c.is_empty.ensures.1 c.if-is_empty.false in
     subst (λ (q : Queued _). Greets n q.values value (shown (set items at (record read { rest = later })))) c.self.view_is
-    (greets_one n at items read (found.1 ∙ ap Some (sym same)) (ap (λ (x : Greeting _). x.number) same ∙ found.2) later value left c.give-value.ensures more)
+    (greets_one n at items read (found.1 ∙ ap Some (sym same)) (ap (λ (x : Greeting _). x.number) same ∙ found.2) later value left c.give-value.ensures.left more)
