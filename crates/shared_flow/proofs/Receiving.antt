@@ -35,8 +35,8 @@ none_twice r m t one other = (
 
 module _ {T : Type 0} where
   -- nothing was given of a prelude of which nothing is left
-  pub still : (s g : Subscribed T) → (g.party ≡ s.party) × (g.number ≡ s.number) × (g.reader ≡ s.reader) × (g.looks ≡ s.looks) → IsPast s g → g ≡ s
-  still s g same past = λ i. record { party = same.0 i; number = same.1 i; rest = (past.1 ∙ sym past.0) i; reader = same.2 i; looks = same.3 i }
+  pub still : (s g : Subscribed T) → (g.party ≡ s.party) × (g.number ≡ s.number) × (g.reader ≡ s.reader) × (g.looks ≡ s.looks) → IsPast s g → g.given ≡ s.given → g ≡ s
+  still s g same past given = λ i. record { party = same.0 i; number = same.1 i; given = given i; rest = (past.1 ∙ sym past.0) i; reader = same.2 i; looks = same.3 i }
 
   pub looked_as : (s g : Subscribed T) → g ≡ s → OnlyLooked s g
   looked_as s g is = subst (λ (x : Subscribed T). OnlyLooked s x) (sym is) refl

@@ -8,3 +8,4 @@ pub mod Blocks
 pub mod Lives
 pub mod Owners
 pub mod Losses
+pub mod Received

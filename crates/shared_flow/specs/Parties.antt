@@ -25,10 +25,12 @@ pub record Emitting : Type 0 where
   pub ticket : Option Ticket
   pub last : Option ℕ
 
--- a subscription: its flow and its rounds, its number, what is left of its prelude, its reader, and its looks at the flag
+-- a subscription: its flow and its rounds, its number, what it was given of its prelude and what is left of that, its reader, and its looks
+-- at the flag
 pub record Subscribed (T : Type 0) : Type 0 where
   pub party : Party
   pub number : ℕ
+  pub given : List T
   pub rest : List T
   pub reader : ReaderSeen
   pub looks : List FlagLook

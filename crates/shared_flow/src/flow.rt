@@ -13,6 +13,7 @@ ghost use Rattle.shared_flow.specs.Emitters.{EndedInto as EmitterEndedInto};
 ghost use Rattle.flow_terms.specs.declared.answers.Withdrawn.TheVariants as withdrawn;
 ghost use Rattle.shared_rounds.specs.Rounds.{IsAfter, IsAtLimit};
 ghost use Rattle.shared_core.specs.Preludes.{prelude_values};
+ghost use Rattle.shared_flow.specs.Received.{received};
 
 use crate::emitter::Emitter;
 use crate::subscription::{Ended, Subscription};
@@ -165,6 +166,7 @@ impl<T: Word> SharedFlow<T> {
     /// Refused as `NoMemory`, then as `Spent` where the numbers of subscriptions below 2^62 are used up, then as
     /// `SubscribersFull` where `subscribers` are live.
     pub fn subscribe(&mut self, rt: &impl Wait) -> Result<Subscription<T>, Refusal>
+        ensures has { IfOk result (λ subscription. (received T.read_as subscription ≡ []) × (subscription.rest ≡ [])) }
         ensures flow { IfOk result (λ subscription. subscription.party ≡ newcomer_of subscription.party.pass self.old.party) }
         ensures round { IfOk result (λ subscription. self.new ≡ at_rest (with_round (round.Subscribe (Ok subscription.number)) self.new.party.seen (sharing_of self.old.party))) }
         ensures prelude { IfOk result (λ subscription. subscription.rest ≡ []) }
@@ -183,6 +185,7 @@ impl<T: Word> SharedFlow<T> {
         rt: &impl Wait,
         prelude: Prelude<T>,
     ) -> Result<Subscription<T>, Refusal>
+        ensures has { IfOk result (λ subscription. (received T.read_as subscription ≡ []) × (subscription.rest ≡ prelude_values prelude)) }
         ensures prelude { IfOk result (λ subscription. subscription.rest ≡ prelude_values prelude) }
         ensures looks { IfOk result (λ subscription. subscription.looks ≡ []) }
         ensures flow { IfOk result (λ subscription. subscription.party ≡ newcomer_of subscription.party.pass self.old.party) }
@@ -250,6 +253,7 @@ impl<T: Word> SharedFlow<T> {
     pub fn meet(&mut self, rt: &impl Wait, subscription: &mut Subscription<T>) -> Met
         requires lock { subscription.old.party.lock ≡ self.old.party.lock }
         requires flow { subscription.old.party.flow ≡ self.old.party.flow }
+        ensures has { received T.read_as subscription.new ≡ received T.read_as subscription.old }
         ensures meets { Meets self.old.party self.new.party subscription.old subscription.new result }
         ensures owner { self.new ≡ at_rest self.new.party }
     {

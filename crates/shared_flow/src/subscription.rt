@@ -1,5 +1,5 @@
 //! One that receives the values of a shared flow.
-ghost use Rattle.std.specs.Prelude.{◌≡◌, ◌≢◌, ◌⊎◌, ◌+◌, [], None, Some, IfOk, IfErr, IfSome, IfNone};
+ghost use Rattle.std.specs.Prelude.{◌≡◌, ◌≢◌, ◌⊎◌, ◌+◌, ◌++◌, List, ℕ, [], None, Some, IfOk, IfErr, IfSome, IfNone};
 ghost use Rattle.futures.specs.Poll.{IfReady, OnPending};
 ghost use Rattle.futures.specs.Task.{IsArmed, Keeps};
 ghost use Rattle.lane_steps.specs.Law.{Begins};
@@ -13,6 +13,8 @@ ghost use Rattle.shared_flow.specs.Looks.{Took, Gave, GaveIn, Missed, MissedTwic
 ghost use Rattle.shared_flow.specs.Looks.{MadeRoom, MadeRoomIn, HasMadeRoom, WasMadeWithin};
 ghost use Rattle.shared_core.specs.Preludes.{prelude_values};
 ghost use Rattle.shared_flow.specs.Preludes.{IsGreeted, IsPast, GreetedOr, TookFirst};
+ghost use Rattle.shared_flow.specs.Received.{received, some_of, ok_of, ready_of, taken_of, KnowsReceived, PreludeFirst, ReceivesAllButDropped};
+ghost use Rattle.shared_lane.specs.Headline.{WasLetIn};
 ghost use Rattle.flow_terms.specs.declared.refusal.Refusal.TheVariants.{NoMemory};
 ghost use Rattle.shared_rounds.specs.Meeting.{HasMet, OnlyMet};
 ghost use Rattle.shared_rounds.specs.Names.{IsFlagOf};
@@ -61,12 +63,13 @@ impl<T: Word> Model for Subscription<T> {
     ghost use Rattle.shared_rounds.specs.Reach.{party_of};
     ghost use Rattle.shared_rounds.specs.Names.{IsFlagOf};
     ghost use Rattle.shared_flow.specs.Parties.{Subscribed, OfFlow};
+    ghost use Rattle.shared_flow.specs.Received.{KnowsReceived, PreludeFirst};
 
     ghost Value = { Subscribed T };
 
-    ghost view = { λ s. record { party = party_of s.access; number = s.number; rest = s.rest; reader = s.reader; looks = s.looker.looks } };
+    ghost view = { λ s. record { party = party_of s.access; number = s.number; given = s.rest.given; rest = s.rest.left; reader = s.reader; looks = s.looker.looks } };
 
-    ghost invariant = { λ s. (s.access.held ≡ None) × OfFlow (party_of s.access) (λ name. IsReaderOf name.lane s.reader) × IsFlagOf (party_of s.access).flow s.looker.table × IsOfSubscription s.number s.reader };
+    ghost invariant = { λ s. (s.access.held ≡ None) × OfFlow (party_of s.access) (λ name. IsReaderOf name.lane s.reader) × IsFlagOf (party_of s.access).flow s.looker.table × IsOfSubscription s.number s.reader × KnowsReceived s.reader × PreludeFirst s.rest s.reader };
 }
 
 impl<T: Word> Subscription<T> {
@@ -77,8 +80,8 @@ impl<T: Word> Subscription<T> {
         reader: Reader,
         looker: Looker,
     ) -> Subscription<T>
-        requires { (access.held ≡ None) × OfFlow (party_of access) (λ name. IsReaderOf name.lane reader) × IsFlagOf (party_of access).flow looker.table × IsOfSubscription number reader }
-        ensures { result ≡ record { party = party_of access; number = number; rest = prelude_values prelude; reader = reader; looks = looker.looks } }
+        requires { (access.held ≡ None) × OfFlow (party_of access) (λ name. IsReaderOf name.lane reader) × IsFlagOf (party_of access).flow looker.table × IsOfSubscription number reader × ((cache : List ℕ) × WasLetIn cache reader) }
+        ensures { result ≡ record { party = party_of access; number = number; given = []; rest = prelude_values prelude; reader = reader; looks = looker.looks } }
     {
         Subscription {
             access,
@@ -100,6 +103,7 @@ impl<T: Word> Subscription<T> {
     /// It wakes nobody. An emission that waits for room is let in by the next call that takes the lock, whoever makes it: where all
     /// subscriptions take their values by this call alone, who emits has to poll its emitter again by itself.
     pub fn try_next(&mut self) -> Taken<T>
+        ensures has { received T.read_as self.new ≡ received T.read_as self.old ++ taken_of result }
         ensures same { (self.new.party ≡ self.old.party) × (self.new.number ≡ self.old.number) }
         ensures taken { TookFirst T.read_as self.old result self.new }
     {
@@ -112,9 +116,11 @@ impl<T: Word> Subscription<T> {
     // The next value of the prelude, if one is left. It makes no step on the lane, and takes no lock. Without one it makes no call.
     #[inline(always)]
     fn greet(&mut self) -> Option<T>
+        ensures has { received T.read_as self.new ≡ received T.read_as self.old ++ some_of result }
         ensures same { (self.new.party ≡ self.old.party) × (self.new.number ≡ self.old.number) × (self.new.reader ≡ self.old.reader) × (self.new.looks ≡ self.old.looks) }
         ensures greeted { IfSome result (λ v. IsGreeted self.old v self.new) }
         ensures past { IfNone result (IsPast self.old self.new) }
+        ensures kept { IfNone result (self.new.given ≡ self.old.given) }
     {
         if self.rest.is_empty() {
             return None;
@@ -124,6 +130,8 @@ impl<T: Word> Subscription<T> {
 
     // The next value that was accepted, without a lock.
     fn try_accepted(&mut self) -> Taken<T>
+        requires past { self.old.rest ≡ [] }
+        ensures has { received T.read_as self.new ≡ received T.read_as self.old ++ taken_of result }
         ensures same { (self.new.party ≡ self.old.party) × (self.new.number ≡ self.old.number) × (self.new.rest ≡ self.old.rest) }
         ensures taken { Took T.read_as self.old.reader result self.new.reader }
     {
@@ -140,6 +148,7 @@ impl<T: Word> Subscription<T> {
     /// It never sleeps for a value. It takes the lock where an emission waits that the receipt may help, which is the difference
     /// from [`try_next`](Subscription::try_next), and only then. Nothing says whether the position rose, as `Overtaken` does there.
     pub fn next_now(&mut self, rt: &impl Wait) -> Option<T>
+        ensures has { received T.read_as self.new ≡ received T.read_as self.old ++ some_of result }
         ensures rounds { (self.new.party ≡ self.old.party) ⊎ Made (round.Next self.old.number) self.old.party self.new.party }
         ensures same { self.new.number ≡ self.old.number }
         ensures given { IfSome result (λ v. GreetedOr self.old v self.new (Gave T.read_as self.old.reader v self.new.reader)) }
@@ -158,6 +167,7 @@ impl<T: Word> Subscription<T> {
     ///
     /// It never sleeps for a value, and takes the lock as `next_now` does.
     pub fn next_soon(&mut self, rt: &impl Wait) -> Option<T>
+        ensures has { received T.read_as self.new ≡ received T.read_as self.old ++ some_of result }
         ensures rounds { (self.new.party ≡ self.old.party) ⊎ Made (round.Next self.old.number) self.old.party self.new.party }
         ensures same { self.new.number ≡ self.old.number }
         ensures given { IfSome result (λ v. GreetedOr self.old v self.new (Waited T.read_as self.old.reader v self.new.reader)) }
@@ -183,6 +193,7 @@ impl<T: Word> Subscription<T> {
     /// It looks twice: first without the lock, and where that gives no value once more with it. A value that is there costs no lock,
     /// unless an emission waits that the receipt may help.
     pub fn poll_next(&mut self, rt: &impl Wait, cx: &mut Context<'_>) -> Poll<T>
+        ensures has { received T.read_as self.new ≡ received T.read_as self.old ++ ready_of result }
         ensures round { OnPending result (Made (round.Pending self.old.number) self.old.party self.new.party) }
         ensures rounds { IfReady result (λ v. (self.new.party ≡ self.old.party) ⊎ Made (round.Next self.old.number) self.old.party self.new.party) }
         ensures same { self.new.number ≡ self.old.number }
@@ -205,6 +216,7 @@ impl<T: Word> Subscription<T> {
     /// The thread sleeps while no value is there. That the wake arrives isn't claimed. Refused as `NoMemory` where no value is there
     /// and the parker finds no memory to wait by; nothing is received then.
     pub fn next(&mut self, rt: &impl Wait, parker: &mut Parker) -> Result<T, Refusal>
+        ensures has { received T.read_as self.new ≡ received T.read_as self.old ++ ok_of result }
         ensures same { self.new.number ≡ self.old.number }
         ensures rounds { OnlyNext self.old.number self.old.party self.new.party }
         ensures value { IfOk result (λ v. GreetedOr self.old v self.new (Waited T.read_as self.old.reader v self.new.reader)) }
@@ -221,6 +233,7 @@ impl<T: Word> Subscription<T> {
     #[inline(never)]
     fn wait_for_next(&mut self, rt: &impl Wait, parker: &mut Parker) -> Result<T, Refusal>
         requires past { self.old.rest ≡ [] }
+        ensures has { received T.read_as self.new ≡ received T.read_as self.old ++ ok_of result }
         ensures same { (self.new.number ≡ self.old.number) × (self.new.rest ≡ self.old.rest) }
         ensures rounds { OnlyNext self.old.number self.old.party self.new.party }
         ensures value { IfOk result (λ v. Waited T.read_as self.old.reader v self.new.reader) }
@@ -247,6 +260,8 @@ impl<T: Word> Subscription<T> {
     // Looks for a value without the lock: each look for one value that comes before a subscription sleeps is made here. It takes
     // the lock where an emission waits that the receipt may help, which nobody else may ever do.
     fn look(&mut self, rt: &impl Wait) -> Option<T>
+        requires past { self.old.rest ≡ [] }
+        ensures has { received T.read_as self.new ≡ received T.read_as self.old ++ some_of result }
         ensures rounds { (self.new.party ≡ self.old.party) ⊎ Made (round.Next self.old.number) self.old.party self.new.party }
         ensures same { (self.new.number ≡ self.old.number) × (self.new.rest ≡ self.old.rest) }
         ensures given { IfSome result (λ v. Gave T.read_as self.old.reader v self.new.reader) }
@@ -280,6 +295,8 @@ impl<T: Word> Subscription<T> {
     // Looks for a value with the lock held. Without one the task sleeps.
     #[inline(never)]
     fn look_again(&mut self, rt: &impl Wait, cx: &mut Context<'_>) -> Poll<T>
+        requires past { self.old.rest ≡ [] }
+        ensures has { received T.read_as self.new ≡ received T.read_as self.old ++ ready_of result }
         ensures same { (self.new.number ≡ self.old.number) × (self.new.rest ≡ self.old.rest) × (self.new.looks ≡ self.old.looks) }
         ensures round { OnPending result (Made (round.Pending self.old.number) self.old.party self.new.party) }
         ensures within { IfReady result (λ v. WasMadeWithin self.old.number self.old.party self.new.party) }
@@ -315,6 +332,7 @@ impl<T: Word> Subscription<T> {
     /// The subscription hears of an accepted emission, without a lock: from then on it has seen all that was accepted up to it.
     pub fn told(&mut self, receipt: &mut Receipt)
         requires { OfFlow self.old.party (λ name. IsReceiptOf name.lane receipt.old) }
+        ensures has { received T.read_as self.new ≡ received T.read_as self.old }
         ensures same { (self.new.party ≡ self.old.party) × (self.new.number ≡ self.old.number) }
         ensures rest { self.new.rest ≡ self.old.rest }
         ensures reader { IsSameReader self.old.reader self.new.reader × (self.new.reader.story ≡ self.old.reader.story) }
@@ -322,6 +340,16 @@ impl<T: Word> Subscription<T> {
         ensures told { Begins self.new.reader.seen receipt.old.seen }
     {
         self.reader.told(self.access.lane(), receipt);
+    }
+
+    /// A law, with nothing to run. Of any subscription, between any two of its calls: what it received, then what is left of its prelude
+    /// and what is pending for it, is its prelude, the replay cache at its start and all later accepted emissions, in order and once,
+    /// less just those that its policy dropped; of the emissions, as far as it has seen them. After an owner's
+    /// [`meet`](crate::SharedFlow::meet) it has seen all.
+    pub fn receives_all_but_dropped(&self)
+        ensures { ReceivesAllButDropped T.read_as self.now }
+    {
+        let _number = self.number;
     }
 
     /// The number at which it began: that of the oldest value of the replay cache, as it was then.
@@ -349,6 +377,7 @@ impl<T: Word> Subscription<T> {
     /// Learns from one who holds the lock what was accepted, and what was dropped for it.
     pub(crate) fn meet(&mut self, shared: &mut Shared) -> Met
         requires { self.old.party.flow ≡ Some shared.old.name }
+        ensures has { received T.read_as self.new ≡ received T.read_as self.old }
         ensures same { (self.new.party ≡ self.old.party) × (self.new.number ≡ self.old.number) }
         ensures rest { self.new.rest ≡ self.old.rest }
         ensures shared { OnlyMet shared.old shared.new }

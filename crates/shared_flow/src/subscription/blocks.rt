@@ -7,6 +7,7 @@ ghost use Rattle.shared_rounds.specs.Entering.{Made};
 ghost use Rattle.shared_lane.specs.declared.reader.Taken.TheVariants as taken;
 ghost use Rattle.shared_flow.specs.Looks.{MadeRoom, HasMadeRoom, OnlyLooked, OnlyNext};
 ghost use Rattle.shared_flow.specs.Preludes.{IsPast};
+ghost use Rattle.shared_flow.specs.Received.{received};
 
 use super::Subscription;
 use crate::parker::Parker;
@@ -34,6 +35,8 @@ impl<T: Word> Subscription<T> {
     /// `Value` says how many: none, where `out` has no room. `Nothing` and `Overtaken` as `try_next` answers them; nothing was
     /// received then, and `out` is as it was. It wakes nobody, as `try_next`.
     pub fn try_next_all<B: Allocator>(&mut self, out: &mut Vec<T, B>) -> Taken<u64>
+        ensures has { (values : List T) × (out.new.items ≡ out.old.items ++ values)
+            × (received T.read_as self.new ≡ received T.read_as self.old ++ values) }
         ensures same { (self.new.party ≡ self.old.party) × (self.new.number ≡ self.old.number) }
         ensures taken { (values : List T) × (out.new.items ≡ out.old.items ++ values) × TookAllFirst T.read_as self.old (vec_capacity out.old - length out.old.items) result values self.new }
         ensures capacity { vec_capacity out.new ≡ vec_capacity out.old }
@@ -56,6 +59,8 @@ impl<T: Word> Subscription<T> {
         parker: &mut Parker,
         out: &mut Vec<T, B>,
     ) -> Result<u64, Refusal>
+        ensures has { (values : List T) × (out.new.items ≡ out.old.items ++ values)
+            × (received T.read_as self.new ≡ received T.read_as self.old ++ values) }
         ensures same { self.new.number ≡ self.old.number }
         ensures rounds { OnlyNext self.old.number self.old.party self.new.party }
         ensures full { vec_capacity out.old ≡ length out.old.items → (result ≡ Ok 0) × (self.new ≡ self.old) × (out.new.items ≡ out.old.items) }
@@ -84,6 +89,8 @@ impl<T: Word> Subscription<T> {
     ) -> Result<u64, Refusal>
         requires space { length out.old.items < vec_capacity out.old }
         requires past { self.old.rest ≡ [] }
+        ensures has { (values : List T) × (out.new.items ≡ out.old.items ++ values)
+            × (received T.read_as self.new ≡ received T.read_as self.old ++ values) }
         ensures same { (self.new.number ≡ self.old.number) × (self.new.rest ≡ self.old.rest) }
         ensures rounds { OnlyNext self.old.number self.old.party self.new.party }
         ensures taken { IfOk result (λ n. (values : List T) × (out.new.items ≡ out.old.items ++ values) × (n ≡ length values) × (0 < n)
@@ -104,6 +111,9 @@ impl<T: Word> Subscription<T> {
 
     // Looks for all values without the lock. As a look for one it takes the lock where an emission waits that the receipts may help.
     fn look_for_all<B: Allocator>(&mut self, rt: &impl Wait, out: &mut Vec<T, B>) -> Taken<u64>
+        requires past { self.old.rest ≡ [] }
+        ensures has { (values : List T) × (out.new.items ≡ out.old.items ++ values)
+            × (received T.read_as self.new ≡ received T.read_as self.old ++ values) }
         ensures rounds { (self.new.party ≡ self.old.party) ⊎ Made (round.Next self.old.number) self.old.party self.new.party }
         ensures same { (self.new.number ≡ self.old.number) × (self.new.rest ≡ self.old.rest) }
         ensures looked { (words : List ℕ) × (out.new.items ≡ out.old.items ++ map T.read_as words)

@@ -1,4 +1,4 @@
-use Rattle.std.proofs.Common.{rules, Ok, IfOk, refl, inr, ap, subst, Err, IfErr}
+use Rattle.std.proofs.Common.{rules, map, Ok, IfOk, refl, inr, ap, subst, Err, IfErr}
 use Rattle.shared_rounds.specs.declared.round.Round.TheVariants as round
 use Rattle.shared_rounds.specs.Names.{SharedSeen}
 use Rattle.shared_rounds.specs.Reach.{Reach, party_of}
@@ -7,6 +7,7 @@ use Rattle.shared_rounds.specs.Waking.{SleepOn}
 use Rattle.shared_rounds.proofs.Doing.{is_called}
 use Rattle.shared_flow.specs.Looks.{WasLetInBy}
 use Rattle.shared_flow.proofs.Making.{was_let_in}
+use Rattle.shared_flow.proofs.Received.{knows_at_start}
 use Rattle.shared_flow.proofs.Shares.{are_halves, made_and_took_back}
 use Rattle.shared_flow.proofs.flow.SharedFlow.subscribe_with.Goals as goal
 
@@ -62,3 +63,12 @@ returns-in-Err-clause-kept g c =
           (made_and_took_back (round.Subscribe (Err c.in-Err.refusal)) c.self.inside.access c.another.new.self c.enter-inside.new.self c.leave-in-Err.new.self c.take_back.new.self
           c.enter-inside.result.guarded.state.value c.in_ok-access.ensures.half c.enter-inside.ensures.taken c.enter-inside.ensures.found c.leave-in-Err.ensures.left c.take_back.ensures.whole),
     )
+
+pub returns-in-Ok-clause-has : goal.returns-in-Ok-clause-has
+returns-in-Ok-clause-has g c =
+    let after : SharedSeen = c.subscribe-number.new.self in
+    let number = c.subscribe-number.result.number in
+    let did = subst (λ (s : SharedSeen). IfOk c.subscribe-number.result.reader (λ reader. Comes s (round.Subscribe (Ok number)) after × IsLetIn s number reader after)) c.deref_mut.ensures.value c.subscribe-number.ensures.ok in
+    let let_in = subst (λ r. IfOk r (λ reader. Comes c.enter-inside.result.guarded.state.value (round.Subscribe (Ok number)) after × IsLetIn c.enter-inside.result.guarded.state.value number reader after)) c.in-Ok.is did in
+    let nothing = knows_at_start _ c.in-Ok.reader let_in.1.5.1.begins in
+    rw c.new.ensures ((ap (map g.T.Word.read_as) nothing.1), refl)

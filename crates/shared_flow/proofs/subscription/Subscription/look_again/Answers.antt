@@ -1,4 +1,4 @@
-use Rattle.std.proofs.Common.{◌≡◌, ◌≤◌, inl, inr, sym, ap, subst, ◌∙◌}
+use Rattle.std.proofs.Common.{rules, [], ◌∷◌, ◌++◌, map, ◌≡◌, ◌≤◌, inl, inr, sym, ap, subst, ◌∙◌}
 use Rattle.shared_lane.specs.declared.reader.Taken.{Taken}
 use Rattle.shared_lane.specs.Readers.{at}
 use Rattle.shared_lane.specs.Sequencers.{next}
@@ -11,8 +11,10 @@ use Rattle.shared_rounds.specs.Rounds.{Comes, FreesAfter, HasFreed, look_round}
 use Rattle.shared_rounds.specs.Waking.{SleepOn}
 use Rattle.shared_rounds.proofs.Doing.{is_called, lay_down, none_lies}
 use Rattle.shared_flow.specs.Looks.{Missed}
+use Rattle.shared_flow.specs.Received.{received, words_received, taken_of}
 use Rattle.shared_flow.specs.Parties.{Subscribed}
 use Rattle.shared_flow.proofs.Making.{made, missed_all, was_made_within}
+use Rattle.shared_flow.proofs.Received.{took_next, received_more}
 use Rattle.shared_flow.proofs.subscription.Subscription.look_again.Goals as goal
 
 pub leave-requires : goal.leave-requires
@@ -88,3 +90,67 @@ returns-in-Overtaken-clause-nothing g c =
       made = made (round.Pending c.self.inside.number) c.self.inside.access c.enter-inside.new.self c.leave-in-Overtaken.new.self c.enter-inside.result.guarded.state.value c.enter-inside.ensures.taken c.enter-inside.ensures.found c.leave-in-Overtaken.ensures.left;
       missed = inr looked;
     })
+
+pub invariant_of-self : goal.invariant_of-self
+invariant_of-self g c =
+    let inside = c.self.inside in
+    let t = c.look.new.reader in (
+      search rules,
+      search rules,
+      search rules,
+      search rules,
+      (took_next inside.reader t c.look.result c.self.invariant.4 c.look.ensures.looked).0,
+      inl (ap (λ (s : Subscribed _). s.rest) c.self.view_is ∙ c.requires.past),
+    )
+
+pub invariant_of-self-in-Nothing : goal.invariant_of-self-in-Nothing
+invariant_of-self-in-Nothing g c =
+    let inside = c.self.inside in
+    let t = c.look.new.reader in (
+      search rules,
+      search rules,
+      search rules,
+      search rules,
+      (took_next inside.reader t c.look.result c.self.invariant.4 c.look.ensures.looked).0,
+      inl (ap (λ (s : Subscribed _). s.rest) c.self.view_is ∙ c.requires.past),
+    )
+
+pub invariant_of-self-in-Overtaken : goal.invariant_of-self-in-Overtaken
+invariant_of-self-in-Overtaken g c =
+    let inside = c.self.inside in
+    let t = c.look.new.reader in (
+      search rules,
+      search rules,
+      search rules,
+      search rules,
+      (took_next inside.reader t c.look.result c.self.invariant.4 c.look.ensures.looked).0,
+      inl (ap (λ (s : Subscribed _). s.rest) c.self.view_is ∙ c.requires.past),
+    )
+
+pub returns-in-Value-clause-has : goal.returns-in-Value-clause-has
+returns-in-Value-clause-has g c =
+    let inside = c.self.inside in
+    let read = g.T.Word.read_as in
+    let t = c.look.new.reader in
+    let took = took_next inside.reader t c.look.result c.self.invariant.4 c.look.ensures.looked in
+    let more = took.1 ∙ ap (λ x. words_received inside.reader ++ taken_of x) c.in-Value.is in
+    rw (← c.self.view_is) (received_more read inside.rest.given inside.reader t (c.in-Value.word ∷ []) more
+    ∙ ap (λ v. (inside.rest.given ++ map read (words_received inside.reader)) ++ v ∷ []) (sym c.from_word.ensures))
+
+pub returns-in-Nothing-clause-has : goal.returns-in-Nothing-clause-has
+returns-in-Nothing-clause-has g c =
+    let inside = c.self.inside in
+    let read = g.T.Word.read_as in
+    let t = c.look.new.reader in
+    let took = took_next inside.reader t c.look.result c.self.invariant.4 c.look.ensures.looked in
+    let more = took.1 ∙ ap (λ x. words_received inside.reader ++ taken_of x) c.in-Nothing.is in
+    rw (← c.self.view_is) (received_more read inside.rest.given inside.reader t ([]) more)
+
+pub returns-in-Overtaken-clause-has : goal.returns-in-Overtaken-clause-has
+returns-in-Overtaken-clause-has g c =
+    let inside = c.self.inside in
+    let read = g.T.Word.read_as in
+    let t = c.look.new.reader in
+    let took = took_next inside.reader t c.look.result c.self.invariant.4 c.look.ensures.looked in
+    let more = took.1 ∙ ap (λ x. words_received inside.reader ++ taken_of x) c.in-Overtaken.is in
+    rw (← c.self.view_is) (received_more read inside.rest.given inside.reader t ([]) more)

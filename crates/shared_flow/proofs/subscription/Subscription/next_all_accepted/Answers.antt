@@ -1,10 +1,13 @@
-use Rattle.std.proofs.Common.{◌≡◌, ℕ, ◌+◌, ◌-◌, List, [], ◌∷◌, ◌++◌, Result, Err, IfErr, length, map, vec_capacity, refl, sym, ap, subst, ◌∙◌, arith, length-append}
+use Rattle.std.proofs.Common.{inl, ◌≡◌, ℕ, ◌+◌, ◌-◌, List, [], ◌∷◌, ◌++◌, Result, Err, IfErr, length, map, vec_capacity, refl, sym, ap, subst, ◌∙◌, arith, length-append}
 use Rattle.std.proofs.lemmas.List.{append-nil, length-map}
 use Rattle.std.proofs.lemmas.Result.{err_from_is_err_and}
 use Rattle.flow_terms.specs.declared.refusal.Refusal.{Refusal}
 use Rattle.flow_terms.specs.declared.refusal.Refusal.TheVariants.{NoMemory}
-use Rattle.shared_flow.specs.Blocks.{MissedAll}
+use Rattle.shared_lane.specs.declared.reader.Taken.TheVariants.{Value}
+use Rattle.shared_flow.specs.Blocks.{LookedAll, MissedAll}
 use Rattle.shared_flow.specs.Looks.{by_none}
+use Rattle.shared_flow.specs.Received.{received}
+use Rattle.shared_flow.proofs.Received.{with_one}
 use Rattle.shared_flow.proofs.Receiving.{has_room_at_once, has_room_since}
 use Rattle.shared_flow.proofs.Takes.{got_after, looked_count, missed_all, not_answered, only_next_then, room_after}
 use Rattle.shared_flow.proofs.Waiting.{only_next}
@@ -12,6 +15,23 @@ use Rattle.shared_flow.proofs.subscription.Subscription.next_all_accepted.Goals 
 
 pub returns-in-Value-clause-rounds : goal.returns-in-Value-clause-rounds
 returns-in-Value-clause-rounds g c = only_next _ _ _ _ _ refl (by_none c.args.self.now.party) c.look_for_all.ensures.rounds
+
+pub returns-in-Value-clause-has : goal.returns-in-Value-clause-has
+returns-in-Value-clause-has g c = c.look_for_all.ensures.has
+
+pub returns-in-Value-clause-taken : goal.returns-in-Value-clause-taken
+returns-in-Value-clause-taken g c =
+    let look = c.in-Value.ensures.looked in
+    let words = look.0 in
+    let took = look.2.1 in
+    let out = c.args.out.now in
+    let space = c.requires.space in (
+      map g.T.Word.read_as words,
+      look.1,
+      sym took.5 ∙ sym (length-map words g.T.Word.read_as),
+      omega (arith, took.6, took.7, space),
+      inl (words, refl, subst (λ (k : ℕ). LookedAll c.args.self.now.reader (vec_capacity out - length out.items) (Value k) words c.look_for_all.new.self.reader) (sym took.5) look.2),
+    )
 
 pub returns-in-Value-clause-room : goal.returns-in-Value-clause-room
 returns-in-Value-clause-room g c = has_room_at_once c.args.self.now c.look_for_all.new.self (c.look_for_all.ensures.room _ c.in-Value.is)
@@ -21,6 +41,7 @@ returns-in_err-value g c = let look = c.look_for_all.ensures in let wait = c.in_
     let old = c.args.self.now in let new = c.wait_for_next.new.self in let out = c.args.out.now in let room : ℕ = vec_capacity out - length out.items in
     let none = missed_all old.reader c.look_for_all.new.self.reader room c.look_for_all.result look.looked.0 c.in_default.not-Value look.looked.2 in
     let result_is : Err e ≡ c.from_residual.result = ap Err (sym p.2) ∙ sym p.1 in record {
+      has = (look.has.0, look.has.1, ap (received read) wait.nothing.1 ∙ look.has.2);
       same = (wait.same.0 ∙ look.same.0, wait.same.1 ∙ look.same.1);
       rounds = only_next_then _ _ _ _ _ look.same.0 (only_next _ _ _ _ _ refl (by_none old.party) look.rounds) wait.rounds;
       taken = not_answered c.from_residual.result e _ result_is;
@@ -41,6 +62,8 @@ returns g c = let look = c.look_for_all.ensures in let wait = c.in_ok-value.ensu
     c.look_for_all.result look.looked.0 v c.look_for_all-more.result words c.in_default.not-Value look.looked.2 look.looked.1 wait.value push.items more.looked.2 more.looked.1 (omega arith) in
     let count = length-map words read in let k = looked_count c.wait_for_next.new.self.reader c.look_for_all-more.new.self.reader left c.look_for_all-more.result words more.looked.2 in let told = c.taken_count.ensures in
     let waited = c.wait_for_next.new.self in record {
+      has = (look.has.0 ++ v ∷ more.has.0, more.has.1 ∙ ap (λ l. l ++ more.has.0) (push.items ∙ ap (λ l. l ++ v ∷ []) look.has.1) ∙ with_one out.items look.has.0 more.has.0 v,
+        more.has.2 ∙ ap (λ l. l ++ more.has.0) (wait.has ∙ ap (λ l. l ++ v ∷ []) look.has.2) ∙ with_one (received read old) look.has.0 more.has.0 v);
       same = (more.same.0 ∙ (wait.same.0 ∙ look.same.0), more.same.1 ∙ (wait.same.1 ∙ look.same.1));
       rounds = only_next _ _ _ _ _ (wait.same.0 ∙ look.same.0) (only_next_then _ _ _ _ _ look.same.0 (only_next _ _ _ _ _ refl (by_none old.party) look.rounds) wait.rounds) more.rounds;
       taken = (v ∷ map read words, got.0, omega arith, omega arith, got.1);

@@ -1,5 +1,7 @@
-use Rattle.std.proofs.Common.{⊎_elim, inl, inr, ap, ◌∙◌}
+use Rattle.std.proofs.Common.{◌++◌, ⊎_elim, inl, inr, ap, ◌∙◌}
+use Rattle.std.proofs.lemmas.List.{append-nil}
 use Rattle.shared_flow.specs.Parties.{Subscribed}
+use Rattle.shared_flow.specs.Received.{received, some_of, ready_of}
 use Rattle.shared_flow.proofs.Receiving.{if_both, if_ready, missed_since, on_pending, pending_since, within_since}
 use Rattle.shared_flow.proofs.subscription.Subscription.poll_next.Goals as goal
 
@@ -16,6 +18,7 @@ returns-in-None g c =
     let t = c.look_again.new.self in
     let missed = c.in-None.ensures.missed in
     let rest = c.look_again.ensures.same.1 ∙ missed.0.1 in record {
+      has = c.look_again.ensures.has ∙ ap (λ l. l ++ ready_of c.look_again.result) (c.next_now.ensures.has ∙ ap (λ o. received g.T.Word.read_as s ++ some_of o) c.in-None.is ∙ append-nil (received g.T.Word.read_as s));
       round = on_pending c.look_again.result _ _ (λ it. pending_since s m t missed.1 it) c.look_again.ensures.round;
       rounds = if_ready c.look_again.result _ _ (λ v it. inr (within_since s m t missed.1 it).made) c.look_again.ensures.within;
       same = c.look_again.ensures.same.0 ∙ ap (λ (x : Subscribed _). x.number) missed.1;
@@ -28,3 +31,9 @@ returns-in-None g c =
       armed = c.look_again.ensures.armed;
       kept = c.look_again.ensures.kept;
     }
+
+pub look_again-requires : goal.look_again-requires
+look_again-requires g c = record { past = c.in-None.ensures.missed.0.1 }
+
+pub returns-in-Some-clause-has : goal.returns-in-Some-clause-has
+returns-in-Some-clause-has g c = c.next_now.ensures.has ∙ ap (λ o. received g.T.Word.read_as c.args.self.now ++ some_of o) c.in-Some.is
