@@ -12,3 +12,4 @@ pub mod Takes
 pub mod Emits
 pub mod Losing
 pub mod GivingUp
+pub mod Emitted
