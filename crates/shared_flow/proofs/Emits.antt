@@ -8,7 +8,7 @@ use Rattle.shared_flow.specs.Emitters.{Emits, emission_by}
 use Rattle.shared_flow.specs.Parties.{Emitting}
 
 -- no more are accepted than were tried
-tried_few : (e f : Emitting) (words : List ℕ) (k : ℕ) → TriedAll e words (Ok k) f → k ≤ length words
+pub tried_few : (e f : Emitting) (words : List ℕ) (k : ℕ) → TriedAll e words (Ok k) f → k ≤ length words
 tried_few e f words k tried = tried.1.does.2.5.1.few
 
 pub emits_few : (e f : Emitting) (words : List ℕ) (n : ℕ) → EmitsOn e words n f → n ≤ length words

@@ -13,3 +13,4 @@ pub mod Emits
 pub mod Losing
 pub mod GivingUp
 pub mod Received
+pub mod Emitted

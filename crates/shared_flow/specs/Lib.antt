@@ -1,6 +1,7 @@
 pub mod Queue
 pub mod Parties
 pub mod Emitters
+pub mod Emitted
 pub mod Laws
 pub mod Looks
 pub mod Preludes

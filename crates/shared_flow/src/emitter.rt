@@ -1,5 +1,5 @@
 //! One that emits into a shared flow.
-ghost use Rattle.std.specs.Prelude.{◌≡◌, ◌≢◌, ◌⊎◌, [], Some, None, IfErr, Result, is_some};
+ghost use Rattle.std.specs.Prelude.{◌≡◌, ◌≢◌, ◌⊎◌, [], ◌∷◌, ◌++◌, Some, None, IfErr, Result, is_some};
 ghost use Rattle.flow_terms.specs.declared.refusal.Refusal.TheVariants.{NoMemory, Spent, EmitsFull};
 ghost use Rattle.flow_terms.specs.declared.answers.Emit.TheVariants as emit;
 ghost use Rattle.flow_terms.specs.declared.answers.Withdrawn.TheVariants as withdrawn;
@@ -11,6 +11,8 @@ ghost use Rattle.shared_rounds.specs.Entering.{Made};
 ghost use Rattle.shared_rounds.specs.Rounds.{IsAfter, numbers_tried, poll_round, withdraw_round};
 ghost use Rattle.shared_flow.specs.Emitters.{emission_by, after_try, WasStarted, WasFinished, Waits, WasLeft, WasGivenUp};
 ghost use Rattle.shared_flow.specs.Emitters.{Emits, EndsAs, EndedWith, IfEmitted, Waited, begun_with};
+ghost use Rattle.shared_flow.specs.Emitted.{emitted, outcome_of_try, outcome_of_start, outcome_of_emit};
+ghost use Rattle.shared_flow.specs.Emitted.{settled, accepted, after_poll, after_cancel, IsLeftOf};
 ghost use Rattle.shared_rounds.specs.Tries.{IfTried, IfBegun, TriedUnder, BegunUnder, last_of_try, last_of_start};
 ghost use Rattle.shared_flow.specs.Parties.{IsSameEmitter, Emitting, IsItsReceipt, IsOwnReceipt, OfFlow, IfLeft, without_receipt};
 ghost use Rattle.shared_flow.specs.Owners.{HasHeard};
@@ -77,6 +79,7 @@ impl<T: Word> Emitter<T> {
     /// `Full` where the emission would have to wait. Refused as `Spent` where the numbers below 2^62 are used up.
     pub fn try_emit(&mut self, rt: &impl Wait, value: T) -> Result<Tried<Receipt>, Refusal>
         requires idle { self.old.ticket ≡ None }
+        ensures has { emitted self.new ≡ emitted self.old ++ (T.word value, outcome_of_try result) ∷ [] }
         ensures round { self.new ≡ after_try self.old (emission_by self.old (T.word value)) result self.new.party.seen }
         ensures made { Made (round.Try (emission_by self.old (T.word value)) (numbers_tried result)) self.old.party self.new.party }
         ensures receipt { IfTried result (IsItsReceipt self.old.party (emission_by self.old (T.word value))) }
@@ -110,6 +113,7 @@ impl<T: Word> Emitter<T> {
     /// and `emits` others are.
     pub fn start_emit(&mut self, rt: &impl Wait, value: T) -> Result<Begun<Receipt, ()>, Refusal>
         requires idle { self.old.ticket ≡ None }
+        ensures has { emitted self.new ≡ emitted self.old ++ (T.word value, outcome_of_start result) ∷ [] }
         ensures round { WasStarted self.old (emission_by self.old (T.word value)) result self.new }
         ensures receipt { IfBegun result (IsItsReceipt self.old.party (emission_by self.old (T.word value))) }
         ensures rises { IfBegun result (λ receipt. IsAfter self.old.last receipt.number) }
@@ -134,6 +138,7 @@ impl<T: Word> Emitter<T> {
     /// task sleeps until a receipt or a cancellation finishes it. That the wake arrives isn't claimed.
     pub fn poll_emit(&mut self, rt: &impl Wait, cx: &mut Context<'_>) -> Poll<Receipt>
         requires in_flight { self.old.ticket ≢ None }
+        ensures has { emitted self.new ≡ after_poll result (emitted self.old) }
         ensures ready { IfReady result (λ receipt. WasFinished self.old receipt self.new) }
         ensures receipt { IfReady result (IsOwnReceipt self.old.party self.old.id) }
         ensures rises { IfReady result (λ receipt. IsAfter self.old.last receipt.number) }
@@ -172,6 +177,7 @@ impl<T: Word> Emitter<T> {
         value: T,
     ) -> Result<Option<Receipt>, Refusal>
         requires idle { self.old.ticket ≡ None }
+        ensures has { emitted self.new ≡ emitted self.old ++ (T.word value, outcome_of_emit result) ∷ [] }
         ensures ends { (self.new.ticket ≡ None) × IsSameEmitter self.old self.new }
         ensures emits { Emits self.old (emission_by self.old (T.word value)) result self.new }
         ensures receipt { IfEmitted result (IsOwnReceipt self.old.party self.old.id) }
@@ -189,6 +195,7 @@ impl<T: Word> Emitter<T> {
     // Waits until the emission in flight is finished, or gives it up.
     fn finish(&mut self, rt: &impl Wait, parker: &mut Parker) -> Result<Option<Receipt>, Refusal>
         requires in_flight { self.old.ticket ≢ None }
+        ensures has { emitted self.new ≡ settled (outcome_of_emit result) (emitted self.old) }
         ensures ends { (self.new.ticket ≡ None) × IsSameEmitter self.old self.new }
         ensures answers { EndsAs self.old result self.new }
         ensures receipt { IfEmitted result (IsOwnReceipt self.old.party self.old.id) }
@@ -213,6 +220,7 @@ impl<T: Word> Emitter<T> {
     // Waits until the emission in flight is finished. It looks on for a little while before the thread sleeps.
     fn finished(&mut self, rt: &impl Wait, parker: &mut Parker) -> Receipt
         requires in_flight { self.old.ticket ≢ None }
+        ensures has { emitted self.new ≡ settled (accepted result.number) (emitted self.old) }
         ensures ends { (self.new.ticket ≡ None) × IsSameEmitter self.old self.new }
         ensures finished { (m : Emitting) × Waited self.old m × WasFinished m result self.new }
         ensures receipt { IsOwnReceipt self.old.party self.old.id result }
@@ -244,6 +252,7 @@ impl<T: Word> Emitter<T> {
     /// `Removed` where it waited: it was never accepted. `Left` where it was accepted: its value stays with its subscriptions.
     /// `Gone` where none is in flight.
     pub fn cancel_emit(&mut self, rt: &impl Wait) -> Withdrawn<Receipt>
+        ensures has { emitted self.new ≡ after_cancel result (emitted self.old) }
         ensures ends { (self.new.ticket ≡ None) × IsSameEmitter self.old self.new }
         ensures idle { self.old.ticket ≡ None → (result ≡ withdrawn.Gone) × (self.new ≡ self.old) }
         ensures left { IfLeft result (λ receipt. WasLeft self.old receipt self.new) }
@@ -284,6 +293,8 @@ impl<T: Word> Emitter<T> {
 
     /// Ends the emitter, and gives the emission in flight up as `cancel_emit` does: in Kotlin, the end of the coroutine.
     pub fn close(self, rt: &impl Wait) -> Withdrawn<Receipt>
+        // of the emitter that is left: the list is complete
+        ensures has { (f : Emitting) × IsLeftOf self result f × (emitted f ≡ after_cancel result (emitted self)) }
         ensures idle { self.ticket ≡ None → result ≡ withdrawn.Gone }
         ensures ended { EndedWith self result }
         ensures receipt { IfLeft result (IsOwnReceipt self.party self.id) }

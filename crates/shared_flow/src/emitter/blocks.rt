@@ -1,7 +1,8 @@
 //! An emitter emits several values at once.
-ghost use Rattle.std.specs.Prelude.{◌≡◌, ◌≢◌, ◌⊎◌, ◌≤◌, ◌<◌, [], None, length, map, IfOk, IfErr};
+ghost use Rattle.std.specs.Prelude.{◌≡◌, ◌≢◌, ◌⊎◌, ◌≤◌, ◌<◌, [], ◌++◌, None, length, map, IfOk, IfErr};
 ghost use Rattle.flow_terms.specs.declared.refusal.Refusal.TheVariants.{NoMemory, Spent, EmitsFull};
 ghost use Rattle.shared_flow.specs.Parties.{IsSameEmitter};
+ghost use Rattle.shared_flow.specs.Emitted.{emitted, outcomes_of_block, GrewByAll};
 ghost use Rattle.shared_flow.specs.Blocks.{TriedAll, EmitsOn, EmitsSome, IsCutShort};
 
 use super::Emitter;
@@ -38,6 +39,7 @@ impl<T: Word> Emitter<T> {
     /// up, and none was accepted.
     pub fn try_emit_all(&mut self, rt: &impl Wait, values: &[T]) -> Result<u64, Refusal>
         requires idle { self.old.ticket ≡ None }
+        ensures has { emitted self.new ≡ emitted self.old ++ outcomes_of_block (map T.word values.now) result }
         ensures tried { TriedAll self.old (map T.word values.now) result self.new }
         ensures few { IfOk result (λ n. n ≤ length values.now) }
         ensures refused { IfErr result (λ refusal. (refusal ≡ Spent) × (values.now ≢ [])) }
@@ -61,6 +63,7 @@ impl<T: Word> Emitter<T> {
         values: &[T],
     ) -> Result<u64, CutShort>
         requires idle { self.old.ticket ≡ None }
+        ensures has { GrewByAll (emitted self.old) (map T.word values.now) result (emitted self.new) }
         ensures ends { (self.new.ticket ≡ None) × IsSameEmitter self.old self.new }
         ensures emitted { IfOk result (λ n. EmitsOn self.old (map T.word values.now) n self.new) }
         ensures cut { IfErr result (λ cut. IsCutShort self.old (map T.word values.now) cut self.new) }

@@ -12,6 +12,7 @@ use Rattle.shared_flow.proofs.Rising.{answered_on, answered_last}
 use Rattle.shared_rounds.proofs.Doing.{is_called, withdrawn_lies}
 use Rattle.shared_flow.proofs.Making.{made}
 use Rattle.shared_flow.proofs.Waiting.{unless_left}
+use Rattle.shared_flow.proofs.Emitted.{grown, has_let_go}
 use Rattle.shared_flow.proofs.emitter.Emitter.cancel_emit.Goals as goal
 
 pub invariant_of-self : goal.invariant_of-self
@@ -75,3 +76,18 @@ returns-clause-left g c =
       rw (← c.self.view_is) (subst (λ w. Made (round.Withdraw c.in-Some.ticket w) (party_of c.self.inside.access) (party_of c.leave-2.new.self)) done.0
           (made (round.Withdraw c.in-Some.ticket c.cancel_emit-withdrawn.result.withdrawn) c.self.inside.access c.enter-inside.new.self c.leave-2.new.self c.enter-inside.result.guarded.state.value c.enter-inside.ensures.taken c.enter-inside.ensures.found c.leave-2.ensures.left)),
     )
+
+pub returns-in_default-receipt-clause-has : goal.returns-in_default-receipt-clause-has
+returns-in_default-receipt-clause-has g c =
+    let made : Round = c.withdrawn_without_receipt-round.result in
+    let grew = ap (λ (r : Reach). r.rounds) c.leave.ensures.left.after ∙ ap (λ (r : Reach). r.rounds ++ made ∷ []) c.enter-inside.ensures.taken in
+    has_let_go c.args.self.now c.self.inside.access.rounds c.leave.new.self.rounds made c.in-Some.ticket c.self.inside.id c.self.inside.last c.cancel_emit-withdrawn.result.withdrawn c.unless_left.result
+    (ap (λ (e : Emitting). e.party.rounds) c.self.view_is) grew c.withdrawn_without_receipt-round.ensures c.unless_left.ensures
+
+pub returns-clause-has : goal.returns-clause-has
+returns-clause-has g c =
+    let made : Round = round.Withdraw c.in-Some.ticket c.cancel_emit-withdrawn.result.withdrawn in
+    let grew = ap (λ (r : Reach). r.rounds) c.leave-2.ensures.left.after ∙ ap (λ (r : Reach). r.rounds ++ made ∷ []) c.enter-inside.ensures.taken in
+    let done = subst (λ receipt. IfSome receipt (λ r. (c.cancel_emit-withdrawn.result.withdrawn ≡ withdrawn.Left r.number) × IsReceiptAfter c.deref_mut.result.now.name.lane c.self.inside.id c.self.inside.last r)) c.in-Some-receipt.is c.cancel_emit-withdrawn.ensures.receipt in
+    grown c.args.self.now c.self.inside.access.rounds c.leave-2.new.self.rounds made (round.Withdraw c.in-Some.ticket (withdrawn.Left c.in-Some-receipt.receipt.number))
+    (ap (λ (e : Emitting). e.party.rounds) c.self.view_is) grew (ap (round.Withdraw c.in-Some.ticket) done.0)

@@ -1,11 +1,13 @@
 use Rattle.std.proofs.Common.{◌≡◌, ℕ, ◌+◌, ◌-◌, List, ◌++◌, length, map, take, drop, refl, sym, ap, subst, ◌∙◌, arith}
-use Rattle.std.proofs.lemmas.List.{length-map, length-take-le, length-drop, map-append, take-append-drop, take-map, take_rest}
+use Rattle.std.proofs.lemmas.List.{length-map, length-take-le, length-drop, map-append, take-append-drop, take-map, take_all, take_rest}
 use Rattle.std.proofs.Math.Seq.{take-add}
 use Rattle.shared_flow.specs.declared.emitter.blocks.CutShort.{CutShort}
 use Rattle.shared_flow.specs.Blocks.{EmitsOn, IsCutShort, none_yet}
 use Rattle.shared_flow.specs.Parties.{Emitting}
 use Rattle.shared_flow.proofs.Emits.{cut_later, cut_within, emits_few, emits_then}
 use Rattle.shared_flow.proofs.Waiting.{same_as_same}
+use Rattle.shared_flow.proofs.Emitted.{has_cut, has_on}
+use Rattle.shared_flow.specs.Emitted.{GrewBy, GrewUpTo, emitted}
 use Rattle.shared_flow.proofs.emitter.Emitter.emit_all.Goals as goal
 
 -- the words of the first values, and of some that are left
@@ -51,3 +53,15 @@ returns-in-Err-clause-cut g c = let values = c.args.values.now in let word = g.T
     let total : CutShort = record { emitted = i + cut.emitted; accepted = n + cut.accepted; refusal = cut.refusal } in let within = c.loop-emitted.invariant.2 in
     let whole : front ++ back ≡ map word values = ap (λ (l : List _). front ++ map word l) (take_rest values i) ∙ (sym (map-append word (take i values) (drop i values)) ∙ ap (map word) (take-append-drop i values)) in
     subst (λ (l : List ℕ). IsCutShort old l total new) whole (cut_later old c.loop-emitted.self new front back i n cut (length-map (take i values) word ∙ length-take-le i values within) c.loop-emitted.invariant.4 c.in-Err.ensures.cut)
+
+pub returns-in-Err-clause-has : goal.returns-in-Err-clause-has
+returns-in-Err-clause-has g c = let values = c.args.values.now in let word = g.T.Word.word in let i : ℕ = c.loop-emitted.emitted in let n : ℕ = c.loop-emitted.accepted in let cut : CutShort = c.in-Err.cut in
+    let old : Emitting = c.args.self.now in let new : Emitting = c.emit_some.new.self in let front : List ℕ = map word (take i values) in let back : List ℕ = map word (take (length values - i) (drop i values)) in
+    let total : CutShort = record { emitted = i + cut.emitted; accepted = n + cut.accepted; refusal = cut.refusal } in let within = c.loop-emitted.invariant.2 in
+    let whole : front ++ back ≡ map word values = ap (λ (l : List _). front ++ map word l) (take_rest values i) ∙ (sym (map-append word (take i values) (drop i values)) ∙ ap (map word) (take-append-drop i values)) in
+    subst (λ (l : List ℕ). GrewUpTo (emitted old) l total (emitted new)) whole
+    (has_cut old new (front ++ back) total (cut_later old c.loop-emitted.self new front back i n cut (length-map (take i values) word ∙ length-take-le i values within) c.loop-emitted.invariant.4 c.in-Err.ensures.cut))
+
+pub returns-clause-has : goal.returns-clause-has
+returns-clause-has g c = let values = c.args.values.now in let word = g.T.Word.word in let i : ℕ = c.loop-emitted.emitted in let old : Emitting = c.args.self.now in let new : Emitting = c.loop-emitted.self in
+    subst (λ (l : List _). GrewBy (emitted old) (map word l) c.loop-emitted.accepted (emitted new)) (take_all i values c.loop-emitted-test.false) (has_on old new (map word (take i values)) c.loop-emitted.accepted c.loop-emitted.invariant.4)

@@ -7,10 +7,11 @@ use Rattle.shared_rounds.specs.Entering.{IsCalled, Made}
 use Rattle.shared_rounds.specs.Reach.{Reach, party_of}
 use Rattle.shared_rounds.specs.Rounds.{IsReceiptAfter, after_number, Comes, poll_round}
 use Rattle.shared_rounds.specs.Waking.{SleepOn}
-use Rattle.shared_flow.specs.Parties.{WasAnswered}
+use Rattle.shared_flow.specs.Parties.{Emitting, WasAnswered}
 use Rattle.shared_flow.proofs.Rising.{answered_on, answered_last}
 use Rattle.shared_rounds.proofs.Doing.{is_called, lay_down_for}
 use Rattle.shared_flow.proofs.Making.{made}
+use Rattle.shared_flow.proofs.Emitted.{grown, has_pending}
 use Rattle.shared_flow.proofs.emitter.Emitter.poll_emit.Goals as goal
 
 pub invariant_of-self : goal.invariant_of-self
@@ -77,3 +78,18 @@ leave-requires-2 g c =
     let called = is_called c.enter-inside.new.self found before new c.enter-inside.result.before (round.Poll ticket (emit.Done c.in-Some-receipt.receipt.number)) (ap (λ (r : Reach). r.held) c.enter-inside.ensures.taken)
     c.enter-inside.ensures.before c.deref_mut.ensures.value came c.poll_emit-emit.ensures.asleep in
     record { round = subst (λ x. IsCalled c.enter-inside.new.self c.enter-inside.result.before (round.Poll ticket x) new) (sym done.0) called }
+
+pub returns-in_default-receipt-clause-has : goal.returns-in_default-receipt-clause-has
+returns-in_default-receipt-clause-has g c =
+    let made : Round = c.polled_without_receipt-round.result in
+    let grew = ap (λ (r : Reach). r.rounds) c.leave.ensures.left.after ∙ ap (λ (r : Reach). r.rounds ++ made ∷ []) c.enter-inside.ensures.taken in
+    has_pending c.args.self.now c.self.inside.access.rounds c.leave.new.self.rounds made c.in-Some.ticket c.self.inside.id c.self.inside.last c.poll_emit-emit.result.emit
+    (ap (λ (e : Emitting). e.party.rounds) c.self.view_is) grew c.polled_without_receipt-round.ensures
+
+pub returns-clause-has : goal.returns-clause-has
+returns-clause-has g c =
+    let made : Round = round.Poll c.in-Some.ticket c.poll_emit-emit.result.emit in
+    let grew = ap (λ (r : Reach). r.rounds) c.leave-2.ensures.left.after ∙ ap (λ (r : Reach). r.rounds ++ made ∷ []) c.enter-inside.ensures.taken in
+    let done = subst (λ receipt. IfSome receipt (λ r. (c.poll_emit-emit.result.emit ≡ emit.Done r.number) × IsReceiptAfter c.deref_mut.result.now.name.lane c.self.inside.id c.self.inside.last r)) c.in-Some-receipt.is c.poll_emit-emit.ensures.receipt in
+    grown c.args.self.now c.self.inside.access.rounds c.leave-2.new.self.rounds made (round.Poll c.in-Some.ticket (emit.Done c.in-Some-receipt.receipt.number))
+    (ap (λ (e : Emitting). e.party.rounds) c.self.view_is) grew (ap (round.Poll c.in-Some.ticket) done.0)

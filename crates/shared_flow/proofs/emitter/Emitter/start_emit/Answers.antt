@@ -14,6 +14,7 @@ use Rattle.shared_flow.specs.Parties.{Emitting, IsItsReceipt, OfFlow, WasAnswere
 use Rattle.shared_flow.proofs.Rising.{after_start, start_refused, start_rises, start_under, ticket_by_number}
 use Rattle.shared_flow.proofs.Waiting.{begun_policy, begun_receipt, untold_receipt, untold_refusal, untold_policy}
 use Rattle.shared_flow.proofs.Making.{made}
+use Rattle.shared_flow.proofs.Emitted.{has_begun}
 use Rattle.shared_flow.proofs.emitter.Emitter.start_emit.Goals as goal
 
 pub returns : goal.returns
@@ -40,7 +41,10 @@ returns g c =
     let under = start_under begins found.name.config.policy (subst (BegunUnder found.name.config.policy) numbers (subst (λ (s : SharedSeen). BegunUnder s.name.config.policy c.start_emit-answer.result) c.deref_mut.ensures.value c.start_emit-answer.ensures.policy)) in
     let policy = subst (λ (e : Emitting). OfFlow e.party (λ name. BegunUnder name.config.policy begins)) c.self.view_is (begun_policy begins party found.name c.enter-inside.ensures.named under) in
     let ticket = c.begun_ticket-self-inside.ensures ∙ ap ticket_of numbers ∙ ticket_by_number begins in
-    let refused = start_refused begins (λ e. (e ≡ Spent) ⊎ (e ≡ EmitsFull)) (subst (λ a. IfErr a (λ e. (e ≡ Spent) ⊎ (e ≡ EmitsFull))) numbers c.start_emit-answer.ensures.refused) in record {
+    let refused = start_refused begins (λ e. (e ≡ Spent) ⊎ (e ≡ EmitsFull)) (subst (λ a. IfErr a (λ e. (e ≡ Spent) ⊎ (e ≡ EmitsFull))) numbers c.start_emit-answer.ensures.refused) in
+    let grew = ap (λ (r : Reach). r.rounds) c.leave.ensures.left.after ∙ ap (λ (r : Reach). r.rounds ++ round.Start emission c.start_emit-answer.result ∷ []) c.enter-inside.ensures.taken in record {
+      has = has_begun old c.self.inside.access.rounds c.leave.new.self.rounds emission (g.T.Word.word c.args.value) c.start_emit-answer.result begins c.begun_with_receipt-begun.result
+          (ap (λ (e : Emitting). e.party.rounds) c.self.view_is) grew c.to_word.ensures.word numbers c.begun_with_receipt-begun.ensures.begins.2;
       round = (begins, c.begun_with_receipt-begun.ensures.begins.2, search rules, did);
       receipt = subst (λ a. IfBegun a (IsItsReceipt old.party (emission_by old (g.T.Word.word c.args.value)))) told (untold_receipt begins _ receipt);
       rises = subst (λ a. IfBegun a (λ r. IsAfter old.last r.number)) told (untold_receipt begins _ rises);

@@ -13,6 +13,7 @@ use Rattle.shared_flow.specs.Parties.{Emitting, IsItsReceipt, WasAnswered}
 use Rattle.shared_flow.proofs.Rising.{after_try, try_rises}
 use Rattle.shared_flow.proofs.Making.{made}
 use Rattle.shared_flow.proofs.Waiting.{tried_receipt}
+use Rattle.shared_flow.proofs.Emitted.{has_tried}
 use Rattle.shared_flow.proofs.emitter.Emitter.try_emit.Goals as goal
 
 pub returns-clause-rises : goal.returns-clause-rises
@@ -61,3 +62,10 @@ returns-clause-receipt g c =
     let its = tried_receipt answer party emission found.name c.enter-inside.ensures.named of_lane in
     let worded = subst (λ word. IfTried answer (IsItsReceipt party (record { emitter = c.self.inside.id; word = word }))) c.to_word.ensures.word its in
     subst (λ (e : Emitting). IfTried answer (IsItsReceipt e.party (emission_by e (g.T.Word.word c.args.value)))) c.self.view_is worded
+
+pub returns-clause-has : goal.returns-clause-has
+returns-clause-has g c =
+    let emission : Emission = record { emitter = c.self.inside.id; word = c.to_word.result } in
+    let grew = ap (λ (r : Reach). r.rounds) c.leave.ensures.left.after ∙ ap (λ (r : Reach). r.rounds ++ round.Try emission c.try_emit-answer.result ∷ []) c.enter-inside.ensures.taken in
+    has_tried c.args.self.now c.self.inside.access.rounds c.leave.new.self.rounds emission (g.T.Word.word c.args.value) c.try_emit-answer.result c.tried_with_receipt-tried.result
+    (ap (λ (e : Emitting). e.party.rounds) c.self.view_is) grew c.to_word.ensures.word c.tried_with_receipt-tried.ensures.numbers

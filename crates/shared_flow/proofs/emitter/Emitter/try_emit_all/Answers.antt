@@ -7,6 +7,7 @@ use Rattle.shared_flow.specs.Parties.{Emitting, WasAnswered}
 use Rattle.shared_flow.proofs.Rising.{answered_on}
 use Rattle.shared_rounds.proofs.Doing.{is_called}
 use Rattle.shared_flow.proofs.Making.{made, round_is}
+use Rattle.shared_flow.proofs.Emitted.{grown}
 use Rattle.shared_flow.proofs.emitter.Emitter.try_emit_all.Goals as goal
 
 pub invariant_of-self : goal.invariant_of-self
@@ -31,3 +32,9 @@ returns-clause-tried g c =
     let tried = round.TryAll c.self.inside.id (map g.T.Word.word c.args.values.now) c.try_emit_all-answer.result in
     let it = made tried c.self.inside.access c.enter-inside.new.self c.leave_block.new.self c.enter-inside.result.guarded.state.value c.enter-inside.ensures.taken c.enter-inside.ensures.found c.leave_block.ensures.left in
     rw (← c.self.view_is) (ap (λ (p : Party). let e : Emitting = record { party = p; id = c.self.inside.id; ticket = c.self.inside.ticket; last = c.self.inside.last } in e) (round_is tried (party_of c.self.inside.access) (party_of c.leave_block.new.self) it), it)
+
+pub returns-clause-has : goal.returns-clause-has
+returns-clause-has g c =
+    let tried : Round = round.TryAll c.self.inside.id (map g.T.Word.word c.args.values.now) c.try_emit_all-answer.result in
+    let grew = ap (λ (r : Reach). r.rounds) c.leave_block.ensures.left.after ∙ ap (λ (r : Reach). r.rounds ++ tried ∷ []) c.enter-inside.ensures.taken in
+    grown c.args.self.now c.self.inside.access.rounds c.leave_block.new.self.rounds tried tried (ap (λ (e : Emitting). e.party.rounds) c.self.view_is) grew refl
