@@ -1,12 +1,12 @@
 -- What an emitter emitted, after each of its calls.
-use Rattle.std.proofs.Common.{◌≡◌, ◌⊎◌, inl, inr, ⊎_elim, ℕ, zero, suc, ◌+◌, ◌≤◌, Bool, true, false, cond, List, [], ◌∷◌, ◌++◌, length, map, take, Option, Some, None, Result, Ok, Err, refl, sym, ap, subst, ◌∙◌, arith, append_assoc}
-use Rattle.std.specs.List.{All, count_by, fold}
+use Rattle.std.proofs.Common.{◌≡◌, ◌⊎◌, ⊎_elim, ℕ, ◌+◌, Bool, cond, List, [], ◌∷◌, ◌++◌, length, map, take, Option, Some, None, Result, Ok, Err, refl, sym, ap, subst, ◌∙◌, arith, append_assoc}
+use Rattle.std.specs.List.{count_by}
 use Rattle.std.proofs.lemmas.List.{append-nil, length-take-le, map-append}
 use Rattle.std.proofs.lemmas.List.Elements.{All-append, All-cons, All-nil}
 use Rattle.std.proofs.lemmas.List.Sums.{fold-append, sum_by-append}
 use Rattle.futures.specs.declared.task.Poll.{Poll}
 use Rattle.flow_terms.specs.declared.refusal.Refusal.{Refusal}
-use Rattle.flow_terms.specs.declared.refusal.Refusal.TheVariants.{NoMemory, Spent, EmitsFull}
+use Rattle.flow_terms.specs.declared.refusal.Refusal.TheVariants.{NoMemory}
 use Rattle.flow_terms.specs.declared.answers.Tried.{Tried}
 use Rattle.flow_terms.specs.declared.answers.Tried.TheVariants as tried
 use Rattle.flow_terms.specs.declared.answers.Begun.{Begun}
@@ -31,7 +31,7 @@ use Rattle.shared_flow.specs.Emitters as emitters
 use Rattle.shared_flow.specs.Emitters.{Emits, EndsAs, WasStarted, Waits, WasFinished, WasLeft, WasWithdrawn, begun_with, emission_by, not_yet, once_more}
 use Rattle.shared_flow.specs.Parties.{Emitting, without_receipt}
 use Rattle.shared_flow.specs.Emitted.{Outcome, Emissions, accepted, accepted_in_block, dropped, refused, in_flight, withdrawn}
-use Rattle.shared_flow.specs.Emitted.{outcome_of_try, outcome_of_start, outcome_of_emit, outcomes_of_block, settled, after_cancel, tried_as, begun_as, after_round, emitted_in, emitted, WasEmitted, was_accepted, AreEmitted, GrewBy, GrewUpTo, GrewByAll}
+use Rattle.shared_flow.specs.Emitted.{outcome_of_try, outcome_of_start, outcome_of_emit, outcomes_of_block, settled, after_cancel, tried_as, begun_as, after_round, emitted_in, emitted, WasEmitted, was_accepted, AreEmitted, GrewBy, GrewUpTo}
 use Rattle.shared_flow.proofs.Emits.{tried_few}
 
 -- one round more

@@ -1,13 +1,13 @@
 -- What a reader received, by its story and what it has seen; and what a subscription received by that.
-use Rattle.std.proofs.Common.{◌≡◌, ◌⊎◌, inl, inr, ⊎_elim, ℕ, zero, suc, ◌+◌, ◌-◌, ◌<◌, ◌≤◌, max, Bool, true, false, true≢false, Option, None, Some, List, [], ◌∷◌, ◌++◌, length, map, take, drop, replicate, slice_get, refl, sym, ap, ◌∙◌, subst, arith, length-append, append_assoc, add-zero, zero-add, suc-add}
+use Rattle.std.proofs.Common.{◌≡◌, ◌⊎◌, inl, inr, ⊎_elim, ℕ, zero, suc, ◌+◌, ◌-◌, ◌<◌, ◌≤◌, max, Bool, true, false, true≢false, Option, None, Some, List, [], ◌∷◌, ◌++◌, length, map, drop, replicate, slice_get, refl, sym, ap, ◌∙◌, subst, arith, length-append, append_assoc, add-zero, zero-add, suc-add}
 use mathlib.Core.Option.{some, some-ne-none, some-injective}
 use lib.ListN.{get_elem?, length-replicate}
-use Rattle.std.proofs.lemmas.List.{append-nil, length-map, map-append, drop-append-le, length-drop, take-append-drop}
+use Rattle.std.proofs.lemmas.List.{append-nil, length-map, map-append, drop-append-le, length-drop}
 use Rattle.std.proofs.lemmas.List.Elements.{filter_map-append}
 use Rattle.std.proofs.lemmas.Option.{slice_get-map, slice_get_within}
 use Rattle.std.specs.List.{AllByRecursion, cons_option, range_with_len}
 use Rattle.circular_buffer.proofs.Places.{slice_get-drop, slice_get-append_left}
-use Rattle.lane_steps.specs.Law.{Entry, Begins, lost, received as received_at}
+use Rattle.lane_steps.specs.Law.{Entry, lost, received as received_at}
 use Rattle.shared_core.specs.Flow.{values_at}
 use Rattle.shared_core.specs.Preludes.{RestSeen}
 use Rattle.shared_core.specs.Story.{Interleaves, none as neither, left as from_left, right as from_right}
@@ -151,7 +151,7 @@ went r t (Some w) knows it same =
     ap (λ m. slice_get (drop m (words_seen t)) (length (story_to n r))) start ∙ slice_get-drop k (words_seen t) (length (story_to n r)) index place ∙ word_at t.seen index it.4.1 w it.4.3 in
     let story = ap (received_at 0) it.3 ∙ received_then (story_to n r) ∙ ap (λ l. l ++ length (story_to n r) ∷ []) (received_to (n - at r) r.story) in
     let both = still_knows r t (length (story_to n r) ∷ []) knows same story (slice_get_within (since_start t) (length (story_to n r)) w here, tt)
-        (λ drops. ap (lost 0) it.3 ∙ lost_then 0 (story_to n r) ∙ kept_to n r knows it.2 drops) in
+    (λ drops. ap (lost 0) it.3 ∙ lost_then 0 (story_to n r) ∙ kept_to n r knows it.2 drops) in
     (both.0, both.1 ∙ ap (λ l. words_received r ++ l) (one_value (since_start t) (length (story_to n r)) w here))
 
 given_on : (x : Option ℕ) (xs : List (Option ℕ)) → given (x ∷ []) ++ given xs ≡ given (x ∷ xs)

@@ -34,7 +34,8 @@ pub use blocks::CutShort;
 ///
 /// It has no `Drop` and must be spent, by `close`. Lend it to a thread by `&mut`, and spend it after the join. Contracts see its
 /// flow, the rounds that it made under the lock, the one list of rounds as far as it has seen it, its id, the ticket of its emission
-/// in flight, and the number of its last receipt.
+/// in flight, and the number of its last receipt. The first clause of each call, `has`, says what it has `emitted`, and what became
+/// of each word.
 pub struct Emitter<T: Word> {
     access: Access,
     id: u32,

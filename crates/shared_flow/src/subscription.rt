@@ -35,7 +35,8 @@ mod blocks;
 ///
 /// It has no `Drop` and must be spent, by `cancel`: until then it takes a place, and under `Suspend` it holds up emitters. Lend it
 /// to a thread by `&mut`, and spend it after the join. Contracts see its flow, the rounds that it made under the lock, the one list of
-/// rounds as far as it has seen it, its number, what is left of its prelude, its reader, and its looks at the flag.
+/// rounds as far as it has seen it, its number, what it was given of its prelude and what is left, its reader, and its looks at the
+/// flag. The first clause of each call, `has`, says what it has `received` since it began.
 pub struct Subscription<T: Word> {
     access: Access,
     // Given first, and by nobody but this subscription: no lock, and no word of the lane.

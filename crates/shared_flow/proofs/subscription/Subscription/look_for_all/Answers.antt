@@ -1,4 +1,4 @@
-use Rattle.std.proofs.Common.{rules, inl, inr, ◌++◌, length, map, sym, ap, subst, ◌∙◌}
+use Rattle.std.proofs.Common.{rules, inl, inr, length, map, sym, ap, subst, ◌∙◌}
 use Rattle.shared_lane.specs.Readers.{at}
 use Rattle.shared_rounds.specs.Names.{FoundUp}
 use Rattle.shared_flow.specs.Looks.{MadeRoom}

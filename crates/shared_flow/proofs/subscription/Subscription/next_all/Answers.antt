@@ -22,5 +22,5 @@ returns-clause-taken g c =
     let t = c.next_all_accepted.new.self in
     let past = c.is_empty.ensures.0 c.if-not-is_empty.false in
     subst (λ (s : Subscribed _). length out.items < vec_capacity out → IfOk c.next_all_accepted.result (λ n. (values : List _) × (c.next_all_accepted.new.out.items ≡ out.items ++ values) × (n ≡ length values) × (0 < n)
-        × GotAllFirst g.T.Word.read_as s (vec_capacity out - length out.items) values t)) c.self.view_is
+    × GotAllFirst g.T.Word.read_as s (vec_capacity out - length out.items) values t)) c.self.view_is
     (λ space. if_ok c.next_all_accepted.result _ _ (λ n it. (it.0, it.1, it.2, it.3, inr ((past, c.next_all_accepted.ensures.same.1 ∙ past), it.4))) (c.next_all_accepted.ensures.taken))

@@ -62,8 +62,11 @@ returns g c = let look = c.look_for_all.ensures in let wait = c.in_ok-value.ensu
     c.look_for_all.result look.looked.0 v c.look_for_all-more.result words c.in_default.not-Value look.looked.2 look.looked.1 wait.value push.items more.looked.2 more.looked.1 (omega arith) in
     let count = length-map words read in let k = looked_count c.wait_for_next.new.self.reader c.look_for_all-more.new.self.reader left c.look_for_all-more.result words more.looked.2 in let told = c.taken_count.ensures in
     let waited = c.wait_for_next.new.self in record {
-      has = (look.has.0 ++ v ∷ more.has.0, more.has.1 ∙ ap (λ l. l ++ more.has.0) (push.items ∙ ap (λ l. l ++ v ∷ []) look.has.1) ∙ with_one out.items look.has.0 more.has.0 v,
-        more.has.2 ∙ ap (λ l. l ++ more.has.0) (wait.has ∙ ap (λ l. l ++ v ∷ []) look.has.2) ∙ with_one (received read old) look.has.0 more.has.0 v);
+      has = (
+        look.has.0 ++ v ∷ more.has.0,
+        more.has.1 ∙ ap (λ l. l ++ more.has.0) (push.items ∙ ap (λ l. l ++ v ∷ []) look.has.1) ∙ with_one out.items look.has.0 more.has.0 v,
+        more.has.2 ∙ ap (λ l. l ++ more.has.0) (wait.has ∙ ap (λ l. l ++ v ∷ []) look.has.2) ∙ with_one (received read old) look.has.0 more.has.0 v,
+      );
       same = (more.same.0 ∙ (wait.same.0 ∙ look.same.0), more.same.1 ∙ (wait.same.1 ∙ look.same.1));
       rounds = only_next _ _ _ _ _ (wait.same.0 ∙ look.same.0) (only_next_then _ _ _ _ _ look.same.0 (only_next _ _ _ _ _ refl (by_none old.party) look.rounds) wait.rounds) more.rounds;
       taken = (v ∷ map read words, got.0, omega arith, omega arith, got.1);

@@ -1,4 +1,3 @@
-use Rattle.shared_flow.specs.Received.{ReceivesAllButDropped}
 use Rattle.shared_flow.proofs.Received.{receives_all}
 use Rattle.shared_flow.proofs.subscription.Subscription.receives_all_but_dropped.Goals as goal
 

@@ -1,6 +1,5 @@
 use Rattle.std.proofs.Common.{◌++◌, map, ap, ◌∙◌}
 use Rattle.shared_flow.proofs.Received.{told_on, still_reads, still_first}
-use Rattle.shared_flow.specs.Received.{received}
 use Rattle.shared_flow.proofs.subscription.Subscription.told.Goals as goal
 
 pub invariant_of-self : goal.invariant_of-self

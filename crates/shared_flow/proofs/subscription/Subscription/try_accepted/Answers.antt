@@ -1,6 +1,6 @@
-use Rattle.std.proofs.Common.{◌≡◌, inl, [], ◌∷◌, ◌++◌, map, refl, sym, ap, ◌∙◌}
+use Rattle.std.proofs.Common.{◌≡◌, inl, [], ◌∷◌, ◌++◌, map, sym, ap, ◌∙◌}
 use Rattle.shared_flow.specs.Parties.{Subscribed}
-use Rattle.shared_flow.specs.Received.{received, words_received, taken_of}
+use Rattle.shared_flow.specs.Received.{words_received, taken_of}
 use Rattle.shared_flow.proofs.Received.{took_next, still_reads, received_more}
 use Rattle.shared_flow.proofs.subscription.Subscription.try_accepted.Goals as goal
 use Rattle.shared_flow.proofs.subscription.Subscription.try_accepted.Goals.{in-Value, in-Nothing, in-Overtaken}

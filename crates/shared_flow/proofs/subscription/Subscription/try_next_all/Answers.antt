@@ -1,7 +1,4 @@
-use Rattle.std.proofs.Common.{inl, ◌++◌, map, sym, ap, ◌∙◌}
-use Rattle.std.proofs.lemmas.Bool.{true≢false}
-use Rattle.shared_flow.specs.Parties.{Subscribed}
-use Rattle.shared_flow.specs.Received.{words_received}
+use Rattle.std.proofs.Common.{inl, map, ◌∙◌}
 use Rattle.shared_flow.proofs.Received.{took_all, still_reads, received_more}
 use Rattle.shared_flow.proofs.subscription.Subscription.try_next_all.Goals as goal
 
