@@ -1,6 +1,5 @@
-use Rattle.std.proofs.Common.{◌≡◌, ◌<◌, ◌-◌, ◌++◌, List, IfOk, length, vec_capacity, [], inr, ◌∙◌, sym, ap, subst}
+use Rattle.std.proofs.Common.{[], inr, ◌∙◌, sym, ap, subst}
 use Rattle.std.proofs.lemmas.List.{append-nil}
-use Rattle.shared_flow.specs.Blocks.{GotAllFirst}
 use Rattle.shared_flow.specs.Received.{received}
 use Rattle.shared_flow.specs.Looks.{OnlyNext, by_none}
 use Rattle.shared_flow.specs.Parties.{Subscribed}
@@ -18,9 +17,5 @@ returns-then-len-capacity-clause-has g c = ([], sym (append-nil c.args.out.now.i
 
 pub returns-clause-taken : goal.returns-clause-taken
 returns-clause-taken g c =
-    let out = c.args.out.now in
-    let t = c.next_all_accepted.new.self in
-    let past = c.is_empty.ensures.0 c.if-not-is_empty.false in
-    subst (λ (s : Subscribed _). length out.items < vec_capacity out → IfOk c.next_all_accepted.result (λ n. (values : List _) × (c.next_all_accepted.new.out.items ≡ out.items ++ values) × (n ≡ length values) × (0 < n)
-    × GotAllFirst g.T.Word.read_as s (vec_capacity out - length out.items) values t)) c.self.view_is
-    (λ space. if_ok c.next_all_accepted.result _ _ (λ n it. (it.0, it.1, it.2, it.3, inr ((past, c.next_all_accepted.ensures.same.1 ∙ past), it.4))) (c.next_all_accepted.ensures.taken))
+    let past = ap (λ (s : Subscribed _). s.rest) (sym c.self.view_is) ∙ c.is_empty.ensures.0 c.if-not-is_empty.false in
+    λ space. if_ok c.next_all_accepted.result _ _ (λ n it. (it.0, it.1, it.2, it.3, inr ((past, c.next_all_accepted.ensures.same.1 ∙ past), it.4))) (c.next_all_accepted.ensures.taken)
