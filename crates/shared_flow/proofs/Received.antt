@@ -6,7 +6,6 @@ use Rattle.std.proofs.lemmas.List.{append-nil, length-map, map-append, drop-appe
 use Rattle.std.proofs.lemmas.List.Elements.{filter_map-append}
 use Rattle.std.proofs.lemmas.Option.{slice_get-map, slice_get_within}
 use Rattle.std.specs.List.{AllByRecursion, cons_option, range_with_len}
-use Rattle.circular_buffer.proofs.Places.{slice_get-drop, slice_get-append_left}
 use Rattle.lane_steps.specs.Law.{Entry, lost, received as received_at}
 use Rattle.shared_core.specs.Flow.{values_at}
 use Rattle.shared_core.specs.Preludes.{RestSeen}
@@ -66,6 +65,17 @@ mixed n j (false ∷ bs) =
     rw (count, there, sym here) (from_right j (mixed n (suc j) bs))
 
 -- ---- values at indexes
+
+slice_get-append_left : (xs ys : List ℕ) (i : ℕ) → i < length xs → slice_get (xs ++ ys) i ≡ slice_get xs i
+slice_get-append_left [] ys i h = absurd (omega arith)
+slice_get-append_left (x ∷ xs) ys zero h = refl
+slice_get-append_left (x ∷ xs) ys (suc i) h = slice_get-append_left xs ys i (omega arith)
+
+slice_get-drop : (k : ℕ) (xs : List ℕ) (i j : ℕ) → j ≡ k + i → slice_get (drop k xs) i ≡ slice_get xs j
+slice_get-drop zero xs i j e = let same : i ≡ j = omega arith in ap (slice_get xs) same
+slice_get-drop (suc k) [] i j e = refl
+slice_get-drop (suc k) (x ∷ xs) i zero e = absurd (omega arith)
+slice_get-drop (suc k) (x ∷ xs) i (suc j) e = slice_get-drop k xs i j (omega arith)
 
 abbrev Below : ℕ → List ℕ → Type 0
 Below n indexes = AllByRecursion (λ index. index < n) indexes
