@@ -1,5 +1,5 @@
 -- What a wait comes to that can be let go.
-use Rattle.std.specs.Prelude.{◌≡◌, ◌⊎◌, ℕ, Result, Ok, Err}
+use Rattle.std.specs.Prelude.{◌≡◌, ◌⊎◌, ℕ, List, [], ◌∷◌, Result, Ok, Err}
 use Rattle.flow_terms.specs.declared.refusal.Refusal.{Refusal}
 use Rattle.flow_terms.specs.declared.refusal.Refusal.TheVariants.{NoMemory}
 use Rattle.flow_terms.specs.declared.answers.Begun.TheVariants as begun
@@ -13,6 +13,12 @@ use Rattle.flow_stopping.specs.declared.answers.Received.{Received}
 use Rattle.flow_stopping.specs.declared.answers.Received.TheVariants as received
 use Rattle.flow_stopping.specs.declared.answers.Emitted.{Emitted}
 use Rattle.flow_stopping.specs.declared.answers.Emitted.TheVariants as emitted
+
+-- the value in an answer, if there is one, as a list
+abbrev pub received_of : {T : Type 0} → Result (Received T) Refusal → List T
+received_of (Ok (received.Value v)) = v ∷ []
+received_of (Ok received.Stopped) = []
+received_of (Err refusal) = []
 
 -- the subscription made rounds of looks alone, if any, and received nothing: it did nothing at all; or nothing was left of its
 -- prelude, and its looks took nothing

@@ -1,7 +1,7 @@
 //! A subscription's next value, unless the thread is let go.
-ghost use Rattle.std.specs.Prelude.{◌≡◌, IfErr};
-ghost use Rattle.flow_terms.specs.declared.refusal.Refusal.TheVariants.{NoMemory};
-ghost use Rattle.flow_stopping.specs.Waits.{LookedOn, Receives};
+ghost use Rattle.std.specs.Prelude.{◌≡◌, ◌++◌};
+ghost use Rattle.shared_flow.specs.Received.{received};
+ghost use Rattle.flow_stopping.specs.Waits.{Receives, received_of};
 
 use crate::answers::Received;
 use crate::parker::{StoppableParker, Turn};
@@ -22,7 +22,8 @@ impl StoppableParker {
         rt: &impl Wait,
         subscription: &mut Subscription<T>,
     ) -> Result<Received<T>, Refusal>
-        ensures { Receives T.read_as subscription.old result subscription.new }
+        ensures has { received T.read_as subscription.new ≡ received T.read_as subscription.old ++ received_of result }
+        ensures did { Receives T.read_as subscription.old result subscription.new }
     {
         if self.is_stopped() {
             return Ok(Received::Stopped);
@@ -41,7 +42,8 @@ impl StoppableParker {
         rt: &impl Wait,
         subscription: &mut Subscription<T>,
     ) -> Received<T>
-        ensures { Receives T.read_as subscription.old (Ok result) subscription.new }
+        ensures has { received T.read_as subscription.new ≡ received T.read_as subscription.old ++ received_of (Ok result) }
+        ensures did { Receives T.read_as subscription.old (Ok result) subscription.new }
     {
         if let Some(value) = subscription.next_soon(rt) {
             return Received::Value(value);

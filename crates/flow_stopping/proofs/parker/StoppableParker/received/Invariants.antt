@@ -1,5 +1,10 @@
+use Rattle.std.proofs.Common.{◌≡◌}
+use Rattle.shared_flow.specs.Received.{received}
 use Rattle.flow_stopping.specs.Waits.{LookedOn}
 use Rattle.flow_stopping.proofs.parker.StoppableParker.received.Given as goal
 
 abbrev pub invariant-loop : goal.invariant-loop
-invariant-loop g l = LookedOn l.fn.subscription l.subscription
+invariant-loop g l = record {
+  has : received g.T.Word.read_as l.subscription ≡ received g.T.Word.read_as l.fn.subscription;
+  looked : LookedOn l.fn.subscription l.subscription;
+}
