@@ -1,5 +1,7 @@
 -- What a reader takes by the block.
-use Rattle.std.specs.Prelude.{◌≡◌, ℕ, suc, ◌+◌, ◌-◌, ◌<◌, ◌≤◌, min, List, [], ◌∷◌, ◌++◌, length, replicate, true}
+use Rattle.std.specs.Prelude.{◌≡◌, ℕ, suc, ◌+◌, ◌-◌, ◌<◌, ◌≤◌, min, List, [], ◌∷◌, ◌++◌, length, map, replicate, true}
+use Rattle.std.specs.Vec.{vec_capacity}
+use Rattle.std.specs.declared.vec.Vec.{Vec}
 use Rattle.lane_steps.specs.declared.view.Shape.{Shape}
 use Rattle.lane_steps.specs.declared.view.View.{View}
 use Rattle.lane_steps.specs.Layout.{tail_word, cursor_word, cell_word}
@@ -32,3 +34,8 @@ TookAll r room (Value k) xs t = (n : ℕ) × (at r ≤ n) × IsKept n r × (t.st
     × (length xs ≡ k) × (n < r.shape.first + length t.seen) × (k ≡ min room (r.shape.first + length t.seen - n))
 TookAll r room Nothing xs t = (xs ≡ []) × TookNext r Nothing t
 TookAll r room Overtaken xs t = (xs ≡ []) × ((n : ℕ) × (at r < n) × (r.shape.drops ≡ true) × (t.story ≡ story_to n r) × FailedToTakeAll r room n t)
+
+-- the values of the words that it took stand behind those that were there, as many as there was room for
+abbrev pub TookAllInto : {T Z : Type 0} → (ℕ → T) → Vec T Z → Vec T Z → ReaderSeen → Taken ℕ → ReaderSeen → Type 0
+TookAllInto read_as out filled r taken t = (xs : List ℕ) × (filled.items ≡ out.items ++ map read_as xs)
+    × TookAll r (vec_capacity out - length out.items) taken xs t

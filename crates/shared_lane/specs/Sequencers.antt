@@ -181,6 +181,10 @@ BegunOn q e (begun.Waiting ticket) t = (q.policy ≡ Suspend) × (ticket.0 ≡ q
     × (((q.waiting ≡ []) × (q.capacity ≡ 0) × HasStood q e t × ((m : SequencerSeen) × LookedTwice true q m × (t ≡ accepted_with_ticket e m)))
     ⊎ ((t ≡ record (waited e q) { view = t.view }) × (seen t ≡ seen q) × WaitsOn q e t))
 
+-- the same, where a number and a ticket are left, after waiting emissions were accepted
+abbrev pub BegunAfterScan : SequencerSeen → Entry → Begun ℕ Ticket → SequencerSeen → Type 0
+BegunAfterScan q e b t = AfterScan q (λ m. HasNumber m × HasTicketNumber m × BegunOn m e b t)
+
 abbrev pub RefusedStart : SequencerSeen → Refusal → SequencerSeen → Type 0
 RefusedStart q Spent t = ((next q + length q.waiting ≡ 4611686018427387904) ⊎ (q.ticket ≡ 4611686018427387904)) × (t ≡ q)
 RefusedStart q EmitsFull t = HasNumber q × HasTicketNumber q × (length q.waiting + length q.standing ≡ q.emits) × FoundNoRoom q t

@@ -91,8 +91,8 @@ impl Reader {
     /// such call: there `collect` suspends where this answers `Nothing`.
     pub fn try_next<A: Allocator>(&mut self, lane: &Lane<A>) -> Taken<u64>
         requires { IsReaderOf lane.now self.old }
+        ensures has { TookNext self.old result self.new }
         ensures same { IsReaderOf lane.now self.new × IsSameReader self.old self.new }
-        ensures taken { TookNext self.old result self.new }
         ensures told { result ≡ Nothing → Begins self.new.seen self.old.told }
     {
         let words = lane.words();

@@ -4,7 +4,7 @@ ghost use Rattle.std.specs.Prelude.{eqb, IfSome, IfNone, ◌-◌, take};
 ghost use Rattle.flow_terms.specs.declared.policy.Policy.TheVariants.{Suspend, DropOldest, DropLatest};
 ghost use Rattle.shared_lane.specs.Sequencers.{next, HasNumber, HasTicketNumber, HasFreeTicket, IsSequencerOf, IsSameSequencer, TriedOn, RefusedTry};
 ghost use Rattle.shared_lane.specs.Sequencers.{BegunOn, RefusedStart, AfterScan, LoadedOrMoved, Rounded, seen, accepted_on, stood_on};
-ghost use Rattle.shared_lane.specs.Sequencers.{accepted_with_ticket, waited, Settled, IsStuck};
+ghost use Rattle.shared_lane.specs.Sequencers.{BegunAfterScan, accepted_with_ticket, waited, Settled, IsStuck};
 ghost use Rattle.lane_steps.specs.Steps.{IsRoomy, next_number};
 ghost use Rattle.shared_lane.specs.Ordering.{StandsLast};
 ghost use Rattle.shared_lane.specs.Caches.{emitter_at};
@@ -209,9 +209,9 @@ impl<A: Allocator> Sequencer<A> {
         word: u64,
     ) -> Result<Tried<u64>, Refusal>
         requires { IsSequencerOf lane.now self.old }
+        ensures has { IfOk result (λ t. AfterScan self.old (λ m. HasNumber m × TriedOn m (emitter, word) t self.new)) }
         ensures same { IsSequencerOf lane.now self.new × IsSameSequencer self.old self.new }
         ensures refused { IfErr result (λ e. AfterScan self.old (λ m. RefusedTry m e self.new)) }
-        ensures tried { IfOk result (λ t. AfterScan self.old (λ m. HasNumber m × TriedOn m (emitter, word) t self.new)) }
     {
         self.scan(lane);
         self.try_after_scan(lane, emitter, word)
@@ -256,9 +256,9 @@ impl<A: Allocator> Sequencer<A> {
         word: u64,
     ) -> Result<Begun<u64, Ticket>, Refusal>
         requires { IsSequencerOf lane.now self.old }
+        ensures has { IfOk result (λ b. BegunAfterScan self.old (emitter, word) b self.new) }
         ensures same { IsSequencerOf lane.now self.new × IsSameSequencer self.old self.new }
         ensures refused { IfErr result (λ e. AfterScan self.old (λ m. RefusedStart m e self.new)) }
-        ensures begun { IfOk result (λ b. AfterScan self.old (λ m. HasNumber m × HasTicketNumber m × BegunOn m (emitter, word) b self.new)) }
     {
         self.scan(lane);
         self.start_after_scan(lane, emitter, word)

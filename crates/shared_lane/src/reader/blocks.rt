@@ -1,7 +1,7 @@
 //! A reader takes several values at once.
 ghost use Rattle.std.specs.Prelude.{◌≡◌, ◌-◌, ℕ, List, ◌++◌, length, map, min, vec_capacity};
 ghost use Rattle.shared_lane.specs.Readers.{IsReaderOf, IsSameReader};
-ghost use Rattle.shared_lane.specs.Picks.{TookAll};
+ghost use Rattle.shared_lane.specs.Picks.{TookAllInto};
 
 use super::{Reader, Taken};
 use crate::lane::Lane;
@@ -21,8 +21,8 @@ impl Reader {
         out: &mut Vec<T, B>,
     ) -> Taken<u64>
         requires { IsReaderOf lane.now self.old }
+        ensures has { TookAllInto T.read_as out.old out.new self.old result self.new }
         ensures same { IsReaderOf lane.now self.new × IsSameReader self.old self.new }
-        ensures taken { (xs : List ℕ) × (out.new.items ≡ out.old.items ++ map T.read_as xs) × TookAll self.old (vec_capacity out.old - length out.old.items) result xs self.new }
         ensures capacity { vec_capacity out.new ≡ vec_capacity out.old }
     {
         let words = lane.words();

@@ -121,9 +121,9 @@ impl<A: Allocator> Sequencer<A> {
         words: &[u64],
     ) -> Result<u64, Refusal>
         requires { IsSequencerOf lane.now self.old }
+        ensures has { IfOk result (λ n. AfterScan self.old (λ m. TriedAllOn m emitter words.now n self.new)) }
         ensures same { IsSequencerOf lane.now self.new × IsSameSequencer self.old self.new }
         ensures refused { IfErr result (λ e. (words.now ≢ []) × AfterScan self.old (λ m. RefusedTry m e self.new)) }
-        ensures tried { IfOk result (λ n. AfterScan self.old (λ m. TriedAllOn m emitter words.now n self.new)) }
     {
         self.scan(lane);
         self.try_all_after_scan(lane, emitter, words)

@@ -90,8 +90,8 @@ impl<A: Allocator> Sequencer<A> {
     /// is closed or above its number. It lets nothing in: [`scan`](Sequencer::scan) does.
     pub fn poll_emit<B: Allocator>(&mut self, lane: &Lane<B>, ticket: Ticket) -> Emit
         requires { IsSequencerOf lane.now self.old }
+        ensures has { PolledOn self.old ticket.0 result self.new }
         ensures same { IsSequencerOf lane.now self.new × IsSameSequencer self.old self.new }
-        ensures polled { PolledOn self.old ticket.0 result self.new }
     {
         let Some(index) = self.standing_with(ticket.0) else {
             if self.waiting_with(ticket.0).is_some() {

@@ -13,4 +13,4 @@ at_table table v = record { table = table; shape = v.shape; place = v.reading.pl
 pub returns-clause-taken : goal.returns-clause-taken
 returns-clause-taken g c = let accepted = c.copy_all-accepted.result.me.0.seen in took_untold c.args.reader.now accepted c.try_next.result c.try_next.new.self
     (subst (λ (r : ReaderSeen). TookNext r c.try_next.result c.try_next.new.self)
-    ((λ i. at_table (c.hear.ensures.seat.0.0 i) (c.hear.ensures.seat.1 i)) ∙ ap (λ (r : ReaderSeen). record r { told = accepted }) c.reader.view_is) c.try_next.ensures.taken)
+    ((λ i. at_table (c.hear.ensures.seat.0.0 i) (c.hear.ensures.seat.1 i)) ∙ ap (λ (r : ReaderSeen). record r { told = accepted }) c.reader.view_is) c.try_next.ensures.has)

@@ -49,8 +49,8 @@ invariant_of-self-then-found-at g c = let s = c.self.inside in let inv = c.self.
       taken_is = inv.taken_is ∙ sym (ap (λ (l : List Bool). length (received s.start l)) story ∙ received_none s.start (m - p) r.story);
     }
 
-pub returns-then-found-at-clause-taken : goal.returns-then-found-at-clause-taken
-returns-then-found-at-clause-taken g c = rw (← c.self.view_is) (let s = c.self.inside in let inv = c.self.invariant in let r : Reading = s.seat.me.0.reading in let n : ℕ = c.load_own-at.result in let own = c.load_own-at.ensures in let tail = c.load_tail-tail.ensures in
+pub returns-then-found-at-clause-has : goal.returns-then-found-at-clause-has
+returns-then-found-at-clause-has g c = rw (← c.self.view_is) (let s = c.self.inside in let inv = c.self.invariant in let r : Reading = s.seat.me.0.reading in let n : ℕ = c.load_own-at.result in let own = c.load_own-at.ensures in let tail = c.load_tail-tail.ensures in
     let cell = c.load_cell-word.ensures in let got' = c.receive-found.ensures in let m : ℕ = c.receive-found.result in let miss = got'.view.1 c.if-found-at.true in
     let e2 = ap (λ (v : View). v.reading) tail.view.0 ∙ ap (λ (v : View). v.reading) own.view.0 in let e3 = ap (λ (v : View). v.reading) cell.view ∙ ap (picked_up c.load_cell-word.result) e2 in
     let e4 = ap (λ (v : View). v.reading) miss.0 ∙ ap (found_at m) e3 in let pos = position_found n r own.view.1 in let p : ℕ = position r in let le = own.view.1 in
@@ -105,8 +105,8 @@ invariant_of-self-2 g c = let s = c.self.inside in let inv = c.self.invariant in
       taken_is = ap (λ (z : ℕ). z + 1) (inv.taken_is ∙ sym (received_none s.start (n - p) r.story)) ∙ sym (ap (λ (x : Reading). length (received s.start x.story)) e4 ∙ received_one s.start bs);
     }
 
-pub returns-clause-taken : goal.returns-clause-taken
-returns-clause-taken g c = rw (← c.self.view_is) (let s = c.self.inside in let inv = c.self.invariant in let r : Reading = s.seat.me.0.reading in let n : ℕ = c.load_own-at.result in let own = c.load_own-at.ensures in let tail = c.load_tail-tail.ensures in
+pub returns-clause-has : goal.returns-clause-has
+returns-clause-has g c = rw (← c.self.view_is) (let s = c.self.inside in let inv = c.self.invariant in let r : Reading = s.seat.me.0.reading in let n : ℕ = c.load_own-at.result in let own = c.load_own-at.ensures in let tail = c.load_tail-tail.ensures in
     let cell = c.load_cell-word.ensures in let got' = c.receive-found.ensures in let hit = got'.view.0 c.if-found-at.false in
     let e2 = ap (λ (v : View). v.reading) tail.view.0 ∙ ap (λ (v : View). v.reading) own.view.0 in let e3 = ap (λ (v : View). v.reading) cell.view ∙ ap (picked_up c.load_cell-word.result) e2 in
     let e4 = ap (λ (v : View). v.reading) hit.0 ∙ ap got e3 in let pos = position_found n r own.view.1 in

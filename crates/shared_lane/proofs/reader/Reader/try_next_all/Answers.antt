@@ -44,8 +44,8 @@ invariant_of-self-then-found-at g c = let s = c.self.inside in let inv = c.self.
       taken_is = inv.taken_is ∙ sym (ap (λ (l : List Bool). length (received s.start l)) story ∙ received_none s.start (m - p) r.story);
     }
 
-pub returns-then-found-at-clause-taken : goal.returns-then-found-at-clause-taken
-returns-then-found-at-clause-taken g c = rw (← c.self.view_is) (let s = c.self.inside in let inv = c.self.invariant in let r : Reading = s.seat.me.0.reading in let n : ℕ = c.load_own-at.result in let own = c.load_own-at.ensures in let tail = c.load_tail-tail.ensures in
+pub returns-then-found-at-clause-has : goal.returns-then-found-at-clause-has
+returns-then-found-at-clause-has g c = rw (← c.self.view_is) (let s = c.self.inside in let inv = c.self.invariant in let r : Reading = s.seat.me.0.reading in let n : ℕ = c.load_own-at.result in let own = c.load_own-at.ensures in let tail = c.load_tail-tail.ensures in
     let pick = c.pick_words-next.ensures in let got' = c.receive_picked-found.ensures in let picked = pick.picked in let xs : List ℕ = picked.0 in let k : ℕ = c.min-count.result in
     let e2 = ap (λ (v : View). v.reading) tail.view.0 ∙ ap (λ (v : View). v.reading) own.view.0 in let e3 = ap (λ (v : View). v.reading) picked.3 ∙ ap (λ (x : Reading). let y : Reading = record x { picked = xs } in y) e2 in
     let m : ℕ = c.receive_picked-found.result in let miss = got'.view.1 c.if-found-at.true in
@@ -113,8 +113,8 @@ invariant_of-self-2 g c = let s = c.self.inside in let inv = c.self.invariant in
       taken_is = (λ i. (inv.taken_is ∙ sym (received_none s.start (n - p) r.story)) i + (sym count) i) ∙ sym (ap (λ (x : Reading). length (received s.start x.story)) e4 ∙ received_many s.start (length xs) bs);
     }
 
-pub returns-clause-taken : goal.returns-clause-taken
-returns-clause-taken g c = rw (← c.self.view_is) (let s = c.self.inside in let inv = c.self.invariant in let r : Reading = s.seat.me.0.reading in let n : ℕ = c.load_own-at.result in let own = c.load_own-at.ensures in let tail = c.load_tail-tail.ensures in
+pub returns-clause-has : goal.returns-clause-has
+returns-clause-has g c = rw (← c.self.view_is) (let s = c.self.inside in let inv = c.self.invariant in let r : Reading = s.seat.me.0.reading in let n : ℕ = c.load_own-at.result in let own = c.load_own-at.ensures in let tail = c.load_tail-tail.ensures in
     let pick = c.pick_words-next.ensures in let got' = c.receive_picked-found.ensures in let picked = pick.picked in let xs : List ℕ = picked.0 in let k : ℕ = c.min-count.result in
     let e2 = ap (λ (v : View). v.reading) tail.view.0 ∙ ap (λ (v : View). v.reading) own.view.0 in let e3 = ap (λ (v : View). v.reading) picked.3 ∙ ap (λ (x : Reading). let y : Reading = record x { picked = xs } in y) e2 in
     let hit = got'.view.0 c.if-found-at.false in

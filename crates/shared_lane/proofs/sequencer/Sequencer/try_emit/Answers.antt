@@ -4,5 +4,5 @@ use Rattle.shared_lane.proofs.sequencer.Sequencer.try_emit.Goals as goal
 pub returns-clause-refused : goal.returns-clause-refused
 returns-clause-refused g c = IfErr-weaker c.try_after_scan.result _ _ (λ e p. (c.scan.new.self, c.scan.result, c.scan.ensures.same.1, c.scan.ensures.settled, c.scan.ensures.stuck, p)) c.try_after_scan.ensures.refused
 
-pub returns-clause-tried : goal.returns-clause-tried
-returns-clause-tried g c = IfOk-weaker c.try_after_scan.result _ _ (λ x p. (c.scan.new.self, c.scan.result, c.scan.ensures.same.1, c.scan.ensures.settled, c.scan.ensures.stuck, p)) c.try_after_scan.ensures.tried
+pub returns-clause-has : goal.returns-clause-has
+returns-clause-has g c = IfOk-weaker c.try_after_scan.result _ _ (λ x p. (c.scan.new.self, c.scan.result, c.scan.ensures.same.1, c.scan.ensures.settled, c.scan.ensures.stuck, p)) c.try_after_scan.ensures.tried

@@ -8,7 +8,7 @@ returns-clause-refused c = subst (λ q. IfErr c.start_emit.result (λ e. AfterSc
 
 pub returns-clause-begun : goal.returns-clause-begun
 returns-clause-begun c =
-    subst (λ q. IfOk c.start_emit.result (λ b. AfterScan q (λ m. HasNumber m × HasTicketNumber m × BegunOn m (c.args.emitter, c.args.word) b c.start_emit.new.self))) c.self.view_is c.start_emit.ensures.begun
+    subst (λ q. IfOk c.start_emit.result (λ b. AfterScan q (λ m. HasNumber m × HasTicketNumber m × BegunOn m (c.args.emitter, c.args.word) b c.start_emit.new.self))) c.self.view_is c.start_emit.ensures.has
 
 pub returns-clause-same : goal.returns-clause-same
 returns-clause-same c = subst (λ q. IsSameSequencer q c.start_emit.new.self) c.self.view_is c.start_emit.ensures.same.1

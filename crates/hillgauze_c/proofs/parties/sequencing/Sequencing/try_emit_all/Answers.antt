@@ -9,7 +9,7 @@ returns-clause-refused c = subst (λ q. IfErr c.try_emit_all.result (λ e. (c.ar
 
 pub returns-clause-tried : goal.returns-clause-tried
 returns-clause-tried c =
-    subst (λ q. IfOk c.try_emit_all.result (λ t. AfterScan q (λ m. TriedAllOn m c.args.emitter c.args.words.now t c.try_emit_all.new.self))) c.self.view_is c.try_emit_all.ensures.tried
+    subst (λ q. IfOk c.try_emit_all.result (λ t. AfterScan q (λ m. TriedAllOn m c.args.emitter c.args.words.now t c.try_emit_all.new.self))) c.self.view_is c.try_emit_all.ensures.has
 
 pub returns-clause-same : goal.returns-clause-same
 returns-clause-same c = subst (λ q. IsSameSequencer q c.try_emit_all.new.self) c.self.view_is c.try_emit_all.ensures.same.1
