@@ -10,9 +10,11 @@ use Rattle.shared_lane.specs.Places.{LosesNothing, lost_by}
 use Rattle.shared_rounds.specs.Names.{SharedSeen}
 use Rattle.shared_rounds.specs.Waking.{SleepOn}
 
--- The reader has seen all that was accepted, and all that it lost; and the counts are those from its start on.
+-- Both know what the lane was made with. The reader has seen all that was accepted, and all that it lost; and the counts are those from
+-- its start on.
 pub record HasMet (q : SequencerSeen) (r t : ReaderSeen) (met : Met) : Type 0 where
   pub same : IsSameReader r t
+  pub same_shape : t.shape ≡ q.view.shape
   pub went : WentTo (at t) r t
   pub has_seen_all : t.seen ≡ seen q
   pub knows_lost : lost t.start t.story ≡ lost_by q t.place

@@ -17,4 +17,4 @@ returns-clause-tried g c =
     let new : SequencerSeen = c.try_emit_all.new.self in
     let words : List ℕ = map g.T.Word.word (take 64 c.args.values.now) in
     subst (λ (s : SharedSeen). IfOk c.try_emit_all.result (λ n. AfterScan s.sequencer (λ m. TriedAllOn m c.args.emitter words n new))) c.self.view_is
-    (subst (λ (l : List ℕ). IfOk c.try_emit_all.result (λ n. AfterScan c.self.inside.sequencer (λ m. TriedAllOn m c.args.emitter l n new))) c.put_words-count.ensures.words c.try_emit_all.ensures.tried)
+    (subst (λ (l : List ℕ). IfOk c.try_emit_all.result (λ n. AfterScan c.self.inside.sequencer (λ m. TriedAllOn m c.args.emitter l n new))) c.put_words-count.ensures.words c.try_emit_all.ensures.has)
