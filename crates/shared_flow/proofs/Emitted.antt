@@ -42,10 +42,10 @@ after_made : (e f : Emitting) (r : Round) → f.party.rounds ≡ e.party.rounds 
 after_made e f r grew = after_one e.party.rounds f.party.rounds r grew
 
 -- the last one is settled
-pub settled_last : (xs : Emissions) (word : ℕ) (before outcome : Outcome) → settled outcome (xs ++ (word, before) ∷ []) ≡ xs ++ (word, outcome) ∷ []
-settled_last [] word before outcome = refl
-settled_last (x ∷ []) word before outcome = refl
-settled_last (x ∷ y ∷ xs) word before outcome = ap (λ (l : Emissions). x ∷ l) (settled_last (y ∷ xs) word before outcome)
+pub settled_last : (xs : Emissions) (word : ℕ) (outcome : Outcome) → settled outcome (xs ++ (word, in_flight) ∷ []) ≡ xs ++ (word, outcome) ∷ []
+settled_last [] word outcome = refl
+settled_last (x ∷ []) word outcome = refl
+settled_last (x ∷ y ∷ xs) word outcome = ap (λ (l : Emissions). x ∷ l) (settled_last (y ∷ xs) word outcome)
 
 -- the answer of a round tells what its caller was told
 tried_same : (answer : Result (Tried ReceiptSeen) Refusal) → tried_as (numbers_tried answer) ≡ outcome_of_try answer
@@ -164,7 +164,7 @@ has_emitted e f emission answer emits = ⊎_elim
     (λ started. has_started e f emission (begun_with answer) started ∙ ap (λ o. emitted e ++ (emission.word, o) ∷ []) (ended_at_once e f emission answer started))
     (λ waited. ended_as waited.0 f answer waited.2
     ∙ ap (settled (outcome_of_emit answer)) (has_started e waited.0 emission (Ok (begun.Waiting tt)) waited.1)
-    ∙ settled_last (emitted e) emission.word in_flight (outcome_of_emit answer)) emits
+    ∙ settled_last (emitted e) emission.word (outcome_of_emit answer)) emits
 
 -- a round that tried a block
 pub has_tried_all : (e f : Emitting) (words : List ℕ) (answer : Result ℕ Refusal) → TriedAll e words answer f → emitted f ≡ emitted e ++ outcomes_of_block words answer

@@ -13,4 +13,8 @@ pub mod Emits
 pub mod Losing
 pub mod GivingUp
 pub mod Received
+pub mod Ending
 pub mod Emitted
+pub mod OwnPart
+pub mod Preludes
+pub mod Growing

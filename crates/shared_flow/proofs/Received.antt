@@ -21,8 +21,8 @@ use Rattle.shared_rounds.specs.Meeting.{Looked}
 use Rattle.shared_rounds.specs.Names.{FlowName}
 use Rattle.shared_lane.specs.Views.{ReaderSeen}
 use Rattle.shared_flow.specs.Blocks.{LookedAll}
-use Rattle.shared_flow.specs.Parties.{Subscribed}
-use Rattle.shared_flow.specs.Received.{since_start, words_received, received, taken_of, KnowsReceived, PreludeFirst, ReceivesAllButDropped}
+use Rattle.shared_flow.specs.Parties.{Subscribed, since_start, words_received, received, taken_of}
+use Rattle.shared_flow.specs.Received.{KnowsReceived, PreludeFirst, ReceivesAllButDropped}
 
 -- ---- a story, by index
 
@@ -285,6 +285,12 @@ module _ {T : Type 0} (read_as : ℕ → T) where
             (subst (λ j. Interleaves (received_at 0 r.story ++ range_with_len j n) (lost 0 r.story) (range_with_len 0 (length r.story + n))) (zero-add (length r.story)) (mixed n 0 r.story));
         only_drop_oldest_drops = knows.keeps;
       }
+
+  -- of these, those that it lost
+  pub drops_what_it_lost : (s : Subscribed T) (knows : KnowsReceived s.reader) (first : (s.rest ≡ []) ⊎ (words_received s.reader ≡ []))
+      → (receives_all s knows first).dropped ≡ lost 0 s.reader.story
+  unfolding receives_all
+  drops_what_it_lost s knows first = refl
 
 -- ---- what a subscription keeps
 

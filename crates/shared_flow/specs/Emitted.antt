@@ -1,6 +1,7 @@
 -- What a caller has of an emitter: the list of what it emitted, in order, each word with what became of it.
-use Rattle.std.specs.Prelude.{◌≡◌, ℕ, Bool, true, false, List, [], ◌∷◌, ◌++◌, length, map, take, Option, Some, None, Result, Ok, Err, ⊤}
-use Rattle.std.specs.List.{All, count_by, fold}
+use Rattle.std.specs.Prelude.{◌≡◌, ◌⊎◌, cond, ℕ, Bool, true, false, List, [], ◌∷◌, ◌++◌, length, map, take, Option, Some, None, Result, Ok, Err, ⊤}
+use Rattle.std.specs.List.{All, AllByRecursion, count_by, fold}
+use Rattle.round_lock.specs.History.{own_of}
 use Rattle.futures.specs.declared.task.Poll.{Poll}
 use Rattle.futures.specs.declared.task.Poll.TheVariants.{Ready, Pending}
 use Rattle.flow_terms.specs.declared.refusal.Refusal.{Refusal}
@@ -18,6 +19,9 @@ use Rattle.shared_rounds.specs.declared.round.Round.TheVariants as round
 use Rattle.shared_flow.specs.declared.emitter.blocks.CutShort.{CutShort}
 use Rattle.shared_flow.specs.Emitters.{WasLeft, WasGivenUp}
 use Rattle.shared_flow.specs.Parties.{Emitting, IfLeft}
+use Rattle.shared_flow.specs.Queue.{taken_up, emitted as emitted_by}
+use Rattle.shared_rounds.specs.Names.{SharedSeen}
+use Rattle.shared_rounds.specs.Reach.{Rounds}
 
 -- What became of a word: it was accepted, with this number, or by a try of a block, which tells how many it accepted and no numbers;
 -- the policy dropped it; a try found no room for it; it was refused; it is in flight; or it was withdrawn, and never accepted.
@@ -59,10 +63,15 @@ outcomes_of_block words (Ok n) = map (λ word. (word, accepted_in_block)) (take 
 outcomes_of_block [] (Err refusal) = []
 outcomes_of_block (word ∷ words) (Err refusal) = (word, refused refusal) ∷ []
 
+-- this outcome, of what was in flight
+abbrev pub if_in_flight : Outcome → Outcome → Outcome
+if_in_flight outcome in_flight = outcome
+if_in_flight outcome other = other
+
 -- the last one, which was in flight, ended so
 abbrev pub settled : Outcome → Emissions → Emissions
 settled outcome [] = []
-settled outcome (x ∷ []) = (x.0, outcome) ∷ []
+settled outcome (x ∷ []) = (x.0, if_in_flight outcome x.1) ∷ []
 settled outcome (x ∷ y ∷ more) = x ∷ settled outcome (y ∷ more)
 
 -- so it is by the answer of a poll, and of a cancellation
@@ -105,6 +114,38 @@ emitted_in rounds = fold after_round [] rounds
 abbrev pub emitted : Emitting → Emissions
 emitted e = emitted_in e.party.rounds
 
+-- whether the flow took the word up: it was accepted, or is in flight, or was withdrawn while it waited
+abbrev pub was_taken_up : Outcome → Bool
+was_taken_up (accepted n) = true
+was_taken_up accepted_in_block = true
+was_taken_up dropped = false
+was_taken_up full = false
+was_taken_up (refused refusal) = false
+was_taken_up in_flight = true
+was_taken_up withdrawn = true
+
+-- the words of these that it took up
+abbrev pub taken_up_words : Emissions → List ℕ
+taken_up_words [] = []
+taken_up_words (x ∷ xs) = cond (was_taken_up x.1) (x.0 ∷ taken_up_words xs) (taken_up_words xs)
+
+-- a round of a list is of this party, or none by which an emitter with this id emitted
+abbrev pub IsOf : ℕ → ℕ → ℕ × Round × SharedSeen → Type 0
+IsOf pass id t = (t.0 ≡ pass) ⊎ (taken_up id t.1 ≡ [])
+
+-- In each list of rounds of which its own are its part, and in which nobody else emits by its id, the words emitted by this id are those of
+-- its own that the flow took up, in order.
+abbrev pub AreItsPart : Emitting → Type 0
+AreItsPart e = (log : Rounds) → e.party.rounds ≡ own_of e.party.pass log → AllByRecursion (IsOf e.party.pass e.id) log
+    → emitted_by e.id log ≡ taken_up_words (emitted e)
+
+-- the round emits by this id, if it emits
+abbrev pub IsOwn : ℕ → Round → Type 0
+IsOwn id (round.Try emission answer) = emission.emitter ≡ id
+IsOwn id (round.TryAll emitter words answer) = emitter ≡ id
+IsOwn id (round.Start emission answer) = emission.emitter ≡ id
+IsOwn id _ = ⊤
+
 -- it was accepted or dropped
 abbrev pub WasEmitted : Outcome → Type 0
 WasEmitted (accepted n) = ⊤
@@ -116,6 +157,11 @@ abbrev pub was_accepted : Outcome → Bool
 was_accepted (accepted n) = true
 was_accepted accepted_in_block = true
 was_accepted _ = false
+
+-- the words of these that were accepted, in order
+abbrev pub accepted_words : Emissions → List ℕ
+accepted_words [] = []
+accepted_words (x ∷ xs) = cond (was_accepted x.1) (x.0 ∷ accepted_words xs) (accepted_words xs)
 
 -- These are the words, in order. Each was accepted or dropped, and so many of them were accepted.
 pub record AreEmitted (words : List ℕ) (n : ℕ) (xs : Emissions) : Type 0 where
@@ -143,6 +189,6 @@ abbrev pub GrewByAll : Emissions → List ℕ → Result ℕ CutShort → Emissi
 GrewByAll old words (Ok n) new = GrewBy old words n new
 GrewByAll old words (Err cut) new = GrewUpTo old words cut new
 
--- the emitter that is left, once what was in flight was given up, with this answer
+-- the emitter that is left, once what was in flight was given up, with this answer: nothing is in flight
 abbrev pub IsLeftOf : Emitting → Withdrawn ReceiptSeen → Emitting → Type 0
-IsLeftOf e answer f = IfLeft answer (λ receipt. WasLeft e receipt f) × WasGivenUp e answer f × (e.ticket ≡ None → f ≡ e)
+IsLeftOf e answer f = (f.ticket ≡ None) × (e.ticket ≡ None → f ≡ e) × IfLeft answer (λ receipt. WasLeft e receipt f) × WasGivenUp e answer f

@@ -28,6 +28,14 @@ pub record WasEnded (number : ℕ) (r : ReaderSeen) (met : Met) (p q : Party) : 
   pub flow_is : p.flow ≡ Some made.found.name
   pub closed : HasClosed made.found r met made.left
 
+-- the reader as it was closed, as the comparison had left it
+abbrev pub closed_reader : {number : ℕ} {r : ReaderSeen} {met : Met} {p : Party} {q : Party} → WasEnded number r met p q → ReaderSeen
+closed_reader ended = ended.closed.5.1
+
+-- the subscription as its round closed it
+abbrev pub IsLastOf : {T : Type 0} → Subscribed T → Met → Subscribed T → Type 0
+IsLastOf s met last = (ended : WasEnded s.number s.reader met s.party last.party) × (last ≡ record s { party = last.party; reader = closed_reader ended })
+
 -- a party took in a subscription that was cancelled, for good
 abbrev pub EndedInto : {T : Type 0} → Subscribed T → Met → Party → Party → Type 0
 EndedInto s met p q = (left : Party) × WasEnded s.number s.reader met s.party left × (q ≡ taking_of left p)

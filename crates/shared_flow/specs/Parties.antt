@@ -1,5 +1,12 @@
 -- What contracts see of an owner, an emitter and a subscription, and of their answers.
-use Rattle.std.specs.Prelude.{suc, pred, ◌≡◌, ◌⊎◌, ⊤, ℕ, ◌+◌, ◌∷◌, [], List, Option, Some, None}
+use Rattle.std.specs.Prelude.{suc, pred, ◌≡◌, ◌⊎◌, ⊤, ℕ, ◌+◌, ◌-◌, ◌∷◌, ◌++◌, [], List, map, drop, slice_get, Option, Some, None, Result, Ok, Err}
+use Rattle.std.specs.List.{filter_map}
+use Rattle.flow_terms.specs.declared.refusal.Refusal.{Refusal}
+use Rattle.futures.specs.declared.task.Poll.{Poll}
+use Rattle.futures.specs.declared.task.Poll.TheVariants.{Ready, Pending}
+use Rattle.lane_steps.specs.Law.{received as received_at}
+use Rattle.shared_lane.specs.declared.reader.Taken.{Taken}
+use Rattle.shared_lane.specs.declared.reader.Taken.TheVariants.{Value, Nothing, Overtaken}
 use Rattle.flow_terms.specs.declared.answers.Withdrawn.{Withdrawn}
 use Rattle.flow_terms.specs.declared.answers.Withdrawn.TheVariants as withdrawn
 use Rattle.flow_terms.specs.declared.ids.Ticket.{Ticket}
@@ -34,6 +41,40 @@ pub record Subscribed (T : Type 0) : Type 0 where
   pub rest : List T
   pub reader : ReaderSeen
   pub looks : List FlagLook
+
+-- the words of the replay cache at the reader's start, and then of all later accepted emissions, as far as it has seen
+abbrev pub since_start : ReaderSeen → List ℕ
+since_start r = drop (r.start - r.shape.first) (map (λ emission. emission.1) r.seen)
+
+-- the words that the reader received, in order: of those since its start, the ones of which its story says so
+abbrev pub words_received : ReaderSeen → List ℕ
+words_received r = filter_map (slice_get (since_start r)) (received_at 0 r.story)
+
+-- the values that a subscription received since it began, in order: those that it was given of its prelude, then those of the flow
+abbrev pub received : {T : Type 0} → (ℕ → T) → Subscribed T → List T
+received read_as s = s.given ++ map read_as (words_received s.reader)
+
+-- the subscription has the same prelude: what it was given of it, and then what is left
+abbrev pub IsSamePrelude : {T : Type 0} → Subscribed T → Subscribed T → Type 0
+IsSamePrelude old new = new.given ++ new.rest ≡ old.given ++ old.rest
+
+-- the value in an answer, if there is one, as a list
+abbrev pub some_of : {T : Type 0} → Option T → List T
+some_of (Some v) = v ∷ []
+some_of None = []
+
+abbrev pub ok_of : {T : Type 0} → Result T Refusal → List T
+ok_of (Ok v) = v ∷ []
+ok_of (Err refusal) = []
+
+abbrev pub ready_of : {T : Type 0} → Poll T → List T
+ready_of (Ready v) = v ∷ []
+ready_of Pending = []
+
+abbrev pub taken_of : {T : Type 0} → Taken T → List T
+taken_of (Value v) = v ∷ []
+taken_of Nothing = []
+taken_of Overtaken = []
 
 -- a party that gave half its share of the lock to another
 abbrev pub sharing_of : Party → Party

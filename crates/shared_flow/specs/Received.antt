@@ -1,48 +1,14 @@
 -- What a subscription has received, in its caller's words, and what that has to do with the flow.
-use Rattle.std.specs.Prelude.{◌≡◌, ◌⊎◌, ℕ, ◌-◌, ◌<◌, ◌≤◌, max, false, List, [], ◌∷◌, ◌++◌, length, map, drop, slice_get, Option, Some, None, Result, Ok, Err}
-use Rattle.std.specs.List.{AllByRecursion, filter_map, range_with_len}
-use Rattle.flow_terms.specs.declared.refusal.Refusal.{Refusal}
-use Rattle.futures.specs.declared.task.Poll.{Poll}
-use Rattle.futures.specs.declared.task.Poll.TheVariants.{Ready, Pending}
+use Rattle.std.specs.Prelude.{◌≡◌, ◌⊎◌, ℕ, ◌-◌, ◌<◌, ◌≤◌, max, false, List, [], ◌++◌, length, map}
+use Rattle.std.specs.List.{AllByRecursion, range_with_len}
 use Rattle.lane_steps.specs.Law.{lost, received as received_at}
 use Rattle.shared_core.specs.Flow.{values_at}
 use Rattle.shared_core.specs.Preludes.{RestSeen}
 use Rattle.shared_core.specs.Story.{Interleaves}
-use Rattle.shared_lane.specs.declared.reader.Taken.{Taken}
-use Rattle.shared_lane.specs.declared.reader.Taken.TheVariants.{Value, Nothing, Overtaken}
 use Rattle.shared_lane.specs.Headline.{pending}
 use Rattle.shared_lane.specs.Views.{ReaderSeen}
-use Rattle.shared_flow.specs.Parties.{Subscribed}
-
--- the words of the replay cache at the reader's start, and then of all later accepted emissions, as far as it has seen
-abbrev pub since_start : ReaderSeen → List ℕ
-since_start r = drop (r.start - r.shape.first) (map (λ emission. emission.1) r.seen)
-
--- the words that the reader received, in order: of those since its start, the ones of which its story says so
-abbrev pub words_received : ReaderSeen → List ℕ
-words_received r = filter_map (slice_get (since_start r)) (received_at 0 r.story)
-
--- the values that a subscription received since it began, in order: those that it was given of its prelude, then those of the flow
-abbrev pub received : {T : Type 0} → (ℕ → T) → Subscribed T → List T
-received read_as s = s.given ++ map read_as (words_received s.reader)
-
--- the value in an answer, if there is one, as a list
-abbrev pub some_of : {T : Type 0} → Option T → List T
-some_of (Some v) = v ∷ []
-some_of None = []
-
-abbrev pub ok_of : {T : Type 0} → Result T Refusal → List T
-ok_of (Ok v) = v ∷ []
-ok_of (Err refusal) = []
-
-abbrev pub ready_of : {T : Type 0} → Poll T → List T
-ready_of (Ready v) = v ∷ []
-ready_of Pending = []
-
-abbrev pub taken_of : {T : Type 0} → Taken T → List T
-taken_of (Value v) = v ∷ []
-taken_of Nothing = []
-taken_of Overtaken = []
+use Rattle.shared_lane.specs.declared.meeting.Met.{Met}
+use Rattle.shared_flow.specs.Parties.{Subscribed, since_start, words_received, received}
 
 -- What a reader knows of what it received: it began at an emission of its flow; it has seen each emission that it received; and where the
 -- policy drops nothing it lost none.
@@ -67,3 +33,15 @@ pub record ReceivesAllButDropped {T : Type 0} (read_as : ℕ → T) (s : Subscri
   -- both rise, and together they are all indexes, each once: up to the last emission that it has seen, or its position
   pub in_order_and_once : Interleaves kept dropped (range_with_len 0 (max (length s.reader.story) (length (since_start s.reader))))
   pub only_drop_oldest_drops : s.reader.shape.drops ≡ false → dropped ≡ []
+
+-- A subscription was ended, and its list is complete. `last` is the subscription as its round closed it: it has received no more than
+-- before, and has seen all that was accepted from its start on, so that what became of each of these is known, and how many were received
+-- and how many lost.
+pub record IsComplete {T : Type 0} (read_as : ℕ → T) (s : Subscribed T) (met : Met) : Type 0 where
+  pub last : Subscribed T
+  pub received_no_more : received read_as last ≡ received read_as s
+  pub receives_all : ReceivesAllButDropped read_as last
+  pub has_seen_all : length (since_start last.reader) ≡ met.accepted
+  pub is_within : length last.reader.story ≤ met.accepted
+  pub counts_received : length (words_received last.reader) ≡ met.received
+  pub counts_dropped : length receives_all.dropped ≡ met.dropped

@@ -16,6 +16,7 @@ ghost use Rattle.shared_flow.specs.Emitted.{settled, accepted, after_poll, after
 ghost use Rattle.shared_rounds.specs.Tries.{IfTried, IfBegun, TriedUnder, BegunUnder, last_of_try, last_of_start};
 ghost use Rattle.shared_flow.specs.Parties.{IsSameEmitter, Emitting, IsItsReceipt, IsOwnReceipt, OfFlow, IfLeft, without_receipt};
 ghost use Rattle.shared_flow.specs.Owners.{HasHeard};
+ghost use Rattle.shared_flow.specs.Emitted.{AreItsPart};
 
 use crate::parker::Parker;
 use flow_terms::{Refusal, Word};
@@ -51,13 +52,15 @@ pub struct Emitter<T: Word> {
 impl<T: Word> Model for Emitter<T> {
     ghost use Rattle.std.specs.Prelude.{◌≡◌, None};
     ghost use Rattle.shared_rounds.specs.Reach.{party_of};
+    ghost use Rattle.std.specs.List.{AllByRecursion};
     ghost use Rattle.shared_flow.specs.Parties.{Emitting, WasAnswered};
+    ghost use Rattle.shared_flow.specs.Emitted.{IsOwn};
 
     ghost Value = { Emitting };
 
     ghost view = { λ e. record { party = party_of e.access; id = e.id; ticket = e.ticket; last = e.last } };
 
-    ghost invariant = { λ e. (e.access.held ≡ None) × WasAnswered e.last e.access.rounds };
+    ghost invariant = { λ e. (e.access.held ≡ None) × WasAnswered e.last e.access.rounds × AllByRecursion (IsOwn e.id) e.access.rounds };
 }
 
 impl<T: Word> Emitter<T> {
@@ -241,6 +244,15 @@ impl<T: Word> Emitter<T> {
         unreachable!()
     }
 
+    /// A law, with nothing to run. In each list of rounds of which its own are its part, as an owner tells it, and in which nobody else emits
+    /// by its id, what was emitted by this id is its `emitted`, less what was dropped, full or refused: accepted, waiting or withdrawn, in
+    /// its own order.
+    pub fn emissions_are_its_part(&self)
+        ensures { AreItsPart self.now }
+    {
+        let _id = self.id;
+    }
+
     /// Looks on for some microseconds, without the lock, up to where no emission may wait any more, as [`emit`](Emitter::emit) does
     /// before its thread sleeps. It changes nothing. For one who would sleep by means of its own until the emission in flight is
     /// finished. Kotlin has no such call.
@@ -292,9 +304,9 @@ impl<T: Word> Emitter<T> {
         owner.meet(&mut self.access);
     }
 
-    /// Ends the emitter, and gives the emission in flight up as `cancel_emit` does: in Kotlin, the end of the coroutine.
+    /// Ends the emitter, and gives the emission in flight up as `cancel_emit` does: in Kotlin, the end of the coroutine. Its list is
+    /// complete then: of the emitter that is left nothing is in flight.
     pub fn close(self, rt: &impl Wait) -> Withdrawn<Receipt>
-        // of the emitter that is left: the list is complete
         ensures has { (f : Emitting) × IsLeftOf self result f × (emitted f ≡ after_cancel result (emitted self)) }
         ensures idle { self.ticket ≡ None → result ≡ withdrawn.Gone }
         ensures ended { EndedWith self result }

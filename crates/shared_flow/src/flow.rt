@@ -6,14 +6,15 @@ ghost use Rattle.shared_rounds.specs.declared.round.Round.TheVariants as round;
 ghost use Rattle.shared_rounds.specs.Names.{IsMadeWith};
 ghost use Rattle.shared_rounds.specs.Entering.{Made};
 ghost use Rattle.shared_rounds.specs.Reach.{with_round};
-ghost use Rattle.shared_flow.specs.Parties.{newcomer_of, sharing_of, whole_again, taking_of, IfLeft, IsOwnReceipt};
+ghost use Rattle.shared_flow.specs.Parties.{Emitting, newcomer_of, sharing_of, whole_again, taking_of, IfLeft, IsOwnReceipt, IsSamePrelude, received};
+ghost use Rattle.shared_flow.specs.Emitted.{emitted, after_cancel, IsLeftOf};
 ghost use Rattle.shared_flow.specs.Owners.{at_rest, IsLeftOut, AddsCache, Meets};
-ghost use Rattle.shared_flow.specs.Looks.{WasLetInBy, EndedInto as SubscriptionEndedInto};
+ghost use Rattle.shared_flow.specs.Received.{IsComplete};
+ghost use Rattle.shared_flow.specs.Looks.{IsLastOf, WasLetInBy, EndedInto as SubscriptionEndedInto};
 ghost use Rattle.shared_flow.specs.Emitters.{EndedInto as EmitterEndedInto};
 ghost use Rattle.flow_terms.specs.declared.answers.Withdrawn.TheVariants as withdrawn;
 ghost use Rattle.shared_rounds.specs.Rounds.{IsAfter, IsAtLimit};
 ghost use Rattle.shared_core.specs.Preludes.{prelude_values};
-ghost use Rattle.shared_flow.specs.Received.{received};
 
 use crate::emitter::Emitter;
 use crate::subscription::{Ended, Subscription};
@@ -120,6 +121,7 @@ impl<T: Word> SharedFlow<T> {
     /// Ends an emitter of this flow, as [`Emitter::close`] does, and takes it in for good, with its rounds and its share of the lock.
     pub fn close(&mut self, rt: &impl Wait, emitter: Emitter<T>) -> Withdrawn<Receipt>
         requires lock { emitter.party.lock ≡ self.old.party.lock }
+        ensures has { (f : Emitting) × IsLeftOf emitter result f × (emitted f ≡ after_cancel result (emitted emitter)) }
         ensures idle { emitter.ticket ≡ None → result ≡ withdrawn.Gone }
         ensures ended { EmitterEndedInto emitter result self.old.party self.new.party }
         ensures same { self.new ≡ record self.old { party = self.new.party } }
@@ -136,6 +138,8 @@ impl<T: Word> SharedFlow<T> {
     /// the lock.
     pub fn cancel(&mut self, rt: &impl Wait, subscription: Subscription<T>) -> Met
         requires lock { subscription.party.lock ≡ self.old.party.lock }
+        ensures has { IsComplete T.read_as subscription result }
+        ensures last { (complete : IsComplete T.read_as subscription result) × IsLastOf subscription result complete.last × (self.new.party ≡ taking_of complete.last.party self.old.party) }
         ensures ended { SubscriptionEndedInto subscription result self.old.party self.new.party }
         ensures same { self.new ≡ record self.old { party = self.new.party } }
     {
@@ -254,6 +258,7 @@ impl<T: Word> SharedFlow<T> {
         requires lock { subscription.old.party.lock ≡ self.old.party.lock }
         requires flow { subscription.old.party.flow ≡ self.old.party.flow }
         ensures has { received T.read_as subscription.new ≡ received T.read_as subscription.old }
+        ensures prelude { IsSamePrelude subscription.old subscription.new }
         ensures meets { Meets self.old.party self.new.party subscription.old subscription.new result }
         ensures owner { self.new ≡ at_rest self.new.party }
     {

@@ -43,8 +43,8 @@ impl Parker {
     }
 
     /// Begins to wait: its first turn comes at once. Refused as `NoMemory`, which the first wait of a parker can be. A wait that
-    /// ends before its first turn leaves that to the next one.
-    pub(crate) fn begin(&mut self) -> Result<(), Refusal>
+    /// ends before its first turn leaves that to the next one. The waits of this crate do it themselves: it is for who makes one.
+    pub fn begin(&mut self) -> Result<(), Refusal>
         ensures { IfErr result (λ refusal. refusal ≡ NoMemory) }
     {
         if self.is_set {
@@ -55,8 +55,8 @@ impl Parker {
         Ok(())
     }
 
-    /// Sleeps until the thread has to ask again. Nothing only where it doesn't wait.
-    pub(crate) fn turn(&mut self, rt: &impl Wait) -> Option<Context<'_>> {
+    /// Sleeps until the thread has to ask again. Nothing only where it doesn't wait. That a turn comes isn't claimed.
+    pub fn turn(&mut self, rt: &impl Wait) -> Option<Context<'_>> {
         self.is_set = false;
         self.queue.next(rt)
     }

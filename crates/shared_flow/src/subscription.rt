@@ -8,12 +8,12 @@ ghost use Rattle.shared_lane.specs.Places.{IsOfSubscription};
 ghost use Rattle.shared_rounds.specs.declared.round.Round.TheVariants as round;
 ghost use Rattle.shared_rounds.specs.Reach.{Party, party_of};
 ghost use Rattle.shared_rounds.specs.Entering.{Made};
-ghost use Rattle.shared_flow.specs.Parties.{Subscribed, OfFlow};
-ghost use Rattle.shared_flow.specs.Looks.{Took, Gave, GaveIn, Missed, MissedTwice, MissedSome, MissedBoth, MissedUnder, OnlyLooked, OnlyNext, Waited, WasEnded};
+ghost use Rattle.shared_flow.specs.Parties.{Subscribed, OfFlow, IsSamePrelude, received, some_of, ok_of, ready_of, taken_of};
+ghost use Rattle.shared_flow.specs.Looks.{Took, Gave, GaveIn, Missed, MissedTwice, MissedSome, MissedBoth, MissedUnder, OnlyLooked, OnlyNext, Waited, WasEnded, IsLastOf};
 ghost use Rattle.shared_flow.specs.Looks.{MadeRoom, MadeRoomIn, HasMadeRoom, WasMadeWithin};
 ghost use Rattle.shared_core.specs.Preludes.{prelude_values};
 ghost use Rattle.shared_flow.specs.Preludes.{IsGreeted, IsPast, GreetedOr, TookFirst};
-ghost use Rattle.shared_flow.specs.Received.{received, some_of, ok_of, ready_of, taken_of, KnowsReceived, PreludeFirst, ReceivesAllButDropped};
+ghost use Rattle.shared_flow.specs.Received.{IsComplete, KnowsReceived, PreludeFirst, ReceivesAllButDropped};
 ghost use Rattle.shared_lane.specs.Headline.{WasLetIn};
 ghost use Rattle.flow_terms.specs.declared.refusal.Refusal.TheVariants.{NoMemory};
 ghost use Rattle.shared_rounds.specs.Meeting.{HasMet, OnlyMet};
@@ -105,6 +105,7 @@ impl<T: Word> Subscription<T> {
     /// subscriptions take their values by this call alone, who emits has to poll its emitter again by itself.
     pub fn try_next(&mut self) -> Taken<T>
         ensures has { received T.read_as self.new ≡ received T.read_as self.old ++ taken_of result }
+        ensures prelude { IsSamePrelude self.old self.new }
         ensures same { (self.new.party ≡ self.old.party) × (self.new.number ≡ self.old.number) }
         ensures taken { TookFirst T.read_as self.old result self.new }
     {
@@ -118,6 +119,7 @@ impl<T: Word> Subscription<T> {
     #[inline(always)]
     fn greet(&mut self) -> Option<T>
         ensures has { received T.read_as self.new ≡ received T.read_as self.old ++ some_of result }
+        ensures prelude { IsSamePrelude self.old self.new }
         ensures same { (self.new.party ≡ self.old.party) × (self.new.number ≡ self.old.number) × (self.new.reader ≡ self.old.reader) × (self.new.looks ≡ self.old.looks) }
         ensures greeted { IfSome result (λ v. IsGreeted self.old v self.new) }
         ensures past { IfNone result (IsPast self.old self.new) }
@@ -133,6 +135,7 @@ impl<T: Word> Subscription<T> {
     fn try_accepted(&mut self) -> Taken<T>
         requires past { self.old.rest ≡ [] }
         ensures has { received T.read_as self.new ≡ received T.read_as self.old ++ taken_of result }
+        ensures prelude { IsSamePrelude self.old self.new }
         ensures same { (self.new.party ≡ self.old.party) × (self.new.number ≡ self.old.number) × (self.new.rest ≡ self.old.rest) }
         ensures taken { Took T.read_as self.old.reader result self.new.reader }
     {
@@ -150,6 +153,7 @@ impl<T: Word> Subscription<T> {
     /// from [`try_next`](Subscription::try_next), and only then. Nothing says whether the position rose, as `Overtaken` does there.
     pub fn next_now(&mut self, rt: &impl Wait) -> Option<T>
         ensures has { received T.read_as self.new ≡ received T.read_as self.old ++ some_of result }
+        ensures prelude { IsSamePrelude self.old self.new }
         ensures rounds { (self.new.party ≡ self.old.party) ⊎ Made (round.Next self.old.number) self.old.party self.new.party }
         ensures same { self.new.number ≡ self.old.number }
         ensures given { IfSome result (λ v. GreetedOr self.old v self.new (Gave T.read_as self.old.reader v self.new.reader)) }
@@ -169,6 +173,7 @@ impl<T: Word> Subscription<T> {
     /// It never sleeps for a value, and takes the lock as `next_now` does.
     pub fn next_soon(&mut self, rt: &impl Wait) -> Option<T>
         ensures has { received T.read_as self.new ≡ received T.read_as self.old ++ some_of result }
+        ensures prelude { IsSamePrelude self.old self.new }
         ensures rounds { (self.new.party ≡ self.old.party) ⊎ Made (round.Next self.old.number) self.old.party self.new.party }
         ensures same { self.new.number ≡ self.old.number }
         ensures given { IfSome result (λ v. GreetedOr self.old v self.new (Waited T.read_as self.old.reader v self.new.reader)) }
@@ -195,6 +200,7 @@ impl<T: Word> Subscription<T> {
     /// unless an emission waits that the receipt may help.
     pub fn poll_next(&mut self, rt: &impl Wait, cx: &mut Context<'_>) -> Poll<T>
         ensures has { received T.read_as self.new ≡ received T.read_as self.old ++ ready_of result }
+        ensures prelude { IsSamePrelude self.old self.new }
         ensures round { OnPending result (Made (round.Pending self.old.number) self.old.party self.new.party) }
         ensures rounds { IfReady result (λ v. (self.new.party ≡ self.old.party) ⊎ Made (round.Next self.old.number) self.old.party self.new.party) }
         ensures same { self.new.number ≡ self.old.number }
@@ -218,6 +224,7 @@ impl<T: Word> Subscription<T> {
     /// and the parker finds no memory to wait by; nothing is received then.
     pub fn next(&mut self, rt: &impl Wait, parker: &mut Parker) -> Result<T, Refusal>
         ensures has { received T.read_as self.new ≡ received T.read_as self.old ++ ok_of result }
+        ensures prelude { IsSamePrelude self.old self.new }
         ensures same { self.new.number ≡ self.old.number }
         ensures rounds { OnlyNext self.old.number self.old.party self.new.party }
         ensures value { IfOk result (λ v. GreetedOr self.old v self.new (Waited T.read_as self.old.reader v self.new.reader)) }
@@ -235,6 +242,7 @@ impl<T: Word> Subscription<T> {
     fn wait_for_next(&mut self, rt: &impl Wait, parker: &mut Parker) -> Result<T, Refusal>
         requires past { self.old.rest ≡ [] }
         ensures has { received T.read_as self.new ≡ received T.read_as self.old ++ ok_of result }
+        ensures prelude { IsSamePrelude self.old self.new }
         ensures same { (self.new.number ≡ self.old.number) × (self.new.rest ≡ self.old.rest) }
         ensures rounds { OnlyNext self.old.number self.old.party self.new.party }
         ensures value { IfOk result (λ v. Waited T.read_as self.old.reader v self.new.reader) }
@@ -263,6 +271,7 @@ impl<T: Word> Subscription<T> {
     fn look(&mut self, rt: &impl Wait) -> Option<T>
         requires past { self.old.rest ≡ [] }
         ensures has { received T.read_as self.new ≡ received T.read_as self.old ++ some_of result }
+        ensures prelude { IsSamePrelude self.old self.new }
         ensures rounds { (self.new.party ≡ self.old.party) ⊎ Made (round.Next self.old.number) self.old.party self.new.party }
         ensures same { (self.new.number ≡ self.old.number) × (self.new.rest ≡ self.old.rest) }
         ensures given { IfSome result (λ v. Gave T.read_as self.old.reader v self.new.reader) }
@@ -298,6 +307,7 @@ impl<T: Word> Subscription<T> {
     fn look_again(&mut self, rt: &impl Wait, cx: &mut Context<'_>) -> Poll<T>
         requires past { self.old.rest ≡ [] }
         ensures has { received T.read_as self.new ≡ received T.read_as self.old ++ ready_of result }
+        ensures prelude { IsSamePrelude self.old self.new }
         ensures same { (self.new.number ≡ self.old.number) × (self.new.rest ≡ self.old.rest) × (self.new.looks ≡ self.old.looks) }
         ensures round { OnPending result (Made (round.Pending self.old.number) self.old.party self.new.party) }
         ensures within { IfReady result (λ v. WasMadeWithin self.old.number self.old.party self.new.party) }
@@ -334,6 +344,7 @@ impl<T: Word> Subscription<T> {
     pub fn told(&mut self, receipt: &mut Receipt)
         requires { OfFlow self.old.party (λ name. IsReceiptOf name.lane receipt.old) }
         ensures has { received T.read_as self.new ≡ received T.read_as self.old }
+        ensures prelude { IsSamePrelude self.old self.new }
         ensures same { (self.new.party ≡ self.old.party) × (self.new.number ≡ self.old.number) }
         ensures rest { self.new.rest ≡ self.old.rest }
         ensures reader { IsSameReader self.old.reader self.new.reader × (self.new.reader.story ≡ self.old.reader.story) }
@@ -346,7 +357,7 @@ impl<T: Word> Subscription<T> {
     /// A law, with nothing to run. Of any subscription, between any two of its calls: what it received, then what is left of its prelude
     /// and what is pending for it, is its prelude, the replay cache at its start and all later accepted emissions, in order and once,
     /// less just those that its policy dropped; of the emissions, as far as it has seen them. After an owner's
-    /// [`meet`](crate::SharedFlow::meet) it has seen all.
+    /// [`meet`](crate::SharedFlow::meet), and as [`cancel`](Subscription::cancel) ends it, it has seen all.
     pub fn receives_all_but_dropped(&self)
         ensures { ReceivesAllButDropped T.read_as self.now }
     {
@@ -379,6 +390,7 @@ impl<T: Word> Subscription<T> {
     pub(crate) fn meet(&mut self, shared: &mut Shared) -> Met
         requires { self.old.party.flow ≡ Some shared.old.name }
         ensures has { received T.read_as self.new ≡ received T.read_as self.old }
+        ensures prelude { IsSamePrelude self.old self.new }
         ensures same { (self.new.party ≡ self.old.party) × (self.new.number ≡ self.old.number) }
         ensures rest { self.new.rest ≡ self.old.rest }
         ensures shared { OnlyMet shared.old shared.new }
@@ -402,8 +414,11 @@ impl<T: Word> Subscription<T> {
     /// wait are then accepted while there is room.
     ///
     /// Says what had become of the emissions from its start on, as an owner's [`meet`](crate::SharedFlow::meet) does:
-    /// `accepted - received - dropped` were pending, and are given up. Those of its prelude aren't counted.
+    /// `accepted - received - dropped` were pending, and are given up. Those of its prelude aren't counted. Its list is complete then:
+    /// it received no more, and has seen all that was accepted.
     pub fn cancel(self, rt: &impl Wait) -> Met
+        ensures has { IsComplete T.read_as self result }
+        ensures last { (complete : IsComplete T.read_as self result) × IsLastOf self result complete.last }
         ensures ended { (left : Party) × WasEnded self.number self.reader result self.party left }
     {
         let Ended { access, met } = self.end(rt);
@@ -414,6 +429,8 @@ impl<T: Word> Subscription<T> {
     /// Ends it as `cancel` does, and gives what it has of the flow's lock besides, for an owner that takes it in.
     #[inline(always)]
     pub(crate) fn end(self, rt: &impl Wait) -> Ended
+        ensures has { IsComplete T.read_as self result.met }
+        ensures last { (complete : IsComplete T.read_as self result.met) × IsLastOf self result.met complete.last × (complete.last.party ≡ party_of result.access) }
         ensures ended { WasEnded self.number self.reader result.met self.party (party_of result.access) }
         ensures free { result.access.held ≡ None }
     {

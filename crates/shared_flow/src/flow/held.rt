@@ -8,7 +8,7 @@ ghost use Rattle.shared_rounds.specs.Entering.{MadeOf};
 ghost use Rattle.shared_rounds.specs.Reach.{with_round};
 ghost use Rattle.shared_flow.specs.Owners.{HasHeard, KeepsLock, IsKept, at_rest};
 ghost use Rattle.shared_rounds.specs.Meeting.{HasMet};
-ghost use Rattle.shared_flow.specs.Received.{received};
+ghost use Rattle.shared_flow.specs.Parties.{IsSamePrelude, received};
 
 use super::SharedFlow;
 use crate::emitter::Emitter;
@@ -90,6 +90,7 @@ impl<T: Word> Held<'_, T> {
         requires held { KeepsLock self.old.flow.now self.old.kept }
         requires flow { subscription.old.party.flow ≡ self.old.flow.now.party.flow }
         ensures has { received T.read_as subscription.new ≡ received T.read_as subscription.old }
+        ensures prelude { IsSamePrelude subscription.old subscription.new }
         ensures same_reference { self.new.flow.ghost_name ≡ self.old.flow.ghost_name }
         ensures owner { self.new.flow.now ≡ self.old.flow.now }
         ensures held { KeepsLock self.new.flow.now self.new.kept }

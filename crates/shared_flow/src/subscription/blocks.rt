@@ -7,7 +7,7 @@ ghost use Rattle.shared_rounds.specs.Entering.{Made};
 ghost use Rattle.shared_lane.specs.declared.reader.Taken.TheVariants as taken;
 ghost use Rattle.shared_flow.specs.Looks.{MadeRoom, HasMadeRoom, OnlyLooked, OnlyNext};
 ghost use Rattle.shared_flow.specs.Preludes.{IsPast};
-ghost use Rattle.shared_flow.specs.Received.{received};
+ghost use Rattle.shared_flow.specs.Parties.{IsSamePrelude, received};
 
 use super::Subscription;
 use crate::parker::Parker;
@@ -37,6 +37,7 @@ impl<T: Word> Subscription<T> {
     pub fn try_next_all<B: Allocator>(&mut self, out: &mut Vec<T, B>) -> Taken<u64>
         ensures has { (values : List T) × (out.new.items ≡ out.old.items ++ values)
             × (received T.read_as self.new ≡ received T.read_as self.old ++ values) }
+        ensures prelude { IsSamePrelude self.old self.new }
         ensures same { (self.new.party ≡ self.old.party) × (self.new.number ≡ self.old.number) }
         ensures taken { (values : List T) × (out.new.items ≡ out.old.items ++ values) × TookAllFirst T.read_as self.old (vec_capacity out.old - length out.old.items) result values self.new }
         ensures capacity { vec_capacity out.new ≡ vec_capacity out.old }
@@ -61,6 +62,7 @@ impl<T: Word> Subscription<T> {
     ) -> Result<u64, Refusal>
         ensures has { (values : List T) × (out.new.items ≡ out.old.items ++ values)
             × (received T.read_as self.new ≡ received T.read_as self.old ++ values) }
+        ensures prelude { IsSamePrelude self.old self.new }
         ensures same { self.new.number ≡ self.old.number }
         ensures rounds { OnlyNext self.old.number self.old.party self.new.party }
         ensures full { vec_capacity out.old ≡ length out.old.items → (result ≡ Ok 0) × (self.new ≡ self.old) × (out.new.items ≡ out.old.items) }
@@ -91,6 +93,7 @@ impl<T: Word> Subscription<T> {
         requires past { self.old.rest ≡ [] }
         ensures has { (values : List T) × (out.new.items ≡ out.old.items ++ values)
             × (received T.read_as self.new ≡ received T.read_as self.old ++ values) }
+        ensures prelude { IsSamePrelude self.old self.new }
         ensures same { (self.new.number ≡ self.old.number) × (self.new.rest ≡ self.old.rest) }
         ensures rounds { OnlyNext self.old.number self.old.party self.new.party }
         ensures taken { IfOk result (λ n. (values : List T) × (out.new.items ≡ out.old.items ++ values) × (n ≡ length values) × (0 < n)
@@ -114,6 +117,7 @@ impl<T: Word> Subscription<T> {
         requires past { self.old.rest ≡ [] }
         ensures has { (values : List T) × (out.new.items ≡ out.old.items ++ values)
             × (received T.read_as self.new ≡ received T.read_as self.old ++ values) }
+        ensures prelude { IsSamePrelude self.old self.new }
         ensures rounds { (self.new.party ≡ self.old.party) ⊎ Made (round.Next self.old.number) self.old.party self.new.party }
         ensures same { (self.new.number ≡ self.old.number) × (self.new.rest ≡ self.old.rest) }
         ensures looked { (words : List ℕ) × (out.new.items ≡ out.old.items ++ map T.read_as words)

@@ -13,13 +13,15 @@ use Rattle.shared_rounds.proofs.Doing.{is_called, withdrawn_lies}
 use Rattle.shared_flow.proofs.Making.{made}
 use Rattle.shared_flow.proofs.Waiting.{unless_left}
 use Rattle.shared_flow.proofs.Emitted.{grown, has_let_go}
+use Rattle.shared_flow.proofs.OwnPart.{own_grown, own_withdraw}
+use Rattle.shared_flow.specs.Emitted.{IsOwn}
 use Rattle.shared_flow.proofs.emitter.Emitter.cancel_emit.Goals as goal
 
 pub invariant_of-self : goal.invariant_of-self
 invariant_of-self g c =
     let made : Round = c.withdrawn_without_receipt-round.result in
     let grew = ap (λ (r : Reach). r.rounds) c.leave.ensures.left.after ∙ ap (λ (r : Reach). r.rounds ++ made ∷ []) c.enter-inside.ensures.taken in
-    (ap (λ (r : Reach). r.held) c.leave.ensures.left.after, subst (WasAnswered c.self.inside.last) (sym grew) (answered_on c.self.inside.last c.self.inside.access.rounds made c.self.invariant.1))
+    (ap (λ (r : Reach). r.held) c.leave.ensures.left.after, subst (WasAnswered c.self.inside.last) (sym grew) (answered_on c.self.inside.last c.self.inside.access.rounds made c.self.invariant.1), own_grown c.self.inside.id c.self.inside.access.rounds c.leave.new.self.rounds made grew c.self.invariant.2 (subst (IsOwn c.self.inside.id) (sym c.withdrawn_without_receipt-round.ensures) (own_withdraw c.self.inside.id c.in-Some.ticket c.self.inside.id c.self.inside.last c.cancel_emit-withdrawn.result.withdrawn)))
 
 pub invariant_of-self-2 : goal.invariant_of-self-2
 invariant_of-self-2 g c =
@@ -27,7 +29,7 @@ invariant_of-self-2 g c =
     let grew = ap (λ (r : Reach). r.rounds) c.leave-2.ensures.left.after ∙ ap (λ (r : Reach). r.rounds ++ made ∷ []) c.enter-inside.ensures.taken in
     let done = subst (λ receipt. IfSome receipt (λ r. (c.cancel_emit-withdrawn.result.withdrawn ≡ withdrawn.Left r.number) × IsReceiptAfter c.deref_mut.result.now.name.lane c.self.inside.id c.self.inside.last r)) c.in-Some-receipt.is c.cancel_emit-withdrawn.ensures.receipt in
     let answered = ap (λ e. after_number (round.Withdraw c.in-Some.ticket e)) done.0 ∙ ap (λ n. n + 1) (sym c.number.ensures) in
-    (ap (λ (r : Reach). r.held) c.leave-2.ensures.left.after, subst (WasAnswered (Some c.number.result)) (sym grew) (answered_last c.number.result c.self.inside.access.rounds made answered))
+    (ap (λ (r : Reach). r.held) c.leave-2.ensures.left.after, subst (WasAnswered (Some c.number.result)) (sym grew) (answered_last c.number.result c.self.inside.access.rounds made answered), own_grown c.self.inside.id c.self.inside.access.rounds c.leave-2.new.self.rounds made grew c.self.invariant.2 tt)
 
 pub leave-requires : goal.leave-requires
 leave-requires g c =

@@ -7,7 +7,7 @@ use Rattle.shared_flow.specs.Emitters.{Emits, emission_by}
 use Rattle.shared_flow.specs.Parties.{Emitting, IsOwnReceipt, IsSameEmitter, named}
 use Rattle.shared_flow.proofs.Waiting.{same_as_same, own_of_same, emitted_weaker}
 use Rattle.shared_flow.proofs.Emitted.{has_emitted, settled_last}
-use Rattle.shared_flow.specs.Emitted.{Outcome, emitted, in_flight, outcome_of_emit, outcome_of_start, settled}
+use Rattle.shared_flow.specs.Emitted.{Outcome, emitted, outcome_of_emit, outcome_of_start, settled}
 use Rattle.shared_flow.proofs.emitter.Emitter.emit.Goals as goal
 
 pub returns-in-Waiting-clause-receipt : goal.returns-in-Waiting-clause-receipt
@@ -38,7 +38,7 @@ returns-in-Waiting-clause-has g c =
     let word = g.T.Word.word c.args.value in
     let has = subst (λ (b : Begun ReceiptSeen (Unit {0})). emitted c.start_emit.new.self ≡ emitted old ++ (word, outcome_of_start (Ok b)) ∷ []) c.in-Waiting.is c.in_ok-receipt.ensures.has in
     let outcome : Outcome = outcome_of_emit c.finish.result in
-    c.finish.ensures.has ∙ ap (settled outcome) has ∙ settled_last (emitted old) word in_flight outcome
+    c.finish.ensures.has ∙ ap (settled outcome) has ∙ settled_last (emitted old) word outcome
 
 pub returns-in_err-receipt-clause-has : goal.returns-in_err-receipt-clause-has
 returns-in_err-receipt-clause-has g c =

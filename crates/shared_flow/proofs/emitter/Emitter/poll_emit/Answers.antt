@@ -12,13 +12,15 @@ use Rattle.shared_flow.proofs.Rising.{answered_on, answered_last}
 use Rattle.shared_rounds.proofs.Doing.{is_called, lay_down_for}
 use Rattle.shared_flow.proofs.Making.{made}
 use Rattle.shared_flow.proofs.Emitted.{grown, has_pending}
+use Rattle.shared_flow.proofs.OwnPart.{own_grown, own_poll, own_asked}
+use Rattle.shared_flow.specs.Emitted.{IsOwn}
 use Rattle.shared_flow.proofs.emitter.Emitter.poll_emit.Goals as goal
 
 pub invariant_of-self : goal.invariant_of-self
 invariant_of-self g c =
     let made : Round = c.polled_without_receipt-round.result in
     let grew = ap (λ (r : Reach). r.rounds) c.leave.ensures.left.after ∙ ap (λ (r : Reach). r.rounds ++ made ∷ []) c.enter-inside.ensures.taken in
-    (ap (λ (r : Reach). r.held) c.leave.ensures.left.after, subst (WasAnswered c.self.inside.last) (sym grew) (answered_on c.self.inside.last c.self.inside.access.rounds made c.self.invariant.1))
+    (ap (λ (r : Reach). r.held) c.leave.ensures.left.after, subst (WasAnswered c.self.inside.last) (sym grew) (answered_on c.self.inside.last c.self.inside.access.rounds made c.self.invariant.1), own_grown c.self.inside.id c.self.inside.access.rounds c.leave.new.self.rounds made grew c.self.invariant.2 (subst (IsOwn c.self.inside.id) (sym c.polled_without_receipt-round.ensures) (own_poll c.self.inside.id c.in-Some.ticket c.self.inside.id c.self.inside.last c.poll_emit-emit.result.emit)))
 
 pub returns-in_default-receipt-clause-pending : goal.returns-in_default-receipt-clause-pending
 returns-in_default-receipt-clause-pending g c = (
@@ -46,7 +48,7 @@ invariant_of-self-2 g c =
     let grew = ap (λ (r : Reach). r.rounds) c.leave-2.ensures.left.after ∙ ap (λ (r : Reach). r.rounds ++ made ∷ []) c.enter-inside.ensures.taken in
     let done = subst (λ receipt. IfSome receipt (λ r. (c.poll_emit-emit.result.emit ≡ emit.Done r.number) × IsReceiptAfter c.deref_mut.result.now.name.lane c.self.inside.id c.self.inside.last r)) c.in-Some-receipt.is c.poll_emit-emit.ensures.receipt in
     let answered = ap (λ e. after_number (round.Poll c.in-Some.ticket e)) done.0 ∙ ap (λ n. n + 1) (sym c.number.ensures) in
-    (ap (λ (r : Reach). r.held) c.leave-2.ensures.left.after, subst (WasAnswered (Some c.number.result)) (sym grew) (answered_last c.number.result c.self.inside.access.rounds made answered))
+    (ap (λ (r : Reach). r.held) c.leave-2.ensures.left.after, subst (WasAnswered (Some c.number.result)) (sym grew) (answered_last c.number.result c.self.inside.access.rounds made answered), own_grown c.self.inside.id c.self.inside.access.rounds c.leave-2.new.self.rounds made grew c.self.invariant.2 (own_asked c.self.inside.id c.in-Some.ticket c.poll_emit-emit.result.emit))
 
 pub leave-requires : goal.leave-requires
 leave-requires g c =

@@ -1,4 +1,4 @@
-use Rattle.std.proofs.Common.{rules, ◌≡◌, ◌⊎◌, IfErr, ◌≤◌, ◌++◌, ◌∷◌, [], sym, ap, subst, ◌∙◌}
+use Rattle.std.proofs.Common.{rules, ◌≡◌, ◌⊎◌, IfErr, ◌≤◌, ◌++◌, ◌∷◌, [], sym, ap, subst, ◌∙◌, refl}
 use Rattle.flow_terms.specs.declared.refusal.Refusal.TheVariants.{Spent, EmitsFull}
 use Rattle.shared_lane.specs.Sequencers.{next}
 use Rattle.shared_rounds.specs.declared.round.Emission.{Emission}
@@ -15,6 +15,7 @@ use Rattle.shared_flow.proofs.Rising.{after_start, start_refused, start_rises, s
 use Rattle.shared_flow.proofs.Waiting.{begun_policy, begun_receipt, untold_receipt, untold_refusal, untold_policy}
 use Rattle.shared_flow.proofs.Making.{made}
 use Rattle.shared_flow.proofs.Emitted.{has_begun}
+use Rattle.shared_flow.proofs.OwnPart.{own_grown}
 use Rattle.shared_flow.proofs.emitter.Emitter.start_emit.Goals as goal
 
 pub returns : goal.returns
@@ -59,7 +60,7 @@ invariant_of-self g c =
     let emission : Emission = record { emitter = c.self.inside.id; word = c.to_word.result } in
     let grew = ap (λ (r : Reach). r.rounds) c.leave.ensures.left.after ∙ ap (λ (r : Reach). r.rounds ++ round.Start emission answer ∷ []) c.enter-inside.ensures.taken in
     let ends = after_start c.self.inside.last rounds emission answer c.self.invariant.1 in
-    (ap (λ (r : Reach). r.held) c.leave.ensures.left.after, subst (WasAnswered c.last_begun-self-inside.result) (sym grew) (subst (λ l. WasAnswered l (rounds ++ round.Start emission answer ∷ [])) (sym c.last_begun-self-inside.ensures) ends))
+    (ap (λ (r : Reach). r.held) c.leave.ensures.left.after, subst (WasAnswered c.last_begun-self-inside.result) (sym grew) (subst (λ l. WasAnswered l (rounds ++ round.Start emission answer ∷ [])) (sym c.last_begun-self-inside.ensures) ends), own_grown c.self.inside.id c.self.inside.access.rounds c.leave.new.self.rounds (round.Start emission answer) grew c.self.invariant.2 refl)
 
 pub leave-requires : goal.leave-requires
 leave-requires g c =

@@ -1,4 +1,4 @@
-use Rattle.std.proofs.Common.{◌≤◌, ◌++◌, ◌∷◌, [], sym, ap, subst, ◌∙◌}
+use Rattle.std.proofs.Common.{◌≤◌, ◌++◌, ◌∷◌, [], sym, ap, subst, ◌∙◌, refl}
 use Rattle.shared_lane.specs.Sequencers.{next}
 use Rattle.shared_rounds.specs.declared.round.Emission.{Emission}
 use Rattle.shared_rounds.specs.declared.round.Round.TheVariants as round
@@ -14,6 +14,7 @@ use Rattle.shared_flow.proofs.Rising.{after_try, try_rises}
 use Rattle.shared_flow.proofs.Making.{made}
 use Rattle.shared_flow.proofs.Waiting.{tried_receipt}
 use Rattle.shared_flow.proofs.Emitted.{has_tried}
+use Rattle.shared_flow.proofs.OwnPart.{own_grown}
 use Rattle.shared_flow.proofs.emitter.Emitter.try_emit.Goals as goal
 
 pub returns-clause-rises : goal.returns-clause-rises
@@ -31,7 +32,7 @@ invariant_of-self g c =
     let emission : Emission = record { emitter = c.self.inside.id; word = c.to_word.result } in
     let grew = ap (λ (r : Reach). r.rounds) c.leave.ensures.left.after ∙ ap (λ (r : Reach). r.rounds ++ round.Try emission answer ∷ []) c.enter-inside.ensures.taken in
     let ends = after_try c.self.inside.last rounds emission answer c.self.invariant.1 in
-    (ap (λ (r : Reach). r.held) c.leave.ensures.left.after, subst (WasAnswered c.last_tried-self-inside.result) (sym grew) (subst (λ l. WasAnswered l (rounds ++ round.Try emission answer ∷ [])) (sym c.last_tried-self-inside.ensures) ends))
+    (ap (λ (r : Reach). r.held) c.leave.ensures.left.after, subst (WasAnswered c.last_tried-self-inside.result) (sym grew) (subst (λ l. WasAnswered l (rounds ++ round.Try emission answer ∷ [])) (sym c.last_tried-self-inside.ensures) ends), own_grown c.self.inside.id c.self.inside.access.rounds c.leave.new.self.rounds (round.Try emission answer) grew c.self.invariant.2 refl)
 
 pub leave-requires : goal.leave-requires
 leave-requires g c =

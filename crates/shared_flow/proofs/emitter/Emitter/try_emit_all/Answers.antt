@@ -8,6 +8,7 @@ use Rattle.shared_flow.proofs.Rising.{answered_on}
 use Rattle.shared_rounds.proofs.Doing.{is_called}
 use Rattle.shared_flow.proofs.Making.{made, round_is}
 use Rattle.shared_flow.proofs.Emitted.{grown}
+use Rattle.shared_flow.proofs.OwnPart.{own_grown}
 use Rattle.shared_flow.proofs.emitter.Emitter.try_emit_all.Goals as goal
 
 pub invariant_of-self : goal.invariant_of-self
@@ -15,7 +16,7 @@ invariant_of-self g c =
     let rounds = c.self.inside.access.rounds in
     let tried : Round = round.TryAll c.self.inside.id (map g.T.Word.word c.args.values.now) c.try_emit_all-answer.result in
     let grew = ap (λ (r : Reach). r.rounds) c.leave_block.ensures.left.after ∙ ap (λ (r : Reach). r.rounds ++ tried ∷ []) c.enter-inside.ensures.taken in
-    (ap (λ (r : Reach). r.held) c.leave_block.ensures.left.after, subst (WasAnswered c.self.inside.last) (sym grew) (answered_on c.self.inside.last rounds tried c.self.invariant.1))
+    (ap (λ (r : Reach). r.held) c.leave_block.ensures.left.after, subst (WasAnswered c.self.inside.last) (sym grew) (answered_on c.self.inside.last rounds tried c.self.invariant.1), own_grown c.self.inside.id c.self.inside.access.rounds c.leave_block.new.self.rounds tried grew c.self.invariant.2 refl)
 
 pub leave_block-requires : goal.leave_block-requires
 leave_block-requires g c =

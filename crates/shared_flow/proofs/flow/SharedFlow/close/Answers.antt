@@ -10,3 +10,11 @@ returns-clause-ended g c =
       λ none. (did.idle none).1,
       search rules,
     )
+
+pub returns-clause-has : goal.returns-clause-has
+returns-clause-has g c =
+    let did = c.cancel_emit-withdrawn.ensures in (
+      c.cancel_emit-withdrawn.new.self,
+      (did.ends.0, λ none. (did.idle none).1, did.left, did.removed),
+      did.has,
+    )

@@ -3,8 +3,7 @@ use Rattle.shared_lane.specs.Readers.{at}
 use Rattle.shared_rounds.specs.Names.{FoundUp}
 use Rattle.shared_rounds.specs.Reach.{party_of}
 use Rattle.shared_flow.specs.Looks.{MadeRoom}
-use Rattle.shared_flow.specs.Parties.{Subscribed}
-use Rattle.shared_flow.specs.Received.{received, words_received, taken_of}
+use Rattle.shared_flow.specs.Parties.{Subscribed, received, words_received, taken_of}
 use Rattle.shared_flow.proofs.Received.{took_next, took_none, still_reads, received_more}
 use Rattle.shared_flow.proofs.subscription.Subscription.look.Goals as goal
 use Rattle.shared_flow.proofs.subscription.Subscription.look.Goals.{then-waits, else-waits}
@@ -18,7 +17,7 @@ invariant_of-self g c =
       still_reads inside.access.flow inside.reader t c.self.invariant.1 same,
       c.self.invariant.2,
       same.5 ∙ c.self.invariant.3,
-      (took_next inside.reader t c.try_next.result c.self.invariant.4 (same, c.try_next.ensures.taken)).0,
+      (took_next inside.reader t c.try_next.result c.self.invariant.4 (same, c.try_next.ensures.has)).0,
       inl (ap (λ (s : Subscribed _). s.rest) c.self.view_is ∙ c.requires.past),
     )
 
@@ -31,7 +30,7 @@ invariant_of-self-then-waits g c =
       still_reads inside.access.flow inside.reader t c.self.invariant.1 same,
       search rules,
       same.5 ∙ c.self.invariant.3,
-      (took_next inside.reader t c.try_next.result c.self.invariant.4 (same, c.try_next.ensures.taken)).0,
+      (took_next inside.reader t c.try_next.result c.self.invariant.4 (same, c.try_next.ensures.has)).0,
       inl (ap (λ (s : Subscribed _). s.rest) c.self.view_is ∙ c.requires.past),
     )
 
@@ -44,7 +43,7 @@ invariant_of-self-else-waits g c =
       still_reads inside.access.flow inside.reader t c.self.invariant.1 same,
       search rules,
       same.5 ∙ c.self.invariant.3,
-      (took_next inside.reader t c.try_next.result c.self.invariant.4 (same, c.try_next.ensures.taken)).0,
+      (took_next inside.reader t c.try_next.result c.self.invariant.4 (same, c.try_next.ensures.has)).0,
       inl (ap (λ (s : Subscribed _). s.rest) c.self.view_is ∙ c.requires.past),
     )
 
@@ -52,7 +51,7 @@ pub returns-in_default-clause-has : goal.returns-in_default-clause-has
 returns-in_default-clause-has g c =
     let inside = c.self.inside in
     let t = c.try_next.new.self in
-    let took = took_next inside.reader t c.try_next.result c.self.invariant.4 (c.try_next.ensures.same.1, c.try_next.ensures.taken) in
+    let took = took_next inside.reader t c.try_next.result c.self.invariant.4 (c.try_next.ensures.same.1, c.try_next.ensures.has) in
     let none = took.1 ∙ ap (λ l. words_received inside.reader ++ l) (took_none c.try_next.result c.in_default.not-Value) in
     rw (← c.self.view_is) (received_more g.T.Word.read_as inside.rest.given inside.reader t [] none)
 
@@ -61,7 +60,7 @@ returns-clause-has g c =
     let inside = c.self.inside in
     let read = g.T.Word.read_as in
     let t = c.try_next.new.self in
-    let took = took_next inside.reader t c.try_next.result c.self.invariant.4 (c.try_next.ensures.same.1, c.try_next.ensures.taken) in
+    let took = took_next inside.reader t c.try_next.result c.self.invariant.4 (c.try_next.ensures.same.1, c.try_next.ensures.has) in
     let one = took.1 ∙ ap (λ x. words_received inside.reader ++ taken_of x) c.in-Value.is in
     let same : received read c.if-waits.self ≡ inside.rest.given ++ map read (words_received t) = elim c.if-waits.branch [
       | then-waits w ↦ ap (received read) (w.self-is ∙ w.make_room.ensures.same)

@@ -11,8 +11,7 @@ use Rattle.shared_rounds.specs.Rounds.{Comes, FreesAfter, HasFreed, look_round}
 use Rattle.shared_rounds.specs.Waking.{SleepOn}
 use Rattle.shared_rounds.proofs.Doing.{is_called, lay_down, none_lies}
 use Rattle.shared_flow.specs.Looks.{Missed}
-use Rattle.shared_flow.specs.Received.{words_received, taken_of}
-use Rattle.shared_flow.specs.Parties.{Subscribed}
+use Rattle.shared_flow.specs.Parties.{words_received, taken_of, Subscribed}
 use Rattle.shared_flow.proofs.Making.{made, missed_all, was_made_within}
 use Rattle.shared_flow.proofs.Received.{took_next, received_more}
 use Rattle.shared_flow.proofs.subscription.Subscription.look_again.Goals as goal

@@ -2,8 +2,7 @@ use Rattle.std.proofs.Common.{rules, inl, inr, length, map, sym, ap, subst, â—Œâ
 use Rattle.shared_lane.specs.Readers.{at}
 use Rattle.shared_rounds.specs.Names.{FoundUp}
 use Rattle.shared_flow.specs.Looks.{MadeRoom}
-use Rattle.shared_flow.specs.Parties.{Subscribed}
-use Rattle.shared_flow.specs.Received.{received}
+use Rattle.shared_flow.specs.Parties.{Subscribed, received}
 use Rattle.shared_flow.proofs.Received.{took_all, still_reads, received_more}
 use Rattle.shared_flow.proofs.subscription.Subscription.look_for_all.Goals as goal
 
@@ -20,7 +19,7 @@ invariant_of-self g c =
     let inside = c.self.inside in
     let t = c.try_next_all-taken.new.self in
     let same = c.try_next_all-taken.ensures.same.1 in
-    let words = c.try_next_all-taken.ensures.taken in (
+    let words = c.try_next_all-taken.ensures.has in (
       c.self.invariant.0,
       still_reads inside.access.flow inside.reader t c.self.invariant.1 same,
       search rules,
@@ -34,7 +33,7 @@ invariant_of-self-else-waits g c =
     let inside = c.self.inside in
     let t = c.try_next_all-taken.new.self in
     let same = c.try_next_all-taken.ensures.same.1 in
-    let words = c.try_next_all-taken.ensures.taken in (
+    let words = c.try_next_all-taken.ensures.has in (
       c.self.invariant.0,
       still_reads inside.access.flow inside.reader t c.self.invariant.1 same,
       search rules,
@@ -48,7 +47,7 @@ invariant_of-self-in_default g c =
     let inside = c.self.inside in
     let t = c.try_next_all-taken.new.self in
     let same = c.try_next_all-taken.ensures.same.1 in
-    let words = c.try_next_all-taken.ensures.taken in (
+    let words = c.try_next_all-taken.ensures.has in (
       c.self.invariant.0,
       still_reads inside.access.flow inside.reader t c.self.invariant.1 same,
       search rules,
@@ -61,7 +60,7 @@ pub returns-then-waits-clause-has : goal.returns-then-waits-clause-has
 returns-then-waits-clause-has g c =
     let inside = c.self.inside in
     let t = c.try_next_all-taken.new.self in
-    let words = c.try_next_all-taken.ensures.taken in
+    let words = c.try_next_all-taken.ensures.has in
     let took = took_all inside.reader t _ c.try_next_all-taken.result words.0 c.self.invariant.4 (c.try_next_all-taken.ensures.same.1, words.2) in (
       map g.T.Word.read_as words.0,
       words.1,
@@ -72,7 +71,7 @@ pub returns-else-waits-clause-has : goal.returns-else-waits-clause-has
 returns-else-waits-clause-has g c =
     let inside = c.self.inside in
     let t = c.try_next_all-taken.new.self in
-    let words = c.try_next_all-taken.ensures.taken in
+    let words = c.try_next_all-taken.ensures.has in
     let took = took_all inside.reader t _ c.try_next_all-taken.result words.0 c.self.invariant.4 (c.try_next_all-taken.ensures.same.1, words.2) in (
       map g.T.Word.read_as words.0,
       words.1,
@@ -83,7 +82,7 @@ pub returns-in_default-clause-has : goal.returns-in_default-clause-has
 returns-in_default-clause-has g c =
     let inside = c.self.inside in
     let t = c.try_next_all-taken.new.self in
-    let words = c.try_next_all-taken.ensures.taken in
+    let words = c.try_next_all-taken.ensures.has in
     let took = took_all inside.reader t _ c.try_next_all-taken.result words.0 c.self.invariant.4 (c.try_next_all-taken.ensures.same.1, words.2) in (
       map g.T.Word.read_as words.0,
       words.1,

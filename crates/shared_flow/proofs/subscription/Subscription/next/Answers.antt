@@ -1,8 +1,7 @@
 use Rattle.std.proofs.Common.{◌++◌, ⊎_elim, inl, inr, refl, sym, ap, subst, ◌∙◌}
 use Rattle.shared_flow.specs.Looks.{Missed, not_once, by_none}
 use Rattle.std.proofs.lemmas.List.{append-nil}
-use Rattle.shared_flow.specs.Parties.{Subscribed}
-use Rattle.shared_flow.specs.Received.{received, some_of, ok_of}
+use Rattle.shared_flow.specs.Parties.{Subscribed, received, some_of, ok_of}
 use Rattle.shared_rounds.proofs.Doing.{if_ok, if_err}
 use Rattle.shared_flow.proofs.Waiting.{only_next, waited_before}
 use Rattle.shared_flow.proofs.Receiving.{has_room_at_once, has_room_since, only_since}
@@ -16,6 +15,7 @@ returns-in-Some g c =
     let s = c.args.self.now in
     let t = c.next_now.new.self in record {
       has = c.next_now.ensures.has ∙ ap (λ o. received g.T.Word.read_as s ++ some_of o) c.in-Some.is;
+      prelude = c.next_now.ensures.prelude;
       same = c.next_now.ensures.same;
       rounds = only_next _ _ _ _ _ refl (by_none s.party) c.next_now.ensures.rounds;
       value = ⊎_elim (λ greeted. inl greeted) (λ it. inr (it.0, (s.reader, not_once s.reader, it.1))) c.in-Some.ensures.given;
@@ -32,6 +32,7 @@ returns-in-None g c =
     let wait = c.wait_for_next.ensures in
     let rest = wait.same.1 ∙ missed.0.1 in record {
       has = wait.has ∙ ap (λ l. l ++ ok_of c.wait_for_next.result) (c.next_now.ensures.has ∙ ap (λ o. received g.T.Word.read_as s ++ some_of o) c.in-None.is ∙ append-nil (received g.T.Word.read_as s));
+      prelude = wait.prelude ∙ c.next_now.ensures.prelude;
       same = wait.same.0 ∙ ap (λ (x : Subscribed _). x.number) missed.1;
       rounds = only_since s m t missed.1 wait.rounds;
       value = if_ok c.wait_for_next.result _ _ (λ v it. inr ((missed.0.0, rest), waited_before g.T.Word.read_as s.reader m.reader t.reader v missed.2 it)) wait.value;

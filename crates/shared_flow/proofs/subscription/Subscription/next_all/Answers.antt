@@ -1,8 +1,7 @@
 use Rattle.std.proofs.Common.{[], inr, ◌∙◌, sym, ap, subst}
 use Rattle.std.proofs.lemmas.List.{append-nil}
-use Rattle.shared_flow.specs.Received.{received}
+use Rattle.shared_flow.specs.Parties.{received, Subscribed}
 use Rattle.shared_flow.specs.Looks.{OnlyNext, by_none}
-use Rattle.shared_flow.specs.Parties.{Subscribed}
 use Rattle.shared_rounds.proofs.Doing.{if_ok}
 use Rattle.shared_flow.proofs.subscription.Subscription.next_all.Goals as goal
 

@@ -6,7 +6,7 @@ use Rattle.flow_terms.specs.declared.refusal.Refusal.TheVariants.{NoMemory}
 use Rattle.shared_lane.specs.declared.reader.Taken.TheVariants.{Value}
 use Rattle.shared_flow.specs.Blocks.{LookedAll, MissedAll}
 use Rattle.shared_flow.specs.Looks.{by_none}
-use Rattle.shared_flow.specs.Received.{received}
+use Rattle.shared_flow.specs.Parties.{received}
 use Rattle.shared_flow.proofs.Received.{with_one}
 use Rattle.shared_flow.proofs.Receiving.{has_room_at_once, has_room_since}
 use Rattle.shared_flow.proofs.Takes.{got_after, looked_count, missed_all, not_answered, only_next_then, room_after}
@@ -42,6 +42,7 @@ returns-in_err-value g c = let look = c.look_for_all.ensures in let wait = c.in_
     let none = missed_all old.reader c.look_for_all.new.self.reader room c.look_for_all.result look.looked.0 c.in_default.not-Value look.looked.2 in
     let result_is : Err e ≡ c.from_residual.result = ap Err (sym p.2) ∙ sym p.1 in record {
       has = (look.has.0, look.has.1, ap (received read) wait.nothing.1 ∙ look.has.2);
+      prelude = wait.prelude ∙ look.prelude;
       same = (wait.same.0 ∙ look.same.0, wait.same.1 ∙ look.same.1);
       rounds = only_next_then _ _ _ _ _ look.same.0 (only_next _ _ _ _ _ refl (by_none old.party) look.rounds) wait.rounds;
       taken = not_answered c.from_residual.result e _ result_is;
@@ -67,6 +68,7 @@ returns g c = let look = c.look_for_all.ensures in let wait = c.in_ok-value.ensu
         more.has.1 ∙ ap (λ l. l ++ more.has.0) (push.items ∙ ap (λ l. l ++ v ∷ []) look.has.1) ∙ with_one out.items look.has.0 more.has.0 v,
         more.has.2 ∙ ap (λ l. l ++ more.has.0) (wait.has ∙ ap (λ l. l ++ v ∷ []) look.has.2) ∙ with_one (received read old) look.has.0 more.has.0 v,
       );
+      prelude = more.prelude ∙ (wait.prelude ∙ look.prelude);
       same = (more.same.0 ∙ (wait.same.0 ∙ look.same.0), more.same.1 ∙ (wait.same.1 ∙ look.same.1));
       rounds = only_next _ _ _ _ _ (wait.same.0 ∙ look.same.0) (only_next_then _ _ _ _ _ look.same.0 (only_next _ _ _ _ _ refl (by_none old.party) look.rounds) wait.rounds) more.rounds;
       taken = (v ∷ map read words, got.0, omega arith, omega arith, got.1);

@@ -1,9 +1,9 @@
 use Rattle.std.proofs.Common.{arith, [], ◌∷◌, ◌++◌, inl, inr, sym, ap, subst, ◌∙◌}
 use Rattle.shared_flow.specs.Looks.{MissedOn, not_once, once_more}
 use Rattle.std.proofs.lemmas.List.{append-nil}
-use Rattle.shared_flow.specs.Parties.{Subscribed}
-use Rattle.shared_flow.specs.Received.{received, some_of}
+use Rattle.shared_flow.specs.Parties.{Subscribed, received, some_of}
 use Rattle.shared_flow.proofs.Receiving.{looked_as, looked_twice, room_since, rounds_since, still}
+use Rattle.shared_flow.proofs.Preludes.{prelude_looked}
 use Rattle.shared_flow.proofs.subscription.Subscription.next_soon.Goals as goal
 
 pub look-requires : goal.look-requires
@@ -42,6 +42,7 @@ returns-in-Some-look g c =
     let it = c.loop-turn.invariant in
     let look = c.look.ensures in record {
       has = look.has ∙ ap (λ o. received g.T.Word.read_as m ++ some_of o) c.in-Some-look.is ∙ ap (λ l. l ++ c.in-Some-look.value ∷ []) it.has;
+      prelude = look.prelude ∙ prelude_looked s m it.looked;
       rounds = rounds_since s m t it.looked look.rounds;
       same = look.same.0 ∙ ap (λ (x : Subscribed _). x.number) it.looked;
       given = inr ((it.past, look.same.1 ∙ (ap (λ (x : Subscribed _). x.rest) it.looked ∙ it.past)), (m.reader, it.missed, c.in-Some-look.ensures.given));
@@ -54,6 +55,7 @@ returns g c =
     let s = c.args.self.now in
     let it = c.loop-turn.invariant in record {
       has = it.has ∙ sym (append-nil (received g.T.Word.read_as s));
+      prelude = prelude_looked s c.loop-turn.self it.looked;
       rounds = inl (ap (λ (x : Subscribed _). x.party) it.looked);
       same = ap (λ (x : Subscribed _). x.number) it.looked;
       given = tt;

@@ -1,6 +1,6 @@
 use Rattle.std.proofs.Common.{◌≡◌, ◌<◌, []}
 use Rattle.shared_flow.specs.Looks.{MissedOn, MissedSome, OnlyLooked}
-use Rattle.shared_flow.specs.Received.{received}
+use Rattle.shared_flow.specs.Parties.{received}
 use Rattle.shared_flow.proofs.subscription.Subscription.next_soon.Given as goal
 
 abbrev pub invariant-loop-turn : goal.invariant-loop-turn

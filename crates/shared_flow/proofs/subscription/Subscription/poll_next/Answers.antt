@@ -1,7 +1,6 @@
 use Rattle.std.proofs.Common.{◌++◌, ⊎_elim, inl, inr, ap, ◌∙◌}
 use Rattle.std.proofs.lemmas.List.{append-nil}
-use Rattle.shared_flow.specs.Parties.{Subscribed}
-use Rattle.shared_flow.specs.Received.{received, some_of, ready_of}
+use Rattle.shared_flow.specs.Parties.{Subscribed, received, some_of, ready_of}
 use Rattle.shared_flow.proofs.Receiving.{if_both, if_ready, missed_since, on_pending, pending_since, within_since}
 use Rattle.shared_flow.proofs.subscription.Subscription.poll_next.Goals as goal
 
@@ -19,6 +18,7 @@ returns-in-None g c =
     let missed = c.in-None.ensures.missed in
     let rest = c.look_again.ensures.same.1 ∙ missed.0.1 in record {
       has = c.look_again.ensures.has ∙ ap (λ l. l ++ ready_of c.look_again.result) (c.next_now.ensures.has ∙ ap (λ o. received g.T.Word.read_as s ++ some_of o) c.in-None.is ∙ append-nil (received g.T.Word.read_as s));
+      prelude = c.look_again.ensures.prelude ∙ c.next_now.ensures.prelude;
       round = on_pending c.look_again.result _ _ (λ it. pending_since s m t missed.1 it) c.look_again.ensures.round;
       rounds = if_ready c.look_again.result _ _ (λ v it. inr (within_since s m t missed.1 it).made) c.look_again.ensures.within;
       same = c.look_again.ensures.same.0 ∙ ap (λ (x : Subscribed _). x.number) missed.1;

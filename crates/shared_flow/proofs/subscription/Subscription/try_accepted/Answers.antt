@@ -1,6 +1,5 @@
 use Rattle.std.proofs.Common.{◌≡◌, inl, [], ◌∷◌, ◌++◌, map, sym, ap, ◌∙◌}
-use Rattle.shared_flow.specs.Parties.{Subscribed}
-use Rattle.shared_flow.specs.Received.{words_received, taken_of}
+use Rattle.shared_flow.specs.Parties.{Subscribed, words_received, taken_of}
 use Rattle.shared_flow.proofs.Received.{took_next, still_reads, received_more}
 use Rattle.shared_flow.proofs.subscription.Subscription.try_accepted.Goals as goal
 use Rattle.shared_flow.proofs.subscription.Subscription.try_accepted.Goals.{in-Value, in-Nothing, in-Overtaken}
@@ -13,7 +12,7 @@ invariant_of-self g c =
       still_reads inside.access.flow inside.reader c.try_next.new.self c.self.invariant.1 same,
       c.self.invariant.2,
       same.5 ∙ c.self.invariant.3,
-      (took_next inside.reader c.try_next.new.self c.try_next.result c.self.invariant.4 (same, c.try_next.ensures.taken)).0,
+      (took_next inside.reader c.try_next.new.self c.try_next.result c.self.invariant.4 (same, c.try_next.ensures.has)).0,
       inl (ap (λ (s : Subscribed _). s.rest) c.self.view_is ∙ c.requires.past),
     )
 
@@ -21,7 +20,7 @@ pub returns-clause-has : goal.returns-clause-has
 returns-clause-has g c =
     let inside = c.self.inside in
     let read = g.T.Word.read_as in
-    let took = took_next inside.reader c.try_next.new.self c.try_next.result c.self.invariant.4 (c.try_next.ensures.same.1, c.try_next.ensures.taken) in
+    let took = took_next inside.reader c.try_next.new.self c.try_next.result c.self.invariant.4 (c.try_next.ensures.same.1, c.try_next.ensures.has) in
     let value : map read (taken_of c.try_next.result) ≡ taken_of c.match-try_next.result = elim c.match-try_next.branch [
       | in-Value w ↦ ap (λ x. map read (taken_of x)) w.in-Value.is ∙ ap (λ v. v ∷ []) (sym w.from_word.ensures) ∙ ap taken_of (sym w.result-is)
       | in-Nothing w ↦ ap (λ x. map read (taken_of x)) w.in-Nothing.is ∙ ap taken_of (sym w.result-is)

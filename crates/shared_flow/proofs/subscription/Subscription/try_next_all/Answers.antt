@@ -7,7 +7,7 @@ invariant_of-self-2 g c =
     let inside = c.self.inside in
     let t = c.try_next_all.new.self in
     let same = c.try_next_all.ensures.same.1 in
-    let words = c.try_next_all.ensures.taken in (
+    let words = c.try_next_all.ensures.has in (
       c.self.invariant.0,
       still_reads inside.access.flow inside.reader t c.self.invariant.1 same,
       c.self.invariant.2,
@@ -20,7 +20,7 @@ pub returns-clause-has : goal.returns-clause-has
 returns-clause-has g c =
     let inside = c.self.inside in
     let t = c.try_next_all.new.self in
-    let words = c.try_next_all.ensures.taken in
+    let words = c.try_next_all.ensures.has in
     let took = took_all inside.reader t _ c.try_next_all.result words.0 c.self.invariant.4 (c.try_next_all.ensures.same.1, words.2) in (
       map g.T.Word.read_as words.0,
       words.1,

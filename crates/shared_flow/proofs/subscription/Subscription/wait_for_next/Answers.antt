@@ -2,7 +2,7 @@ use Rattle.std.proofs.Common.{[], ◌∷◌, ◌++◌, ap, ◌≡◌, ◌⊎◌,
 use Rattle.std.proofs.lemmas.List.{append-nil}
 use Rattle.std.proofs.lemmas.Result.{err_from_is_err_and}
 use Rattle.futures.specs.Poll.{IfReady, OnPending}
-use Rattle.shared_flow.specs.Received.{received, some_of, ok_of, ready_of}
+use Rattle.shared_flow.specs.Parties.{received, some_of, ok_of, ready_of}
 use Rattle.shared_rounds.specs.declared.round.Round.TheVariants as round
 use Rattle.shared_rounds.specs.Entering.{Made}
 use Rattle.shared_flow.specs.Looks.{GaveIn, MadeRoomIn, MissedTwice, once_more, by_none}
@@ -26,6 +26,7 @@ returns-in-Some g c =
     let t = c.next_soon.new.self in
     let given = past_given s t c.in-Some.value _ c.requires.past c.in-Some.ensures.given in record {
       has = c.next_soon.ensures.has ∙ ap (λ o. received g.T.Word.read_as s ++ some_of o) c.in-Some.is;
+      prelude = c.next_soon.ensures.prelude;
       same = (c.next_soon.ensures.same, given.0.1 ∙ sym given.0.0);
       rounds = only_next _ _ _ _ _ refl (by_none s.party) c.next_soon.ensures.rounds;
       value = given.1;
@@ -38,6 +39,7 @@ loop-init g c =
     let missed = c.in_default.ensures.missed in record {
       past = missed.0.1;
       has = c.next_soon.ensures.has ∙ ap (λ o. received g.T.Word.read_as c.args.self.now ++ some_of o) c.in_default.is ∙ append-nil (received g.T.Word.read_as c.args.self.now);
+      prelude = c.next_soon.ensures.prelude;
       same = c.next_soon.ensures.same;
       rounds = only_next _ _ _ _ _ refl (by_none c.args.self.now.party) c.next_soon.ensures.rounds;
       missed = once_more _ _ _ missed.2.1 missed.2.2;
@@ -55,6 +57,7 @@ returns-in-Ready g c =
     let given = past_given m t v _ it.past (subst (λ p. IfReady p (λ v. GreetedOr m v t (GaveIn read m.reader v t.reader))) c.in-Ready.is poll.ready) in
     let room = past_room m t v _ it.past (subst (λ p. IfReady p (λ v. IsGreeted m v t ⊎ MadeRoomIn m t)) c.in-Ready.is poll.room) in record {
       has = poll.has ∙ ap (λ p. received read m ++ ready_of p) c.in-Ready.is ∙ ap (λ l. l ++ v ∷ []) it.has;
+      prelude = poll.prelude ∙ it.prelude;
       same = (poll.same ∙ it.same, given.0.1 ∙ sym c.requires.past);
       rounds = only_next _ _ _ _ _ it.same it.rounds (subst (λ p. IfReady p (λ v. (t.party ≡ m.party) ⊎ Made (round.Next m.number) m.party t.party)) c.in-Ready.is poll.rounds);
       value = waited_on read s.reader m.reader t.reader v it.missed given.1;
@@ -73,6 +76,7 @@ loop-preserved g c =
     let twice = pending.1 in record {
       past = pending.0.1;
       has = poll.has ∙ ap (λ p. received g.T.Word.read_as m ++ ready_of p) c.in_default-polled.is ∙ append-nil (received g.T.Word.read_as m) ∙ it.has;
+      prelude = poll.prelude ∙ it.prelude;
       same = poll.same ∙ it.same;
       rounds = only_pending _ _ _ _ _ it.same it.rounds (subst (λ p. OnPending p (Made (round.Pending m.number) m.party t.party)) c.in_default-polled.is poll.round);
       missed = once_more s.reader twice.0 t.reader (once_more s.reader m.reader twice.0 it.missed twice.1) twice.2;
