@@ -1,10 +1,12 @@
 -- What a wait comes to that can be let go.
-use Rattle.std.specs.Prelude.{◌≡◌, ◌⊎◌, ℕ, List, [], ◌∷◌, Result, Ok, Err}
+use Rattle.std.specs.Prelude.{◌≡◌, ◌⊎◌, ℕ, List, [], ◌∷◌, ◌++◌, Option, Some, None, Result, Ok, Err}
 use Rattle.flow_terms.specs.declared.refusal.Refusal.{Refusal}
 use Rattle.flow_terms.specs.declared.refusal.Refusal.TheVariants.{NoMemory}
 use Rattle.flow_terms.specs.declared.answers.Begun.TheVariants as begun
+use Rattle.shared_lane.specs.Views.{ReceiptSeen}
 use Rattle.shared_rounds.specs.declared.round.Emission.{Emission}
 use Rattle.shared_flow.specs.Parties.{Emitting, Subscribed}
+use Rattle.shared_flow.specs.Emitted.{Emissions, Outcome, accepted, dropped, withdrawn, outcome_of_emit, settled}
 use Rattle.shared_flow.specs.Emitters.{WasStarted, WasFinished, WasLeft, WasWithdrawn}
 use Rattle.shared_flow.specs.Emitters as emitters
 use Rattle.shared_flow.specs.Looks.{HasMadeRoom, MissedOn, OnlyNext, Waited}
@@ -32,6 +34,28 @@ Receives read_as s (Ok (received.Value v)) t =
     × (IsGreeted s v t ⊎ HasMadeRoom s t)
 Receives read_as s (Ok received.Stopped) t = LookedOn s t
 Receives read_as s (Err refusal) t = (refusal ≡ NoMemory) × (t ≡ s)
+
+-- what became of a word that was emitted, by the answer
+abbrev pub outcome_of_wait : Result Emitted Refusal → Outcome
+outcome_of_wait (Ok (emitted.Accepted receipt)) = accepted receipt.number
+outcome_of_wait (Ok emitted.Dropped) = dropped
+outcome_of_wait (Ok emitted.Stopped) = withdrawn
+outcome_of_wait (Err refusal) = outcome_of_emit (Err refusal)
+
+-- the list grew by this word, with what became of it; where the parker was stopped before, it is as it was
+abbrev pub GrewByOne : Emissions → ℕ → Result Emitted Refusal → Emissions → Type 0
+GrewByOne old word (Ok emitted.Stopped) new = (new ≡ old) ⊎ (new ≡ old ++ (word, withdrawn) ∷ [])
+GrewByOne old word answer new = new ≡ old ++ (word, outcome_of_wait answer) ∷ []
+
+-- the last word, which is in flight: a receipt ended it, or it is still in flight
+abbrev pub after_polls : Option ReceiptSeen → Emissions → Emissions
+after_polls (Some receipt) xs = settled (accepted receipt.number) xs
+after_polls None xs = xs
+
+-- and it was given up, which had been accepted, or had not
+abbrev pub outcome_given_up : Option ReceiptSeen → Outcome
+outcome_given_up (Some receipt) = accepted receipt.number
+outcome_given_up None = withdrawn
 
 -- What an emission in flight comes to that is waited for: polls find it finished, or it is given up, which had been accepted; or
 -- the parker is stopped, or finds no memory to wait by, and it is withdrawn

@@ -1,8 +1,9 @@
 //! An emission that is waited for, unless the thread is let go.
 ghost use Rattle.std.specs.Prelude.{◌≡◌, ◌≢◌, None, IfSome, IfNone};
 ghost use Rattle.shared_flow.specs.Emitters.{emission_by, Waited, WasFinished, WasLeft, WasWithdrawn};
+ghost use Rattle.shared_flow.specs.Emitted.{emitted, settled};
 ghost use Rattle.shared_flow.specs.Parties.{Emitting, IsSameEmitter};
-ghost use Rattle.flow_stopping.specs.Waits.{Emits, EndsAs};
+ghost use Rattle.flow_stopping.specs.Waits.{Emits, EndsAs, GrewByOne, after_polls, outcome_given_up, outcome_of_wait};
 
 use crate::answers::Emitted;
 use crate::parker::{StoppableParker, Turn};
@@ -15,6 +16,7 @@ use std::sync::Wait;
 /// Gives up the emission in flight. Its receipt, where it had been accepted.
 fn given_up<T: Word>(rt: &impl Wait, emitter: &mut Emitter<T>) -> Option<Receipt>
     requires in_flight { emitter.old.ticket ≢ None }
+    ensures has { emitted emitter.new ≡ settled (outcome_given_up result) (emitted emitter.old) }
     ensures ends { (emitter.new.ticket ≡ None) × IsSameEmitter emitter.old emitter.new }
     ensures left { IfSome result (λ receipt. WasLeft emitter.old receipt emitter.new) }
     ensures withdrawn { IfNone result (WasWithdrawn emitter.old emitter.new) }
@@ -46,6 +48,7 @@ impl StoppableParker {
         value: T,
     ) -> Result<Emitted, Refusal>
         requires idle { emitter.old.ticket ≡ None }
+        ensures has { GrewByOne (emitted emitter.old) (T.word value) result (emitted emitter.new) }
         ensures ends { (emitter.new.ticket ≡ None) × IsSameEmitter emitter.old emitter.new }
         ensures emits { Emits emitter.old (emission_by emitter.old (T.word value)) result emitter.new }
     {
@@ -67,6 +70,7 @@ impl StoppableParker {
         emitter: &mut Emitter<T>,
     ) -> Result<Emitted, Refusal>
         requires in_flight { emitter.old.ticket ≢ None }
+        ensures has { emitted emitter.new ≡ settled (outcome_of_wait result) (emitted emitter.old) }
         ensures ends { (emitter.new.ticket ≡ None) × IsSameEmitter emitter.old emitter.new }
         ensures answers { EndsAs emitter.old result emitter.new }
     {
@@ -89,6 +93,7 @@ impl StoppableParker {
     // while before the thread sleeps.
     fn finished<T: Word>(&mut self, rt: &impl Wait, emitter: &mut Emitter<T>) -> Option<Receipt>
         requires in_flight { emitter.old.ticket ≢ None }
+        ensures has { emitted emitter.new ≡ after_polls result (emitted emitter.old) }
         ensures same { IsSameEmitter emitter.old emitter.new }
         ensures finished { IfSome result (λ receipt. (m : Emitting) × Waited emitter.old m × WasFinished m receipt emitter.new) }
         ensures waits { IfNone result ((emitter.new.ticket ≢ None) × Waited emitter.old emitter.new) }

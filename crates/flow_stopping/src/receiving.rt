@@ -1,6 +1,6 @@
 //! A subscription's next value, unless the thread is let go.
 ghost use Rattle.std.specs.Prelude.{◌≡◌, ◌++◌};
-ghost use Rattle.shared_flow.specs.Received.{received};
+ghost use Rattle.shared_flow.specs.Parties.{IsSamePrelude, received};
 ghost use Rattle.flow_stopping.specs.Waits.{Receives, received_of};
 
 use crate::answers::Received;
@@ -23,6 +23,7 @@ impl StoppableParker {
         subscription: &mut Subscription<T>,
     ) -> Result<Received<T>, Refusal>
         ensures has { received T.read_as subscription.new ≡ received T.read_as subscription.old ++ received_of result }
+        ensures prelude { IsSamePrelude subscription.old subscription.new }
         ensures did { Receives T.read_as subscription.old result subscription.new }
     {
         if self.is_stopped() {
@@ -43,6 +44,7 @@ impl StoppableParker {
         subscription: &mut Subscription<T>,
     ) -> Received<T>
         ensures has { received T.read_as subscription.new ≡ received T.read_as subscription.old ++ received_of (Ok result) }
+        ensures prelude { IsSamePrelude subscription.old subscription.new }
         ensures did { Receives T.read_as subscription.old (Ok result) subscription.new }
     {
         if let Some(value) = subscription.next_soon(rt) {
