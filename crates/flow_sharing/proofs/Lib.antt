@@ -1,1 +1,6 @@
+pub mod Taken
+pub mod Shared
+pub mod StateShared
+pub mod Polling
+pub mod Examples
 pub mod Places

@@ -9,9 +9,10 @@ use Rattle.sharing_upstream.specs.declared.polled.Polled.{Polled}
 use Rattle.sharing_upstream.specs.declared.strategy.Strategy.{Strategy}
 use Rattle.sharing_upstream.specs.declared.upstream.Upstream.{Upstream}
 use Rattle.sharing_upstream.specs.Sharings.{IsRefusedAt}
-use Rattle.sharing_upstream.specs.Upstreams.{course_of, PollsAt}
+use Rattle.sharing_upstream.specs.Upstreams.{flow_of, course_of, PollsAt}
 use Rattle.flow_sharing.specs.declared.state_sharing.StateSharing.{StateSharing}
 use Rattle.flow_sharing.specs.StateDestinations.{setting}
+use Rattle.flow_sharing.specs.StateShared.{SetsTaken}
 
 module _ {T F A E U : Type 0} where
   -- its seat at the state
@@ -28,6 +29,13 @@ module _ {T F A E U : Type 0} where
   abbrev pub strategy_of : StateSharing T F A E U → Strategy
   strategy_of sharing = sharing.strategy
 
+  -- WHAT ITS CALLER HAS
+  -- what a call took of its upstream, and set. The first two words say what a run may give, and what a new run may give
+  abbrev pub SetsWhatItTakes : (U → Traces T E) → (F → Traces T E) → StateSharing T F A E U → StateSharing T F A E U → Type 0
+  SetsWhatItTakes may new_run old new = SetsTaken (λ live. may live.run) (new_run (flow_of old.upstream)) old.initial
+      (course_of old.upstream) old.seat.view (course_of new.upstream) new.seat.view
+
+  -- WHAT IT DID AT THE STATE
   -- What a poll at this moment did. The first four words say what a run may give, how it has ended, how it was polled, and what a new
   -- run may give
   abbrev pub SetsAt : (U → Traces T E) → (U → Option (Cause E)) → (U → Poll (Event T E) → U → Type 0) → (F → Traces T E)

@@ -4,10 +4,12 @@ ghost use Rattle.std.specs.Prelude.{◌≡◌, None, IsTrue, is_some};
 ghost use Rattle.futures.specs.Task.{IsArmed, Keeps};
 ghost use Rattle.flow_terms.specs.declared.answers.Withdrawn.TheVariants as withdrawn;
 ghost use Rattle.shared_flow.specs.Emitters.{EndedWith};
+ghost use Rattle.shared_flow.specs.Emitted.{emitted, after_cancel, IsLeftOf};
 ghost use Rattle.shared_flow.specs.Owners.{Owning};
-ghost use Rattle.shared_flow.specs.Parties.{IfLeft, IsSameEmitter};
+ghost use Rattle.shared_flow.specs.Parties.{Emitting, IfLeft, IsSameEmitter};
 ghost use Rattle.sharing_upstream.specs.Destinations.{Offered};
 ghost use Rattle.flow_sharing.specs.FlowDestinations.{emitting, Found, Withdrew};
+ghost use Rattle.flow_sharing.specs.Shared.{WaitsLast};
 
 use cold_flow::Word;
 use futures::task::{Context, Poll};
@@ -22,6 +24,7 @@ pub struct Outlet<T: Word> {
     // The value of the emission in flight.
     pub(crate) waiting: Option<T>,
     ghost in_flight: { is_some emitter.ticket ≡ is_some waiting },
+    ghost waits_last: { WaitsLast T.word waiting (emitted emitter) },
 }
 
 impl<T: Word> Outlet<T> {
@@ -86,6 +89,8 @@ impl<T: Word> Outlet<T> {
 
     // Withdraws the waiting emission, and lets the emitter go.
     pub(crate) fn close(self, rt: &impl Wait) -> Withdrawn<Receipt>
+        ensures has { (left : Emitting) × IsLeftOf self.emitter result left
+            × (emitted left ≡ after_cancel result (emitted self.emitter)) }
         ensures idle { self.waiting ≡ None → result ≡ withdrawn.Gone }
         ensures ended { EndedWith self.emitter result }
         ensures receipt { IfLeft result (λ receipt. receipt.emitter ≡ self.emitter.id) }

@@ -1,11 +1,11 @@
 //! `share_in`: a cold flow, shared.
 
-ghost use Rattle.std.specs.Prelude.{◌≡◌, [], IfOk, IfErr, IsOkUnless};
+ghost use Rattle.std.specs.Prelude.{◌≡◌, [], None, IfOk, IfErr, IsOkUnless};
 ghost use Rattle.shared_flow.specs.Parties.{named, sharing_of};
 ghost use Rattle.sharing_upstream.specs.Shown.{started_by, Shows};
 ghost use Rattle.sharing_upstream.specs.Upstreams.{IsUnstarted};
 ghost use Rattle.flow_sharing.specs.FlowDestinations.{IsNewPlace};
-ghost use Rattle.flow_sharing.specs.Sharings.{shared_by, place_of, upstream_of, strategy_of};
+ghost use Rattle.flow_sharing.specs.Sharings.{shared, shared_by, waiting_in, place_of, upstream_of, strategy_of};
 
 use crate::sharing::Sharing;
 use cold_flow::{Flow, Refusal, Word};
@@ -24,6 +24,7 @@ pub fn share_in<T: Word, F: Flow<Item = T>>(
     upstream: F,
     started: Started,
 ) -> Result<Sharing<T, F>, Refusal>
+    ensures has { IfOk result (λ sharing. (shared sharing ≡ []) × (waiting_in sharing ≡ None)) }
     ensures flow { IfOk result (λ sharing. shared_by sharing ≡ named flow.old.party) }
     ensures upstream { IfOk result (λ sharing. IsUnstarted upstream (upstream_of sharing)) }
     ensures place { IfOk result (λ sharing. IsNewPlace flow.new.party (place_of sharing)) }

@@ -5,7 +5,8 @@ ghost use Rattle.futures.specs.Task.{IsArmed, Keeps};
 ghost use Rattle.flow_terms.specs.declared.refusal.Refusal.TheVariants.{NoMemory};
 ghost use Rattle.flow_terms.specs.declared.answers.Withdrawn.TheVariants as withdrawn;
 ghost use Rattle.shared_flow.specs.Emitters.{EndedWith};
-ghost use Rattle.shared_flow.specs.Parties.{IfLeft, named};
+ghost use Rattle.shared_flow.specs.Emitted.{emitted, after_cancel, IsLeftOf};
+ghost use Rattle.shared_flow.specs.Parties.{Emitting, IfLeft, named};
 ghost use Rattle.sharing_upstream.specs.Shown.{started_by, Shows};
 ghost use Rattle.sharing_upstream.specs.Polls.{ShowsMore, Answers};
 ghost use Rattle.sharing_upstream.specs.Upstreams.{flow_of, has_run, cause_kept, IsUnstarted};
@@ -37,7 +38,7 @@ pub struct Sharing<T: Word, F: Flow<Item = T>> {
 pub(crate) fn leave<T: Word>(_flow: SharedFlow<T>) {}
 
 impl<T: Word, F: Flow<Item = T>> Sharing<T, F> {
-    ghost use Rattle.flow_sharing.specs.Sharings.{shared_by, waiting_in, upstream_of, strategy_of, emitter_of, SharesAt, RefusesAt, IsAsBefore};
+    ghost use Rattle.flow_sharing.specs.Sharings.{shared_by, waiting_in, upstream_of, strategy_of, emitter_of, shared, EmitsWhatItTakes, SharesAt, RefusesAt, IsAsBefore};
 
     // The sharing of an upstream that wasn't started, into the flow of an owner and of an emitter without an emission in flight.
     pub(crate) fn over(
@@ -76,12 +77,15 @@ impl<T: Word, F: Flow<Item = T>> Sharing<T, F> {
     /// every later one is off. See [`Sharing::fault`].
     ///
     /// Refused as `NoMemory` where the start of a run is, and then the sharing is as before, its latest moment too.
+    ///
+    /// The first clause, `has`, says what it took of the upstream, and that each value was emitted once, in order.
     pub fn poll(
         &mut self,
         rt: &impl Wait,
         now: u64,
         cx: &mut Context<'_>,
     ) -> Result<Polled, Refusal>
+        ensures has { EmitsWhatItTakes T.word F.Running.may F.may self.old self.new }
         ensures started { started_by (strategy_of self.new) ≡ started_by (strategy_of self.old) }
         ensures shows { IfOk result (λ polled. ShowsMore (strategy_of self.old) now polled.count (strategy_of self.new)) }
         ensures answers { IfOk result (Answers (strategy_of self.old) (cause_kept (upstream_of self.old)) now) }
@@ -109,7 +113,7 @@ impl<T: Word, F: Flow<Item = T>> Sharing<T, F> {
 
     /// Why sharing ended for good: a failure of a run, or a refusal by a run or by an emission. None while it may go on.
     pub fn fault(&self) -> Option<Cause<F::Fault>>
-        ensures { result ≡ cause_kept (upstream_of self.now) }
+        ensures has { result ≡ cause_kept (upstream_of self.now) }
     {
         self.upstream.fault()
     }
@@ -119,6 +123,9 @@ impl<T: Word, F: Flow<Item = T>> Sharing<T, F> {
     /// `Removed` where that was never accepted. `Left` where it was accepted: its value stays with its subscriptions. `Gone` where none
     /// waited.
     pub fn close(self, rt: &impl Wait) -> Withdrawn<Receipt>
+        // of the emitter that is left: the list is complete
+        ensures has { (left : Emitting) × IsLeftOf (emitter_of self) result left
+            × (emitted left ≡ after_cancel result (shared self)) }
         ensures idle { waiting_in self ≡ None → result ≡ withdrawn.Gone }
         ensures ended { EndedWith (emitter_of self) result }
         ensures receipt { IfLeft result (λ receipt. receipt.emitter ≡ 0) }

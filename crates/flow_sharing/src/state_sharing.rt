@@ -6,7 +6,7 @@ ghost use Rattle.state_flow.specs.Calls.{Sets};
 ghost use Rattle.sharing_upstream.specs.Shown.{started_by, Shows};
 ghost use Rattle.sharing_upstream.specs.Polls.{ShowsMore, Answers};
 ghost use Rattle.sharing_upstream.specs.Upstreams.{flow_of, course_of, has_run, cause_kept, IsUnstarted};
-ghost use Rattle.flow_sharing.specs.StateSharings.{seat_of, initial_of, upstream_of, strategy_of, SetsAt, RefusesAt};
+ghost use Rattle.flow_sharing.specs.StateSharings.{seat_of, initial_of, upstream_of, strategy_of, SetsWhatItTakes, SetsAt, RefusesAt};
 
 use crate::state_destination::StateDestination;
 use cold_flow::{Cause, Flow, Refusal, Word};
@@ -36,8 +36,8 @@ pub fn state_in<T: Word, F: Flow<Item = T>, A: Allocator>(
     upstream: F,
     started: Started,
 ) -> StateSharing<T, F, A>
+    ensures has { Sets seat.view initial (seat_of result).view }
     ensures same_flow { (seat_of result).flow ≡ seat.flow }
-    ensures sets { Sets seat.view initial (seat_of result).view }
     ensures initial { initial_of result ≡ initial }
     ensures upstream { IsUnstarted upstream (upstream_of result) }
     ensures started { started_by (strategy_of result) ≡ started }
@@ -60,7 +60,10 @@ impl<T: Word, F: Flow<Item = T>, A: Allocator> StateSharing<T, F, A> {
     ///
     /// Refused by `NoMemory` where a start of the upstream is; then the sharing is as before, its latest moment too. An upstream that
     /// failed, or whose run was refused, ends sharing for good: from the next poll on it is off, and nothing is reset.
+    ///
+    /// The first clause, `has`, says what it took of the upstream, and that each value was set once, in order.
     pub fn poll(&mut self, now: u64, cx: &mut Context<'_>) -> Result<Polled, Refusal>
+        ensures has { SetsWhatItTakes F.Running.may F.may self.old self.new }
         ensures started { started_by (strategy_of self.new) ≡ started_by (strategy_of self.old) }
         ensures shows { IfOk result (λ polled. ShowsMore (strategy_of self.old) now polled.count (strategy_of self.new)) }
         ensures answers { IfOk result (Answers (strategy_of self.old) (cause_kept (upstream_of self.old)) now) }
@@ -89,7 +92,7 @@ impl<T: Word, F: Flow<Item = T>, A: Allocator> StateSharing<T, F, A> {
 
     /// Why sharing ended for good: the upstream failed, or a run of it was refused. None as long as it hasn't.
     pub fn fault(&self) -> Option<Cause<F::Fault>>
-        ensures { result ≡ cause_kept (upstream_of self.now) }
+        ensures has { result ≡ cause_kept (upstream_of self.now) }
     {
         self.upstream.fault()
     }
@@ -97,7 +100,7 @@ impl<T: Word, F: Flow<Item = T>, A: Allocator> StateSharing<T, F, A> {
     /// Ends the sharing, cancels the run of its upstream, and gives the seat back: what Kotlin does where the sharing's scope is
     /// cancelled. The state keeps its value.
     pub fn close(self) -> StateSeat<T, A>
-        ensures { result ≡ seat_of self }
+        ensures has { result ≡ seat_of self }
     {
         let StateSharing {
             seat,
