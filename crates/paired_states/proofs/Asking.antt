@@ -1,10 +1,11 @@
 -- Asks of two collectors, one after another.
-use Rattle.std.proofs.Common.{Option, Some, None, MatchOption}
+use Rattle.std.proofs.Common.{◌≡◌, ◌++◌, Option, Some, None, MatchOption}
 use Rattle.state_flow.specs.declared.view.View.{View}
 use Rattle.state_flow.specs.Calls.{Collects}
 use Rattle.state_waiting.specs.Waits.{AskedOn, MissedOn, not_once, once_more}
+use Rattle.state_waiting.proofs.Asking.{asked_has}
 use Rattle.paired_states.specs.declared.fresh.Fresh.{Fresh}
-use Rattle.paired_states.specs.Pairing.{Asked, AskedNone}
+use Rattle.paired_states.specs.Pairing.{Asked, AskedNone, first_of, second_of}
 
 module _ {T : Type 0} where
   missed_all : (v m w : View T) → MissedOn v m → MissedOn m w → MissedOn v w
@@ -28,3 +29,9 @@ module _ {T U : Type 0} where
       → MatchOption result (AskedNone v w v' w') (λ f. Asked v w f.first f.second v' w')
   both_after v m v' w n w' None first second h = (asked_after v m v' None first h.0, asked_after w n w' None second h.1)
   both_after v m v' w n w' (Some f) first second h = (asked_after v m v' f.first first h.0, asked_after w n w' f.second second h.1, h.2)
+
+  -- what each had collected, and then what the answer has of its state
+  pub both_has : (v v' : View T) (w w' : View U) (result : Option (Fresh T U)) → MatchOption result (AskedNone v w v' w') (λ f. Asked v w f.first f.second v' w')
+      → (v'.collected ≡ v.collected ++ first_of result) × (w'.collected ≡ w.collected ++ second_of result)
+  both_has v v' w w' None asked = (asked_has v v' None asked.0, asked_has w w' None asked.1)
+  both_has v v' w w' (Some f) asked = (asked_has v v' f.first asked.0, asked_has w w' f.second asked.1)

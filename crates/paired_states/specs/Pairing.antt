@@ -1,8 +1,10 @@
 -- What asks of the collectors of two states came to.
-use Rattle.std.specs.Prelude.{◌⊎◌, Option, None, IsSome}
+use Rattle.std.specs.Prelude.{◌⊎◌, List, [], Option, Some, None, IsSome}
 use Rattle.state_flow.specs.declared.view.View.{View}
 use Rattle.state_flow.specs.Calls.{Collects}
+use Rattle.state_flow.specs.Collected.{some_of}
 use Rattle.state_waiting.specs.Waits.{AskedOn}
+use Rattle.paired_states.specs.declared.fresh.Fresh.{Fresh}
 
 -- one of them is there
 abbrev pub IsSomeOf : {T U : Type 0} → Option T → Option U → Type 0
@@ -20,3 +22,12 @@ module _ {T U : Type 0} where
   -- the last ask of each gave nothing either
   abbrev pub AskedNone : View T → View U → View T → View U → Type 0
   AskedNone v w v' w' = AskedOn v None v' × AskedOn w None w'
+
+  -- what an answer has of each state, as a list
+  abbrev pub first_of : Option (Fresh T U) → List T
+  first_of (Some fresh) = some_of fresh.first
+  first_of None = []
+
+  abbrev pub second_of : Option (Fresh T U) → List U
+  second_of (Some fresh) = some_of fresh.second
+  second_of None = []

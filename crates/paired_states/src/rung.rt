@@ -41,16 +41,16 @@ impl<T: Word> RungSeat<T> {
 
     /// The value, by one load: Kotlin's `value`.
     pub fn value(&mut self) -> T
+        ensures has { Reads self.old.view result self.new.view }
         ensures same_flow { self.new.flow ≡ self.old.flow }
-        ensures value { Reads self.old.view result self.new.view }
     {
         self.seat.value()
     }
 
     /// Sets the value, by one swap, and rings: Kotlin's `value = ..`. That a wake arrives isn't claimed.
     pub fn set(&mut self, value: T)
+        ensures has { Sets self.old.view value self.new.view }
         ensures same_flow { self.new.flow ≡ self.old.flow }
-        ensures value { Sets self.old.view value self.new.view }
     {
         self.seat.set(value);
         self.bell.ring();
@@ -59,8 +59,8 @@ impl<T: Word> RungSeat<T> {
     /// Sets the value to `update` where it is equal to `expect`, by one compare_exchange, and says whether it was: Kotlin's
     /// `compareAndSet`. Where it was, it rings.
     pub fn compare_and_set(&mut self, expect: T, update: T) -> bool
+        ensures has { Compares self.old.view expect update result self.new.view }
         ensures same_flow { self.new.flow ≡ self.old.flow }
-        ensures value { Compares self.old.view expect update result self.new.view }
     {
         let was_equal = self.seat.compare_and_set(expect, update);
         if was_equal {

@@ -1,7 +1,8 @@
 //! A thread that sleeps until either of two states changes.
-ghost use Rattle.std.specs.Prelude.{◌≡◌, None, MatchOption, IfSome, IfNone};
+ghost use Rattle.std.specs.Prelude.{◌≡◌, ◌++◌, None, MatchOption, IfSome, IfNone};
+ghost use Rattle.state_flow.specs.Collected.{collected};
 ghost use Rattle.state_waiting.specs.Waits.{MissedOn};
-ghost use Rattle.paired_states.specs.Pairing.{Asked, AskedOnce, AskedNone, IsSomeOf};
+ghost use Rattle.paired_states.specs.Pairing.{Asked, AskedOnce, AskedNone, IsSomeOf, first_of, second_of};
 
 use crate::fresh::Fresh;
 use flow_terms::Word;
@@ -23,6 +24,8 @@ pub fn next_of_two<T: Word, U: Word>(
     first: &mut Collector<T>,
     second: &mut Collector<U>,
 ) -> Option<Fresh<T, U>>
+    ensures has { (collected first.new ≡ collected first.old ++ first_of result)
+        × (collected second.new ≡ collected second.old ++ second_of result) }
     ensures same_flow { (first.new.flow ≡ first.old.flow) × (second.new.flow ≡ second.old.flow) }
     ensures asked { MatchOption result (AskedNone first.old.view second.old.view first.new.view second.new.view)
         (λ fresh. Asked first.old.view second.old.view fresh.first fresh.second first.new.view second.new.view) }

@@ -2,7 +2,7 @@
 use Rattle.std.proofs.Common.{◌≡◌, ℕ, false, zero, suc, ◌+◌, ◌-◌, ◌<◌, ◌≤◌, true, List, [], ◌∷◌, ◌++◌, length, set, get_or, map, slice_get, Option, Some, None, is_some, refl, sym, ap, ◌∙◌, subst, arith}
 use Rattle.std.proofs.lemmas.Option.{slice_get_past, slice_get-get_or}
 use Rattle.std.proofs.Math.Seq.{map-set_same}
-use Rattle.state_flow.specs.declared.collecting_seat.SeatCollector.{SeatCollector}
+use Rattle.state_flow.specs.declared.seat.collecting.SeatCollector.{SeatCollector}
 use Rattle.state_flow.specs.Views.{SeatSeen}
 use Rattle.state_flow.specs.Calls as seats
 use Rattle.flow_terms.specs.declared.answers.Next.TheVariants.{Closed}

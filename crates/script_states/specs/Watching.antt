@@ -7,7 +7,7 @@ use Rattle.flow_terms.specs.declared.refusal.Refusal.TheVariants.{NoMemory, Subs
 use Rattle.flow_terms.specs.declared.ids.SubId.{SubId}
 use Rattle.flow_terms.specs.declared.answers.Next.{Next}
 use Rattle.flow_terms.specs.declared.answers.Next.TheVariants.{Value, Nothing, Closed}
-use Rattle.state_flow.specs.declared.collecting_seat.SeatCollector.{SeatCollector}
+use Rattle.state_flow.specs.declared.seat.collecting.SeatCollector.{SeatCollector}
 use Rattle.state_flow.specs.declared.view.View.{View}
 use Rattle.state_flow.specs.History.{last_of}
 use Rattle.state_flow.specs.Views.{SeatSeen, HasAll}

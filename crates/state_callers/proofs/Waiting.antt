@@ -5,15 +5,11 @@ use Rattle.state_flow.specs.declared.view.View.{View}
 use Rattle.state_flow.specs.History.{last_of}
 use Rattle.state_waiting.specs.declared.collected.Collected.{Collected}
 use Rattle.state_waiting.specs.declared.collected.Collected.TheVariants as collected
-use Rattle.state_waiting.specs.Waits.{Awaits, MissedOn, not_once, once_more}
+use Rattle.state_waiting.specs.Waits.{Awaits}
+use Rattle.state_waiting.proofs.Asking.{missed_keeps}
 use Rattle.state_callers.specs.Given.{given}
 
 module _ {T : Type 0} where
-  -- asks that gave nothing leave what was collected
-  pub missed_keeps : (v w : View T) → MissedOn v w → w.collected ≡ v.collected
-  missed_keeps v w (not_once x) = refl
-  missed_keeps v w (once_more x m y more last) = last.received ∙ missed_keeps v m more
-
   -- what is added at the end stands last
   last_or_after : (o : Option T) (xs : List T) (x : T) → last_or o (xs ++ x ∷ []) ≡ Some x
   last_or_after o [] x = refl

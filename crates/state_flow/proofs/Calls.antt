@@ -9,7 +9,7 @@ use Rattle.atomic_table.specs.Table.{Me, step}
 use Rattle.atomic_table.specs.Seated.{TableId}
 use Rattle.atomic_table.specs.declared.shared.Seat.{Seat}
 use Rattle.state_flow.specs.declared.view.View.{View}
-use Rattle.state_flow.specs.History.{last_of, Writes, IsHistory, Picks}
+use Rattle.state_flow.specs.History.{last_of, Writes, IsHistory, written, Picks}
 use Rattle.state_flow.proofs.Lists.{last_snoc, not_last_of_none}
 use Rattle.state_flow.specs.Views.{HasAll, stepped_to, writing, keeper, IsSeated}
 use Rattle.state_flow.specs.Calls.{Extends, StepsOnce, Reads, Compares, Collects, KnewAll, StepsNext, ReadsAlone, SetsAlone, ComparesAlone, CollectsAlone, TakesBackLast}
@@ -55,6 +55,15 @@ module _ {T : Type 0} (word : T → ℕ) (fits : T → Type 0) (apart : (x y : T
         answers = answered old new m m' found e u fe is_first before t.1.0 t.1.1.0 now seen t.1.1.1.2 t.1.1.1.3;
         wrote = t.1.1.1.4;
       }
+
+  -- what the two steps that write leave is a history
+  pub put_history : (n : ℕ) (m m' : M) (found : ℕ) (x : T) → fits x → n ≡ word x → was_put word fits (step 0 0 n 0 none) m found m' → IsHistory m'.0.seen
+  put_history n m m' found x f is told = let t = told x f is in
+      subst IsHistory (sym (ap (λ (z : M). z.0.seen) t.1.1.1.2)) (written t.0 x t.1.0 t.1.1.1.0.is_history t.1.1.1.1)
+
+  pub compared_history : (v w : V) (e u : T) (b : Bool) → Compares v e u b w → IsHistory w.seen
+  compared_history v w e u true compared = written compared.found u w.seen compared.is_history compared.answers.1
+  compared_history v w e u false compared = subst IsHistory (sym compared.answers.1) compared.is_history
 
   -- ---- who has all seats
 
@@ -160,15 +169,16 @@ module _ {T : Type 0} (word : T → ℕ) (fits : T → Type 0) (apart : (x y : T
 
   -- the seat is still at its flow, with its share, and there is nothing left to be told
   pub seated_after : (was is : Seat (Unit {0}) V) (flow : TableId) (share found : ℕ) → gathered word fits (step 0 0 0 0 none) was.me found is.me → is.table_id ≡ was.table_id
-      → IsSeated was flow share true → IsSeated is flow share true
+      → IsSeated was flow share 0 true → IsSeated is flow share 0 true
   seated_after was is flow share found told same seated =
       let after : is.me ≡ (record (stepped_to told.0 told.1.0 was.me.0) { collected = is.me.0.collected }, was.me.1) = told.1.1.1.3 in record {
         same_flow = same ∙ seated.same_flow;
         share_is = ap (λ (z : M). z.0.share) after ∙ seated.share_is;
-        some_share = seated.some_share;
+        runs_is = ap (λ (z : M). z.0.runs) after ∙ seated.runs_is;
+        few_run = seated.few_run;
         few = seated.few;
         collects_is = ap (λ (z : M). z.0.collects) after ∙ seated.collects_is;
-        runs_none = ap (λ (z : M). z.0.runs) after ∙ seated.runs_none;
+        is_history = subst IsHistory (sym (ap (λ (z : M). z.0.seen) after)) told.1.1.0.is_history;
         untold = ap (λ (z : M). z.0.told) after;
         untold_turn = ap (λ (z : M). z.0.told_turn) after;
         holds_no_slot = ap (λ (z : M). z.1) after ∙ seated.holds_no_slot;

@@ -3,6 +3,8 @@ pub mod Sums
 pub mod Shares
 pub mod ValueSteps
 pub mod CountSteps
+pub mod Opening
 pub mod Seats
 pub mod Calls
 pub mod Given
+pub mod Collected

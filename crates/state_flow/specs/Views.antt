@@ -3,6 +3,7 @@ use Rattle.std.specs.Prelude.{◌≡◌, ℕ, ◌+◌, ◌-◌, ◌<◌, ◌≤�
 use Rattle.atomic_table.specs.Seated.{TableId}
 use Rattle.atomic_table.specs.declared.shared.Seat.{Seat}
 use Rattle.state_flow.specs.declared.view.View.{View}
+use Rattle.state_flow.specs.History.{IsHistory}
 
 -- a seat or a collector: which flow it is at, and what it has seen
 pub record SeatSeen (T : Type 0) : Type 0 where
@@ -13,26 +14,16 @@ module _ {T : Type 0} where
   abbrev pub seen_by : Seat (Unit {0}) (View T) → SeatSeen T
   seen_by seat = record { flow = seat.table_id; view = seat.me.0 }
 
-  -- what the code keeps beside an atomic seat: the flow's words, the share, whether it collects; there is nothing left to be told
-  pub record IsSeated (seat : Seat (Unit {0}) (View T)) (flow : TableId) (share : ℕ) (collects : Bool) : Type 0 where
-    pub same_flow : seat.table_id ≡ flow
-    pub share_is : seat.me.0.share ≡ share
-    pub some_share : 0 < share
-    pub few : share ≤ 1024
-    pub collects_is : seat.me.0.collects ≡ collects
-    pub runs_none : seat.me.0.runs ≡ 0
-    pub untold : seat.me.0.told ≡ []
-    pub untold_turn : seat.me.0.told_turn ≡ 0
-    pub holds_no_slot : seat.me.1 ≡ []
-
-  -- the same of a seat that runs collectors of its own, fewer than its share
-  pub record IsHost (seat : Seat (Unit {0}) (View T)) (flow : TableId) (share runs : ℕ) : Type 0 where
+  -- What the code keeps beside an atomic seat: the flow's words, the share, how many collectors it runs, fewer than the share, and whether it
+  -- is a collector's. What it has seen is a history, and there is nothing left to be told
+  pub record IsSeated (seat : Seat (Unit {0}) (View T)) (flow : TableId) (share runs : ℕ) (collects : Bool) : Type 0 where
     pub same_flow : seat.table_id ≡ flow
     pub share_is : seat.me.0.share ≡ share
     pub runs_is : seat.me.0.runs ≡ runs
     pub few_run : runs < share
     pub few : share ≤ 1024
-    pub idle : seat.me.0.collects ≡ false
+    pub collects_is : seat.me.0.collects ≡ collects
+    pub is_history : IsHistory seat.me.0.seen
     pub untold : seat.me.0.told ≡ []
     pub untold_turn : seat.me.0.told_turn ≡ 0
     pub holds_no_slot : seat.me.1 ≡ []

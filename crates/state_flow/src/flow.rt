@@ -30,7 +30,7 @@ impl<T: Word, A: Allocator + Clone> StateFlow<T, A> {
     ///
     /// Refused by `BadLimit` where `seats` is 0 or over 1,024, then by `NoMemory`.
     pub fn new(alloc: A, value: T, seats: u32) -> Result<StateSeat<T, A>, Refusal>
-        ensures opens { IfOk result (λ seat. seat.view ≡ opening value seats) }
+        ensures has { IfOk result (λ seat. seat.view ≡ opening value seats) }
         ensures few { IfOk result (λ _. (0 < seats) × (seats ≤ 1024)) }
         ensures bad_limit { IfErr result (λ r. (r ≡ BadLimit) ↔ ((seats ≡ 0) ⊎ (1024 < seats))) }
         ensures refusals { IfErr result (λ r. (r ≡ BadLimit) ⊎ (r ≡ NoMemory)) }

@@ -57,7 +57,6 @@
 //! polled again.
 #![tactic(auto)]
 
-mod collecting_seat;
 mod collector;
 mod flow;
 mod laws;
@@ -65,10 +64,9 @@ mod plays;
 mod seat;
 mod view;
 
-pub use collecting_seat::{CollectingSeat, SeatCollector};
 pub use collector::Collector;
 pub use flow::StateFlow;
 pub use flow_terms::{Refusal, Word};
 pub use laws::{given_is_picked, one_history};
-pub use seat::StateSeat;
+pub use seat::{CollectingSeat, Hosts, Idle, Running, SeatCollector, StateSeat};
 pub use view::View;

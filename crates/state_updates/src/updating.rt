@@ -18,8 +18,8 @@ pub fn update<T: Word, A: Allocator, F: Fn(T) -> T>(
     function: F,
 )
     requires callable { F.IsAlwaysCallable function }
+    ensures has { (found : T) × (value : T) × Updates (F.post function) seat.old.view found value seat.new.view }
     ensures same_flow { seat.new.flow ≡ seat.old.flow }
-    ensures updates { (found : T) × (value : T) × Updates (F.post function) seat.old.view found value seat.new.view }
 {
     let _updated = update_until_set(rt, seat, &function);
 }
@@ -31,8 +31,8 @@ pub fn update_and_get<T: Word, A: Allocator, F: Fn(T) -> T>(
     function: F,
 ) -> T
     requires callable { F.IsAlwaysCallable function }
+    ensures has { (found : T) × Updates (F.post function) seat.old.view found result seat.new.view }
     ensures same_flow { seat.new.flow ≡ seat.old.flow }
-    ensures updates { (found : T) × Updates (F.post function) seat.old.view found result seat.new.view }
 {
     update_until_set(rt, seat, &function).value
 }
@@ -44,8 +44,8 @@ pub fn get_and_update<T: Word, A: Allocator, F: Fn(T) -> T>(
     function: F,
 ) -> T
     requires callable { F.IsAlwaysCallable function }
+    ensures has { (value : T) × Updates (F.post function) seat.old.view result value seat.new.view }
     ensures same_flow { seat.new.flow ≡ seat.old.flow }
-    ensures updates { (value : T) × Updates (F.post function) seat.old.view result value seat.new.view }
 {
     update_until_set(rt, seat, &function).found
 }
@@ -58,8 +58,8 @@ pub fn try_update<T: Word, A: Allocator, F: Fn(T) -> T>(
     function: F,
 ) -> Option<Updated<T>>
     requires callable { F.IsAlwaysCallable function }
+    ensures has { IfSome result (λ u. Updates (F.post function) seat.old.view u.found u.value seat.new.view) }
     ensures same_flow { seat.new.flow ≡ seat.old.flow }
-    ensures updates { IfSome result (λ u. Updates (F.post function) seat.old.view u.found u.value seat.new.view) }
     ensures missed { IfNone result (Missed tries seat.old.view seat.new.view) }
 {
     'tries: for _tried in 0..tries {

@@ -1,10 +1,12 @@
 -- Asks of a wait, one after another.
-use Rattle.std.specs.Prelude.{Option, Some, None}
+use Rattle.std.proofs.Common.{◌≡◌, List, ◌++◌, Option, Some, None, refl, ap, ◌∙◌}
 use Rattle.state_flow.specs.declared.view.View.{View}
+use Rattle.state_flow.specs.Collected.{some_of}
+use Rattle.state_flow.proofs.Collected.{collected_on}
 use Rattle.state_waiting.specs.declared.collected.Collected.{Collected}
 use Rattle.state_waiting.specs.declared.collected.Collected.TheVariants as collected
 use Rattle.state_waiting.specs.declared.collected.Turn.TheVariants as turn
-use Rattle.state_waiting.specs.Waits.{AskedOn, Awaits, AwaitsWithin, Comes, MissedOn, not_once, once_more}
+use Rattle.state_waiting.specs.Waits.{AskedOn, Awaits, AwaitsWithin, Comes, MissedOn, not_once, once_more, value_of, value_within}
 
 module _ {T : Type 0} where
   -- after asks that gave nothing come more that gave nothing
@@ -28,3 +30,20 @@ module _ {T : Type 0} where
   pub is_over : (v m w : View T) (c : Collected T) → MissedOn v m → Comes m (turn.Over c) w → Awaits v c w
   is_over v m w (collected.Value x) before came = (m, before, came)
   is_over v m w collected.Stopped before came = (m, before, came)
+
+  -- asks that gave nothing leave what was collected
+  pub missed_keeps : (v w : View T) → MissedOn v w → w.collected ≡ v.collected
+  missed_keeps v w (not_once x) = refl
+  missed_keeps v w (once_more x m y more last) = last.received ∙ missed_keeps v m more
+
+  -- what was collected after asks is what was collected before them, and then what the last one gave
+  pub asked_has : (v w : View T) (given : Option T) → AskedOn v given w → w.collected ≡ v.collected ++ some_of given
+  asked_has v w given asked = collected_on asked.0 w given asked.2 ∙ ap (λ (xs : List T). xs ++ some_of given) (missed_keeps v asked.0 asked.1)
+
+  pub awaited : (v w : View T) (c : Collected T) → Awaits v c w → w.collected ≡ v.collected ++ value_of c
+  awaited v w (collected.Value x) waited = asked_has v w (Some x) waited
+  awaited v w collected.Stopped waited = asked_has v w None waited
+
+  pub awaited_within : (v w : View T) (c : Option (Collected T)) → AwaitsWithin v c w → w.collected ≡ v.collected ++ value_within c
+  awaited_within v w (Some c) waited = awaited v w c waited
+  awaited_within v w None waited = asked_has v w None waited

@@ -1,5 +1,5 @@
 -- What a wait for the next value of a state comes to.
-use Rattle.std.specs.Prelude.{Option, Some, None}
+use Rattle.std.specs.Prelude.{List, [], ◌∷◌, Option, Some, None}
 use Rattle.state_flow.specs.declared.view.View.{View}
 use Rattle.state_flow.specs.Calls.{Collects}
 use Rattle.state_waiting.specs.declared.collected.Collected.{Collected}
@@ -26,6 +26,15 @@ module _ {T : Type 0} where
   abbrev pub AwaitsWithin : View T → Option (Collected T) → View T → Type 0
   AwaitsWithin v (Some c) w = Awaits v c w
   AwaitsWithin v None w = AskedOn v None w
+
+  -- the value that a wait came to, if it came to one, as a list
+  abbrev pub value_of : Collected T → List T
+  value_of (collected.Value x) = x ∷ []
+  value_of collected.Stopped = []
+
+  abbrev pub value_within : Option (Collected T) → List T
+  value_within (Some c) = value_of c
+  value_within None = []
 
   -- what one turn of a wait comes to: one ask
   abbrev pub Comes : View T → Turn T → View T → Type 0

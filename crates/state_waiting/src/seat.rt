@@ -52,7 +52,7 @@ impl<T: Word> WatchedSeat<T> {
     ///
     /// Refused by `BadLimit` where `seats` is 0 or over 1,024, then by `NoMemory`.
     pub fn new(alloc: Global, value: T, seats: u32) -> Result<WatchedSeat<T>, Refusal>
-        ensures opens { IfOk result (λ seat. seat.view ≡ opening value seats) }
+        ensures has { IfOk result (λ seat. seat.view ≡ opening value seats) }
         ensures few { IfOk result (λ _. (0 < seats) × (seats ≤ 1024)) }
         ensures bad_limit { IfErr result (λ r. (r ≡ BadLimit) ↔ ((seats ≡ 0) ⊎ (1024 < seats))) }
         ensures refusals { IfErr result (λ r. (r ≡ BadLimit) ⊎ (r ≡ NoMemory)) }
@@ -74,8 +74,8 @@ impl<T: Word> WatchedSeat<T> {
 
     /// The value, by one load: Kotlin's `value`.
     pub fn value(&mut self) -> T
+        ensures has { Reads self.old.view result self.new.view }
         ensures same_flow { self.new.flow ≡ self.old.flow }
-        ensures value { Reads self.old.view result self.new.view }
     {
         self.seat.value()
     }
@@ -85,8 +85,8 @@ impl<T: Word> WatchedSeat<T> {
     ///
     /// Where no watcher sleeps, or is about to, there is one load beside the swap. That a wake arrives isn't claimed.
     pub fn set(&mut self, value: T)
+        ensures has { Sets self.old.view value self.new.view }
         ensures same_flow { self.new.flow ≡ self.old.flow }
-        ensures value { Sets self.old.view value self.new.view }
     {
         self.seat.set(value);
         self.bell.ring();
@@ -95,8 +95,8 @@ impl<T: Word> WatchedSeat<T> {
     /// Sets the value to `update` where it is equal to `expect`, by one compare_exchange, and says whether it was equal: Kotlin's
     /// `compareAndSet`. Where it was, the watchers that sleep are woken, as by [`set`](WatchedSeat::set).
     pub fn compare_and_set(&mut self, expect: T, update: T) -> bool
+        ensures has { Compares self.old.view expect update result self.new.view }
         ensures same_flow { self.new.flow ≡ self.old.flow }
-        ensures value { Compares self.old.view expect update result self.new.view }
     {
         let was_equal = self.seat.compare_and_set(expect, update);
         if was_equal {
@@ -107,8 +107,8 @@ impl<T: Word> WatchedSeat<T> {
 
     /// The number of watchers, by one load: Kotlin's `subscriptionCount.value`. They count whether they sleep or not.
     pub fn collectors(&mut self) -> u32
+        ensures has { Counts self.old.view result self.new.view }
         ensures same_flow { self.new.flow ≡ self.old.flow }
-        ensures count { Counts self.old.view result self.new.view }
     {
         self.seat.collectors()
     }
@@ -126,8 +126,8 @@ impl<T: Word> WatchedSeat<T> {
     /// Refused by `NoMemory` where the state can have no further owner, then by `SubscribersFull` where `share + 1` is over
     /// `spare()`. Where it isn't, the only refusal is `NoMemory`.
     pub fn take_seat(&mut self, share: u32) -> Result<WatchedSeat<T>, Refusal>
+        ensures has { IfOk result (λ new. (new.flow ≡ self.old.flow) × (new.view ≡ taker (share + 1) self.old.view)) }
         ensures same_flow { self.new.flow ≡ self.old.flow }
-        ensures taken { IfOk result (λ seat. (seat.flow ≡ self.old.flow) × (seat.view ≡ taker (share + 1) self.old.view)) }
         ensures left { IfOk result (λ _. self.new.view ≡ giver (share + 1) self.old.view) }
         ensures enough { IfOk result (λ _. share + 1 < self.old.view.share) }
         ensures unchanged { OnErr result (self.new.view ≡ self.old.view) }
@@ -142,8 +142,8 @@ impl<T: Word> WatchedSeat<T> {
     /// had. Kotlin has no such call.
     pub fn give_back(&mut self, other: WatchedSeat<T>)
         requires { other.flow ≡ self.old.flow }
+        ensures has { TakesBack self.old.view other.view self.new.view }
         ensures same_flow { self.new.flow ≡ self.old.flow }
-        ensures joined { TakesBack self.old.view other.view self.new.view }
     {
         let WatchedSeat {
             seat,
@@ -173,8 +173,8 @@ impl<T: Word> WatchedSeat<T> {
 
     /// Begins to watch: Kotlin's `collect`. The number of watchers goes up by one, and this one was given nothing yet.
     pub fn collect(self) -> Watcher<T>
+        ensures has { Begins self.view result.view }
         ensures same_flow { result.flow ≡ self.flow }
-        ensures begins { Begins self.view result.view }
     {
         let WatchedSeat {
             seat,

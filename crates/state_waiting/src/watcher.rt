@@ -1,7 +1,8 @@
 //! A collector of a state that sleeps until the state changes.
-ghost use Rattle.std.specs.Prelude.{◌≡◌, Some, IfSome, IfNone};
+ghost use Rattle.std.specs.Prelude.{◌≡◌, ◌++◌, Some, IfSome, IfNone};
 ghost use Rattle.state_flow.specs.Calls.{Collects, Ends};
-ghost use Rattle.state_waiting.specs.Waits.{AskedOn, Awaits, AwaitsWithin, Comes, MissedOn};
+ghost use Rattle.state_flow.specs.Collected.{collected, some_of, IsPickedFromHistory};
+ghost use Rattle.state_waiting.specs.Waits.{AskedOn, Awaits, AwaitsWithin, Comes, MissedOn, value_of, value_within};
 
 use crate::collected::{Collected, Turn};
 use crate::seat::WatchedSeat;
@@ -53,8 +54,9 @@ impl<T: Word> Watcher<T> {
     /// The value where it differs from the last one that this watcher was given, else nothing; by one load. The first ask gives the
     /// value. Kotlin has no such call: there `collect` suspends where this answers `None`.
     pub fn try_next(&mut self) -> Option<T>
+        ensures has { collected self.new ≡ collected self.old ++ some_of result }
+        ensures asks { Collects self.old.view result self.new.view }
         ensures same_flow { self.new.flow ≡ self.old.flow }
-        ensures received { Collects self.old.view result self.new.view }
     {
         self.collector.try_next()
     }
@@ -66,8 +68,9 @@ impl<T: Word> Watcher<T> {
     /// A value that is there costs what [`try_next`](Watcher::try_next) costs. It takes no lock and no memory. That a wake arrives,
     /// by any time, isn't claimed.
     pub fn next(&mut self, rt: &impl Wait) -> Collected<T>
+        ensures has { collected self.new ≡ collected self.old ++ value_of result }
+        ensures awaits { Awaits self.old.view result self.new.view }
         ensures same_flow { self.new.flow ≡ self.old.flow }
-        ensures collected { Awaits self.old.view result self.new.view }
     {
         if let Some(value) = self.look_on() {
             return Collected::Value(value);
@@ -82,8 +85,9 @@ impl<T: Word> Watcher<T> {
     /// time begins to run once the watcher has found nothing a few times; where the clock can't be read it counts as up. That it
     /// ends then isn't claimed.
     pub fn next_within<R: Wait + Clock>(&mut self, rt: &R, limit: Duration) -> Option<Collected<T>>
+        ensures has { collected self.new ≡ collected self.old ++ value_within result }
+        ensures awaits { AwaitsWithin self.old.view result self.new.view }
         ensures same_flow { self.new.flow ≡ self.old.flow }
-        ensures collected { AwaitsWithin self.old.view result self.new.view }
     {
         if let Some(value) = self.look_on() {
             return Some(Collected::Value(value));
@@ -112,8 +116,8 @@ impl<T: Word> Watcher<T> {
 
     // Sleeps until there is a value, or it was let go. The watcher has to be counted as a sleeper.
     fn wait(&mut self, rt: &impl Wait) -> Collected<T>
+        ensures awaits { Awaits self.old.view result self.new.view }
         ensures same_flow { self.new.flow ≡ self.old.flow }
-        ensures collected { Awaits self.old.view result self.new.view }
     {
         for _ in rt.forever() {
             match self.turn() {
@@ -126,8 +130,8 @@ impl<T: Word> Watcher<T> {
 
     // Sleeps so too, for no longer than the time that is left.
     fn wait_within<R: Wait + Clock>(&mut self, rt: &R, limit: &Limit) -> Option<Collected<T>>
+        ensures awaits { AwaitsWithin self.old.view result self.new.view }
         ensures same_flow { self.new.flow ≡ self.old.flow }
-        ensures collected { AwaitsWithin self.old.view result self.new.view }
     {
         for _ in rt.forever() {
             let left = limit.left(rt);
@@ -176,11 +180,19 @@ impl<T: Word> Watcher<T> {
         }
     }
 
+    /// A law, with nothing to run. Of any watcher, between any two of its calls: what it was given since it began is a subsequence of
+    /// the value history that it has seen, without equal neighbours.
+    pub fn collected_is_picked(&self)
+        ensures { IsPickedFromHistory self.now }
+    {
+        self.collector.collected_is_picked();
+    }
+
     /// Ends the watching, and gives the seat back: what Kotlin does where the coroutine that collects is cancelled. The number of
     /// watchers goes down by one. The stoppers of this one let go none that the seat makes later.
     pub fn cancel(self) -> WatchedSeat<T>
+        ensures has { Ends self.view result.view }
         ensures same_flow { result.flow ≡ self.flow }
-        ensures ends { Ends self.view result.view }
     {
         let Watcher {
             collector,

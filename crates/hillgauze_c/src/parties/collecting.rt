@@ -19,8 +19,8 @@ impl Drop for Collecting {
 impl Collecting {
     /// Ends to collect, and gives the seat back.
     pub fn cancel(self) -> Seating
+        ensures has { Ends self.collector.view result.seat.view }
         ensures same_flow { result.seat.flow ≡ self.collector.flow }
-        ensures ends { Ends self.collector.view result.seat.view }
     {
         let Collecting { collector } = self;
         let seat = collector.cancel();

@@ -2,6 +2,7 @@
 ghost use Rattle.std.specs.Prelude.{◌≡◌, ◌<◌, ◌≤◌, [], true, false};
 ghost use mathlib.Core.Option.{none};
 ghost use Rattle.atomic_table.specs.Table.{step};
+ghost use Rattle.state_flow.specs.History.{IsHistory};
 ghost use Rattle.state_flow.specs.Views.{HasAll, running, giver, taker, keeper};
 ghost use Rattle.state_flow.specs.Calls.{Reads, Sets, Compares, Counts, Begins, Ends, Launches, Cancels, KnewAll, SetsAlone, ComparesAlone};
 ghost use Rattle.state_flow.specs.Steps.{gathered};
@@ -48,6 +49,7 @@ impl<T: Word, A: Allocator> StateFlow<T, A> {
         ensures same_slots { seat.new.me.1 ≡ seat.old.me.1 }
         ensures value { Sets seat.old.me.0 value seat.new.me.0 }
         ensures alone { seat.old.me.0.told ≡ [] → SetsAlone seat.old.me.0 value seat.new.me.0 }
+        ensures history { IsHistory seat.new.me.0.seen }
     {
         let word = value.to_word();
         self.table.shared.swap::<Put>(seat, 0, word);
@@ -66,6 +68,7 @@ impl<T: Word, A: Allocator> StateFlow<T, A> {
         ensures same_slots { seat.new.me.1 ≡ seat.old.me.1 }
         ensures value { Compares seat.old.me.0 expect update result seat.new.me.0 }
         ensures alone { seat.old.me.0.told ≡ [] → ComparesAlone seat.old.me.0 expect update result seat.new.me.0 }
+        ensures history { IsHistory seat.new.me.0.seen }
     {
         let expected = expect.to_word();
         let new = update.to_word();

@@ -11,8 +11,8 @@ tries-preserved g c = record {
   missed = missed_more _ _ _ _ c.tries.invariant.missed c.in_default.ensures.missed;
 }
 
-pub returns-in-Some-clause-updates : goal.returns-in-Some-clause-updates
-returns-in-Some-clause-updates g c = updates_after _ _ _ _ _ _ _ c.tries.invariant.missed c.in-Some.ensures.updates
+pub returns-in-Some-clause-has : goal.returns-in-Some-clause-has
+returns-in-Some-clause-has g c = updates_after _ _ _ _ _ _ _ c.tries.invariant.missed c.in-Some.ensures.updates
 
 pub returns-clause-missed : goal.returns-clause-missed
 returns-clause-missed g c = missed_by _ _ _ _ (omega arith) c.tries.invariant.missed

@@ -4,7 +4,7 @@ use Rattle.script_states.proofs.Watching.{stepped}
 use Rattle.script_states.proofs.watched.WatchedMutableState.compare_and_set.Goals as goal
 
 pub invariant_of-self : goal.invariant_of-self
-invariant_of-self c = stepped c.self.inside.seat _ _ c.self.invariant (ap (λ (v : View ℕ). v.share) c.compare_and_set.ensures.value.one_step.only) (ap (λ (v : View ℕ). v.runs) c.compare_and_set.ensures.value.one_step.only)
+invariant_of-self c = stepped c.self.inside.seat _ _ c.self.invariant (ap (λ (v : View ℕ). v.share) c.compare_and_set.ensures.has.one_step.only) (ap (λ (v : View ℕ). v.runs) c.compare_and_set.ensures.has.one_step.only)
 
 -- A wrong body makes this false: so answered, it is refused at once.
 pub returns : goal.returns

@@ -10,7 +10,7 @@ invariant_of-self-in_err-collector c =
 pub invariant_of-self-2 : goal.invariant_of-self-2
 invariant_of-self-2 c =
     rw (c.push_reserved.ensures.items, c.reserve.ensures.items) (added c.self.inside.seat c.launch.new.self c.self.inside.collectors.items _ c.self.invariant
-    (ap (λ (v : View ℕ). v.share) c.in_ok-collector.ensures.launches.1.only) (ap (λ (v : View ℕ). v.runs) c.in_ok-collector.ensures.launches.1.only))
+    (ap (λ (v : View ℕ). v.share) c.in_ok-collector.ensures.has.1.only) (ap (λ (v : View ℕ). v.runs) c.in_ok-collector.ensures.has.1.only))
 
 -- A wrong body makes this false: so answered, it is refused at once.
 pub returns : goal.returns

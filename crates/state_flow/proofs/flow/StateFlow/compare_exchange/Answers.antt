@@ -1,5 +1,5 @@
 use Rattle.std.proofs.Common.{rules}
-use Rattle.state_flow.proofs.Calls.{compared_says, compared_alone}
+use Rattle.state_flow.proofs.Calls.{compared_says, compared_alone, compared_history}
 use Rattle.state_flow.proofs.ValueSteps.{compares, apart_by}
 use Rattle.state_flow.proofs.flow.StateFlow.compare_exchange.Goals as goal
 
@@ -15,3 +15,7 @@ returns-clause-value g c = compared_says g.T.Word.word g.T.Word.fits (apart_by g
 
 pub returns-clause-alone : goal.returns-clause-alone
 returns-clause-alone g c = compared_alone g.T.Word.word g.T.Word.fits (apart_by g.T.Word.word g.T.Word.read_as g.T.Word.fits g.met.T.Word.undoes) _ _ _ _ _ c.args.expect c.args.update c.to_word-expected.ensures.fits c.to_word-new.ensures.fits c.to_word-expected.ensures.word c.to_word-new.ensures.word c.compare_exchange-found.ensures.2
+
+pub returns-clause-history : goal.returns-clause-history
+returns-clause-history g c = compared_history g.T.Word.word g.T.Word.fits (apart_by g.T.Word.word g.T.Word.read_as g.T.Word.fits g.met.T.Word.undoes) _ _ c.args.expect c.args.update _
+    (compared_says g.T.Word.word g.T.Word.fits (apart_by g.T.Word.word g.T.Word.read_as g.T.Word.fits g.met.T.Word.undoes) _ _ _ _ _ c.args.expect c.args.update c.to_word-expected.ensures.fits c.to_word-new.ensures.fits c.to_word-expected.ensures.word c.to_word-new.ensures.word c.compare_exchange-found.ensures.2)

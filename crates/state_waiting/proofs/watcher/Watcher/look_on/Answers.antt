@@ -10,5 +10,5 @@ pub loop-preserved : goal.loop-preserved
 loop-preserved g c =
     let before = c.loop.self-inside.collector in
     let after = c.try_next.new.self in
-    let missed = subst (λ given. Collects before.view given after.view) c.in_default.is c.try_next.ensures.received in
+    let missed = subst (λ given. Collects before.view given after.view) c.in_default.is c.try_next.ensures.asks in
     (c.try_next.ensures.same_flow ∙ c.loop.invariant.0, once_more c.self.inside.collector.view before.view after.view c.loop.invariant.1 missed)

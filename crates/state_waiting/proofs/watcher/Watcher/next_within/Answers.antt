@@ -1,5 +1,16 @@
-use Rattle.state_waiting.proofs.Asking.{awaits_within}
+use Rattle.state_waiting.specs.declared.collected.Collected.TheVariants.{Value}
+use Rattle.state_waiting.proofs.Asking.{awaited, awaits_within, awaited_within}
 use Rattle.state_waiting.proofs.watcher.Watcher.next_within.Goals as goal
 
-pub returns-clause-collected : goal.returns-clause-collected
-returns-clause-collected g c = awaits_within c.args.self.now.view c.look_on.new.self.view c.wait_within-collected.new.self.view c.wait_within-collected.result c.in_default.ensures.missed c.wait_within-collected.ensures.collected
+pub returns-in-Some-clause-has : goal.returns-in-Some-clause-has
+returns-in-Some-clause-has g c = awaited c.args.self.now.view c.look_on.new.self.view (Value c.in-Some.value) c.in-Some.ensures.given
+
+pub returns-clause-has : goal.returns-clause-has
+returns-clause-has g c =
+    let before = c.args.self.now.view in
+    let waited = c.wait_within-collected in
+    awaited_within before waited.new.self.view waited.result (awaits_within before c.look_on.new.self.view waited.new.self.view waited.result c.in_default.ensures.missed waited.ensures.awaits)
+
+pub returns-clause-awaits : goal.returns-clause-awaits
+returns-clause-awaits g c =
+    awaits_within c.args.self.now.view c.look_on.new.self.view c.wait_within-collected.new.self.view c.wait_within-collected.result c.in_default.ensures.missed c.wait_within-collected.ensures.awaits

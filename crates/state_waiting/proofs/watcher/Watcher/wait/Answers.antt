@@ -13,8 +13,8 @@ loop-preserved g c =
     let missed = subst (λ came. Comes before.view came after.view) c.in-Asleep.is c.turn.ensures.came in
     (c.turn.ensures.same_flow ∙ c.loop.invariant.0, once_more c.args.self.now.view before.view after.view c.loop.invariant.1 missed)
 
-pub returns-in-Over-clause-collected : goal.returns-in-Over-clause-collected
-returns-in-Over-clause-collected g c =
+pub returns-in-Over-clause-awaits : goal.returns-in-Over-clause-awaits
+returns-in-Over-clause-awaits g c =
     let before = c.loop.self in
     let after = c.turn.new.self in
     let came = subst (λ came. Comes before.view came after.view) c.in-Over.is c.turn.ensures.came in

@@ -1,5 +1,5 @@
 use Rattle.std.proofs.Common.{rules}
-use Rattle.state_flow.proofs.seat.StateSeat.collect.Goals as goal
+use Rattle.state_flow.proofs.seat.StateSeat+T+A.collect.Goals as goal
 
 -- A wrong body makes these false: so answered, it is refused at once.
 pub over-requires-clause-seated : goal.over-requires-clause-seated

@@ -1,5 +1,5 @@
 use Rattle.std.proofs.Common.{rules}
-use Rattle.state_flow.proofs.seat.StateSeat.take_seat.Goals as goal
+use Rattle.state_flow.proofs.seat.StateSeat+T+A.take_seat.Goals as goal
 
 -- A wrong body makes these false: so answered, it is refused at once.
 pub invariant_of-self : goal.invariant_of-self

@@ -1,0 +1,6 @@
+use Rattle.std.proofs.Common.{rules}
+use Rattle.state_flow.proofs.seat.StateSeat+T+A.collectors.Goals as goal
+
+-- A wrong body makes this false: so answered, it is refused at once.
+pub returns-clause-has : goal.returns-clause-has
+returns-clause-has g c = search rules
