@@ -1,7 +1,7 @@
 -- What stands in a log of a subscription's values.
 use Rattle.std.specs.Prelude.{◌≡◌, ℕ, List, ◌++◌}
-use Rattle.shared_flow.specs.Parties.{Subscribed}
-use Rattle.shared_flow.specs.Received.{received, ReceivesAllButDropped}
+use Rattle.shared_flow.specs.Parties.{Subscribed, received}
+use Rattle.shared_flow.specs.Received.{ReceivesAllButDropped}
 
 -- what stands in the log now is what stood there, then what the subscription received meanwhile, in order
 abbrev pub Logs : List ℕ → Subscribed ℕ → List ℕ → Subscribed ℕ → Type 0

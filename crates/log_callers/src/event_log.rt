@@ -2,7 +2,7 @@
 ghost use Rattle.std.specs.Prelude.{◌≡◌, ◌+◌, length, IfOk, IfErr};
 ghost use Rattle.flow_terms.specs.declared.refusal.Refusal.TheVariants.{NoMemory};
 ghost use Rattle.log_callers.specs.Logs.{Logs, IsWholeLog};
-ghost use Rattle.shared_flow.specs.Received.{received};
+ghost use Rattle.shared_flow.specs.Parties.{received};
 
 use shared_flow::{Parker, Refusal, Subscription};
 use std::sync::Wait;

@@ -1,4 +1,4 @@
-use Rattle.std.proofs.Common.{◌≡◌, ◌+◌, length, arith}
+use Rattle.std.proofs.Common.{arith}
 use Rattle.log_callers.proofs.Logging.{logs_nothing, logs_more}
 use Rattle.log_callers.proofs.event_log.log_events.Goals as goal
 
