@@ -14,10 +14,11 @@ use Rattle.shared_core.specs.declared.config.Config.{Config}
 use Rattle.shared_core.specs.Flow.{values_at}
 use Rattle.shared_core.specs.Story.{Interleaves}
 use Rattle.shared_lane.specs.declared.meeting.Met.{Met}
+use Rattle.lane_steps.specs.declared.view.Shape.{Shape}
 use Rattle.shared_lane.specs.Caches.{word_of}
 use Rattle.shared_lane.specs.Headline.{cache_then_later, pending}
 use Rattle.shared_lane.specs.Readers.{at}
-use Rattle.shared_lane.specs.Sequencers.{entry_of, seen}
+use Rattle.shared_lane.specs.Sequencers.{entry_of, seen, shape_of}
 use Rattle.shared_lane.specs.Views.{ReceiptSeen}
 use Rattle.shared_rounds.specs.declared.round.Round.{Round}
 use Rattle.shared_rounds.specs.declared.round.Round.TheVariants as round
@@ -26,21 +27,27 @@ use Rattle.shared_flow.specs.Emitters.{after_try, emission_by}
 use Rattle.shared_flow.specs.Laws.{EachSubscriptionLaw, knowing}
 use Rattle.shared_flow.specs.Lives.{IsSubscriptionOf, Life, LivesOn, looked, received_in}
 use Rattle.shared_flow.specs.Looks.{WasLetInBy}
-use Rattle.shared_flow.specs.Queue.{emitted, taken_up, words_by}
+use Rattle.shared_flow.specs.Queue.{ComesTo, EachInItsOwnOrder, emitted, progress_of, taken_up, words_by}
 use Rattle.shared_rounds.specs.Names.{FlowName, IsMadeWith, SharedSeen}
 use Rattle.shared_flow.specs.Owners.{HasHeard, Meets}
-use Rattle.shared_flow.specs.Parties.{Emitting, Subscribed, newcomer_of, sharing_of, taking_of}
+use Rattle.shared_flow.specs.Parties.{Emitting, Subscribed, newcomer_of, received as received_from, sharing_of, taking_of}
 use Rattle.shared_rounds.specs.Reach.{Party, Rounds}
 use Rattle.shared_rounds.specs.Rounds.{numbers_tried}
 use Rattle.round_lock.proofs.Rounds.{own_mine, own_other}
+use Rattle.shared_flow.proofs.Growing.{appends_more, appends_nothing}
 use Rattle.shared_flow.proofs.Lives.{lives_more, received_more}
-use Rattle.hot_callers.specs.Exchanges.{AreTries, EndsBoth, EndsEmitters, Exchange, IsSameParty, LateExchange, Receives, ReceivesBetween, TakesEach, TakesIn, TellsBoth, TriesEach}
+use Rattle.hot_callers.specs.Exchanges.{AreTries, EndsBoth, EndsEmitters, Exchange, IsSameParty, LateExchange, Receives, ReceivesBetween, TakesEach, TakesIn, TakesInTurn, TellsBoth, TriesEach}
+use Rattle.hot_callers.specs.Receiving.{ReceivesItsOwn}
+use Rattle.hot_callers.proofs.Accepting.{accepted_of_tries, keeps_all, shape_is, tries_come}
 use Rattle.hot_callers.proofs.Looks.{taken_on}
-use Rattle.hot_callers.proofs.Speaking.{AreBy, EmitNothing, IsBy, IsPartBy, accepted_within, are_by, each_before, emitted_by, emitted_more, nothing_more, nothing_of, of_two, own_since, since_then, tries_nothing, tries_within}
+use Rattle.hot_callers.proofs.Speaking.{AreBy, EmitNothing, IsBy, IsPartBy, accepted_within, are_by, each_before, emitted_by, emitted_more, nothing_more, nothing_of, of_two, own_since, since_then, tries_nothing, tries_within, words_of}
 use Rattle.hot_callers.proofs.Sublists.{Within, alone, make_up_longer, of_parts, values_within, with_others, within_back, within_front, within_then, within_under}
 
 abbrev round_in : ℕ × Round × SharedSeen → Round
 round_in t = t.1
+
+abbrev received_by : Subscribed ℕ → List ℕ
+received_by s = received_from (λ word. word) s
 
 abbrev AreApart : ℕ → ℕ → Type 0
 AreApart a b = a ≢ b
@@ -127,12 +134,22 @@ tries_more words word answer e f g was now =
 -- ---- takings
 
 pub takes_none : (before : List ℕ) (s : Subscribed ℕ) → TakesEach before s before s
-takes_none before s = ([], sym (append-nil before), ([], (refl, refl), refl), refl)
+takes_none before s = ([], appends_nothing before, appends_nothing (received_by s))
 
 pub takes_on : (before middle after : List ℕ) (s m t : Subscribed ℕ) → TakesEach before s middle m → TakesEach middle m after t → TakesEach before s after t
 takes_on before middle after s m t was now = (
   was.0 ++ now.0,
-  now.1 ∙ ap (λ (l : List ℕ). l ++ now.0) was.1 ∙ append_assoc before was.0 now.0,
+  appends_more before middle after was.0 now.0 was.1 now.1,
+  appends_more (received_by s) (received_by m) (received_by t) was.0 now.0 was.2 now.2,
+)
+
+pub turns_none : (before : List ℕ) (s : Subscribed ℕ) → TakesInTurn before s before s
+turns_none before s = ([], appends_nothing before, ([], (refl, refl), refl), refl)
+
+pub turns_on : (before middle after : List ℕ) (s m t : Subscribed ℕ) → TakesInTurn before s middle m → TakesInTurn middle m after t → TakesInTurn before s after t
+turns_on before middle after s m t was now = (
+  was.0 ++ now.0,
+  appends_more before middle after was.0 now.0 was.1 now.1,
   taken_on s m t was.0 now.0 was.2 now.2,
   now.3 ∙ was.3,
 )
@@ -155,7 +172,7 @@ module _ (p q r : Party) (s t u : Subscribed ℕ) (counts : Met) where
       ∙ append_assoc begun rest last
 
   abbrev pub receives : (config : Config) (received : List ℕ) → IsMadeWith config p.flow → q.flow ≡ p.flow → EachSubscriptionLaw {T = ℕ} (λ word. word)
-      → WasLetInBy s.number s.reader p q → TakesEach [] s received t → Meets q r t u counts → Receives config s.rest received
+      → WasLetInBy s.number s.reader p q → TakesInTurn [] s received t → Meets q r t u counts → Receives config s.rest received
   receives config received with same law let_in takes met =
       let turns = takes.2.0 ++ looked None ∷ [] in
       let made = met.made.saw.made in
@@ -259,6 +276,45 @@ module _ {config : Config} {prelude received : List ℕ} (it : Receives config p
       let both = received_of_both 1 2 words [] one_and_two by_one (nobody 2 one_and_two) (λ e other _. nobody e other) in
       (both.1, subst (λ (l : List ℕ). Interleaves received both.1 (prelude ++ l)) (alone both.2 refl) both.3)
 
+  -- and what was accepted is what came of these
+  accepted_are : (pass : ℕ) (words : List ℕ) → AreTries 1 words (own_of pass it.before) → ((e : ℕ) → AreBy e pass it.before) → map word_of accepted ≡ words_of 1 (own_of pass it.before)
+  accepted_are pass words tries are =
+      let own = own_of pass it.before in
+      let last : ℕ × Round × SharedSeen = (it.owner, round.Hold it.count, it.now) in
+      let flow = it.is_one_flow in
+      let progress = progress_of it.now.sequencer in
+      let came = subst (λ (l : Rounds). ComesTo l progress) it.log_is flow.accepted_in_turn in
+      let each = subst (λ (l : Rounds). EachInItsOwnOrder l progress) it.log_is flow.each_in_its_own_order in
+      let nobody : (e : ℕ) → AreApart 1 e → emitted e it.before ≡ [] =
+      λ e other. emitted_by e pass it.before (are e) ∙ nothing_of e own (tries_nothing e 1 words own other tries) in
+      let none_by : (e : ℕ) → AreApart 1 e → words_by e accepted ≡ [] = λ e other. subst (Within (words_by e accepted)) (nobody e other) (accepted_of e) in
+      let all : map word_of accepted ≡ words_by 1 accepted = alone (of_two 1 2 accepted one_and_two (λ e not_one not_two. none_by e not_one)) (none_by 2 one_and_two) in
+      all ∙ accepted_of_tries 1 pass words it.before last progress are tries tt came each ∙ emitted_more 1 it.before (last ∷ []) ∙ append-nil (emitted 1 it.before)
+      ∙ emitted_by 1 pass it.before (are 1)
+
+  pub own_of_one : (pass : ℕ) (words : List ℕ) → it.life.start.shape ≡ shape_of config → AreTries 1 words (own_of pass it.before) → ((e : ℕ) → AreBy e pass it.before)
+      → ReceivesItsOwn config.policy prelude words received
+  own_of_one pass words shape tries are =
+      let reader = knowing it.now it.life.reader in
+      let cache = cache_then_later it.life.cache it.life.start reader in
+      let told = it.receives in
+      let values = values_at cache told.kept in
+      let rest = it.life.left ++ map (λ (word : ℕ). word) (pending reader) in
+      let come = tries_come 1 words (own_of pass it.before) [] tries in
+      record {
+        emissions = come.0;
+        words_are = come.2;
+        last = cache;
+        are_last = (told.in_order_of_acceptance.0, sym come.3 ∙ sym (accepted_are pass words tries are) ∙ told.in_order_of_acceptance.1);
+        kept = told.kept;
+        dropped = told.dropped;
+        rest = rest;
+        received_then_rest = ap (λ (l : List ℕ). l ++ rest) (sym it.received_is) ∙ told.received_then_pending_is_prelude_cache_then_later
+            ∙ ap (λ (l : List ℕ). l ++ map (λ (word : ℕ). word) values) it.prelude_is ∙ ap (λ (l : List ℕ). prelude ++ l) (map-id values);
+        in_order_and_once = told.in_order_and_once;
+        only_drop_oldest_drops = λ not. told.only_drop_oldest_drops (ap (λ (s : Shape). s.drops) shape ∙ keeps_all config.policy not);
+      }
+
 -- ---- shares
 
 -- a party's share of the lock was halved so often, and it took these in
@@ -333,7 +389,7 @@ emitted_before e xs ys begins =
 
 -- a subscription's party at its end, which was let in by a quiet owner
 quiet_end : (halved : ℕ) (taken : List (Part Round)) (p n q r : Party) (s t u : Subscribed ℕ) (received : List ℕ) (counts : Met) → IsQuietWith halved taken p
-    → s.party ≡ newcomer_of s.party.pass p → TakesEach [] s received t → Meets n q t u counts → (end : TakesIn q r u) → IsQuietWith (suc halved) [] end.left
+    → s.party ≡ newcomer_of s.party.pass p → TakesInTurn [] s received t → Meets n q t u counts → (end : TakesIn q r u) → IsQuietWith (suc halved) [] end.left
 quiet_end halved taken p n q r s t u received counts quiet new takes meets end =
     let began = quiet_newcomer halved taken p s.party quiet new in
     let took = subst (IsQuietWith (suc halved) []) (sym takes.3) began in
@@ -342,7 +398,7 @@ quiet_end halved taken p n q r s t u received counts quiet new takes meets end =
 
 -- an owner that let a subscription in, met it, and took it in
 quiet_owner : (halved : ℕ) (p n q r : Party) (s t u : Subscribed ℕ) (received : List ℕ) (counts : Met) → IsQuietWith halved [] p
-    → s.party ≡ newcomer_of s.party.pass p → WasLetInBy s.number s.reader (sharing_of p) n → TakesEach [] s received t → Meets n q t u counts
+    → s.party ≡ newcomer_of s.party.pass p → WasLetInBy s.number s.reader (sharing_of p) n → TakesInTurn [] s received t → Meets n q t u counts
     → (end : TakesIn q r u) → IsQuietWith (suc halved) (part_of end.left ∷ []) r
 quiet_owner halved p n q r s t u received counts quiet new let_in takes meets end =
     let shared = quiet_sharing halved [] p quiet in
@@ -386,8 +442,9 @@ ends_alone p q n last end emitter number count held rest meeting has all same_pa
 -- What came of it for the owner, which had given half of its share to the emitter, and let the subscription in by half of what it had left.
 pub exchanged : (config : Config) (words received : List ℕ) (p n q last : Party) (s t u : Subscribed ℕ) (d e f : Emitting) (counts : Met) → IsMadeWith config p.flow
     → EachSubscriptionLaw {T = ℕ} (λ word. word) → IsQuietWith 1 [] p → s.party ≡ newcomer_of s.party.pass p → WasLetInBy s.number s.reader (sharing_of p) n
-    → TakesEach [] s received t → (meets : Meets n q t u counts) → d.party.rounds ≡ [] → d.id ≡ 1 → HasShare 1 [] d.party → TriesEach words d e
-    → HasHeard meets.made.before e.party f.party → EndsBoth q last f u → Exchange config s.rest words received last
+    → TakesInTurn [] s received t → (meets : Meets n q t u counts) → d.party.rounds ≡ [] → d.id ≡ 1 → HasShare 1 [] d.party → TriesEach words d e
+    → HasHeard meets.made.before e.party f.party → EndsBoth q last f u
+    → ReceivesItsOwn config.policy s.rest words received × Exchange config s.rest words received last
 exchanged config words received p n q last s t u d e f counts with law quiet newcomer let_in takes meets new first share tries heard ends =
     let it = receives (sharing_of p) n q s t u counts config received with (ap (λ (x : Party). x.flow) let_in.made.after) law let_in takes meets in
     let left = ends.takes_in.left in
@@ -418,22 +475,25 @@ exchanged config words received p n q last s t u d e f counts with law quiet new
     let since = ends_alone (taking_of f.party ends.then) q n last left f.party u.number ends.count meets.count sees.0 meets.made owner.0 all
     (ap (λ (x : Party). x.pass) ends.takes_in.after) (ap (λ (x : Party). x.rounds) ends.takes_in.after) end_rounds not_ended emitter_heard ends.made sees.1 in
     let counted : ℕ × Round × SharedSeen = (ends.then.pass, round.Count ends.count, ends.made.left) in
-    record {
-      received_with_others_is_prelude_then_words = received_of_one it e.party.pass words own are;
-      receives = it;
-      emits = (e.party.pass, own);
-      seen = (
-        u.number,
-        ends.count,
-        (
-          sees.0 ++ counted ∷ [],
-          ap (λ (x : Party). x.seen) ends.made.after ∙ ap (λ (l : Rounds). l ++ counted ∷ []) sees.1 ∙ append_assoc it.log sees.0 (counted ∷ []),
-          map-append round_in sees.0 (counted ∷ []) ∙ ap (λ (l : List Round). l ++ round.Count ends.count ∷ []) since,
-        ),
-      );
-      halved = has.0;
-      has_all = has_whole 2 parts last has all;
-    }
+    let shape = shape_is config (sharing_of p) n s.number s.reader with let_in in (
+      own_of_one it e.party.pass words shape own are,
+      record {
+        received_with_others_is_prelude_then_words = received_of_one it e.party.pass words own are;
+        receives = it;
+        emits = (e.party.pass, own);
+        seen = (
+          u.number,
+          ends.count,
+          (
+            sees.0 ++ counted ∷ [],
+            ap (λ (x : Party). x.seen) ends.made.after ∙ ap (λ (l : Rounds). l ++ counted ∷ []) sees.1 ∙ append_assoc it.log sees.0 (counted ∷ []),
+            map-append round_in sees.0 (counted ∷ []) ∙ ap (λ (l : List Round). l ++ round.Count ends.count ∷ []) since,
+          ),
+        );
+        halved = has.0;
+        has_all = has_whole 2 parts last has all;
+      },
+    )
 
 -- The same of two emitters, of which the second heard of the meeting, and both of all rounds later.
 pub late : (config : Config) (prelude first second later received : List ℕ) (p q r last : Party) (a b h c m n k : Emitting) → IsMadeWith config p.flow

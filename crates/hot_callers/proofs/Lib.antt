@@ -1,5 +1,6 @@
 mod Looks
 mod Sublists
 mod Speaking
+mod Accepting
 mod Exchanging
 mod StateExchanging

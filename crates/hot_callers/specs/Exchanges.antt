@@ -14,7 +14,7 @@ use Rattle.shared_flow.specs.Lives.{Life, IsSubscriptionOf, ReceivesPreludeCache
 use Rattle.shared_flow.specs.Looks.{WasEnded, WasLetInBy}
 use Rattle.shared_rounds.specs.Names.{SharedSeen}
 use Rattle.shared_flow.specs.Owners.{HasHeard, Meets}
-use Rattle.shared_flow.specs.Parties.{Emitting, Subscribed, newcomer_of, sharing_of, taking_of}
+use Rattle.shared_flow.specs.Parties.{Emitting, Subscribed, newcomer_of, received, sharing_of, taking_of}
 use Rattle.shared_rounds.specs.Reach.{Party, Rounds}
 use Rattle.hot_callers.specs.SharedCalls.{HasTaken}
 
@@ -33,9 +33,13 @@ abbrev pub TriesEach : List ℕ → Emitting → Emitting → Type 0
 TriesEach words e f = (rounds : List Round) × AreTries e.id words rounds × (f.party.rounds ≡ e.party.rounds ++ rounds)
     × IsSameParty e.party f.party × (f.id ≡ e.id) × (f.ticket ≡ None)
 
--- the subscription took values, turn by turn, which were added to a list, and made no round
+-- what the subscription received meanwhile was added to a list, in order
 abbrev pub TakesEach : List ℕ → Subscribed ℕ → List ℕ → Subscribed ℕ → Type 0
-TakesEach before s after t = (values : List ℕ) × (after ≡ before ++ values) × HasTaken s values t × (t.party ≡ s.party)
+TakesEach before s after t = (values : List ℕ) × (after ≡ before ++ values) × (received (λ word. word) t ≡ received (λ word. word) s ++ values)
+
+-- it took them turn by turn, and made no round
+abbrev pub TakesInTurn : List ℕ → Subscribed ℕ → List ℕ → Subscribed ℕ → Type 0
+TakesInTurn before s after t = (values : List ℕ) × (after ≡ before ++ values) × HasTaken s values t × (t.party ≡ s.party)
 
 -- an owner met a subscription and an emitter, in one round: both have heard of all rounds before that, of which their own are a part
 pub record MeetsBoth (p q : Party) (e f : Emitting) (s t : Subscribed ℕ) : Type 0 where
@@ -75,7 +79,7 @@ pub record ReceivesBetween (p q : Party) (prelude received : List ℕ) (emitter 
   pub is_newcomer : began.party ≡ newcomer_of began.party.pass p
   pub let_in : WasLetInBy began.number began.reader (sharing_of p) then
   pub prelude_is : began.rest ≡ prelude
-  pub takes : TakesEach [] began received took
+  pub takes : TakesInTurn [] began received took
   pub meets : Meets then last took met counts
   pub heard : emitter.rounds ≡ own_of emitter.pass meets.made.before
   pub takes_in : TakesIn last q met

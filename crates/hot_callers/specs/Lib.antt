@@ -1,5 +1,6 @@
 pub mod Lights
 pub mod LightLaws
 pub mod SharedCalls
+pub mod Receiving
 pub mod Exchanges
 pub mod StateExchanges

@@ -2,7 +2,8 @@
 
 ghost use Rattle.std.specs.Prelude.{◌≡◌, ◌++◌, None, IfOk};
 ghost use Rattle.shared_core.specs.Preludes.{prelude_values};
-ghost use Rattle.hot_callers.specs.Exchanges.{EndsBoth, EndsEmitters, Exchange, LateExchange, MeetsBoth, ReceivesBetween, TakesEach, TellsBoth, TriesEach};
+ghost use Rattle.hot_callers.specs.Exchanges.{EndsBoth, EndsEmitters, Exchange, LateExchange, MeetsBoth, ReceivesBetween, TakesEach, TakesInTurn, TellsBoth, TriesEach};
+ghost use Rattle.hot_callers.specs.Receiving.{ReceivesItsOwn};
 
 use cold_flow::Refusal;
 use shared_core::{Config, Prelude};
@@ -25,7 +26,8 @@ fn try_each(rt: &impl Wait, emitter: &mut Emitter<u64>, values: &[u64])
 
 // Looks once for a value, which is added to a list. Without memory for it none is taken.
 fn take_one(subscription: &mut Subscription<u64>, received: &mut Vec<u64>) -> Result<(), AllocError>
-    ensures { TakesEach received.old.items subscription.old received.new.items subscription.new }
+    ensures has { TakesEach received.old.items subscription.old received.new.items subscription.new }
+    ensures turns { TakesInTurn received.old.items subscription.old received.new.items subscription.new }
 {
     received.reserve(1)?;
     let value = match subscription.try_next() {
@@ -43,7 +45,8 @@ fn take_each(
     turns: usize,
     received: &mut Vec<u64>,
 ) -> Result<(), AllocError>
-    ensures { TakesEach received.old.items subscription.old received.new.items subscription.new }
+    ensures has { TakesEach received.old.items subscription.old received.new.items subscription.new }
+    ensures turns { TakesInTurn received.old.items subscription.old received.new.items subscription.new }
 {
     for _ in 0..turns {
         take_one(subscription, received)?;
@@ -62,8 +65,9 @@ fn in_two_threads<R: Threads + Wait + Sync>(
     received: &mut Vec<u64>,
 ) -> Result<(), AllocError>
     requires idle { emitter.old.ticket ≡ None }
+    ensures has { TakesEach received.old.items subscription.old received.new.items subscription.new }
+    ensures turns { TakesInTurn received.old.items subscription.old received.new.items subscription.new }
     ensures emits { TriesEach values.now emitter.old emitter.new }
-    ensures receives { TakesEach received.old.items subscription.old received.new.items subscription.new }
 {
     let ((), taken) = join_mut(
         rt,
@@ -72,7 +76,9 @@ fn in_two_threads<R: Threads + Wait + Sync>(
             ensures { TriesEach values.entry.now emitter.entry.now emitter.exit.now }
         { try_each(rt, emitter, values) },
         &mut ||
-            ensures { TakesEach received.entry.now.items subscription.entry.now received.exit.now.items subscription.exit.now }
+            ensures has { TakesEach received.entry.now.items subscription.entry.now
+                received.exit.now.items subscription.exit.now }
+            ensures turns { TakesInTurn received.entry.now.items subscription.entry.now received.exit.now.items subscription.exit.now }
         { take_each(subscription, turns, received) },
     );
     taken
@@ -90,9 +96,10 @@ fn in_three_threads<R: Threads + Wait + Sync>(
     received: &mut Vec<u64>,
 ) -> Result<(), AllocError>
     requires idle { (one.old.ticket ≡ None) × (two.old.ticket ≡ None) }
+    ensures has { TakesEach received.old.items subscription.old received.new.items subscription.new }
+    ensures turns { TakesInTurn received.old.items subscription.old received.new.items subscription.new }
     ensures one { TriesEach first.now one.old one.new }
     ensures two { TriesEach second.now two.old two.new }
-    ensures receives { TakesEach received.old.items subscription.old received.new.items subscription.new }
 {
     let ((), taken) = join_mut(
         rt,
@@ -102,8 +109,10 @@ fn in_three_threads<R: Threads + Wait + Sync>(
         { try_each(rt, one, first) },
         &mut ||
             requires { two.now.ticket ≡ None }
+            ensures has { TakesEach received.entry.now.items subscription.entry.now
+                received.exit.now.items subscription.exit.now }
+            ensures turns { TakesInTurn received.entry.now.items subscription.entry.now received.exit.now.items subscription.exit.now }
             ensures two { TriesEach second.entry.now two.entry.now two.exit.now }
-            ensures receives { TakesEach received.entry.now.items subscription.entry.now received.exit.now.items subscription.exit.now }
         { in_two_threads(rt, two, second, subscription, turns, received) },
     );
     taken
@@ -168,7 +177,9 @@ pub fn emit_and_receive<R>(
 ) -> Result<Exchanged, Refusal>
 where
     R: Threads + Wait + Sync + AllocGlobal,
-    ensures { IfOk result (λ exchanged. Exchange config (prelude_values prelude) values.now exchanged.received.items exchanged.flow.party) }
+    ensures has { IfOk result (λ exchanged.
+        ReceivesItsOwn config.policy (prelude_values prelude) values.now exchanged.received.items) }
+    ensures exchange { IfOk result (λ exchanged. Exchange config (prelude_values prelude) values.now exchanged.received.items exchanged.flow.party) }
 {
     each_subscription_receives_prelude_cache_then_later::<u64>();
     let mut flow = SharedFlow::new(rt.alloc(), config)?;

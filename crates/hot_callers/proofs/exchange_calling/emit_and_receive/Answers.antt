@@ -2,7 +2,8 @@ use Rattle.std.proofs.Common.{ℕ, List, [], sym, ap, subst}
 use Rattle.shared_rounds.specs.Names.{IsMadeWith}
 use Rattle.shared_flow.specs.Owners.{Owning}
 use Rattle.shared_rounds.specs.Reach.{Party}
-use Rattle.hot_callers.specs.Exchanges.{Exchange, TakesEach}
+use Rattle.hot_callers.specs.Exchanges.{Exchange, TakesInTurn}
+use Rattle.hot_callers.specs.Receiving.{ReceivesItsOwn}
 use Rattle.hot_callers.proofs.Exchanging.{IsQuietWith, exchanged, quiet_new, quiet_newcomer, quiet_sharing}
 use Rattle.hot_callers.proofs.exchange_calling.emit_and_receive.Goals as goal
 
@@ -18,13 +19,14 @@ returns g c =
     let quiet = quiet_new new rounds.1 rounds.2 rounds.3 in
     let shared = subst (λ (o : Owning). IsQuietWith 1 [] o.party) (sym half) (quiet_sharing 0 [] new quiet) in
     let made = subst (λ (o : Owning). IsMadeWith config o.party.flow) (sym half) c.in_ok-flow.ensures.config in
-    let takes = subst (λ (l : List ℕ). TakesEach l c.in-Ok.subscription received c.in_two_threads-taken.new.subscription) c.new-received.ensures.items c.in_two_threads-taken.ensures.receives in
+    let takes = subst (λ (l : List ℕ). TakesInTurn l c.in-Ok.subscription received c.in_two_threads-taken.new.subscription) c.new-received.ensures.items c.in_two_threads-taken.ensures.turns in
     let met = c.meet_both.ensures in
     let last = c.end_both.new.flow.party in
-    subst (λ (prelude : List ℕ). Exchange config prelude words received last) c.in-Ok.ensures.prelude
+    let both = subst (λ (prelude : List ℕ). ReceivesItsOwn config.policy prelude words received × Exchange config prelude words received last) c.in-Ok.ensures.prelude
     (exchanged config words received owner.party c.subscribe_with.new.self.party c.meet_both.new.flow.party last c.in-Ok.subscription c.in_two_threads-taken.new.subscription
     c.meet_both.new.subscription c.in_ok-emitter.emitter c.in_two_threads-taken.new.emitter c.meet_both.new.emitter met.counts made
     c.each_subscription_receives_prelude_cache_then_later.ensures shared c.in-Ok.ensures.flow c.in-Ok.ensures.begins takes met.meets
     (ap (λ (p : Party). p.rounds) c.in_ok-emitter.ensures.flow) c.in_ok-emitter.ensures.id
     (quiet_newcomer 0 [] new c.in_ok-emitter.emitter.party quiet c.in_ok-emitter.ensures.flow).0
-    c.in_two_threads-taken.ensures.emits met.emitter c.end_both.ensures)
+    c.in_two_threads-taken.ensures.emits met.emitter c.end_both.ensures) in
+    record { has = both.0; exchange = both.1 }

@@ -1,7 +1,7 @@
 use Rattle.std.proofs.Common.{ℕ, List, sym, ap, subst, ◌∙◌}
 use Rattle.round_lock.specs.History.{own_of}
 use Rattle.shared_rounds.specs.Reach.{Party}
-use Rattle.hot_callers.specs.Exchanges.{TakesEach}
+use Rattle.hot_callers.specs.Exchanges.{TakesInTurn}
 use Rattle.hot_callers.proofs.Exchanging.{tries_heard}
 use Rattle.hot_callers.proofs.exchange_calling.receive_between.Goals as goal
 
@@ -28,7 +28,7 @@ returns-clause-receives g c =
       is_newcomer = c.in_ok-subscription.ensures.flow;
       let_in = c.in_ok-subscription.ensures.begins;
       prelude_is = c.in_ok-subscription.ensures.prelude;
-      takes = subst (λ (l : List ℕ). TakesEach l began received took) c.new-received.ensures.items c.in_three_threads-taken.ensures.receives;
+      takes = subst (λ (l : List ℕ). TakesInTurn l began received took) c.new-received.ensures.items c.in_three_threads-taken.ensures.turns;
       meets = met.meets;
       heard = ap (λ (p : Party). p.rounds) heard.same ∙ heard.part ∙ ap (λ (p : Party). own_of p.pass met.meets.made.before) (sym heard.same);
       takes_in = record { counts = c.cancel.result; left = ended.0; ended = ended.1; after = ended.2 };

@@ -16,7 +16,7 @@ one_more r m t taken before after all was took same kept = let calls = was.0 in 
 )
 
 pub returns-in-Nothing-clause-lived : goal.returns-in-Nothing-clause-lived
-returns-in-Nothing-clause-lived g c = let took = c.try_next-taken.ensures in one_more _ _ _ c.try_next-taken.result _ _ _ c.loop-turn.invariant.1 took.taken took.same.1 c.in_ok-keep.ensures
+returns-in-Nothing-clause-lived g c = let took = c.try_next-taken.ensures in one_more _ _ _ c.try_next-taken.result _ _ _ c.loop-turn.invariant.1 took.has took.same.1 c.in_ok-keep.ensures
 
 pub loop-turn-preserved : goal.loop-turn-preserved
-loop-turn-preserved g c = let took = c.try_next-taken.ensures in (took.same.0, one_more _ _ _ c.try_next-taken.result _ _ _ c.loop-turn.invariant.1 took.taken took.same.1 c.in_ok-keep.ensures)
+loop-turn-preserved g c = let took = c.try_next-taken.ensures in (took.same.0, one_more _ _ _ c.try_next-taken.result _ _ _ c.loop-turn.invariant.1 took.has took.same.1 c.in_ok-keep.ensures)

@@ -13,7 +13,7 @@ loop-value-preserved c =
     let values = c.args.values.now in
     let was = c.loop-value.invariant in
     subst (λ (l : List ℕ). SetsEach l c.args.seat.now c.set.new.self) (sym (take_more values i 0 c.loop-value-test.true))
-    (c.set.ensures.same_flow ∙ was.0, sets_more (take i values) (get_or values i 0) c.args.seat.now.view c.loop-value.seat.view c.set.new.self.view was.1 c.set.ensures.value)
+    (c.set.ensures.same_flow ∙ was.0, sets_more (take i values) (get_or values i 0) c.args.seat.now.view c.loop-value.seat.view c.set.new.self.view was.1 c.set.ensures.has)
 
 pub returns : goal.returns
 returns c =
