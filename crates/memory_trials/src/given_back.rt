@@ -3,15 +3,18 @@
 
 use crate::pages::pages;
 use flow_stopping::StoppableParker;
+use paired_states::{Bell, RungSeat};
 use shared_core::{Config, Policy, Prelude, SharedState};
 use shared_flow::{Parker, SharedFlow};
+use state_flow::StateFlow;
 use state_waiting::WatchedSeat;
 use std::alloc::{AllocGlobal, Global};
 use std::process::Abort;
 use std::random::RandomSource;
 use std::rt::Files;
-use std::sync::Wait;
+use std::sync::{Arc, Wait};
 use std::test::Fail;
+use value_flows::ValueFlow;
 use value_states::ValueState;
 
 /// How often something is made and let go between two counts. Where 32 bytes were forgotten each time, the process would have to ask
@@ -31,6 +34,14 @@ const CONFIG: Config = Config {
     first: 0,
 };
 
+/// One value, which a later one takes the place of; one may subscribe.
+const OF_ANY_TYPE: value_flows::Config = value_flows::Config {
+    replay: 1,
+    extra: 0,
+    policy: Policy::DropOldest,
+    subscribers: 1,
+};
+
 /// What is made and let go.
 #[derive(Clone, Copy)]
 enum Made {
@@ -45,6 +56,11 @@ enum Made {
     WatchedState,
     /// Two owners of a state of any type, and a watcher; and two that let it go.
     StateOfAnyType,
+    /// Two owners of a flow of any type, of which each value is a box; two subscriptions that end, one that is refused, and two that let
+    /// one go.
+    FlowOfAnyType,
+    /// A seat that rings a bell, rings it no more, and rings it again.
+    RungSeat,
 }
 
 /// The same, with a name.
@@ -77,6 +93,14 @@ const ROWS: &[Row<'_>] = &[
     Row {
         name: "a state of any type",
         made: Made::StateOfAnyType,
+    },
+    Row {
+        name: "a flow of any type",
+        made: Made::FlowOfAnyType,
+    },
+    Row {
+        name: "a seat that rings",
+        made: Made::RungSeat,
     },
 ];
 
@@ -124,14 +148,55 @@ fn watched_state(rt: &impl Abort, alloc: Global) {
     let _left = watching.collect().cancel();
 }
 
+fn boxed(rt: &impl Abort, alloc: Global, value: u64) -> Box<u64> {
+    Box::new(alloc, value).expect(rt, "a value")
+}
+
+// Each way to write lets go the value that was there, or the one that isn't kept.
 fn state_of_any_type<R: Wait + Abort>(rt: &R, alloc: Global) {
-    let first = Box::new(alloc, 0u64).expect(rt, "a value");
-    let mut state = ValueState::new(alloc, first).expect(rt, "a state");
-    let _other = state.dup(rt).expect(rt, "another owner");
+    let mut state = ValueState::new(alloc, boxed(rt, alloc, 0)).expect(rt, "a state");
+    let mut other = state.dup(rt).expect(rt, "another owner");
+    let taken_in = state.dup(rt).expect(rt, "another owner");
+    state.take_in(taken_in);
     let mut watcher = state.watch(rt).expect(rt, "a watcher");
     let stopper = watcher.stopper(alloc).expect(rt, "a stopper");
-    let _other = stopper.clone().expect(rt, "another stopper");
-    state.set(rt, Box::new(alloc, 1u64).expect(rt, "a value"));
+    let _another = stopper.clone().expect(rt, "another stopper");
+    state.set(rt, boxed(rt, alloc, 1));
+    let one = boxed(rt, alloc, 1);
+    for value in 1..4 {
+        let _was_equal = state.compare_and_set(rt, &one, boxed(rt, alloc, 2));
+        let _differed = other.set_distinct(rt, boxed(rt, alloc, value));
+    }
+    let _watching = other.watch(rt).expect(rt, "a watcher");
+    let _owner = watcher.cancel();
+}
+
+// Under this policy the second value takes the place of the first, which is let go by the one who emits; the second one goes with the flow.
+fn flow_of_any_type<R: Wait + Abort>(rt: &R, alloc: Global) {
+    let mut flow = ValueFlow::<Box<u64>>::new(alloc, &OF_ANY_TYPE).expect(rt, "a flow");
+    let mut other = flow.dup(rt).expect(rt, "another owner");
+    let taken_in = flow.dup(rt).expect(rt, "another owner");
+    flow.take_in(taken_in);
+    let mut subscription = flow.subscribe(rt).expect(rt, "a subscription");
+    let stopper = subscription.stopper(alloc).expect(rt, "a stopper");
+    let _another = stopper.clone().expect(rt, "another stopper");
+    if let Ok(more) = other.subscribe(rt) {
+        let _owner = more.cancel(rt);
+    }
+    for value in 0..2 {
+        let _accepted = other.try_emit(rt, boxed(rt, alloc, value));
+    }
+    let _received = subscription.try_next(rt);
+    let _owner = subscription.cancel(rt);
+}
+
+fn rung_seat(rt: &impl Abort, alloc: Global) {
+    let seat = StateFlow::new(alloc, 0u64, 1).expect(rt, "a state");
+    let bell = Bell::new(alloc).expect(rt, "a bell");
+    let mut rung = RungSeat::over(seat, Arc::try_clone(&bell).expect(rt, "a bell"));
+    rung.set(1);
+    let seat = rung.into_seat();
+    let _rung = RungSeat::over(seat, bell);
 }
 
 impl Made {
@@ -143,6 +208,8 @@ impl Made {
             Made::StoppableParker => stoppable_parker(rt),
             Made::WatchedState => watched_state(rt, rt.alloc()),
             Made::StateOfAnyType => state_of_any_type(rt, rt.alloc()),
+            Made::FlowOfAnyType => flow_of_any_type(rt, rt.alloc()),
+            Made::RungSeat => rung_seat(rt, rt.alloc()),
         }
     }
 
