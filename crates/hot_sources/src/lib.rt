@@ -3,7 +3,7 @@
 //!
 //! ```text
 //! let mut chain = map(filter(receiving::<(), _, _>(&mut subscription, rt), Even), Half);
-//! take_of(rt, &mut sleeper, &mut chain, 5, &mut out)?;      // sleeps until there are five
+//! take_of(rt, &mut parker, &mut chain, 5, &mut out)?;      // sleeps until there are five
 //! chain.cancel();                                           // the subscription is as it was, and goes on
 //! ```
 //!
@@ -12,7 +12,6 @@
 #![tactic(auto)]
 
 mod operators;
-mod sleeper;
 mod sources;
 mod waiting;
 
@@ -20,7 +19,7 @@ pub use cold_flow::{Apply, Cause, Event, Refusal, Run, Sift, Word};
 pub use operators::filter::{Testing, filter};
 pub use operators::map::{Changing, map};
 pub use operators::passing::Passing;
-pub use sleeper::Sleeper;
+pub use shared_flow::Parker;
 pub use sources::collecting::{CollectingRun, collecting};
 pub use sources::receiving::{ReceivingRun, receiving};
 pub use waiting::{next_of, take_of};

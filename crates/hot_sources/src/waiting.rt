@@ -6,18 +6,18 @@ ghost use Rattle.flow_terms.specs.declared.refusal.Refusal.TheVariants.{NoMemory
 ghost use Rattle.cold_flow.specs.Poll.{Narrows, end_of};
 ghost use Rattle.hot_sources.specs.Waiting.{Came, TookSome, TookAll, EndedAfter};
 
-use crate::sleeper::Sleeper;
 use cold_flow::{Cause, Event, Refusal, Run};
 use futures::task::Poll;
+use shared_flow::Parker;
 use std::sync::Wait;
 
 /// The next value of `chain`, or its end, for which the thread sleeps: one turn of Kotlin's `collect`.
 ///
 /// It polls the run, and sleeps where that answers pending until a source of it wakes the thread. That a wake arrives isn't claimed.
-/// Refused as `NoMemory` where the sleeper finds no memory to wait by, and then nothing was asked.
+/// Refused as `NoMemory` where the parker finds no memory to wait by, and then nothing was asked.
 pub fn next_of<S: Run>(
     rt: &impl Wait,
-    sleeper: &mut Sleeper,
+    parker: &mut Parker,
     chain: &mut S,
 ) -> Result<Event<S::Item, S::Fault>, Refusal>
     ensures narrows { IfOk result (λ event. Narrows (S.may chain.old) (Ready event) (S.may chain.new)) }
@@ -25,9 +25,9 @@ pub fn next_of<S: Run>(
     ensures came { IfOk result (λ event. Came S.polled chain.old event chain.new) }
     ensures refused { IfErr result (λ refusal. (refusal ≡ NoMemory) × (chain.new ≡ chain.old)) }
 {
-    sleeper.begin()?;
+    parker.begin()?;
     'turns: for _ in rt.forever() {
-        let Some(mut cx) = sleeper.turn(rt) else {
+        let Some(mut cx) = parker.turn(rt) else {
             continue;
         };
         let polled = chain.poll_next(&mut cx);
@@ -46,7 +46,7 @@ pub fn next_of<S: Run>(
 /// and gets none, before a value is taken for it, or there is none to wait by; `out` has the values that were taken until then.
 pub fn take_of<S: Run>(
     rt: &impl Wait,
-    sleeper: &mut Sleeper,
+    parker: &mut Parker,
     chain: &mut S,
     count: usize,
     out: &mut Vec<S::Item>,
@@ -58,7 +58,7 @@ pub fn take_of<S: Run>(
 {
     'values: for _taken in 0..count {
         out.reserve(1)?;
-        match next_of(rt, sleeper, chain)? {
+        match next_of(rt, parker, chain)? {
             Event::Value(value) => out.push_reserved(value),
             Event::End(cause) => return Ok(Some(cause)),
         }

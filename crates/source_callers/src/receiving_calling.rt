@@ -5,7 +5,7 @@ ghost use Rattle.source_callers.specs.Halves.{TookFiveHalves};
 
 use cold_flow::Apply;
 use flow_terms::{Refusal, Word};
-use hot_sources::{Sleeper, filter, map, receiving, take_of};
+use hot_sources::{Parker, filter, map, receiving, take_of};
 use shared_flow::Subscription;
 use std::sync::Wait;
 
@@ -43,14 +43,14 @@ impl Apply<u64> for Half {
 /// Refused as `NoMemory`.
 pub fn five_halves<W: Wait>(
     rt: &W,
-    sleeper: &mut Sleeper,
+    parker: &mut Parker,
     news: &mut Subscription<u64>,
     out: &mut Vec<u64>,
 ) -> Result<(), Refusal>
     ensures { OnOk result (TookFiveHalves ⟦<u64 as Word>⟧.read_as news.old out.old.items out.new.items news.new) }
 {
     let mut chain = map(filter(receiving::<(), _, _>(news, rt), Even), Half);
-    match take_of(rt, sleeper, &mut chain, 5, out)? {
+    match take_of(rt, parker, &mut chain, 5, out)? {
         None => Ok(()),
         // A subscription never ends of itself.
         Some(_cause) => unreachable!(),

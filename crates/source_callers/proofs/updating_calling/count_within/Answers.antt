@@ -5,7 +5,7 @@ use Rattle.source_callers.proofs.updating_calling.count_within.Goals as goal
 
 pub returns : goal.returns
 returns c =
-    let u = c.in_ok-updated.ensures.updates in
+    let u = c.in_ok-updated.ensures.has in
     let found = c.in_ok-updated.updated.found in
     let fact : c.in_ok-updated.updated.value ≡ (found + 1) % 2 ^ 64 = let p = u.answered in search rules in
     subst (λ (w : ℕ). Updates (λ x y. y ≡ (x + 1) % 2 ^ 64) c.args.seat.now.view found w c.try_update.new.seat.view) fact
