@@ -4,13 +4,13 @@
 //! a script, for what shows scripts. The shared flows of a script stand on one of two engines.
 #![tactic(auto)]
 
-mod core_object;
-mod lane_object;
+mod engine_flow;
 mod making;
+mod object;
 mod script;
 
-pub use core_object::CoreObject;
-pub use lane_object::LaneObject;
+pub use engine_flow::EngineFlow;
+pub use object::{CoreObject, EngineObject, LaneObject};
 pub use script::{answers_of, run_script};
 pub use script_run::{LineAnswer, ScriptFault, read_script};
 pub use script_words::Engine;

@@ -5,8 +5,7 @@ ghost use Rattle.script_run.specs.Input.{TakesAtMost};
 ghost use Rattle.script_run.specs.Scripts.{Runs, Gives};
 ghost use Rattle.flow_script.specs.Running.{On};
 
-use crate::core_object::CoreObject;
-use crate::lane_object::LaneObject;
+use crate::object::{CoreObject, LaneObject};
 use script_commands::ScriptObject;
 use script_run::{LineAnswer, ScriptFault};
 use script_words::Engine;

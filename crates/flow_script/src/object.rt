@@ -1,39 +1,46 @@
-//! What a name of a script stands for, with the engine `core`.
+//! What a name of a script stands for, with either engine.
 
 ghost use Rattle.script_commands.specs.Commands.{made_in};
-ghost use Rattle.flow_script.specs.Makers.{MakesOneThread, MakesWith};
+ghost use Rattle.flow_script.specs.Makers.{MakesWith};
 
+use crate::engine_flow::EngineFlow;
 use crate::making::{Kinds, config_of, share, stated};
 use flow_terms::Refusal;
 use futures::task::Context;
 use script_calls::{MutableShared, MutableState, Shared, SharedSource, State};
 use script_commands::{Answer, Making, Part, Party, Request, ScriptObject, SourceFlow};
-use script_engines::{OneThread, Subscriptions};
+use script_engines::{ForThreads, OneThread, Subscriptions};
 use script_objects::{Object, ScriptBuffer};
 use script_sharings::{Share, Stated};
 use script_states::Watched;
 use std::alloc::{AllocError, Global};
 use std::sync::Wait;
 
-/// What a name stands for where shared flows are flows on one thread. What shares a source is a flow for threads here too.
-pub struct CoreObject<'s, 'r, W> {
-    object: Kinds<'s, 'r, W, OneThread>,
+/// What a name stands for where shared flows are an engine's. What shares a source is a flow for threads with each of them.
+pub struct EngineObject<'s, 'r, W, F> {
+    object: Kinds<'s, 'r, W, F>,
 }
 
+/// What a name stands for where shared flows are flows on one thread.
+pub type CoreObject<'s, 'r, W> = EngineObject<'s, 'r, W, OneThread>;
+
+/// What a name stands for where shared flows are flows for threads, on a lane.
+pub type LaneObject<'s, 'r, W> = EngineObject<'s, 'r, W, ForThreads<'r, W>>;
+
 /// Makes what a line says. Refused for the plan of its start, then for what it is made with, and then by `NoMemory`.
-fn made<'s, 'r, W: Wait>(
+fn made<'s, 'r, W: Wait, F: EngineFlow<'r, W>>(
     rt: &'r W,
     alloc: Global,
     making: Making<'s>,
-) -> Result<Kinds<'s, 'r, W, OneThread>, Refusal>
-    ensures { MakesWith MakesOneThread (made_in making.entry) result }
+) -> Result<Kinds<'s, 'r, W, F>, Refusal>
+    ensures { MakesWith F.makes (made_in making.entry) result }
 {
     match making {
         Making::Shared {
             replay,
             extra,
             policy,
-        } => Ok(Object::Flow(OneThread::new(alloc, config_of(replay, extra, policy))?)),
+        } => Ok(Object::Flow(F::make(rt, alloc, replay, extra, policy)?)),
         Making::State { value } => Ok(Object::State(Watched::new(alloc, value)?)),
         Making::Buffer {
             capacity,
@@ -55,23 +62,23 @@ fn made<'s, 'r, W: Wait>(
     }
 }
 
-impl<'s, 'r, W: Wait> ScriptObject<'s> for CoreObject<'s, 'r, W> {
+impl<'s, 'r, W: Wait, F: EngineFlow<'r, W>> ScriptObject<'s> for EngineObject<'s, 'r, W, F> {
     ghost use Rattle.script_objects.specs.Objects.{AsksObject, JoinsObject};
-    ghost use Rattle.flow_script.specs.Makers.{MakesOneThread, MakesWith, made_as};
+    ghost use Rattle.flow_script.specs.Makers.{MakesWith, made_as};
 
     type Maker = &'r W;
 
-    ghost makes = { λ made result. MakesWith MakesOneThread made (made_as (λ it. it.object) result) };
+    ghost makes = { λ made result. MakesWith F.makes made (made_as (λ it. it.object) result) };
 
     ghost asks = { λ part request old answer new. AsksObject
-        ⟦<OneThread as Shared>⟧.receipts ⟦<OneThread as MutableShared>⟧.emissions
+        F.receipts F.emissions
         ⟦<Watched as State>⟧.readings ⟦<Watched as MutableState>⟧.settings
         ⟦<Subscriptions<'r, W> as Shared>⟧.receipts ⟦<Share<'r, W, SourceFlow<'s>> as SharedSource>⟧.turns
         ⟦<Stated<SourceFlow<'s>> as SharedSource>⟧.turns
         part request old.object answer new.object };
 
     ghost joins = { λ part joining old joined new. JoinsObject
-        ⟦<OneThread as Shared>⟧.receipts ⟦<OneThread as MutableShared>⟧.emissions
+        F.receipts F.emissions
         ⟦<Watched as State>⟧.readings
         ⟦<Subscriptions<'r, W> as Shared>⟧.receipts
         part joining old.object joined new.object };
@@ -80,9 +87,9 @@ impl<'s, 'r, W: Wait> ScriptObject<'s> for CoreObject<'s, 'r, W> {
         maker: &&'r W,
         alloc: Global,
         making: Making<'s>,
-    ) -> Result<CoreObject<'s, 'r, W>, Refusal> {
+    ) -> Result<EngineObject<'s, 'r, W, F>, Refusal> {
         let object = made(*maker, alloc, making)?;
-        Ok(CoreObject { object })
+        Ok(EngineObject { object })
     }
 
     fn ask(
@@ -100,7 +107,7 @@ impl<'s, 'r, W: Wait> ScriptObject<'s> for CoreObject<'s, 'r, W> {
     }
 
     fn close(self) {
-        let CoreObject { object } = self;
+        let EngineObject { object } = self;
         object.close();
     }
 }
