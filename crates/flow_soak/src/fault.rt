@@ -1,12 +1,12 @@
 //! Why the program ends early.
 
 use shared_core::Refusal;
-use std::alloc::{AllocError, AllocFailed};
+use std::alloc::AllocError;
 use std::io;
 use thiserror::Error;
 
 /// Why the program ends early.
-#[derive(Clone, Copy, Debug, Error)]
+#[derive(Debug, Drop, Error)]
 pub enum Fault {
     /// The receipts of one emitter, or what one party received, didn't rise; or a value was dropped under a policy that
     /// drops none.
@@ -19,35 +19,11 @@ pub enum Fault {
     #[error("a value was lost")]
     Lost,
     /// A call was refused.
-    #[error("refused {0}")]
-    Refused(u8),
+    #[error("refused {}", .0.number())]
+    Refused(#[from] Refusal),
     #[error("out of memory")]
-    NoMemory,
+    NoMemory(#[from(alloc)] AllocError),
     /// The clock can't be read, or a line can't be written.
     #[error("no clock or no output")]
-    Host,
-}
-
-impl From<AllocError> for Fault {
-    fn from(_error: AllocError) -> Fault {
-        Fault::NoMemory
-    }
-}
-
-impl<T: Drop> From<AllocFailed<T>> for Fault {
-    fn from(_error: AllocFailed<T>) -> Fault {
-        Fault::NoMemory
-    }
-}
-
-impl From<io::Error> for Fault {
-    fn from(_error: io::Error) -> Fault {
-        Fault::Host
-    }
-}
-
-impl From<Refusal> for Fault {
-    fn from(refusal: Refusal) -> Fault {
-        Fault::Refused(refusal.number())
-    }
+    Host(#[from] io::Error),
 }

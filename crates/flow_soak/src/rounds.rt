@@ -6,7 +6,7 @@ use crate::worker::{Record, Worker};
 use shared_core::{Config, Policy};
 use shared_flow::SharedFlow;
 use state_flow::{StateFlow, StateSeat};
-use std::alloc::AllocGlobal;
+use std::alloc::{AllocError, AllocGlobal};
 use std::random::RandomSource;
 use std::sync::Wait;
 use std::thread::{Threads, for_each_mut};
@@ -127,7 +127,7 @@ fn dismiss(
         return Err(Fault::OutOfOrder);
     }
     if !has_room {
-        return Err(Fault::NoMemory);
+        return Err(Fault::NoMemory(AllocError));
     }
     Ok(records)
 }

@@ -2,6 +2,7 @@
 //! sleep, subscriptions that come and go.
 
 use crate::edge_calls::attempt_all;
+use crate::edges::Work::{ForThreads, NewFlows, OneFlow, TextRows};
 use crate::fault::Fault;
 use crate::for_threads::Company;
 use crate::{laggards, lookups, narrow, rows};
@@ -77,225 +78,44 @@ const LARGEST: Config = Config {
     ..ONE_PLACE
 };
 
+/// The flow with one place, but for what is named.
+macro_rules! flow {
+    ($($field:ident: $value:expr),*) => {
+        Config { $($field: $value,)* ..ONE_PLACE }
+    };
+}
+
+/// A case, by its name: what it does, and in how many rounds.
+macro_rules! edge {
+    ($name:literal: $work:expr, $rounds:expr) => {
+        Edge { name: $name, work: $work, rounds: $rounds }
+    };
+}
+
 /// Each case.
 const EDGES: [Edge; 22] = [
-    Edge {
-        name: "laggard_1024",
-        work: Work::NewFlows(LARGEST, Once::Laggard),
-        rounds: 7,
-    },
-    Edge {
-        name: "laggard_8",
-        work: Work::NewFlows(
-            Config {
-                subscribers: 8,
-                ..LARGEST
-            },
-            Once::Laggard,
-        ),
-        rounds: 100,
-    },
-    Edge {
-        name: "two_laggards",
-        work: Work::NewFlows(LARGEST, Once::TwoLaggards),
-        rounds: 7,
-    },
-    Edge {
-        name: "nobody",
-        work: Work::OneFlow(
-            Config {
-                extra: 64,
-                subscribers: 8,
-                ..ONE_PLACE
-            },
-            Often::Nobody,
-        ),
-        rounds: 20_000_000,
-    },
-    Edge {
-        name: "oldest_1",
-        work: Work::OneFlow(
-            Config {
-                extra: 64,
-                policy: Policy::DropOldest,
-                ..ONE_PLACE
-            },
-            Often::Oldest,
-        ),
-        rounds: 10_000_000,
-    },
-    Edge {
-        name: "front_gap",
-        work: Work::NewFlows(LARGEST, Once::FrontGap),
-        rounds: 40,
-    },
-    Edge {
-        name: "gaps",
-        work: Work::OneFlow(
-            Config {
-                extra: 64,
-                subscribers: 10,
-                ..ONE_PLACE
-            },
-            Often::Gaps,
-        ),
-        rounds: 3_000_000,
-    },
-    Edge {
-        name: "one_place_1",
-        work: Work::OneFlow(ONE_PLACE, Often::TakenByAll),
-        rounds: 8_000_000,
-    },
-    Edge {
-        name: "one_place_2",
-        work: Work::OneFlow(
-            Config {
-                subscribers: 2,
-                ..ONE_PLACE
-            },
-            Often::TakenByAll,
-        ),
-        rounds: 4_000_000,
-    },
-    Edge {
-        name: "one_place_8",
-        work: Work::OneFlow(
-            Config {
-                subscribers: 8,
-                ..ONE_PLACE
-            },
-            Often::TakenByAll,
-        ),
-        rounds: 1_000_000,
-    },
-    Edge {
-        name: "one_place_1024",
-        work: Work::OneFlow(
-            Config {
-                subscribers: 1024,
-                ..ONE_PLACE
-            },
-            Often::TakenByAll,
-        ),
-        rounds: 8_000,
-    },
-    Edge {
-        name: "hand_over_1",
-        work: Work::OneFlow(
-            Config {
-                extra: 0,
-                ..ONE_PLACE
-            },
-            Often::HandOver,
-        ),
-        rounds: 4_000_000,
-    },
-    Edge {
-        name: "hand_over_8",
-        work: Work::OneFlow(
-            Config {
-                extra: 0,
-                subscribers: 8,
-                ..ONE_PLACE
-            },
-            Often::HandOver,
-        ),
-        rounds: 500_000,
-    },
-    Edge {
-        name: "front_tickets",
-        work: Work::OneFlow(
-            Config {
-                emits: 1024,
-                ..ONE_PLACE
-            },
-            Often::FrontTickets,
-        ),
-        rounds: 20_000_000,
-    },
-    Edge {
-        name: "asleep_10",
-        work: Work::ForThreads(
-            Config {
-                emits: 1024,
-                ..ONE_PLACE
-            },
-            Company::Emitters(10),
-        ),
-        rounds: 1_000_000,
-    },
-    Edge {
-        name: "asleep_100",
-        work: Work::ForThreads(
-            Config {
-                emits: 1024,
-                ..ONE_PLACE
-            },
-            Company::Emitters(100),
-        ),
-        rounds: 20_000,
-    },
-    Edge {
-        name: "asleep_1000",
-        work: Work::ForThreads(
-            Config {
-                emits: 1024,
-                ..ONE_PLACE
-            },
-            Company::Emitters(1000),
-        ),
-        rounds: 500,
-    },
-    Edge {
-        name: "lone_reader",
-        work: Work::ForThreads(
-            Config {
-                extra: 64,
-                subscribers: 1024,
-                ..ONE_PLACE
-            },
-            Company::Emitters(1),
-        ),
-        rounds: 1_000_000,
-    },
-    Edge {
-        name: "churn_1",
-        work: Work::ForThreads(
-            Config {
-                subscribers: 1024,
-                ..ONE_PLACE
-            },
-            Company::Subscriptions(1),
-        ),
-        rounds: 1_000_000,
-    },
-    Edge {
-        name: "churn_64",
-        work: Work::ForThreads(
-            Config {
-                subscribers: 1024,
-                ..ONE_PLACE
-            },
-            Company::Subscriptions(64),
-        ),
-        rounds: 1_000_000,
-    },
-    Edge {
-        name: "churn_512",
-        work: Work::ForThreads(
-            Config {
-                subscribers: 1024,
-                ..ONE_PLACE
-            },
-            Company::Subscriptions(512),
-        ),
-        rounds: 1_000_000,
-    },
-    Edge {
-        name: "text_rows",
-        work: Work::TextRows,
-        rounds: 400_000,
-    },
+    edge!("laggard_1024": NewFlows(LARGEST, Once::Laggard), 7),
+    edge!("laggard_8": NewFlows(flow!(extra: 65_536, subscribers: 8), Once::Laggard), 100),
+    edge!("two_laggards": NewFlows(LARGEST, Once::TwoLaggards), 7),
+    edge!("nobody": OneFlow(flow!(extra: 64, subscribers: 8), Often::Nobody), 20_000_000),
+    edge!("oldest_1": OneFlow(flow!(extra: 64, policy: Policy::DropOldest), Often::Oldest), 10_000_000),
+    edge!("front_gap": NewFlows(LARGEST, Once::FrontGap), 40),
+    edge!("gaps": OneFlow(flow!(extra: 64, subscribers: 10), Often::Gaps), 3_000_000),
+    edge!("one_place_1": OneFlow(ONE_PLACE, Often::TakenByAll), 8_000_000),
+    edge!("one_place_2": OneFlow(flow!(subscribers: 2), Often::TakenByAll), 4_000_000),
+    edge!("one_place_8": OneFlow(flow!(subscribers: 8), Often::TakenByAll), 1_000_000),
+    edge!("one_place_1024": OneFlow(flow!(subscribers: 1024), Often::TakenByAll), 8_000),
+    edge!("hand_over_1": OneFlow(flow!(extra: 0), Often::HandOver), 4_000_000),
+    edge!("hand_over_8": OneFlow(flow!(extra: 0, subscribers: 8), Often::HandOver), 500_000),
+    edge!("front_tickets": OneFlow(flow!(emits: 1024), Often::FrontTickets), 20_000_000),
+    edge!("asleep_10": ForThreads(flow!(emits: 1024), Company::Emitters(10)), 1_000_000),
+    edge!("asleep_100": ForThreads(flow!(emits: 1024), Company::Emitters(100)), 20_000),
+    edge!("asleep_1000": ForThreads(flow!(emits: 1024), Company::Emitters(1000)), 500),
+    edge!("lone_reader": ForThreads(flow!(extra: 64, subscribers: 1024), Company::Emitters(1)), 1_000_000),
+    edge!("churn_1": ForThreads(flow!(subscribers: 1024), Company::Subscriptions(1)), 1_000_000),
+    edge!("churn_64": ForThreads(flow!(subscribers: 1024), Company::Subscriptions(64)), 1_000_000),
+    edge!("churn_512": ForThreads(flow!(subscribers: 1024), Company::Subscriptions(512)), 1_000_000),
+    edge!("text_rows": TextRows, 400_000),
 ];
 
 impl Once {
@@ -396,16 +216,16 @@ impl Edge {
         let mut digest = Digest::new();
         let rounds = scale.of(self.rounds);
         match self.work {
-            Work::NewFlows(config, once) => {
+            NewFlows(config, once) => {
                 once.on_flows(alloc, config, (value, rounds), &mut digest)?;
             }
-            Work::OneFlow(config, often) => {
+            OneFlow(config, often) => {
                 often.on_flow(alloc, config, (value, rounds), &mut digest)?;
             }
-            Work::ForThreads(config, company) => {
+            ForThreads(config, company) => {
                 company.on_flow(rt, config, (value, rounds), &mut digest)?;
             }
-            Work::TextRows => rows::text_rows(alloc, rounds, &mut digest)?,
+            TextRows => rows::text_rows(alloc, rounds, &mut digest)?,
         }
         Ok(digest)
     }
