@@ -1,12 +1,15 @@
 //! The ring, a lane, and a shared flow for threads, beside the lists that the ring replaced: call by call, and by blocks, which the
 //! lists take one by one.
 
+mod flow_body;
+mod list_body;
+
 use crate::core_rows::caches;
-use crate::flow_body::FlowBody;
 use crate::lane_body::{LaneBody, lane_of};
-use crate::list_body::ListBody;
 use cold_flow::{Policy, Refusal};
+use flow_body::FlowBody;
 use futures::test::MockTask;
+use list_body::ListBody;
 use shared_core::{Call, Config, Next, Prelude, Reply, SharedState, SubId, Ticket};
 use std::alloc::{AllocError, AllocGlobal, Global};
 use std::process::Abort;

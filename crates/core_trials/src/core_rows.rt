@@ -1,6 +1,6 @@
 //! A shared flow's worked examples on one thread, by its calls, and each call once where all goes well.
 
-use crate::tools::Differences;
+use crate::tools::assert_none;
 use cold_flow::{Policy, Refusal};
 use hot_callers::{received_in_turn, received_once};
 use list_callers::run_new_flow;
@@ -9,6 +9,7 @@ use shared_core::{
 };
 use std::alloc::{AllocError, Global};
 use std::test::Fail;
+use trial_tools::Differences;
 
 /// The numbers stay below this.
 const LIMIT: u64 = 1 << 62;
@@ -419,7 +420,7 @@ fn calls_are_replied_to(rt: HostRuntime) -> Result<(), Fail> {
     for row in ROWS {
         compare_row(&mut differences, rt.alloc(), row)?;
     }
-    differences.assert_none(&rt);
+    assert_none(&rt, &differences);
     Ok(())
 }
 

@@ -9,8 +9,6 @@ mod core_limits;
 #[cfg(test)]
 mod core_rows;
 #[cfg(test)]
-mod flow_body;
-#[cfg(test)]
 mod given_back;
 #[cfg(test)]
 mod lane_blocks;
@@ -21,11 +19,7 @@ mod lane_rows;
 #[cfg(test)]
 mod lane_threads;
 #[cfg(test)]
-mod list_body;
-#[cfg(test)]
 mod making_rows;
-#[cfg(test)]
-mod state_exchange_rows;
 #[cfg(test)]
 mod state_rows;
 #[cfg(test)]

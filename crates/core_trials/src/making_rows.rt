@@ -1,12 +1,13 @@
 //! Refusals at making: which one comes first, want of memory last; and what is made, and replied, in heaps that are too small.
 
-use crate::tools::Differences;
+use crate::tools::assert_none;
 use linked_list_allocator::LocalHeap;
 use shared_core::{Call, Config, Policy, Refusal, SharedState};
 use shared_lane::Lane;
 use state_flow::StateFlow;
 use std::alloc::Global;
 use std::test::Fail;
+use trial_tools::Differences;
 
 const PLAIN: Config = Config {
     replay: 0,
@@ -100,7 +101,7 @@ fn refusals_at_making_come_in_order(rt: HostRuntime) -> Result<(), Fail> {
     let heap = LocalHeap::new(rt.alloc(), 16)?;
     let mut differences = Differences::none(rt.alloc());
     compare_refusals(&mut differences, rt.alloc(), &heap)?;
-    differences.assert_none(&rt);
+    assert_none(&rt, &differences);
     Ok(())
 }
 

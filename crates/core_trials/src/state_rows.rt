@@ -1,6 +1,8 @@
 //! A state flow's worked examples, two writers and many collectors on threads, and seats that run out.
 ghost use Rattle.std.specs.Prelude.{◌≡◌};
 
+mod state_exchange_rows;
+
 use crate::tools::assert_same;
 use cold_flow::Refusal;
 use futures::task::Poll;

@@ -1,9 +1,8 @@
-//! Tools of the tests: what a table says that didn't come.
+//! Tools of the tests: what fails where something else came.
 
-use std::alloc::Global;
 use std::fmt::Debug;
 use std::process::Abort;
-use std::test::Fail;
+use trial_tools::Differences;
 
 /// Fails with this name where what was found isn't what was wanted.
 pub(crate) fn assert_same<T: PartialEq + Debug + Drop>(
@@ -15,34 +14,7 @@ pub(crate) fn assert_same<T: PartialEq + Debug + Drop>(
     assert_eq!(rt; found, wanted, "{name}");
 }
 
-/// What came otherwise than a table says, a line for each. The rows after a wrong one are run all the same.
-#[derive(Drop)]
-pub struct Differences {
-    lines: String,
-}
-
-impl Differences {
-    pub(crate) fn none(alloc: Global) -> Differences {
-        Differences {
-            lines: String::new(alloc),
-        }
-    }
-
-    /// Notes it under this name where what was found isn't what was wanted.
-    pub(crate) fn compare<T: PartialEq + Debug + Drop>(
-        &mut self,
-        name: &str,
-        found: T,
-        wanted: T,
-    ) -> Result<(), Fail> {
-        if found != wanted {
-            write!(self.lines, "\n{name}: {found:?}, and not {wanted:?}")?;
-        }
-        Ok(())
-    }
-
-    /// Fails with all that was noted, where something was.
-    pub(crate) fn assert_none(&self, rt: &impl Abort) {
-        assert!(rt; self.lines.is_empty(), "{}", self.lines);
-    }
+/// Fails with all that was noted, where something was.
+pub(crate) fn assert_none(rt: &impl Abort, differences: &Differences) {
+    assert!(rt; differences.lines().is_empty(), "{}", differences.lines());
 }

@@ -1,7 +1,7 @@
 //! Which sources a poll asks: how often each, and which it may leave unasked; and that a buffer that is refused leaves nothing
 //! started.
 
-use crate::checks::Check;
+use crate::operators::checks::Check;
 use crate::operators::{Case, Operator, assert_cases};
 use crate::sources::NEVER;
 use crate::tools::{ENDED, Polling, WAIT};

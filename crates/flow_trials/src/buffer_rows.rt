@@ -1,12 +1,14 @@
 //! Buffers, in one task and between two threads.
 
-use crate::meeting::Meeting;
+mod meeting;
+
 use crate::sources::{Counts, NEVER, Source};
 use crate::tools::{Trial, WAIT};
 use cold_flow::{Cause, Event, Flow, Policy, Refusal, Run, Step, range};
 use flow_buffer::{Buffer, Buffered, Drain, Feed, Fill, agree, buffer, conflate, split};
 use futures::task::{Context, Poll};
 use futures::test::MockTask;
+use meeting::Meeting;
 use std::alloc::{AllocGlobal, Global};
 use std::random::RandomSource;
 use std::sync::Wait;

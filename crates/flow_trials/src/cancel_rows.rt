@@ -1,6 +1,6 @@
 //! Runs that are cancelled after each number of polls.
 
-use crate::checks::Check;
+use crate::operators::checks::Check;
 use crate::operators::{Case, Operator, assert_cases};
 use crate::sources::NEVER;
 use crate::tools::WAIT;

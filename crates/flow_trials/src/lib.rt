@@ -8,11 +8,7 @@ mod buffer_rows;
 #[cfg(test)]
 mod cancel_rows;
 #[cfg(test)]
-mod checks;
-#[cfg(test)]
 mod cold_rows;
-#[cfg(test)]
-mod meeting;
 #[cfg(test)]
 mod memory_rows;
 #[cfg(test)]

@@ -2,7 +2,7 @@
 //! `rt try --test --fail-alloc N`, the call that wanted it is refused with 4 and leaves all as it was: made once more,
 //! it gives the same answer. So each test passes with ample memory, and whichever allocation is refused.
 
-use crate::checks::{Check, Judged, Three, begun, compare_memory};
+use crate::operators::checks::{Check, Judged, Three, begun, compare_memory};
 use crate::operators::{Operator, compare_operator};
 use crate::sources::{Counts, NEVER};
 use crate::tools::{ENDED, Polling, Trial, WAIT};

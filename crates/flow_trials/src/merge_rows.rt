@@ -1,7 +1,7 @@
 //! Flows of several sources: the worked examples of merges, and what the callers give.
 ghost use Rattle.std.specs.Iterator.{at_most};
 
-use crate::checks::Check;
+use crate::operators::checks::Check;
 use crate::operators::{Case, Operator, assert_cases};
 use crate::sources::NEVER;
 use crate::tools::{Polling, Same, Sum, Trial, WAIT};

@@ -1,10 +1,12 @@
 //! Operators over three sources, and what is compared of their runs.
 ghost use Rattle.std.specs.Prelude.{◌≡◌, ⊤};
 
-use crate::checks::{Check, Judged, Three, compare_flow};
+pub(crate) mod checks;
+
 use crate::cold_rows::{Asked, IsAbove};
 use crate::sources::{Counts, Source};
 use crate::tools::{Add, Pick, Same, Sum, Trial};
+use checks::{Check, Judged, Three, compare_flow};
 use cold_flow::{
     Apply, Caught, Few, Flow, Policy, Step, catch_with, distinct, drop_first, filter, map,
     on_completion, range, take, transform,

@@ -1,7 +1,7 @@
 //! Starts that a source refuses: of the inner flows of a flat map, of the source of an operator and of a buffer, and the capacity of
 //! a buffer, which is refused before.
 
-use crate::checks::Check;
+use crate::operators::checks::Check;
 use crate::operators::{Case, Operator, assert_cases};
 use crate::sources::{Counts, NEVER, Source};
 use crate::tools::{ENDED, Polling, Trial};

@@ -13,7 +13,7 @@ mod rows;
 mod sharings;
 mod streams;
 
-use crate::tools::Differences;
+use crate::tools::{assert_none, compare_text};
 use flow_script::{CoreObject, Engine, LaneObject, ScriptFault, run_script};
 use rows::{ROWS, Row};
 use script_commands::ScriptObject;
@@ -24,6 +24,7 @@ use std::random::RandomSource;
 use std::sync::Wait;
 use std::test::Fail;
 use streams::{Failure, Sink, Tap};
+use trial_tools::Differences;
 
 /// The first of the rows, and its answers.
 const SCRIPT: &[u8] =
@@ -91,7 +92,7 @@ fn compare_row(
     let script = lines_of(rt.alloc(), row.script)?;
     let want = lines_of(rt.alloc(), row.answers)?;
     let text = answered(rt, engine, script.as_bytes())?;
-    differences.compare_text(row.name, engine, &text, want.as_bytes())
+    compare_text(differences, row.name, engine, &text, want.as_bytes())
 }
 
 #[test]
@@ -101,7 +102,7 @@ fn each_row_gives_its_answers(rt: HostRuntime) -> Result<(), Fail> {
         compare_row(&rt, &mut differences, Engine::Core, row)?;
         compare_row(&rt, &mut differences, Engine::Lane, row)?;
     }
-    differences.assert_none(&rt);
+    assert_none(&rt, &differences);
     Ok(())
 }
 
@@ -180,7 +181,7 @@ fn compare_answers(
 ) -> Result<(), Fail> {
     for (script, want) in lines {
         let text = answered(rt, engine, script)?;
-        differences.compare_text(str::from_utf8(script)?, engine, &text, want)?;
+        compare_text(differences, str::from_utf8(script)?, engine, &text, want)?;
     }
     Ok(())
 }
@@ -201,7 +202,7 @@ fn each_script_of_a_table_is_answered(rt: HostRuntime) -> Result<(), Fail> {
         compare_answers(&rt, &mut differences, Engine::Core, lines)?;
         compare_answers(&rt, &mut differences, Engine::Lane, lines)?;
     }
-    differences.assert_none(&rt);
+    assert_none(&rt, &differences);
     Ok(())
 }
 
@@ -218,7 +219,7 @@ fn each_fault_has_its_text(rt: HostRuntime) -> Result<(), Fail> {
         let told = format!(in rt.alloc(); "{fault}")?;
         differences.compare("a fault", told.as_str(), *text)?;
     }
-    differences.assert_none(&rt);
+    assert_none(&rt, &differences);
     Ok(())
 }
 
@@ -242,9 +243,9 @@ fn a_line_has_at_most_1024_bytes(rt: HostRuntime) -> Result<(), Fail> {
     push_long_line(&mut script, 1025)?;
     for engine in ENGINES {
         let text = answered(&rt, engine, &script)?;
-        differences.compare_text("long lines", engine, &text, WANT)?;
+        compare_text(&mut differences, "long lines", engine, &text, WANT)?;
     }
-    differences.assert_none(&rt);
+    assert_none(&rt, &differences);
     Ok(())
 }
 
@@ -264,7 +265,7 @@ fn compare_read(
     let ran = run(rt, tap, &mut text, engine);
     differences.compare("a failing read", (fails_at, ran), (fails_at, want))?;
     let answered = if want.is_ok() { TEXT } else { b"".as_slice() };
-    differences.compare_text("after a failing read", engine, &text, answered)
+    compare_text(differences, "after a failing read", engine, &text, answered)
 }
 
 /// Each read fails of a reader that gives at most so many bytes a read, the last one, which finds the end, too. There is
@@ -300,7 +301,7 @@ fn a_failing_read_writes_nothing(rt: HostRuntime) -> Result<(), Fail> {
             compare_reads(&rt, &mut differences, engine, 100, at_once, kind)?;
         }
     }
-    differences.assert_none(&rt);
+    assert_none(&rt, &differences);
     Ok(())
 }
 
@@ -319,7 +320,13 @@ fn compare_write(
     let ran = run(rt, &mut script, &mut sink, engine);
     let (found, wanted) = ((failure, fails_at, ran), (failure, fails_at, end));
     differences.compare("a failing write", found, wanted)?;
-    differences.compare_text("after a failing write", engine, sink.taken(), front)
+    compare_text(
+        differences,
+        "after a failing write",
+        engine,
+        sink.taken(),
+        front,
+    )
 }
 
 #[test]
@@ -347,7 +354,7 @@ fn a_failing_write_leaves_a_front_of_the_text(rt: HostRuntime) -> Result<(), Fai
             )?;
         }
     }
-    differences.assert_none(&rt);
+    assert_none(&rt, &differences);
     Ok(())
 }
 
@@ -371,7 +378,7 @@ fn a_late_failure_leaves_the_whole_text(rt: HostRuntime) -> Result<(), Fail> {
             )?;
         }
     }
-    differences.assert_none(&rt);
+    assert_none(&rt, &differences);
     Ok(())
 }
 
@@ -391,7 +398,7 @@ fn compare_length(
     let mut rest = script.as_slice();
     let ran = run(rt, &mut rest, &mut text, engine);
     differences.compare("a long script", (len, ran), (len, want))?;
-    differences.compare_text("a long script", engine, &text, b"")
+    compare_text(differences, "a long script", engine, &text, b"")
 }
 
 #[test]
@@ -402,7 +409,7 @@ fn a_script_past_the_limit_is_too_long(rt: HostRuntime) -> Result<(), Fail> {
         let too_long = Err(ScriptFault::TooLong);
         compare_length(&rt, &mut differences, engine, 1_048_577, too_long)?;
     }
-    differences.assert_none(&rt);
+    assert_none(&rt, &differences);
     Ok(())
 }
 

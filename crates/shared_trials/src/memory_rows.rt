@@ -3,7 +3,7 @@
 //! it gives the same answer. So each test passes with ample memory, and whichever allocation is refused. The calls of a
 //! shared flow between threads stand in `shared_memory.rt`.
 
-use crate::tools::{assert_same, made_again, task_made};
+use crate::tools::{assert_same, task_made};
 use cold_flow::{Flow, Policy, Refusal, Step, Stepped, scripted};
 use flow_sharing::{Polled, Sharing, Started, StateSharing, share_in, state_in};
 use futures::test::MockTask;
@@ -12,6 +12,7 @@ use shared_flow::SharedFlow;
 use state_flow::{StateFlow, StateSeat};
 use std::alloc::{AllocError, Global};
 use std::sync::Wait;
+use trial_tools::made_again;
 
 /// A flow of the values 1 and 2, made again where it is refused. Its start takes memory.
 fn one_and_two(alloc: Global) -> Result<Stepped<u64, u64>, AllocError> {

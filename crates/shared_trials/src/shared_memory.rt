@@ -3,13 +3,14 @@
 //! made once more. To keep the lock takes none.
 
 use crate::shared_stage::config;
-use crate::tools::{assert_same, made_again};
+use crate::tools::assert_same;
 use cold_flow::{Policy, Refusal};
 use shared_core::{Tried, Withdrawn};
 use shared_flow::{Emitter, SharedFlow, Subscription};
 use std::alloc::AllocGlobal;
 use std::process::Abort;
 use std::sync::Wait;
+use trial_tools::made_again;
 
 // Whether nobody subscribes, and these values are in the replay cache.
 fn is_unchanged<R: Wait + AllocGlobal>(rt: &R, flow: &mut SharedFlow<u64>, values: &[u64]) -> bool {

@@ -7,11 +7,12 @@ use crate::shared_stage::Answer::{
 use crate::shared_stage::Call::{Ask, Cancel, Close, Emit, Next, Subscribe, Take, TakeBack, Try};
 use crate::shared_stage::Party::{A, B, First, Owner, Second, Third};
 use crate::shared_stage::{Call, Line, Stage};
-use crate::tools::{Differences, assert_same};
+use crate::tools::{assert_none, assert_same};
 use cold_flow::Policy;
 use shared_core::Config;
 use std::sync::Wait;
 use std::test::Fail;
+use trial_tools::Differences;
 
 /// The greatest number.
 const LAST: u64 = (1 << 62) - 1;
@@ -393,7 +394,7 @@ fn calls_are_answered(rt: HostRuntime) -> Result<(), Fail> {
         stage.leave(&rt);
         differences.compare(row.name, (lines, is_cached), (row.lines.len(), true))?;
     }
-    differences.assert_none(&rt);
+    assert_none(&rt, &differences);
     Ok(())
 }
 

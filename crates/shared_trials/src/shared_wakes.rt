@@ -8,10 +8,11 @@ use crate::shared_stage::Answer::{
 use crate::shared_stage::Call::{Ask, Cancel, Close, Emit, Next, Subscribe, Take, TakeBack, Try};
 use crate::shared_stage::Party::{A, B, First, Owner, Second, Third};
 use crate::shared_stage::{Call, Line, Stage};
-use crate::tools::Differences;
+use crate::tools::assert_none;
 use cold_flow::Policy;
 use shared_core::Config;
 use std::test::Fail;
+use trial_tools::Differences;
 
 /// The calls on a new flow with their answers, and the wakes so far after each.
 struct Row<'a> {
@@ -404,6 +405,6 @@ fn calls_wake(rt: HostRuntime) -> Result<(), Fail> {
         stage.leave(&rt);
         differences.compare(row.name, lines, row.lines.len())?;
     }
-    differences.assert_none(&rt);
+    assert_none(&rt, &differences);
     Ok(())
 }

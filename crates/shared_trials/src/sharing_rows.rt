@@ -6,7 +6,7 @@ use crate::shared_stage::Answer::{Cancelled, Gone, Left, Pending, Removed, Subsc
 use crate::shared_stage::Call::{Cancel, Next, Subscribe};
 use crate::shared_stage::{Answer, Call, Listening, caches, withdrawn};
 use crate::ticks::Tick;
-use crate::tools::Differences;
+use crate::tools::assert_none;
 use crate::when::When;
 use cold_flow::{Cause, Flow, Refusal, Step};
 use flow_sharing::{Sharing, share_in};
@@ -19,6 +19,7 @@ use std::process::Abort;
 use std::random::RandomSource;
 use std::sync::Wait;
 use std::test::Fail;
+use trial_tools::Differences;
 
 /// What is done with a sharing, with a subscription of its flow or with the flow, and what has to come of it.
 enum Line<'a> {
@@ -377,6 +378,6 @@ fn flows_are_shared(rt: HostRuntime) -> Result<(), Fail> {
         };
         compare_row(&rt, &mut all, scarce, row)?;
     }
-    all.assert_none(&rt);
+    assert_none(&rt, &all);
     Ok(())
 }

@@ -2,7 +2,7 @@
 
 use crate::scarce::{Scarce, Source};
 use crate::ticks::Tick;
-use crate::tools::Differences;
+use crate::tools::assert_none;
 use crate::when::When;
 use cold_flow::{Cause, Flow, Step};
 use flow_sharing::{StateSharing, state_in};
@@ -13,6 +13,7 @@ use std::cell::Cell;
 use std::process::Abort;
 use std::random::RandomSource;
 use std::test::Fail;
+use trial_tools::Differences;
 
 /// What is done with a sharing, its state or a collector, and what has to come of it.
 enum Line {
@@ -289,6 +290,6 @@ fn states_are_set(rt: HostRuntime) -> Result<(), Fail> {
         };
         compare_row(&rt, &mut all, scarce, row)?;
     }
-    all.assert_none(&rt);
+    assert_none(&rt, &all);
     Ok(())
 }

@@ -1,9 +1,10 @@
 //! Worked examples of sharing strategies: what each poll commands.
-use crate::tools::Differences;
+use crate::tools::assert_none;
 use crate::when::When;
 use flow_sharing::polls::commands_of;
 use flow_sharing::{Command, Entry, Plan, Started};
 use std::test::Fail;
+use trial_tools::Differences;
 
 const START: Option<Command> = Some(Command::Start);
 
@@ -127,7 +128,7 @@ fn commands(rt: HostRuntime) -> Result<(), Fail> {
         differences.compare(row.name, strategy.on(), row.is_on)?;
         differences.compare(row.name, strategy.latest(), row.latest)?;
     }
-    differences.assert_none(&rt);
+    assert_none(&rt, &differences);
     Ok(())
 }
 
@@ -211,6 +212,6 @@ fn plans(rt: HostRuntime) -> Result<(), Fail> {
         commands_of(Started::Custom(plan), row.polls, &mut commands);
         differences.compare(row.name, commands.as_slice(), row.commands)?;
     }
-    differences.assert_none(&rt);
+    assert_none(&rt, &differences);
     Ok(())
 }

@@ -5,7 +5,7 @@
 use crate::ledger::{Heard, Said};
 use crate::meeting::Gathering;
 use crate::shared_stage::config;
-use crate::tools::Differences;
+use crate::tools::assert_none;
 use crate::waiting_rows::{emitted, received};
 use cold_flow::Policy;
 use shared_flow::{Emitter, Parker, SharedFlow, Subscription};
@@ -16,6 +16,7 @@ use std::random::RandomSource;
 use std::sync::Wait;
 use std::test::Fail;
 use std::thread::{Threads, for_each_mut};
+use trial_tools::Differences;
 
 /// How many sides there are at most.
 const SIDES: usize = 8;
@@ -559,7 +560,7 @@ where
     for scene in scenes {
         scene.compare(rt, &mut differences)?;
     }
-    differences.assert_none(rt);
+    assert_none(rt, &differences);
     Ok(())
 }
 

@@ -2,12 +2,13 @@
 //! the next one has an answer of its own.
 
 use super::{ENGINES, SCRIPT, TEXT, answered};
-use crate::tools::Differences;
+use crate::tools::assert_none;
 use flow_script::Engine;
 use std::alloc::AllocGlobal;
 use std::random::RandomSource;
 use std::sync::Wait;
 use std::test::Fail;
+use trial_tools::Differences;
 
 /// A script of one command a line, and its answers.
 struct Row {
@@ -102,6 +103,6 @@ fn whole_lines_before_a_cut_are_answered(rt: HostRuntime) -> Result<(), Fail> {
             differences.compare(row.name, (engine, wrong), (engine, None))?;
         }
     }
-    differences.assert_none(&rt);
+    assert_none(&rt, &differences);
     Ok(())
 }

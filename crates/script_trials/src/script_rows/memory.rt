@@ -3,13 +3,14 @@
 
 use super::rows::{FIRST_PATH, Row, SHARE_WHILE_SUBSCRIBED, STATE_CONFLATES};
 use super::{ENGINES, lines_of, run};
-use crate::tools::{Differences, made_again};
+use crate::tools::assert_none;
 use flow_script::{Engine, ScriptFault};
 use std::alloc::{AllocGlobal, Global};
 use std::process::Abort;
 use std::random::RandomSource;
 use std::sync::Wait;
 use std::test::Fail;
+use trial_tools::{Differences, made_again};
 
 /// How many bytes a text has at most: the writer has that room at first, and takes no memory later.
 const ROOM: usize = 1024;
@@ -131,7 +132,7 @@ fn assert_answered(
             compare_row(rt, &mut differences, engine, row)?;
         }
     }
-    differences.assert_none(rt);
+    assert_none(rt, &differences);
     Ok(())
 }
 

@@ -8,8 +8,8 @@ mod queue;
 mod subscriptions;
 mod tickets;
 
-use crate::list_body::queue::Queue;
-use crate::list_body::tickets::{Accepted, Waiting};
+use crate::body_rows::list_body::queue::Queue;
+use crate::body_rows::list_body::tickets::{Accepted, Waiting};
 use cold_flow::{Policy, Refusal};
 use shared_core::{Call, Config, Prelude, Reply};
 use std::alloc::{AllocError, Global};

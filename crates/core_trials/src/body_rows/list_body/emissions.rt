@@ -1,7 +1,7 @@
 //! Emissions, and their tickets.
 
 use super::{ListBody, NUMBER_LIMIT};
-use crate::list_body::tickets::{Accepted, Waiting, forget, index_of, is_waiting};
+use crate::body_rows::list_body::tickets::{Accepted, Waiting, forget, index_of, is_waiting};
 use cold_flow::{Policy, Refusal};
 use shared_core::{Begun, Emit, Ticket, Tried, Withdrawn};
 use std::alloc::AllocError;
