@@ -1,5 +1,6 @@
 //! A program of two threads: one emits, and the other writes down what comes.
-ghost use Rattle.std.specs.Prelude.{◌≡◌, None};
+ghost use Rattle.std.specs.Prelude.{◌≡◌, ◌+◌, length, None, IfOk, IfErr};
+ghost use Rattle.flow_terms.specs.declared.refusal.Refusal.TheVariants.{NoMemory};
 ghost use Rattle.log_callers.specs.Logs.{IsWholeLog};
 ghost use Rattle.shared_flow.specs.Emitted.{emitted, GrewByAll};
 ghost use Rattle.shared_flow.specs.Parties.{received};
@@ -24,6 +25,8 @@ pub fn emit_and_log<R: Threads + Wait + Sync>(
     requires idle { emitter.old.ticket ≡ None }
     requires begun { log.old.items ≡ received (λ word. word) reader.old }
     ensures has { IsWholeLog log.new.items reader.new }
+    ensures all { IfOk result.1 (λ _. length log.new.items ≡ length log.old.items + count) }
+    ensures refused { IfErr result.1 (λ refusal. refusal ≡ NoMemory) }
     ensures emits { GrewByAll (emitted emitter.old) values.now result.0 (emitted emitter.new) }
     ensures idle { emitter.new.ticket ≡ None }
 {
@@ -36,7 +39,9 @@ pub fn emit_and_log<R: Threads + Wait + Sync>(
         { emitter.emit_all(rt, sending, values) },
         &mut ||
             requires { log.now.items ≡ received (λ word. word) reader.now }
-            ensures { IsWholeLog log.exit.now.items reader.exit.now }
+            ensures whole { IsWholeLog log.exit.now.items reader.exit.now }
+            ensures all { IfOk result (λ _. length log.exit.now.items ≡ length log.entry.now.items + count) }
+            ensures refused { IfErr result (λ refusal. refusal ≡ NoMemory) }
         { log_whole(rt, receiving, reader, count, log) },
     )
 }
