@@ -13,7 +13,7 @@ use Rattle.shared_lane.specs.Sequencers.{seen}
 use Rattle.shared_lane.specs.Views.{ReaderSeen, SequencerSeen}
 use Rattle.shared_rounds.specs.Meeting.{HasMet}
 use Rattle.shared_rounds.specs.Reach.{Party}
-use Rattle.shared_flow.specs.Looks.{WasEnded, IsLastOf, closed_reader}
+use Rattle.shared_flow.specs.Looks.{WasEnded, IsEndOf, closed_reader}
 use Rattle.shared_flow.specs.Parties.{Subscribed, since_start, words_received, received}
 use Rattle.shared_flow.specs.Received.{KnowsReceived, IsComplete}
 use Rattle.shared_flow.proofs.Received.{found_on, receives_all, drops_what_it_lost}
@@ -59,7 +59,7 @@ is_within q r t met has_met =
 module _ {T : Type 0} (read_as : ℕ → T) where
   -- its round closed it as a meeting left it
   pub is_complete : (s : Subscribed T) (met : Met) (left : Party) → KnowsReceived s.reader → (s.rest ≡ []) ⊎ (words_received s.reader ≡ [])
-      → WasEnded s.number s.reader met s.party left → (complete : IsComplete read_as s met) × IsLastOf s met complete.last × (complete.last.party ≡ left)
+      → WasEnded s.number s.reader met s.party left → (complete : IsComplete read_as s met) × IsEndOf s met complete.last × (complete.last.party ≡ left)
   is_complete s met left knows first ended =
       let r = s.reader in
       let t = closed_reader ended in
@@ -70,6 +70,7 @@ module _ {T : Type 0} (read_as : ℕ → T) where
       let still : (s.rest ≡ []) ⊎ (words_received t ≡ []) = ⊎_elim (λ none. inl none) (λ none. inr (found.1 ∙ none)) first in
       let complete : IsComplete read_as s met = record {
         last = last;
+        same = (refl, refl, refl, has_met.same);
         received_no_more = ap (λ l. s.given ++ map read_as l) found.1;
         receives_all = receives_all read_as last found.0 still;
         has_seen_all = has_seen_all q r t met has_met found.0;

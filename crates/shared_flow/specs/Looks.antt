@@ -33,8 +33,8 @@ abbrev pub closed_reader : {number : ℕ} {r : ReaderSeen} {met : Met} {p : Part
 closed_reader ended = ended.closed.5.1
 
 -- the subscription as its round closed it
-abbrev pub IsLastOf : {T : Type 0} → Subscribed T → Met → Subscribed T → Type 0
-IsLastOf s met last = (ended : WasEnded s.number s.reader met s.party last.party) × (last ≡ record s { party = last.party; reader = closed_reader ended })
+abbrev pub IsEndOf : {T : Type 0} → Subscribed T → Met → Subscribed T → Type 0
+IsEndOf s met last = (ended : WasEnded s.number s.reader met s.party last.party) × (last ≡ record s { party = last.party; reader = closed_reader ended })
 
 -- a party took in a subscription that was cancelled, for good
 abbrev pub EndedInto : {T : Type 0} → Subscribed T → Met → Party → Party → Type 0

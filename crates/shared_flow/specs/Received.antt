@@ -6,6 +6,7 @@ use Rattle.shared_core.specs.Flow.{values_at}
 use Rattle.shared_core.specs.Preludes.{RestSeen}
 use Rattle.shared_core.specs.Story.{Interleaves}
 use Rattle.shared_lane.specs.Headline.{pending}
+use Rattle.shared_lane.specs.Readers.{IsSameReader}
 use Rattle.shared_lane.specs.Views.{ReaderSeen}
 use Rattle.shared_lane.specs.declared.meeting.Met.{Met}
 use Rattle.shared_flow.specs.Parties.{Subscribed, since_start, words_received, received}
@@ -39,6 +40,7 @@ pub record ReceivesAllButDropped {T : Type 0} (read_as : ℕ → T) (s : Subscri
 -- and how many lost.
 pub record IsComplete {T : Type 0} (read_as : ℕ → T) (s : Subscribed T) (met : Met) : Type 0 where
   pub last : Subscribed T
+  pub same : (last.number ≡ s.number) × (last.given ≡ s.given) × (last.rest ≡ s.rest) × IsSameReader s.reader last.reader
   pub received_no_more : received read_as last ≡ received read_as s
   pub receives_all : ReceivesAllButDropped read_as last
   pub has_seen_all : length (since_start last.reader) ≡ met.accepted

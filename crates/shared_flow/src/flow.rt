@@ -10,7 +10,7 @@ ghost use Rattle.shared_flow.specs.Parties.{Emitting, newcomer_of, sharing_of, w
 ghost use Rattle.shared_flow.specs.Emitted.{emitted, after_cancel, IsLeftOf};
 ghost use Rattle.shared_flow.specs.Owners.{at_rest, IsLeftOut, AddsCache, Meets};
 ghost use Rattle.shared_flow.specs.Received.{IsComplete};
-ghost use Rattle.shared_flow.specs.Looks.{IsLastOf, WasLetInBy, EndedInto as SubscriptionEndedInto};
+ghost use Rattle.shared_flow.specs.Looks.{IsEndOf, WasLetInBy, EndedInto as SubscriptionEndedInto};
 ghost use Rattle.shared_flow.specs.Emitters.{EndedInto as EmitterEndedInto};
 ghost use Rattle.flow_terms.specs.declared.answers.Withdrawn.TheVariants as withdrawn;
 ghost use Rattle.shared_rounds.specs.Rounds.{IsAfter, IsAtLimit};
@@ -139,7 +139,7 @@ impl<T: Word> SharedFlow<T> {
     pub fn cancel(&mut self, rt: &impl Wait, subscription: Subscription<T>) -> Met
         requires lock { subscription.party.lock ≡ self.old.party.lock }
         ensures has { IsComplete T.read_as subscription result }
-        ensures last { (complete : IsComplete T.read_as subscription result) × IsLastOf subscription result complete.last × (self.new.party ≡ taking_of complete.last.party self.old.party) }
+        ensures last { (complete : IsComplete T.read_as subscription result) × IsEndOf subscription result complete.last × (self.new.party ≡ taking_of complete.last.party self.old.party) }
         ensures ended { SubscriptionEndedInto subscription result self.old.party self.new.party }
         ensures same { self.new ≡ record self.old { party = self.new.party } }
     {
@@ -189,7 +189,8 @@ impl<T: Word> SharedFlow<T> {
         rt: &impl Wait,
         prelude: Prelude<T>,
     ) -> Result<Subscription<T>, Refusal>
-        ensures has { IfOk result (λ subscription. (received T.read_as subscription ≡ []) × (subscription.rest ≡ prelude_values prelude)) }
+        ensures has { IfOk result (λ subscription. (received T.read_as subscription ≡ [])
+            × (subscription.rest ≡ prelude_values prelude)) }
         ensures prelude { IfOk result (λ subscription. subscription.rest ≡ prelude_values prelude) }
         ensures looks { IfOk result (λ subscription. subscription.looks ≡ []) }
         ensures flow { IfOk result (λ subscription. subscription.party ≡ newcomer_of subscription.party.pass self.old.party) }

@@ -9,7 +9,7 @@ ghost use Rattle.shared_rounds.specs.declared.round.Round.TheVariants as round;
 ghost use Rattle.shared_rounds.specs.Reach.{Party, party_of};
 ghost use Rattle.shared_rounds.specs.Entering.{Made};
 ghost use Rattle.shared_flow.specs.Parties.{Subscribed, OfFlow, IsSamePrelude, received, some_of, ok_of, ready_of, taken_of};
-ghost use Rattle.shared_flow.specs.Looks.{Took, Gave, GaveIn, Missed, MissedTwice, MissedSome, MissedBoth, MissedUnder, OnlyLooked, OnlyNext, Waited, WasEnded, IsLastOf};
+ghost use Rattle.shared_flow.specs.Looks.{Took, Gave, GaveIn, Missed, MissedTwice, MissedSome, MissedBoth, MissedUnder, OnlyLooked, OnlyNext, Waited, WasEnded, IsEndOf};
 ghost use Rattle.shared_flow.specs.Looks.{MadeRoom, MadeRoomIn, HasMadeRoom, WasMadeWithin};
 ghost use Rattle.shared_core.specs.Preludes.{prelude_values};
 ghost use Rattle.shared_flow.specs.Preludes.{IsGreeted, IsPast, GreetedOr, TookFirst};
@@ -418,7 +418,7 @@ impl<T: Word> Subscription<T> {
     /// it received no more, and has seen all that was accepted.
     pub fn cancel(self, rt: &impl Wait) -> Met
         ensures has { IsComplete T.read_as self result }
-        ensures last { (complete : IsComplete T.read_as self result) × IsLastOf self result complete.last }
+        ensures last { (complete : IsComplete T.read_as self result) × IsEndOf self result complete.last }
         ensures ended { (left : Party) × WasEnded self.number self.reader result self.party left }
     {
         let Ended { access, met } = self.end(rt);
@@ -430,7 +430,7 @@ impl<T: Word> Subscription<T> {
     #[inline(always)]
     pub(crate) fn end(self, rt: &impl Wait) -> Ended
         ensures has { IsComplete T.read_as self result.met }
-        ensures last { (complete : IsComplete T.read_as self result.met) × IsLastOf self result.met complete.last × (complete.last.party ≡ party_of result.access) }
+        ensures last { (complete : IsComplete T.read_as self result.met) × IsEndOf self result.met complete.last × (complete.last.party ≡ party_of result.access) }
         ensures ended { WasEnded self.number self.reader result.met self.party (party_of result.access) }
         ensures free { result.access.held ≡ None }
     {
