@@ -43,7 +43,8 @@ impl StoppableParker {
         rt: &impl Wait,
         subscription: &mut Subscription<T>,
     ) -> Received<T>
-        ensures has { received T.read_as subscription.new ≡ received T.read_as subscription.old ++ received_of (Ok result) }
+        ensures has { received T.read_as subscription.new
+            ≡ received T.read_as subscription.old ++ received_of (Ok result) }
         ensures prelude { IsSamePrelude subscription.old subscription.new }
         ensures did { Receives T.read_as subscription.old (Ok result) subscription.new }
     {
