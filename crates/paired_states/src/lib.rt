@@ -15,12 +15,11 @@
 #![tactic(auto)]
 
 mod fresh;
-mod rung;
 mod waiting;
 
 pub use flow_terms::Word;
 pub use fresh::Fresh;
-pub use rung::RungSeat;
 pub use state_bell::Bell;
 pub use state_flow::{Collector, StateSeat};
+pub use state_waiting::RungSeat;
 pub use waiting::next_of_two;

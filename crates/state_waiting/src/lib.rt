@@ -23,6 +23,7 @@
 #![tactic(auto)]
 
 mod collected;
+mod rung;
 mod seat;
 #[cfg(test)]
 mod tests;
@@ -30,6 +31,7 @@ mod watcher;
 
 pub use collected::Collected;
 pub use flow_terms::{Refusal, Word};
+pub use rung::RungSeat;
 pub use seat::WatchedSeat;
 pub use state_bell::Stopper;
 pub use watcher::Watcher;

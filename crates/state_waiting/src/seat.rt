@@ -4,6 +4,7 @@ ghost use Rattle.state_flow.specs.Views.{opening, giver, taker};
 ghost use Rattle.state_flow.specs.Calls.{Reads, Sets, Compares, TakesBack, Counts, Begins};
 ghost use Rattle.flow_terms.specs.declared.refusal.Refusal.TheVariants.{BadLimit, SubscribersFull, NoMemory};
 
+use crate::rung::RungSeat;
 use crate::watcher::Watcher;
 use flow_terms::{Refusal, Word};
 use state_bell::{Bell, Stopper};
@@ -18,8 +19,7 @@ use std::sync::Arc;
 ///
 /// Contracts see which flow it is, and the seat's [`View`](state_flow::View).
 pub struct WatchedSeat<T: Word> {
-    seat: StateSeat<T>,
-    bell: Arc<Bell>,
+    seat: RungSeat<T>,
     // Who lets go the watcher that this seat makes, where anybody asked for that.
     stopper: Option<Stopper>,
 }
@@ -35,13 +35,8 @@ impl<T: Word> Model for WatchedSeat<T> {
 // By hand: who lets one go proves this call alone, and nothing of what it is made of.
 impl<T: Word> Drop for WatchedSeat<T> {
     fn drop(self) {
-        let WatchedSeat {
-            seat,
-            bell,
-            stopper,
-        } = self;
+        let WatchedSeat { seat, stopper } = self;
         drop(seat);
-        drop(bell);
         drop(stopper);
     }
 }
@@ -66,8 +61,7 @@ impl<T: Word> WatchedSeat<T> {
         ensures { result ≡ seat }
     {
         WatchedSeat {
-            seat,
-            bell,
+            seat: RungSeat::over(seat, bell),
             stopper: None,
         }
     }
@@ -89,7 +83,6 @@ impl<T: Word> WatchedSeat<T> {
         ensures same_flow { self.new.flow ≡ self.old.flow }
     {
         self.seat.set(value);
-        self.bell.ring();
     }
 
     /// Sets the value to `update` where it is equal to `expect`, by one compare_exchange, and says whether it was equal: Kotlin's
@@ -98,11 +91,7 @@ impl<T: Word> WatchedSeat<T> {
         ensures has { Compares self.old.view expect update result self.new.view }
         ensures same_flow { self.new.flow ≡ self.old.flow }
     {
-        let was_equal = self.seat.compare_and_set(expect, update);
-        if was_equal {
-            self.bell.ring();
-        }
-        was_equal
+        self.seat.compare_and_set(expect, update)
     }
 
     /// The number of watchers, by one load: Kotlin's `subscriptionCount.value`. They count whether they sleep or not.
@@ -110,14 +99,14 @@ impl<T: Word> WatchedSeat<T> {
         ensures has { Counts self.old.view result self.new.view }
         ensures same_flow { self.new.flow ≡ self.old.flow }
     {
-        self.seat.collectors()
+        self.seat.seat.collectors()
     }
 
     /// How many more seats can be made of this one. Kotlin has no such call, since every holder of a flow may use it.
     pub fn spare(&self) -> u32
         ensures { result + 1 ≡ self.now.view.share }
     {
-        self.seat.spare()
+        self.seat.seat.spare()
     }
 
     /// Takes a new seat, which begins with all that this one has seen. Of the new one `share` more can be taken; this one has
@@ -133,8 +122,8 @@ impl<T: Word> WatchedSeat<T> {
         ensures unchanged { OnErr result (self.new.view ≡ self.old.view) }
         ensures refusals { IfErr result (λ r. (r ≡ NoMemory) ⊎ ((r ≡ SubscribersFull) × (self.old.view.share ≤ share + 1))) }
     {
-        let bell = Arc::try_clone(&self.bell)?;
-        let seat = self.seat.take_seat(share)?;
+        let bell = Arc::try_clone(&self.seat.bell)?;
+        let seat = self.seat.seat.take_seat(share)?;
         Ok(WatchedSeat::over(seat, bell))
     }
 
@@ -145,12 +134,8 @@ impl<T: Word> WatchedSeat<T> {
         ensures has { TakesBack self.old.view other.view self.new.view }
         ensures same_flow { self.new.flow ≡ self.old.flow }
     {
-        let WatchedSeat {
-            seat,
-            bell: _,
-            stopper: _,
-        } = other;
-        self.seat.give_back(seat);
+        let WatchedSeat { seat, stopper: _ } = other;
+        self.seat.seat.give_back(seat.into_seat());
     }
 
     /// Who lets go the watcher that this seat's next `collect` makes, and none beside it, from any thread: Kotlin's `Job` of a
@@ -166,7 +151,7 @@ impl<T: Word> WatchedSeat<T> {
         if let Some(stopper) = &self.stopper {
             return Ok(stopper.clone()?);
         }
-        let stopper = Stopper::new(alloc, &self.bell)?;
+        let stopper = Stopper::new(alloc, &self.seat.bell)?;
         self.stopper = Some(stopper.clone()?);
         Ok(stopper)
     }
@@ -176,11 +161,8 @@ impl<T: Word> WatchedSeat<T> {
         ensures has { Begins self.view result.view }
         ensures same_flow { result.flow ≡ self.flow }
     {
-        let WatchedSeat {
-            seat,
-            bell,
-            stopper,
-        } = self;
+        let WatchedSeat { seat, stopper } = self;
+        let (seat, bell) = seat.into_parts();
         Watcher::over(seat.collect(), bell, stopper)
     }
 
@@ -190,11 +172,11 @@ impl<T: Word> WatchedSeat<T> {
     ///
     /// It takes no lock and no memory. That a wake arrives isn't claimed.
     pub fn stop(&self) {
-        self.bell.let_go();
+        self.seat.bell.let_go();
     }
 
     /// Whether who waits on this state is let go.
     pub fn is_stopped(&self) -> bool {
-        self.bell.is_let_go()
+        self.seat.bell.is_let_go()
     }
 }
