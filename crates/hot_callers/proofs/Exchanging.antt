@@ -1,6 +1,6 @@
 -- What an emitter and a subscription did in their threads, what they and their owner know once they have met, and what it knows once it took
 -- both in.
-use Rattle.std.proofs.Common.{◌≡◌, ◌≢◌, inl, inr, ℕ, suc, ◌+◌, List, [], ◌∷◌, ◌++◌, map, None, Result, Ok, refl, sym, ap, subst, ◌∙◌, append_assoc, arith}
+use Rattle.std.proofs.Common.{◌≡◌, ◌≢◌, ◌⊎◌, inl, inr, ℕ, suc, ◌+◌, List, [], ◌∷◌, ◌++◌, map, None, Result, Ok, refl, sym, ap, subst, ◌∙◌, append_assoc, arith}
 use Rattle.std.proofs.lemmas.List.{append-nil, map-append, map-id}
 use Rattle.std.proofs.lemmas.Option.{same_Some}
 use Rattle.std.specs.List.{AllByRecursion}
@@ -23,11 +23,12 @@ use Rattle.shared_lane.specs.Views.{ReceiptSeen}
 use Rattle.shared_rounds.specs.declared.round.Round.{Round}
 use Rattle.shared_rounds.specs.declared.round.Round.TheVariants as round
 use Rattle.shared_rounds.specs.Entering.{Made}
+use Rattle.shared_flow.specs.Emitted.{AreItsPart, Emissions, Outcome, accepted_words, emitted as emitted_by_it}
 use Rattle.shared_flow.specs.Emitters.{after_try, emission_by}
 use Rattle.shared_flow.specs.Laws.{EachSubscriptionLaw, knowing}
 use Rattle.shared_flow.specs.Lives.{IsSubscriptionOf, Life, LivesOn, looked, received_in}
 use Rattle.shared_flow.specs.Looks.{WasLetInBy}
-use Rattle.shared_flow.specs.Queue.{ComesTo, EachInItsOwnOrder, emitted, progress_of, taken_up, words_by}
+use Rattle.shared_flow.specs.Queue.{emitted, taken_up, words_by}
 use Rattle.shared_rounds.specs.Names.{FlowName, IsMadeWith, SharedSeen}
 use Rattle.shared_flow.specs.Owners.{HasHeard, Meets}
 use Rattle.shared_flow.specs.Parties.{Emitting, Subscribed, newcomer_of, received as received_from, sharing_of, taking_of}
@@ -37,10 +38,12 @@ use Rattle.round_lock.proofs.Rounds.{own_mine, own_other}
 use Rattle.shared_flow.proofs.Growing.{appends_more, appends_nothing}
 use Rattle.shared_flow.proofs.Lives.{lives_more, received_more}
 use Rattle.hot_callers.specs.Exchanges.{AreTries, EndsBoth, EndsEmitters, Exchange, IsSameParty, LateExchange, Receives, ReceivesBetween, TakesEach, TakesIn, TakesInTurn, TellsBoth, TriesEach}
-use Rattle.hot_callers.specs.Receiving.{ReceivesItsOwn}
-use Rattle.hot_callers.proofs.Accepting.{accepted_of_tries, keeps_all, shape_is, tries_come}
+use Rattle.hot_callers.specs.Alone.{EmitsAlone, EmitterAloneLaw, NothingEmitted, part_of}
+use Rattle.hot_callers.specs.Receiving.{AreSettled, ReceivesItsOwn}
+use Rattle.hot_callers.proofs.Accepting.{keeps_all, shape_is, tries_come}
+use Rattle.hot_callers.proofs.Alone.{alone_are}
 use Rattle.hot_callers.proofs.Looks.{taken_on}
-use Rattle.hot_callers.proofs.Speaking.{AreBy, EmitNothing, IsBy, IsPartBy, accepted_within, are_by, each_before, emitted_by, emitted_more, nothing_more, nothing_of, of_two, own_since, since_then, tries_nothing, tries_within, words_of}
+use Rattle.hot_callers.proofs.Speaking.{AreBy, EmitNothing, IsBy, IsPartBy, accepted_within, are_by, each_before, emitted_by, emitted_more, nothing_more, nothing_of, of_two, own_since, since_then, tries_nothing, tries_within}
 use Rattle.hot_callers.proofs.Sublists.{Within, alone, make_up_longer, of_parts, values_within, with_others, within_back, within_front, within_then, within_under}
 
 abbrev round_in : ℕ × Round × SharedSeen → Round
@@ -276,36 +279,20 @@ module _ {config : Config} {prelude received : List ℕ} (it : Receives config p
       let both = received_of_both 1 2 words [] one_and_two by_one (nobody 2 one_and_two) (λ e other _. nobody e other) in
       (both.1, subst (λ (l : List ℕ). Interleaves received both.1 (prelude ++ l)) (alone both.2 refl) both.3)
 
-  -- and what was accepted is what came of these
-  accepted_are : (pass : ℕ) (words : List ℕ) → AreTries 1 words (own_of pass it.before) → ((e : ℕ) → AreBy e pass it.before) → map word_of accepted ≡ words_of 1 (own_of pass it.before)
-  accepted_are pass words tries are =
-      let own = own_of pass it.before in
-      let last : ℕ × Round × SharedSeen = (it.owner, round.Hold it.count, it.now) in
-      let flow = it.is_one_flow in
-      let progress = progress_of it.now.sequencer in
-      let came = subst (λ (l : Rounds). ComesTo l progress) it.log_is flow.accepted_in_turn in
-      let each = subst (λ (l : Rounds). EachInItsOwnOrder l progress) it.log_is flow.each_in_its_own_order in
-      let nobody : (e : ℕ) → AreApart 1 e → emitted e it.before ≡ [] =
-      λ e other. emitted_by e pass it.before (are e) ∙ nothing_of e own (tries_nothing e 1 words own other tries) in
-      let none_by : (e : ℕ) → AreApart 1 e → words_by e accepted ≡ [] = λ e other. subst (Within (words_by e accepted)) (nobody e other) (accepted_of e) in
-      let all : map word_of accepted ≡ words_by 1 accepted = alone (of_two 1 2 accepted one_and_two (λ e not_one not_two. none_by e not_one)) (none_by 2 one_and_two) in
-      all ∙ accepted_of_tries 1 pass words it.before last progress are tries tt came each ∙ emitted_more 1 it.before (last ∷ []) ∙ append-nil (emitted 1 it.before)
-      ∙ emitted_by 1 pass it.before (are 1)
-
-  pub own_of_one : (pass : ℕ) (words : List ℕ) → it.life.start.shape ≡ shape_of config → AreTries 1 words (own_of pass it.before) → ((e : ℕ) → AreBy e pass it.before)
-      → ReceivesItsOwn config.policy prelude words received
-  own_of_one pass words shape tries are =
+  -- and where what was accepted is what came of some emissions
+  pub own_of_these : (words : List ℕ) (emissions : Emissions) → map (λ (x : ℕ × Outcome). x.0) emissions ≡ words → map word_of accepted ≡ accepted_words emissions
+      → it.life.start.shape ≡ shape_of config → ReceivesItsOwn config.policy prelude words received
+  own_of_these words emissions words_are all shape =
       let reader = knowing it.now it.life.reader in
       let cache = cache_then_later it.life.cache it.life.start reader in
       let told = it.receives in
       let values = values_at cache told.kept in
       let rest = it.life.left ++ map (λ (word : ℕ). word) (pending reader) in
-      let come = tries_come 1 words (own_of pass it.before) [] tries in
       record {
-        emissions = come.0;
-        words_are = come.2;
+        emissions = emissions;
+        words_are = words_are;
         last = cache;
-        are_last = (told.in_order_of_acceptance.0, sym come.3 ∙ sym (accepted_are pass words tries are) ∙ told.in_order_of_acceptance.1);
+        are_last = (told.in_order_of_acceptance.0, sym all ∙ told.in_order_of_acceptance.1);
         kept = told.kept;
         dropped = told.dropped;
         rest = rest;
@@ -325,21 +312,17 @@ HasShare halved taken p = (p.halved ≡ halved) × (p.taken ≡ taken)
 abbrev pub IsQuiet : Party → Type 0
 IsQuiet p = (e : ℕ) → EmitNothing e p.rounds
 
--- how a party stands with the one that takes it in
-abbrev pub part_of : Party → Part Round
-part_of p = record { pass = p.pass; halved = p.halved; own = p.rounds }
-
 abbrev pub IsQuietWith : ℕ → List (Part Round) → Party → Type 0
 IsQuietWith halved taken p = HasShare halved taken p × IsQuiet p
 
 -- after a round that emits nothing
-quiet_more : (halved : ℕ) (taken : List (Part Round)) (r : Round) (p q : Party) → IsQuietWith halved taken p → ((e : ℕ) → taken_up e r ≡ []) → Made r p q → IsQuietWith halved taken q
+pub quiet_more : (halved : ℕ) (taken : List (Part Round)) (r : Round) (p q : Party) → IsQuietWith halved taken p → ((e : ℕ) → taken_up e r ≡ []) → Made r p q → IsQuietWith halved taken q
 quiet_more halved taken r p q quiet nothing made = (
   (ap (λ (x : Party). x.halved) made.after ∙ quiet.0.0, ap (λ (x : Party). x.taken) made.after ∙ quiet.0.1),
   λ e. subst (EmitNothing e) (sym (ap (λ (x : Party). x.rounds) made.after)) (nothing_more e p.rounds r (quiet.1 e) (nothing e)),
 )
 
-quiet_same : (halved : ℕ) (taken : List (Part Round)) (list : Rounds) (p q : Party) → IsQuietWith halved taken p → q ≡ record p { seen = list } → IsQuietWith halved taken q
+pub quiet_same : (halved : ℕ) (taken : List (Part Round)) (list : Rounds) (p q : Party) → IsQuietWith halved taken p → q ≡ record p { seen = list } → IsQuietWith halved taken q
 quiet_same halved taken list p q quiet same = subst (IsQuietWith halved taken) (sym same) quiet
 
 has_same : (halved : ℕ) (p q : Party) → HasShare halved [] p → IsSameParty p q → HasShare halved [] q
@@ -358,12 +341,12 @@ pub quiet_newcomer : (halved : ℕ) (taken : List (Part Round)) (p q : Party) �
 quiet_newcomer halved taken p q quiet new = subst (IsQuietWith (suc halved) []) (sym new) ((ap suc quiet.0.0, refl), λ e. tt)
 
 -- an owner that took in another one, which had taken in nobody
-quiet_taking : (halved : ℕ) (taken : List (Part Round)) (other p q : Party) → IsQuietWith halved taken p → other.taken ≡ [] → q ≡ taking_of other p
+pub quiet_taking : (halved : ℕ) (taken : List (Part Round)) (other p q : Party) → IsQuietWith halved taken p → other.taken ≡ [] → q ≡ taking_of other p
     → IsQuietWith halved (taken ++ part_of other ∷ []) q
 quiet_taking halved taken other p q quiet none after = subst (IsQuietWith halved (taken ++ part_of other ∷ [])) (sym after)
     ((quiet.0.0, λ i. quiet.0.1 i ++ part_of other ∷ none i), quiet.1)
 
-has_whole : (halved : ℕ) (parts : List (Part Round)) (p : Party) → HasShare halved parts p → HasAll halved parts → HasAll p.halved p.taken
+pub has_whole : (halved : ℕ) (parts : List (Part Round)) (p : Party) → HasShare halved parts p → HasAll halved parts → HasAll p.halved p.taken
 has_whole halved parts p has all = subst (λ h. HasAll h p.taken) (sym has.0) (subst (HasAll halved) (sym has.1) all)
 
 -- An owner that has the whole lock made a round, and emitted nothing: each round before that is of one party, or nothing was emitted by it.
@@ -375,7 +358,7 @@ who_emitted e pass halved parts r p q quiet all made others =
 
 -- ---- lists that begin with others
 
-begins_then : (xs ys zs : Rounds) → Begins ys xs → Begins zs ys → Begins zs xs
+pub begins_then : (xs ys zs : Rounds) → Begins ys xs → Begins zs ys → Begins zs xs
 begins_then xs ys zs first then = (first.0 ++ then.0, then.1 ∙ ap (λ (l : Rounds). l ++ then.0) first.1 ∙ append_assoc xs first.0 then.0)
 
 are_before : (e pass : ℕ) (xs ys : Rounds) → Begins ys xs → AreBy e pass ys → AreBy e pass xs
@@ -441,27 +424,47 @@ ends_alone p q n last end emitter number count held rest meeting has all same_pa
 
 -- What came of it for the owner, which had given half of its share to the emitter, and let the subscription in by half of what it had left.
 pub exchanged : (config : Config) (words received : List ℕ) (p n q last : Party) (s t u : Subscribed ℕ) (d e f : Emitting) (counts : Met) → IsMadeWith config p.flow
-    → EachSubscriptionLaw {T = ℕ} (λ word. word) → IsQuietWith 1 [] p → s.party ≡ newcomer_of s.party.pass p → WasLetInBy s.number s.reader (sharing_of p) n
+    → EachSubscriptionLaw {T = ℕ} (λ word. word) → EmitterAloneLaw ℕ → IsQuietWith 1 [] p → s.party ≡ newcomer_of s.party.pass p → WasLetInBy s.number s.reader (sharing_of p) n
     → TakesInTurn [] s received t → (meets : Meets n q t u counts) → d.party.rounds ≡ [] → d.id ≡ 1 → HasShare 1 [] d.party → TriesEach words d e
-    → HasHeard meets.made.before e.party f.party → EndsBoth q last f u
+    → HasHeard meets.made.before e.party f.party → AreItsPart f → EndsBoth q last f u
     → ReceivesItsOwn config.policy s.rest words received × Exchange config s.rest words received last
-exchanged config words received p n q last s t u d e f counts with law quiet newcomer let_in takes meets new first share tries heard ends =
+exchanged config words received p n q last s t u d e f counts with law alone_law quiet newcomer let_in takes meets new first share tries heard its ends =
     let it = receives (sharing_of p) n q s t u counts config received with (ap (λ (x : Party). x.flow) let_in.made.after) law let_in takes meets in
     let left = ends.takes_in.left in
     let ended = quiet_end 1 [] p n q ends.then s t u received counts quiet newcomer takes meets ends.takes_in in
     let emitter = has_same 1 e.party f.party (has_same 1 d.party e.party share tries.3) (heard_party meets.made.before e.party f.party heard) in
     let parts = part_of left ∷ part_of f.party ∷ [] in
     let took_in = quiet_owner 1 p n q ends.then s t u received counts quiet newcomer let_in takes meets ends.takes_in in
-    let owner : IsQuietWith 2 parts (taking_of f.party ends.then) =
-    quiet_taking 2 (part_of left ∷ []) f.party ends.then (taking_of f.party ends.then) took_in emitter.1 refl in
+    let holder = taking_of f.party ends.then in
+    let owner : IsQuietWith 2 parts holder = quiet_taking 2 (part_of left ∷ []) f.party ends.then holder took_in emitter.1 refl in
     let all : HasAll 2 parts = (2, λ i. halves 2 2 + (halves 2 (ended.0.0 i) + (halves 2 (emitter.0 i) + 0))) in
     let full = ends.made.before in
     let sees : Begins full it.log = subst (Begins full) (ap (λ (x : Party). x.seen) ends.takes_in.after ∙ ap (λ (x : Party). x.seen) meets.made.after) ends.made.saw.seen_on in
-    let own = tries_in 1 words it.before d e new first tries heard.part in
     let same : f.party.pass ≡ e.party.pass = ap (λ (x : Party). x.pass) heard.same in
-    let are : (x : ℕ) → AreBy x e.party.pass it.before = λ x. are_before x e.party.pass it.before full
-    (begins_then it.before it.log full ((it.owner, round.Hold it.count, it.now) ∷ [], refl) sees)
-    (who_emitted x e.party.pass 2 parts (round.Count ends.count) (taking_of f.party ends.then) last owner all ends.made (inr (ended.1 x), (inl same, tt))) in
+    let emitter_heard : f.party.rounds ≡ own_of f.party.pass it.before =
+    ap (λ (x : Party). x.rounds) heard.same ∙ heard.part ∙ ap (λ x. own_of x it.before) (sym same) in
+    let by_itself : EmitsAlone f t u = record {
+      before = n;
+      after = q;
+      counts = counts;
+      meets = meets;
+      all_rounds = emitter_heard;
+      holder = holder;
+      left = last;
+      last_round = round.Count ends.count;
+      made = ends.made;
+      later = begins_then it.before it.log full ((it.owner, round.Hold it.count, it.now) ∷ [], refl) sees;
+      has_all = has_whole 2 parts holder owner.0 all;
+      quiet = owner.1;
+      others = subst (AllByRecursion (λ (x : Part Round). (x.pass ≡ f.party.pass) ⊎ NothingEmitted x.own)) (sym owner.0.1) (inr ended.1, (inl refl, tt));
+    } in
+    let own_rounds : AreTries 1 words f.party.rounds = subst (AreTries 1 words) (sym (ap (λ (x : Party). x.rounds) heard.same)) (own_tries 1 words d e new first tries) in
+    let come = tries_come 1 words f.party.rounds [] own_rounds in
+    let emissions_are : come.0 ≡ emitted_by_it f = sym come.1 in
+    let settled : AreSettled (emitted_by_it f) = subst AreSettled emissions_are come.3 in
+    let words_are : map (λ (x : ℕ × Outcome). x.0) (emitted_by_it f) ≡ words = subst (λ (l : Emissions). map (λ (x : ℕ × Outcome). x.0) l ≡ words) emissions_are come.2 in
+    let own : AreTries 1 words (own_of f.party.pass it.before) = subst (AreTries 1 words) emitter_heard own_rounds in
+    let are : (x : ℕ) → AreBy x f.party.pass it.before = alone_are f t u by_itself in
     let has : HasShare 2 parts last =
     (ap (λ (x : Party). x.halved) ends.made.after ∙ owner.0.0, ap (λ (x : Party). x.taken) ends.made.after ∙ owner.0.1) in
     let none_yet : u.party.rounds ≡ [] = ap (λ (x : Party). x.rounds) meets.heard.same ∙ ap (λ (x : Party). x.rounds) takes.3 ∙ ap (λ (x : Party). x.rounds) newcomer in
@@ -470,17 +473,15 @@ exchanged config words received p n q last s t u d e f counts with law quiet new
     let end_is : left.pass ≡ t.party.pass = ap (λ (x : Party). x.pass) ends.takes_in.ended.made.after ∙ ap (λ (x : Party). x.pass) meets.heard.same in
     let not_ended : own_of left.pass it.before ≡ [] =
     ap (λ x. own_of x it.before) end_is ∙ sym meets.heard.part ∙ sym (ap (λ (x : Party). x.rounds) meets.heard.same) ∙ none_yet in
-    let emitter_heard : f.party.rounds ≡ own_of f.party.pass it.before =
-    ap (λ (x : Party). x.rounds) heard.same ∙ heard.part ∙ ap (λ x. own_of x it.before) (sym same) in
-    let since = ends_alone (taking_of f.party ends.then) q n last left f.party u.number ends.count meets.count sees.0 meets.made owner.0 all
+    let since = ends_alone holder q n last left f.party u.number ends.count meets.count sees.0 meets.made owner.0 all
     (ap (λ (x : Party). x.pass) ends.takes_in.after) (ap (λ (x : Party). x.rounds) ends.takes_in.after) end_rounds not_ended emitter_heard ends.made sees.1 in
     let counted : ℕ × Round × SharedSeen = (ends.then.pass, round.Count ends.count, ends.made.left) in
     let shape = shape_is config (sharing_of p) n s.number s.reader with let_in in (
-      own_of_one it e.party.pass words shape own are,
+      own_of_these it words (emitted_by_it f) words_are (alone_law f t u its settled by_itself).accepted_are_its shape,
       record {
-        received_with_others_is_prelude_then_words = received_of_one it e.party.pass words own are;
+        received_with_others_is_prelude_then_words = received_of_one it f.party.pass words own are;
         receives = it;
-        emits = (e.party.pass, own);
+        emits = (f.party.pass, own);
         seen = (
           u.number,
           ends.count,

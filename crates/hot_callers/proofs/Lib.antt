@@ -2,5 +2,10 @@ mod Looks
 mod Sublists
 mod Speaking
 mod Accepting
+mod Answered
+mod Own
+mod Alone
 mod Exchanging
+pub mod Keeping
+mod Whole
 mod StateExchanging

@@ -1,5 +1,5 @@
 -- Lists that stand in another one, in their order and once.
-use Rattle.std.proofs.Common.{◌≡◌, ◌⊎◌, ⊎_elim, inl, inr, ℕ, ◌-◌, Option, Some, None, List, [], ◌∷◌, ◌++◌, length, slice_get, refl, sym, ap, ◌∙◌, subst, arith}
+use Rattle.std.proofs.Common.{◌≡◌, ◌⊎◌, ⊎_elim, inl, inr, ℕ, ◌-◌, ◌≤◌, Option, Some, None, List, [], ◌∷◌, ◌++◌, length, slice_get, refl, sym, ap, ◌∙◌, subst, arith}
 use Rattle.std.specs.List.{cons_option, range_with_len}
 use Rattle.shared_core.specs.Flow.{values_at}
 use Rattle.shared_core.specs.Story.{Interleaves, none, left, right}
@@ -54,6 +54,21 @@ within_back (x ∷ xs) ys = inl (within_back xs ys)
 pub within_under : (ws xs ys : List ℕ) → Within xs ys → Within (ws ++ xs) (ws ++ ys)
 within_under [] xs ys h = h
 within_under (w ∷ ws) xs ys h = inr (ws ++ xs, refl, within_under ws xs ys h)
+
+-- one that stands in another is no longer, and one that is as long is that list
+within_length : (xs zs : List ℕ) → Within xs zs → length xs ≤ length zs
+within_length xs [] empty = let none = ap (λ (l : List ℕ). length l) empty in omega (arith, none)
+within_length xs (z ∷ zs) (inl later) = let rest = within_length xs zs later in omega (arith, rest)
+within_length xs (z ∷ zs) (inr first) =
+    let rest = within_length first.0 zs first.2 in
+    let is = ap (λ (l : List ℕ). length l) first.1 in omega (arith, rest, is)
+
+pub within_whole : (xs zs : List ℕ) → Within xs zs → length zs ≤ length xs → xs ≡ zs
+within_whole xs [] empty long = empty
+within_whole xs (z ∷ zs) (inl later) long = let rest = within_length xs zs later in let no : ⊥ = omega (arith, rest, long) in absurd no
+within_whole xs (z ∷ zs) (inr first) long =
+    let is = ap (λ (l : List ℕ). length l) first.1 in
+    first.1 ∙ ap (λ (l : List ℕ). z ∷ l) (within_whole first.0 zs first.2 (omega (arith, is, long)))
 
 -- ---- the values at some of a list's indexes
 

@@ -16,6 +16,7 @@ use Rattle.shared_rounds.specs.Names.{SharedSeen}
 use Rattle.shared_flow.specs.Owners.{HasHeard, Meets}
 use Rattle.shared_flow.specs.Parties.{Emitting, Subscribed, newcomer_of, received, sharing_of, taking_of}
 use Rattle.shared_rounds.specs.Reach.{Party, Rounds}
+use Rattle.hot_callers.specs.Receiving.{ReceivesOfBoth}
 use Rattle.hot_callers.specs.SharedCalls.{HasTaken}
 
 -- an emitter tried these words, one after another, each with an answer
@@ -139,8 +140,7 @@ pub record Exchange (config : Config) (prelude words received : List ℕ) (owner
 -- first one. Its share of the lock was halved three times, for the emitters and for the subscription, and it took all three in: so it has the
 -- whole lock, and there was nobody else.
 pub record LateExchange (config : Config) (prelude first second late received : List ℕ) (owner : Party) : Type 0 where
-  pub received_with_others_is_prelude_then_both :
-      (both others : List ℕ) × Interleaves first second both × Interleaves received others (prelude ++ both)
+  pub received_with_others_is_prelude_then_both : ReceivesOfBoth prelude first second received
   pub receives : Receives config prelude received
   pub rounds : Rounds
   pub goes_on : Begins rounds receives.log

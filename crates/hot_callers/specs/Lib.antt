@@ -3,4 +3,5 @@ pub mod LightLaws
 pub mod SharedCalls
 pub mod Receiving
 pub mod Exchanges
+pub mod Alone
 pub mod StateExchanges

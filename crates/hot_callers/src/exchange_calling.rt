@@ -3,8 +3,10 @@
 ghost use Rattle.std.specs.Prelude.{◌≡◌, ◌++◌, None, IfOk};
 ghost use Rattle.shared_core.specs.Preludes.{prelude_values};
 ghost use Rattle.hot_callers.specs.Exchanges.{EndsBoth, EndsEmitters, Exchange, LateExchange, MeetsBoth, ReceivesBetween, TakesEach, TakesInTurn, TellsBoth, TriesEach};
-ghost use Rattle.hot_callers.specs.Receiving.{ReceivesItsOwn};
+ghost use Rattle.hot_callers.specs.Receiving.{ReceivesItsOwn, ReceivesOfBoth, WereTried};
+ghost use Rattle.shared_flow.specs.Emitted.{emitted};
 
+use crate::alone_calling::an_emitter_alone;
 use cold_flow::Refusal;
 use shared_core::{Config, Prelude};
 use shared_flow::{
@@ -17,7 +19,8 @@ use std::thread::{Threads, join_mut, yield_now};
 // Tries to emit each value.
 fn try_each(rt: &impl Wait, emitter: &mut Emitter<u64>, values: &[u64])
     requires idle { emitter.old.ticket ≡ None }
-    ensures { TriesEach values.now emitter.old emitter.new }
+    ensures has { WereTried (emitted emitter.old) values.now (emitted emitter.new) }
+    ensures tries { TriesEach values.now emitter.old emitter.new }
 {
     for value in values {
         let _answer = emitter.try_emit(rt, *value);
@@ -182,6 +185,7 @@ where
     ensures exchange { IfOk result (λ exchanged. Exchange config (prelude_values prelude) values.now exchanged.received.items exchanged.flow.party) }
 {
     each_subscription_receives_prelude_cache_then_later::<u64>();
+    an_emitter_alone::<u64>();
     let mut flow = SharedFlow::new(rt.alloc(), config)?;
     let mut emitter = flow.emitter(rt, 1)?;
     let mut subscription = match flow.subscribe_with(rt, prelude) {
@@ -201,6 +205,7 @@ where
         &mut received,
     );
     meet_both(rt, &mut flow, &mut emitter, &mut subscription);
+    emitter.emissions_are_its_part();
     end_both(rt, &mut flow, emitter, subscription);
     taken?;
     Ok(Exchanged { flow, received })
@@ -287,7 +292,9 @@ pub fn emit_and_receive_between<R>(
 ) -> Result<Exchanged, Refusal>
 where
     R: Threads + Wait + Sync + AllocGlobal,
-    ensures { IfOk result (λ exchanged. LateExchange config (prelude_values prelude) (early.now ++ first.now) second.now late.now exchanged.received.items exchanged.flow.party) }
+    ensures has { IfOk result (λ exchanged.
+        ReceivesOfBoth (prelude_values prelude) (early.now ++ first.now) second.now exchanged.received.items) }
+    ensures exchange { IfOk result (λ exchanged. LateExchange config (prelude_values prelude) (early.now ++ first.now) second.now late.now exchanged.received.items exchanged.flow.party) }
 {
     each_subscription_receives_prelude_cache_then_later::<u64>();
     let mut flow = SharedFlow::new(rt.alloc(), config)?;

@@ -2,6 +2,7 @@
 //! alone.
 #![tactic(auto)]
 
+mod alone_calling;
 mod core_calling;
 mod exchange_calling;
 mod lane_calling;
@@ -11,6 +12,9 @@ mod state_calling;
 mod state_exchange_calling;
 mod strategy_calling;
 
+pub use alone_calling::{
+    Parties, an_emitter_alone, begin_alone, emit_and_collect, emit_each, end_alone, take_waiting,
+};
 pub use core_calling::{received_in_turn, received_once};
 pub use exchange_calling::{Exchanged, emit_and_receive, emit_and_receive_between};
 pub use lane_calling::{drained, emitted_and_taken, taken_from_the_cache};

@@ -25,8 +25,8 @@ returns g c =
     let both = subst (λ (prelude : List ℕ). ReceivesItsOwn config.policy prelude words received × Exchange config prelude words received last) c.in-Ok.ensures.prelude
     (exchanged config words received owner.party c.subscribe_with.new.self.party c.meet_both.new.flow.party last c.in-Ok.subscription c.in_two_threads-taken.new.subscription
     c.meet_both.new.subscription c.in_ok-emitter.emitter c.in_two_threads-taken.new.emitter c.meet_both.new.emitter met.counts made
-    c.each_subscription_receives_prelude_cache_then_later.ensures shared c.in-Ok.ensures.flow c.in-Ok.ensures.begins takes met.meets
+    c.each_subscription_receives_prelude_cache_then_later.ensures c.an_emitter_alone.ensures shared c.in-Ok.ensures.flow c.in-Ok.ensures.begins takes met.meets
     (ap (λ (p : Party). p.rounds) c.in_ok-emitter.ensures.flow) c.in_ok-emitter.ensures.id
     (quiet_newcomer 0 [] new c.in_ok-emitter.emitter.party quiet c.in_ok-emitter.ensures.flow).0
-    c.in_two_threads-taken.ensures.emits met.emitter c.end_both.ensures) in
+    c.in_two_threads-taken.ensures.emits met.emitter c.emissions_are_its_part.ensures c.end_both.ensures) in
     record { has = both.0; exchange = both.1 }

@@ -11,7 +11,7 @@ pub end_emitters-requires-clause-idle : goal.end_emitters-requires-clause-idle
 end_emitters-requires-clause-idle g c =
     let told = c.tell_both.ensures in (
       ap (λ (e : Emitting). e.ticket) told.only_first ∙ c.in-Ok-between.ensures.one.5,
-      ap (λ (e : Emitting). e.ticket) told.only_second ∙ c.try_each-2.ensures.5,
+      ap (λ (e : Emitting). e.ticket) told.only_second ∙ c.try_each-2.ensures.tries.5,
     )
 
 pub returns : goal.returns
@@ -29,10 +29,11 @@ returns g c =
     let owner = subst (λ (o : Owning). IsQuietWith 2 [] o.party) (sym quarter) (quiet_sharing 1 [] with_one halved) in
     let flow_is = ap (λ (o : Owning). o.party.flow) quarter ∙ ap (λ (o : Owning). o.party.flow) half in
     let made = subst (λ (known : Option FlowName). IsMadeWith c.args.config known) (sym flow_is) c.in_ok-flow.ensures.config in
-    late c.args.config (prelude_values c.args.prelude) _ c.args.second.now c.args.late.now c.in-Ok-between.received.items c.emitter-2.new.self.party between.new.flow.party
+    let exchange = late c.args.config (prelude_values c.args.prelude) _ c.args.second.now c.args.late.now c.in-Ok-between.received.items c.emitter-2.new.self.party between.new.flow.party
     c.tell_both.new.flow.party c.end_emitters.new.flow.party c.in_ok-one.one between.new.one c.tell_both.new.one c.in-Ok.two between.new.two c.try_each-2.new.emitter c.tell_both.new.two
     made c.each_subscription_receives_prelude_cache_then_later.ensures owner
     (ap (λ (p : Party). p.rounds) c.in_ok-one.ensures.flow) c.in_ok-one.ensures.id (quiet_newcomer 0 [] new c.in_ok-one.one.party quiet c.in_ok-one.ensures.flow).0
     (ap (λ (p : Party). p.rounds) c.in-Ok.ensures.flow) c.in-Ok.ensures.id (quiet_newcomer 1 [] with_one c.in-Ok.two.party halved c.in-Ok.ensures.flow).0
-    (tries_on early first c.in_ok-one.one c.try_each.new.emitter between.new.one c.try_each.ensures c.in-Ok-between.ensures.one)
-    c.in-Ok-between.ensures.two c.try_each-2.ensures c.in-Ok-between.ensures.receives c.tell_both.ensures c.end_emitters.ensures
+    (tries_on early first c.in_ok-one.one c.try_each.new.emitter between.new.one c.try_each.ensures.tries c.in-Ok-between.ensures.one)
+    c.in-Ok-between.ensures.two c.try_each-2.ensures.tries c.in-Ok-between.ensures.receives c.tell_both.ensures c.end_emitters.ensures in
+    record { has = exchange.received_with_others_is_prelude_then_both; exchange = exchange }

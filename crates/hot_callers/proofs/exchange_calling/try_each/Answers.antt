@@ -1,6 +1,7 @@
 use Rattle.std.proofs.Common.{ℕ, List, take, get_or, sym, subst}
 use Rattle.std.proofs.lemmas.List.{take_all, take_more}
 use Rattle.hot_callers.specs.Exchanges.{TriesEach}
+use Rattle.hot_callers.proofs.Accepting.{each_tried}
 use Rattle.hot_callers.proofs.Exchanging.{tries_none, tries_more}
 use Rattle.hot_callers.proofs.exchange_calling.try_each.Goals as goal
 
@@ -17,4 +18,5 @@ loop-value-preserved g c =
 pub returns : goal.returns
 returns g c =
     let words = c.args.values.now in
-    subst (λ (l : List ℕ). TriesEach l c.args.emitter.now c.loop-value.emitter) (take_all c.loop-value.value-index words c.loop-value-test.false) c.loop-value.invariant
+    let tries : TriesEach words c.args.emitter.now c.loop-value.emitter = subst (λ (l : List ℕ). TriesEach l c.args.emitter.now c.loop-value.emitter) (take_all c.loop-value.value-index words c.loop-value-test.false) c.loop-value.invariant in
+    record { has = each_tried words c.args.emitter.now c.loop-value.emitter tries; tries = tries }
