@@ -4,3 +4,7 @@ pub mod Latest
 pub mod LatestLaws
 pub mod Interleave
 pub mod InterleaveLaws
+pub mod Joins
+pub mod JoinsLaws
+pub mod Row
+pub mod RowLaws
