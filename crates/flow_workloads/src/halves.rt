@@ -3,7 +3,7 @@
 use crate::actions::Adds;
 use crate::fault::Fault;
 use crate::tally::ended;
-use cold_flow::{Event, Policy, Run, map, range};
+use cold_flow::{EndingRun, Event, Mapped, Numbers, Policy, Run, map, range};
 use flow_buffer::{Drain, Feed, Fill, split};
 use futures::task::{Doorbell, Solo};
 use std::alloc::AllocGlobal;
@@ -44,6 +44,23 @@ fn drain_all(rt: &impl Wait, drain: &mut Drain<u64, u64>) -> Digest {
     digest
 }
 
+/// What goes into a buffer: the numbers of a range, each with an amount added.
+type Numbered = Mapped<EndingRun<Numbers<u64>, u64>, Adds>;
+
+/// One thread feeds, another drains, and the digest of all that it took is given.
+fn hand_over<R>(
+    rt: &R,
+    task: &Solo,
+    feed: &mut Feed<Numbered>,
+    drain: &mut Drain<u64, u64>,
+) -> Digest
+where
+    R: Threads + Wait + Sync,
+{
+    let ((), taken) = thread::join(rt, || feed_all(rt, task, feed), || drain_all(rt, drain));
+    taken
+}
+
 /// So many values go through a buffer of this capacity.
 fn through<R>(
     rt: &R,
@@ -61,11 +78,7 @@ where
         Adds(random.next()),
     );
     let (mut feed, mut drain) = split(rt.alloc(), source, capacity, Policy::Suspend)?;
-    let ((), taken) = thread::join(
-        rt,
-        || feed_all(rt, &task, &mut feed),
-        || drain_all(rt, &mut drain),
-    );
+    let taken = hand_over(rt, &task, &mut feed, &mut drain);
     feed.cancel(rt);
     digest.number(taken.value());
     Ok(())

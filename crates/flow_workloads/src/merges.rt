@@ -1,11 +1,11 @@
 //! Flows of several sources.
 
-use crate::actions::{Adds, IsSeldom, Sum};
+use crate::actions::{Adds, IsSeldom};
 use crate::fault::Fault;
 use crate::repeated::Repeats;
-use crate::values::fold_all;
+use crate::values::{fold_all, fold_combined, fold_zipped};
 use cold_flow::{filter, map, range};
-use flow_merge::{combine, flat_map_concat, flat_map_merge, zip};
+use flow_merge::{flat_map_concat, flat_map_merge};
 use futures::task::Solo;
 use std::alloc::Global;
 use workload_inputs::{Digest, Random, Scale};
@@ -21,7 +21,7 @@ fn zipped(task: &Solo, random: &mut Random, digest: &mut Digest, values: u64) ->
     let from = random.next() >> 20;
     let left = range::<u64>(from, from.saturating_add(values));
     let right = filter(range::<u64>(0, values), IsSeldom);
-    fold_all(task, digest, zip(left, right, Sum))
+    fold_zipped(task, digest, left, right)
 }
 
 /// The sums of the latest values of two ranges.
@@ -34,7 +34,7 @@ fn combined(
     let from = random.next() >> 20;
     let left = range::<u64>(from, from.saturating_add(values));
     let right = map(range::<u64>(0, values / 2), Adds(random.next()));
-    fold_all(task, digest, combine(left, right, Sum))
+    fold_combined(task, digest, left, right)
 }
 
 /// Short inner flows, one after the other.

@@ -1,10 +1,9 @@
 //! Cold flows over sources that answer pending often.
 
-use crate::actions::{Adds, IsSeldom, Sum};
+use crate::actions::{Adds, IsSeldom};
 use crate::fault::Fault;
-use crate::values::{fold_all, list_all};
-use cold_flow::{Step, Stepped, distinct, filter, map, range, scripted};
-use flow_merge::{combine, zip};
+use crate::values::{fold_combined, fold_zipped, list_all};
+use cold_flow::{Finite, Flow, Step, Stepped, distinct, filter, map, range, scripted};
 use futures::task::Solo;
 use std::alloc::Global;
 use workload_inputs::{Digest, Random, Scale};
@@ -42,6 +41,15 @@ fn source(
     Ok(scripted(script))
 }
 
+/// Lists those of the values that differ from the one before.
+fn list_changes<F>(alloc: Global, task: &Solo, digest: &mut Digest, values: F) -> Result<(), Fault>
+where
+    F: Flow<Item = u64, Fault = u64>,
+    F::Running: Finite,
+{
+    list_all(alloc, task, digest, distinct(values))
+}
+
 /// What the sources of a flow are made of.
 #[derive(Drop)]
 struct Sources<'a> {
@@ -59,21 +67,21 @@ impl Sources<'_> {
     /// One through two operators, listed.
     fn listed(&mut self, task: &Solo, digest: &mut Digest) -> Result<(), Fault> {
         let plain = self.next(true)?;
-        list_all(self.alloc, task, digest, distinct(map(plain, Adds(5))))
+        list_changes(self.alloc, task, digest, map(plain, Adds(5)))
     }
 
     /// One with a range, pair by pair.
     fn zipped(&mut self, task: &Solo, digest: &mut Digest) -> Result<(), Fault> {
         let left = self.next(false)?;
         let right = filter(range::<u64>(0, self.steps), IsSeldom);
-        fold_all(task, digest, zip(left, right, Sum))
+        fold_zipped(task, digest, left, right)
     }
 
     /// The latest values of two.
     fn combined(&mut self, task: &Solo, digest: &mut Digest) -> Result<(), Fault> {
         let left = self.next(false)?;
         let right = self.next(true)?;
-        fold_all(task, digest, combine(left, right, Sum))
+        fold_combined(task, digest, left, right)
     }
 }
 

@@ -1,9 +1,10 @@
 //! The values of cold flows, taken into a digest.
 
-use crate::actions::Mixes;
+use crate::actions::{Mixes, Sum};
 use crate::fault::Fault;
 use crate::tally;
-use cold_flow::{Cause, Finite, Flow, Folding, Run, fold, to_list};
+use cold_flow::{Cause, Collected, Finite, Flow, Folding, Refusal, Run, fold, to_list};
+use flow_merge::{combine, zip};
 use futures::task::{Poll, Solo};
 use std::alloc::Global;
 use workload_inputs::Digest;
@@ -48,6 +49,47 @@ where
     ended(digest, cause)
 }
 
+/// Folds the sums of two flows, pair by pair.
+pub(crate) fn fold_zipped<A, B>(
+    task: &Solo,
+    digest: &mut Digest,
+    left: A,
+    right: B,
+) -> Result<(), Fault>
+where
+    A: Flow<Item = u64, Fault = u64>,
+    B: Flow<Item = u64, Fault = u64>,
+{
+    fold_all(task, digest, zip(left, right, Sum))
+}
+
+/// Folds the sums of the latest values of two flows.
+pub(crate) fn fold_combined<A, B>(
+    task: &Solo,
+    digest: &mut Digest,
+    left: A,
+    right: B,
+) -> Result<(), Fault>
+where
+    A: Flow<Item = u64, Fault = u64>,
+    B: Flow<Item = u64, Fault = u64>,
+{
+    fold_all(task, digest, combine(left, right, Sum))
+}
+
+/// What a flow gives, listed, and how it ended.
+fn listed<F>(alloc: Global, task: &Solo, flow: F) -> Result<Collected<u64, u64>, Refusal>
+where
+    F: Flow<Item = u64, Fault = u64>,
+    F::Running: Finite,
+{
+    let run = flow.start()?;
+    let mut cx = task.begin();
+    let listed = to_list(alloc, run, &mut cx);
+    cx.cancel();
+    listed
+}
+
 /// Starts a flow, lists its values, and takes them in.
 pub(crate) fn list_all<F>(
     alloc: Global,
@@ -59,11 +101,7 @@ where
     F: Flow<Item = u64, Fault = u64>,
     F::Running: Finite,
 {
-    let run = flow.start()?;
-    let mut cx = task.begin();
-    let listed = to_list(alloc, run, &mut cx);
-    cx.cancel();
-    let list = listed?;
+    let list = listed(alloc, task, flow)?;
     for value in &list.values {
         digest.number(*value);
     }
