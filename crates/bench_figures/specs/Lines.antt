@@ -1,7 +1,7 @@
 -- What parts and figures print.
 use Rattle.std.specs.Prelude.{ℕ, List, ◌++◌, ◌/◌, ◌%◌, codes, decimal}
 use Rattle.bench_figures.specs.declared.figure.Part.{Part}
-use Rattle.bench_figures.specs.declared.figure.Part.TheVariants.{Core, Shared, Lane, State, Buffer, Cold, Runner}
+use Rattle.bench_figures.specs.declared.figure.Part.TheVariants.{Core, Shared, Lane, Values, State, Buffer, Cold, Runner}
 use Rattle.bench_figures.specs.declared.figure.Unit.{Unit}
 use Rattle.bench_figures.specs.declared.figure.Unit.TheVariants.{Nanoseconds, MillionsASecond}
 use Rattle.bench_figures.specs.declared.figure.Figure.{Figure}
@@ -12,6 +12,7 @@ abbrev pub part_name : Part → List ℕ
 part_name Core = codes "core"
 part_name Shared = codes "shared"
 part_name Lane = codes "lane"
+part_name Values = codes "values"
 part_name State = codes "state"
 part_name Buffer = codes "buffer"
 part_name Cold = codes "cold"

@@ -15,6 +15,8 @@ pub enum Part {
     Shared,
     /// A sequencer and its readers, without a lock.
     Lane,
+    /// A shared flow of values of any type.
+    Values,
     /// A state flow.
     State,
     /// A buffer between two threads.
@@ -33,6 +35,7 @@ impl fmt::Display for Part {
             Part::Core => write!(f, "core"),
             Part::Shared => write!(f, "shared"),
             Part::Lane => write!(f, "lane"),
+            Part::Values => write!(f, "values"),
             Part::State => write!(f, "state"),
             Part::Buffer => write!(f, "buffer"),
             Part::Cold => write!(f, "cold"),

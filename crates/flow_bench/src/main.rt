@@ -31,6 +31,7 @@ mod split_values;
 mod state_alone;
 mod state_threads;
 mod sums;
+mod text_receipts;
 
 use bench_figures::Size;
 use fault::Fault;

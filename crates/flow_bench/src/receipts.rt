@@ -6,7 +6,7 @@ use crate::fault::Fault;
 use crate::report::report;
 use crate::sides::{Admits, Emits, EmitsBlocks, Ends, admit_all, end_all};
 use crate::sums::sum_to;
-use crate::{core_receipts, lane_receipts, shared_blocks, shared_receipts};
+use crate::{core_receipts, lane_receipts, shared_blocks, shared_receipts, text_receipts};
 use bench_figures::{Figure, Part, Size, Unit};
 use cold_flow::Policy;
 use shared_core::Config;
@@ -35,6 +35,9 @@ const BY_BLOCK: [(&'static str, u32); 3] = [
     ("receipts-by16-n4", 4),
     ("receipts-by16-n8", 8),
 ];
+
+/// Each scenario of texts.
+const TEXTS: [(&'static str, u32); 3] = [("texts-n1", 1), ("texts-n4", 4), ("texts-n8", 8)];
 
 /// Who emits, and has its readers take.
 pub(crate) trait Takes<L>: Emits {
@@ -101,6 +104,7 @@ enum Engine {
     CoreByBlock,
     SharedByBlock,
     LaneByBlock,
+    Texts,
 }
 
 impl Engine {
@@ -124,6 +128,7 @@ impl Engine {
                 config,
                 values / BLOCK as u64,
             ),
+            Engine::Texts => text_receipts::receipts(rt, config.subscribers, values),
         }
     }
 
@@ -132,6 +137,7 @@ impl Engine {
             Engine::Core | Engine::CoreByBlock => Part::Core,
             Engine::Shared | Engine::SharedByBlock => Part::Shared,
             Engine::Lane | Engine::LaneByBlock => Part::Lane,
+            Engine::Texts => Part::Values,
         }
     }
 
@@ -140,6 +146,7 @@ impl Engine {
         match self {
             Engine::Core | Engine::Shared | Engine::Lane => SCENARIOS,
             Engine::CoreByBlock | Engine::SharedByBlock | Engine::LaneByBlock => BY_BLOCK,
+            Engine::Texts => TEXTS,
         }
     }
 }
@@ -162,6 +169,14 @@ where
     measure_by(rt, Engine::CoreByBlock, size)?;
     measure_by(rt, Engine::SharedByBlock, size)?;
     measure_by(rt, Engine::LaneByBlock, size)
+}
+
+/// Makes it by a flow of texts.
+pub(crate) fn measure_texts<R>(rt: &R, size: Size) -> Result<(), Fault>
+where
+    R: Clock + Print + AllocGlobal + RandomSource + Wait,
+{
+    measure_by(rt, Engine::Texts, size)
 }
 
 /// Makes it with 1, 4 and 8 readers.

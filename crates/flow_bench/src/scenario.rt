@@ -32,11 +32,13 @@ pub enum Scenario {
     Cold,
     /// `script`: lines of a script.
     Script,
+    /// `texts`: receipts of a shared flow of texts, on one thread.
+    Texts,
 }
 
 impl Scenario {
     /// Every scenario.
-    pub const ALL: [Scenario; 9] = [
+    pub const ALL: [Scenario; 10] = [
         Scenario::Receipts,
         Scenario::ReceiptsBy16,
         Scenario::FanOut,
@@ -46,6 +48,7 @@ impl Scenario {
         Scenario::Split,
         Scenario::Cold,
         Scenario::Script,
+        Scenario::Texts,
     ];
 
     /// The scenario of that name.
@@ -60,6 +63,7 @@ impl Scenario {
             "split" => Some(Scenario::Split),
             "cold" => Some(Scenario::Cold),
             "script" => Some(Scenario::Script),
+            "texts" => Some(Scenario::Texts),
             _ => None,
         }
     }
@@ -82,6 +86,7 @@ impl Scenario {
             Scenario::Split => split_values::measure(rt, size),
             Scenario::Cold => chains::measure(rt, size),
             Scenario::Script => script_lines::measure(rt, size),
+            Scenario::Texts => receipts::measure_texts(rt, size),
         }
     }
 }

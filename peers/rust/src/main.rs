@@ -33,10 +33,11 @@ mod state;
 mod states;
 mod talks;
 mod tasks;
+mod texts;
 mod tokio_broadcast;
 mod wake;
 
-const SCENARIOS: [(&str, fn()); 15] = [
+const SCENARIOS: [(&str, fn()); 16] = [
     ("receipts", receipts::measure),
     ("receipts-by16", receipts::measure_by_block),
     ("fan-out", fan_out::measure),
@@ -51,6 +52,7 @@ const SCENARIOS: [(&str, fn()); 15] = [
     ("lag", tasks::measure_lags),
     ("asleep", asleep::measure),
     ("churn", churn::measure),
+    ("texts", texts::measure),
     ("machine", machine::measure),
 ];
 
