@@ -1,4 +1,5 @@
+use Rattle.std.proofs.Common.{rules}
 use Rattle.state_callers.proofs.value_calling.lines_awaited.Goals as goal
 
 pub returns-in-Value-clause-given : goal.returns-in-Value-clause-given
-returns-in-Value-clause-given g c = let awaits = c.in-Value.ensures in (awaits.0, awaits.1)
+returns-in-Value-clause-given g c = let awaits = c.in-Value.ensures in let counted = awaits.2 in (awaits.0, awaits.1, search (rules, counted))
