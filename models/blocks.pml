@@ -111,7 +111,7 @@ inline take_all(s) {
 inline look_for_all(p, s) {
     take_all(s);
 #ifndef WRONG_BLOCK_HELPS_NOBODY    /* it takes all, and looks at no flag */
-    if :: got && flag -> make_room(p) :: else -> skip fi
+    if :: got && flag -> accept_waiting(p) :: else -> skip fi
 #endif
 }
 

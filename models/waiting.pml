@@ -69,8 +69,8 @@ byte waker[4];              /* one more than the party that each wakes */
 
 /* A party's own, which others read here for what is asserted alone. */
 byte value[EMITTERS];       /* the number of its emission among its own, from 1 on */
-byte emission_bed[EMITTERS];
-byte subscription_bed[SUBSCRIPTIONS];
+byte emission_key[EMITTERS];
+byte subscription_key[SUBSCRIPTIONS];
 
 /* The queue of each party's parker, which has one turn. */
 byte turn_of[PARTIES];
@@ -117,24 +117,24 @@ bit bare;                                       /* a value was received by try_n
 
 /* ---- Sleepers ---- */
 
-/* Sleepers::sleep: where it sleeps already it stays, else it takes a place; its waker lies there. */
-inline lie_down(table, bed, number, p) {
+/* WaitList::sleep: where it sleeps already it stays, else it takes a place; its waker lies there. */
+inline park_task(table, wait_key, number, p) {
     if
-    :: bed != 0 && asleep[table + bed - 1] == number -> skip
+    :: wait_key != 0 && asleep[table + wait_key - 1] == number -> skip
     :: else ->
         if
-        :: asleep[table] == 0 -> bed = 1
-        :: else -> assert(asleep[table + 1] == 0); bed = 2
+        :: asleep[table] == 0 -> wait_key = 1
+        :: else -> assert(asleep[table + 1] == 0); wait_key = 2
         fi;
-        asleep[table + bed - 1] = number
+        asleep[table + wait_key - 1] = number
     fi;
     /* Each is polled by one party alone, so that no waker of another is thrown away. */
-    assert(waker[table + bed - 1] == 0 || waker[table + bed - 1] == p + 1);
-    waker[table + bed - 1] = p + 1;
+    assert(waker[table + wait_key - 1] == 0 || waker[table + wait_key - 1] == p + 1);
+    waker[table + wait_key - 1] = p + 1;
     printf("party %d lies down\n", p)
 }
 
-/* Takes a sleeper out, and keeps its waker: Wakes::add. */
+/* Takes a sleeper out, and keeps its waker: WakeList::add. */
 inline take_out(key) { mine = mine | (1 << (waker[key] - 1)); waker[key] = 0; asleep[key] = 0 }
 
 #define NOBODY 0
@@ -142,7 +142,7 @@ inline take_out(key) { mine = mine | (1 << (waker[key] - 1)); waker[key] = 0; as
 
 inline exchange(one, other) { woken = one; one = other; other = woken; woken = 0 }
 
-/* Sleepers::wake_all: the table for the owner's own, in which nobody lies. */
+/* WaitList::wake_all: the table for the owner's own, in which nobody lies. */
 inline wake_all() {
 #ifdef WRONG_WAKES_ONE_SUBSCRIPTION /* one of those that sleep */
     if
@@ -157,7 +157,7 @@ inline wake_all() {
 #endif
 }
 
-/* Sleepers::wake, of the subscription that the call ended. */
+/* WaitList::wake, of the subscription that the call ended. */
 inline wake_ended(gone) {
 #ifdef WRONG_ENDED_SLEEPS_ON        /* who ended is left in the table */
     skip
@@ -186,7 +186,7 @@ inline wake_ended(gone) {
 #endif
 #define IS_TO_RISE(key, below) (asleep[key] != 0 && !HAS_TO_WAIT(asleep[key], below))
 
-/* Sleepers::wake_done */
+/* WaitList::wake_done */
 inline wake_done(below) {
 #ifdef WRONG_WAKES_ANOTHER          /* the first that sleeps, where one has to wait no more */
     if
@@ -292,7 +292,7 @@ inline fire_exchanged(key) {
     exchanged_waker[key] = 0
 }
 
-/* Wakes::fire_unless: each waker is called once the lock is given back, those of the exchanged table first. */
+/* WakeList::fire_unless: each waker is called once the lock is given back, those of the exchanged table first. */
 inline fire() {
     do
     :: NONE_LEFT -> break
@@ -422,7 +422,7 @@ inline accept(e) {
 #define ROOM CELLS
 #endif
 
-/* Sequencer::scan: find_room and settle_one, until nothing waits or there is no room. */
+/* Sequencer::scan: find_room and accept_first, until nothing waits or there is no room. */
 inline scan() {
     do
     :: waiting_count == 0 -> break
@@ -559,7 +559,7 @@ inline poll_emit(p, e) {
 #ifdef WRONG_EMISSION_SLEEPS_UNLOCKED
         :: else -> skip
 #else
-        :: else -> emits[e] = 1; lie_down(EMISSION_TABLE, emission_bed[e], NAME(e), p)
+        :: else -> emits[e] = 1; park_task(EMISSION_TABLE, emission_key[e], NAME(e), p)
 #endif
         fi
     };
@@ -569,7 +569,7 @@ inline poll_emit(p, e) {
     d_step {
         if
         :: result == ACCEPTED -> skip
-        :: else -> emits[e] = 1; lie_down(EMISSION_TABLE, emission_bed[e], NAME(e), p)
+        :: else -> emits[e] = 1; park_task(EMISSION_TABLE, emission_key[e], NAME(e), p)
         fi
     }
 #endif
@@ -656,8 +656,8 @@ inline take_next(s, alone) {
     fi
 }
 
-/* Subscription::make_room */
-inline make_room(p) {
+/* Subscription::accept_waiting */
+inline accept_waiting(p) {
     enter(p);
 #ifndef WRONG_MAKES_NO_ROOM         /* it takes the lock, and lets nobody in */
     scan();
@@ -670,11 +670,11 @@ inline look(p, s) {
 #ifdef WRONG_FLAG_READ_FIRST        /* the flag before the exchange */
     was_up = flag;
     take_next(s, 0);
-    if :: got && was_up -> make_room(p) :: else -> skip fi;
+    if :: got && was_up -> accept_waiting(p) :: else -> skip fi;
     was_up = 0
 #else
     take_next(s, 0);
-    if :: got && flag -> make_room(p) :: else -> skip fi
+    if :: got && flag -> accept_waiting(p) :: else -> skip fi
 #endif
 }
 
@@ -692,13 +692,13 @@ inline look_again(p, s) {
     leave(p, NOBODY);
     d_step {
         if :: got -> skip
-        :: else -> asks[s] = 1; lie_down(SUBSCRIPTION_TABLE, subscription_bed[s], s + 1, p)
+        :: else -> asks[s] = 1; park_task(SUBSCRIPTION_TABLE, subscription_key[s], s + 1, p)
         fi
     }
 #else
     d_step {
         if :: got -> skip
-        :: else -> asks[s] = 1; lie_down(SUBSCRIPTION_TABLE, subscription_bed[s], s + 1, p)
+        :: else -> asks[s] = 1; park_task(SUBSCRIPTION_TABLE, subscription_key[s], s + 1, p)
         fi
     };
     leave(p, NOBODY)

@@ -1,14 +1,14 @@
 //! What a measurement gave, and how it is written.
 
 ghost use Rattle.std.specs.Prelude.{◌≡◌, ◌↔◌, IsOk, IfOk, IfErr, Some};
-ghost use Rattle.bench_figures.specs.Lines.{part_name, unit_name, line_of};
+ghost use Rattle.bench_figures.specs.Lines.{subject_name, unit_name, line_of};
 
 use crate::wrong_total::WrongTotal;
 use std::fmt;
 
 /// Which part of the library was measured. Its `Display` is the name that a line has.
 #[derive(Clone, Copy, Debug, PartialEq, Eq)]
-pub enum Part {
+pub enum Subject {
     /// A shared flow on one thread.
     Core,
     /// A shared flow for threads.
@@ -27,19 +27,19 @@ pub enum Part {
     Runner,
 }
 
-impl fmt::Display for Part {
-    ghost output = { λ part. Some (part_name part) };
+impl fmt::Display for Subject {
+    ghost output = { λ subject. Some (subject_name subject) };
 
     fn fmt<W: fmt::Write>(&self, f: &mut fmt::Formatter<W>) -> fmt::Result {
         match self {
-            Part::Core => write!(f, "core"),
-            Part::Shared => write!(f, "shared"),
-            Part::Lane => write!(f, "lane"),
-            Part::Values => write!(f, "values"),
-            Part::State => write!(f, "state"),
-            Part::Buffer => write!(f, "buffer"),
-            Part::Cold => write!(f, "cold"),
-            Part::Runner => write!(f, "runner"),
+            Subject::Core => write!(f, "core"),
+            Subject::Shared => write!(f, "shared"),
+            Subject::Lane => write!(f, "lane"),
+            Subject::Values => write!(f, "values"),
+            Subject::State => write!(f, "state"),
+            Subject::Buffer => write!(f, "buffer"),
+            Subject::Cold => write!(f, "cold"),
+            Subject::Runner => write!(f, "runner"),
         }
     }
 }
@@ -68,7 +68,7 @@ impl fmt::Display for Unit {
 /// figure, the unit, the operations, and the nanoseconds that all of them took.
 #[derive(Clone, Copy, Debug)]
 pub struct Figure {
-    pub part: Part,
+    pub subject: Subject,
     /// The scenario in full, as `receipts-n4`.
     pub scenario: &'static str,
     /// What was counted, as `receipt`.
@@ -85,7 +85,7 @@ impl fmt::Display for Figure {
 
     fn fmt<W: fmt::Write>(&self, f: &mut fmt::Formatter<W>) -> fmt::Result {
         let Figure {
-            part,
+            subject,
             scenario,
             name,
             unit,
@@ -95,7 +95,7 @@ impl fmt::Display for Figure {
         } = *self;
         write!(
             f,
-            "raw\thillgauze-{part}\t{scenario}\t{name}\t{unit}\t{operations}\t{nanoseconds}"
+            "raw\thillgauze-{subject}\t{scenario}\t{name}\t{unit}\t{operations}\t{nanoseconds}"
         )
     }
 }

@@ -6,7 +6,7 @@ mod share;
 mod size;
 mod wrong_total;
 
-pub use figure::{Figure, Part, Unit};
-pub use share::Share;
+pub use figure::{Figure, Subject, Unit};
+pub use share::Portion;
 pub use size::Size;
 pub use wrong_total::WrongTotal;

@@ -1,17 +1,17 @@
 //! A share of what was sent, and how it is written.
 
 ghost use Rattle.std.specs.Prelude.{◌≡◌, ◌↔◌, IsOk, IfOk, IfErr, Some};
-ghost use Rattle.bench_figures.specs.Lines.{share_line_of};
+ghost use Rattle.bench_figures.specs.Lines.{portion_line_of};
 
-use crate::figure::Part;
+use crate::figure::Subject;
 use crate::wrong_total::WrongTotal;
 use std::fmt;
 
 /// Which share of what was sent came. Its `Display` is a line of columns, parted by tabs: the part, the scenario, the
 /// figure, the unit, the percent twice (as the best and the median of one repeat), and how much was sent.
 #[derive(Clone, Copy, Debug)]
-pub struct Share {
-    pub part: Part,
+pub struct Portion {
+    pub subject: Subject,
     /// The scenario in full, as `lossy-n2`.
     pub scenario: &'static str,
     /// What was counted, as `kept`.
@@ -24,12 +24,12 @@ pub struct Share {
     pub total: u64,
 }
 
-impl fmt::Display for Share {
-    ghost output = { λ share. Some (share_line_of share) };
+impl fmt::Display for Portion {
+    ghost output = { λ share. Some (portion_line_of share) };
 
     fn fmt<W: fmt::Write>(&self, f: &mut fmt::Formatter<W>) -> fmt::Result {
-        let Share {
-            part,
+        let Portion {
+            subject,
             scenario,
             name,
             sent,
@@ -39,14 +39,14 @@ impl fmt::Display for Share {
         let tenth = self.tenths % 10;
         write!(
             f,
-            "hillgauze-{part}\t{scenario}\t{name}\t%\t{whole}.{tenth}\t{whole}.{tenth}\t{sent}"
+            "hillgauze-{subject}\t{scenario}\t{name}\t%\t{whole}.{tenth}\t{whole}.{tenth}\t{sent}"
         )
     }
 }
 
-impl Share {
+impl Portion {
     /// Refused where what arrived and what didn't isn't what was sent, with the scenario's name.
-    pub fn checked(self, wanted: u64) -> Result<Share, WrongTotal>
+    pub fn checked(self, wanted: u64) -> Result<Portion, WrongTotal>
         ensures right { IsOk result ↔ (self.total ≡ wanted) }
         ensures same { IfOk result (λ share. share ≡ self) }
         ensures told { IfErr result (λ wrong. wrong.scenario ≡ self.scenario) }

@@ -31,12 +31,12 @@ fn used_by_lane(heap: &LocalHeap) -> Result<(usize, bool), Refusal> {
     let third = sequencer.start_emit(&lane, EMITTER, 9);
     let fourth = sequencer.start_emit(&lane, EMITTER, 10);
     let taken = reader.try_next(&lane);
-    let let_in = sequencer.scan(&lane);
+    let accepted = sequencer.scan(&lane);
     reader.close(&lane);
     let are_begun = third == Ok(Begun::Waiting(Ticket(0)))
         && fourth == Ok(Begun::Waiting(Ticket(1)));
     let are_accepted = first == Ok(Tried::Accepted(0)) && second == Ok(Begun::Accepted(1));
-    let is_right = are_accepted && are_begun && taken == Taken::Value(7) && let_in == 1;
+    let is_right = are_accepted && are_begun && taken == Taken::Value(7) && accepted == 1;
     Ok((heap.used(), is_right))
 }
 

@@ -38,7 +38,7 @@ impl<'a> Sending<'a> {
     }
 
     // Lets in what waits, as far as there is room.
-    fn let_in(&mut self) {
+    fn accept_waiting(&mut self) {
         self.sequencer.scan(self.lane);
     }
 
@@ -161,7 +161,7 @@ impl<'a> LaneBody<'a> {
             return Next::Closed;
         };
         let next = listening.next();
-        self.sending.let_in();
+        self.sending.accept_waiting();
         next
     }
 
@@ -171,7 +171,7 @@ impl<'a> LaneBody<'a> {
             return false;
         };
         let was_live = leave(place.take());
-        self.sending.let_in();
+        self.sending.accept_waiting();
         was_live
     }
 
@@ -231,7 +231,7 @@ impl Body for LaneBody<'_> {
                 none if taken == 0 => return none,
                 _ => break,
             }
-            self.sending.let_in();
+            self.sending.accept_waiting();
         }
         Next::Value(taken)
     }

@@ -6,7 +6,7 @@ use crate::elapsed::{nanoseconds_since, now};
 use crate::fault::Fault;
 use crate::report::report;
 use crate::sums::sum_to;
-use bench_figures::{Figure, Part, Size, Unit};
+use bench_figures::{Figure, Size, Subject, Unit};
 use cold_flow::{Apply, Cause, Flow, Folding, Run, filter, fold, map, range};
 use flow_merge::zip;
 use futures::task::{Doorbell, Poll, Solo};
@@ -100,7 +100,7 @@ where
     let task = Solo::new(rt, Doorbell::spinning())?;
     let (total, nanoseconds) = timed_sum(rt, &task, flow)?;
     Ok(Figure {
-        part: Part::Cold,
+        subject: Subject::Cold,
         scenario,
         name: "element",
         unit: Unit::Nanoseconds,

@@ -7,7 +7,7 @@ use crate::pause::Pause;
 use crate::report::report;
 use crate::sides::Feeds;
 use crate::{lane_fan_out, shared_blocks, shared_fan_out};
-use bench_figures::{Figure, Part, Size, Unit};
+use bench_figures::{Figure, Size, Subject, Unit};
 use cold_flow::Policy;
 use shared_core::Config;
 use std::alloc::AllocGlobal;
@@ -70,10 +70,10 @@ enum Engine {
 }
 
 impl Engine {
-    fn part(self) -> Part {
+    fn subject(self) -> Subject {
         match self {
-            Engine::Lane | Engine::LaneByBlock => Part::Lane,
-            Engine::Shared | Engine::SharedByBlock => Part::Shared,
+            Engine::Lane | Engine::LaneByBlock => Subject::Lane,
+            Engine::Shared | Engine::SharedByBlock => Subject::Shared,
         }
     }
 
@@ -136,7 +136,7 @@ where
         let config = config_of(readers, 1024, Policy::Suspend);
         let fanned_out = engine.fanned_out(rt, config, values)?;
         let figure = Figure {
-            part: engine.part(),
+            subject: engine.subject(),
             scenario,
             name: "values",
             unit: Unit::MillionsASecond,

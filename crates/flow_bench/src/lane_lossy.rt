@@ -9,7 +9,7 @@ use crate::lane_ends::{LaneReader, LaneSequencer};
 use crate::pause::Pause;
 use crate::report::{report, report_share};
 use crate::sides::{Emits, admit_all, end_all};
-use bench_figures::{Figure, Part, Share, Size, Unit};
+use bench_figures::{Figure, Portion, Size, Subject, Unit};
 use cold_flow::Policy;
 use shared_core::Config;
 use shared_lane::{Lane, Taken};
@@ -63,7 +63,7 @@ where
 
 fn emissions(scenario: &'static str, counts: Counts) -> Figure {
     Figure {
-        part: Part::Lane,
+        subject: Subject::Lane,
         scenario,
         name: "emission",
         unit: Unit::Nanoseconds,
@@ -75,7 +75,7 @@ fn emissions(scenario: &'static str, counts: Counts) -> Figure {
 
 fn receipts(scenario: &'static str, counts: Counts) -> Figure {
     Figure {
-        part: Part::Lane,
+        subject: Subject::Lane,
         scenario,
         name: "receipts",
         unit: Unit::MillionsASecond,
@@ -85,10 +85,10 @@ fn receipts(scenario: &'static str, counts: Counts) -> Figure {
     }
 }
 
-fn kept(scenario: &'static str, counts: Counts, sent: u64) -> Share {
+fn kept(scenario: &'static str, counts: Counts, sent: u64) -> Portion {
     let tenths = counts.received.wrapping_mul(1000).checked_div(sent);
-    Share {
-        part: Part::Lane,
+    Portion {
+        subject: Subject::Lane,
         scenario,
         name: "kept",
         tenths: tenths.unwrap_or(0),

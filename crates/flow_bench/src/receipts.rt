@@ -7,7 +7,7 @@ use crate::report::report;
 use crate::sides::{Admits, Emits, EmitsBlocks, Ends, admit_all, end_all};
 use crate::sums::sum_to;
 use crate::{core_receipts, lane_receipts, shared_blocks, shared_receipts, text_receipts};
-use bench_figures::{Figure, Part, Size, Unit};
+use bench_figures::{Figure, Size, Subject, Unit};
 use cold_flow::Policy;
 use shared_core::Config;
 use std::alloc::AllocGlobal;
@@ -132,12 +132,12 @@ impl Engine {
         }
     }
 
-    fn part(self) -> Part {
+    fn subject(self) -> Subject {
         match self {
-            Engine::Core | Engine::CoreByBlock => Part::Core,
-            Engine::Shared | Engine::SharedByBlock => Part::Shared,
-            Engine::Lane | Engine::LaneByBlock => Part::Lane,
-            Engine::Texts => Part::Values,
+            Engine::Core | Engine::CoreByBlock => Subject::Core,
+            Engine::Shared | Engine::SharedByBlock => Subject::Shared,
+            Engine::Lane | Engine::LaneByBlock => Subject::Lane,
+            Engine::Texts => Subject::Values,
         }
     }
 
@@ -190,7 +190,7 @@ where
         let receipts = engine.receipts(rt, config, values)?;
         let readers = u64::from(readers);
         let figure = Figure {
-            part: engine.part(),
+            subject: engine.subject(),
             scenario,
             name: "receipt",
             unit: Unit::Nanoseconds,

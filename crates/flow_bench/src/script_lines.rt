@@ -3,7 +3,7 @@
 use crate::elapsed::{nanoseconds_since, now};
 use crate::fault::Fault;
 use crate::report::report;
-use bench_figures::{Figure, Part, Size, Unit};
+use bench_figures::{Figure, Size, Subject, Unit};
 use flow_script::{Engine, run_script};
 use std::alloc::{AllocGlobal, Global};
 use std::fmt::Write as _;
@@ -46,7 +46,7 @@ where
     let nanoseconds = nanoseconds_since(rt, start)?;
     let is_right = answers.as_slice() == script.answers.as_bytes();
     Ok(Figure {
-        part: Part::Runner,
+        subject: Subject::Runner,
         scenario: "script",
         name: "line",
         unit: Unit::Nanoseconds,

@@ -3,7 +3,7 @@
 use crate::elapsed::{nanoseconds_since, now};
 use crate::fault::Fault;
 use crate::report::report;
-use bench_figures::{Figure, Part, Size, Unit};
+use bench_figures::{Figure, Size, Subject, Unit};
 use cold_flow::{Event, Policy, Run, range};
 use flow_buffer::{Drain, Feed, Fill, split};
 use futures::task::{Doorbell, Solo};
@@ -43,7 +43,7 @@ where
 {
     let (total, nanoseconds) = handed_over(rt, capacity, values)?;
     Ok(Figure {
-        part: Part::Buffer,
+        subject: Subject::Buffer,
         scenario,
         name: "value",
         unit: Unit::Nanoseconds,

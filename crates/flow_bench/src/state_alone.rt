@@ -4,7 +4,7 @@ use crate::elapsed::{nanoseconds_since, now};
 use crate::fault::Fault;
 use crate::report::report;
 use crate::sums::sum_to;
-use bench_figures::{Figure, Part, Size, Unit};
+use bench_figures::{Figure, Size, Subject, Unit};
 use cold_flow::Refusal;
 use state_flow::{Collector, StateFlow, StateSeat};
 use std::alloc::{AllocGlobal, Global};
@@ -38,7 +38,7 @@ fn report_calls<R: Print>(
     (total, nanoseconds): (u64, u64),
 ) -> Result<(), Fault> {
     let figure = Figure {
-        part: Part::State,
+        subject: Subject::State,
         scenario: SCENARIO,
         name,
         unit: Unit::Nanoseconds,

@@ -6,7 +6,7 @@ use crate::fault::Fault;
 use crate::report::report;
 use crate::sides::{Admits, Ends, admit_all};
 use crate::state_alone::timed_sets;
-use bench_figures::{Figure, Part, Size, Unit};
+use bench_figures::{Figure, Size, Subject, Unit};
 use state_flow::{StateFlow, StateSeat};
 use std::alloc::AllocGlobal;
 use std::random::RandomSource;
@@ -151,7 +151,7 @@ where
 
 fn figure_of(scenario: &'static str, name: &'static str, work: Work) -> Figure {
     Figure {
-        part: Part::State,
+        subject: Subject::State,
         scenario,
         name,
         unit: Unit::Nanoseconds,

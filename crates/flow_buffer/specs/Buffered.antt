@@ -27,8 +27,8 @@ module _ {U T E : Type 0} (may : U → Traces T E) where
   Produces from old fill to new = (old.ending ≡ Going) × (new.ending ≡ Going) × ((x : T) × Gives from x to × Becomes old (FillsTo x fill) new)
 
   -- the source was not asked
-  abbrev pub Rests : U → Store T E → U → Store T E → Type 0
-  Rests from old to new = (to ≡ from) × (new ≡ old)
+  abbrev pub AsksNothing : U → Store T E → U → Store T E → Type 0
+  AsksNothing from old to new = (to ≡ from) × (new ≡ old)
 
   -- the source was asked and gave its end, which is kept
   abbrev pub Ends : U → Store T E → Store T E → Type 0
@@ -40,9 +40,9 @@ module _ {U T E : Type 0} (may : U → Traces T E) where
   Fills from old Took to new = Produces from old Took to new
   Fills from old Overwrote to new = Produces from old Overwrote to new
   Fills from old Dropped to new = Produces from old Dropped to new
-  Fills from old Full to new = (old.ending ≡ Going) × IsStuck old × Rests from old to new
+  Fills from old Full to new = (old.ending ≡ Going) × IsStuck old × AsksNothing from old to new
   Fills from old Pending to new = (old.ending ≡ Going) × (IsStuck old → ⊥) × Within (may from) (may to) × (new ≡ old)
-  Fills from old Ended to new = ((old.ending ≢ Going) × Rests from old to new) ⊎ Ends from old new
+  Fills from old Ended to new = ((old.ending ≢ Going) × AsksNothing from old to new) ⊎ Ends from old new
 
   -- what a poll did: it gives the oldest held value, or where none is held it fills once and gives what came
   abbrev pub Takes : U → Store T E → Poll (Event T E) → U → Store T E → Type 0

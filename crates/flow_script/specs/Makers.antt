@@ -27,9 +27,9 @@ use Rattle.script_engines.specs.declared.subscriptions.Subscriptions.{Subscripti
 use Rattle.script_engines.specs.Parties.{IsUntouched}
 use Rattle.script_engines.specs.Seen.{state_of, parties_of}
 use Rattle.script_engines.specs.Subscribing.{Subscribing, subscribing_of}
-use Rattle.script_sharings.specs.declared.share.Share.{Share}
+use Rattle.script_sharings.specs.declared.share.ScriptSharing.{ScriptSharing}
 use Rattle.script_sharings.specs.declared.stated.Stated.{Stated}
-use Rattle.flow_sharing.specs.FlowDestinations.{IsNewPlace}
+use Rattle.flow_sharing.specs.FlowDestinations.{IsNewDestination}
 use Rattle.script_sharings.specs.Ticks.{Sharings, Stating, sharings_of, stating_of}
 use Rattle.script_states.specs.Watching.{Watch}
 use Rattle.script_objects.specs.declared.object.Object.{Object}
@@ -64,11 +64,11 @@ StartsOr None starting makes reply = (started : Started) × StartsAs starting st
 -- it gave half its share of the lock; and the source isn't collected yet
 abbrev pub IsShared : {U : Type 0} → Config → Started → Origin → Subscribing → Sharings SourceFlow U → Type 0
 IsShared config started origin shown it = IsMadeWith config shown.flow.party.flow × HasMadeNoCall 1 shown.flow × (shown.places ≡ [])
-    × (named it.place.owner.party ≡ named shown.flow.party) × IsNewPlace shown.flow.party it.place
+    × (named it.place.owner.party ≡ named shown.flow.party) × IsNewDestination shown.flow.party it.place
     × (started_by it.strategy ≡ started) × Shows it.strategy [] × (origin_in it.source.source ≡ origin) × (it.course ≡ Idle)
 
 abbrev pub MakesShare : {W U : Type 0} {flow : flows.Ghosts SourceFlow ℕ ℕ U} {run : runs.Ghosts U ℕ ℕ} → Config → Starting → Origin
-    → Result (Sourced (Subscriptions W) (Share W SourceFlow ℕ U flow run)) Refusal → Type 0
+    → Result (Sourced (Subscriptions W) (ScriptSharing W SourceFlow ℕ U flow run)) Refusal → Type 0
 MakesShare config starting origin reply = StartsOr (start_refusal starting) starting
     (λ started made. MadeUnless (making_refusal config) made (λ it. IsShared config started origin (subscribing_of it.shown) (sharings_of it.source))) reply
 
@@ -89,6 +89,6 @@ made_as seen (Err refusal) = Err refusal
 
 -- what a line makes, where flows are made so
 abbrev pub MakesWith : {F W U V : Type 0} {flow : flows.Ghosts SourceFlow ℕ ℕ U} {run : runs.Ghosts U ℕ ℕ} → (ℕ → ℕ → Policy → Result F Refusal → Type 0)
-    → Made → Result (Object F Watch (Subscriptions W) (Share W SourceFlow ℕ U flow run) (Stated SourceFlow ℕ V)) Refusal → Type 0
+    → Made → Result (Object F Watch (Subscriptions W) (ScriptSharing W SourceFlow ℕ U flow run) (Stated SourceFlow ℕ V)) Refusal → Type 0
 MakesWith flows made result = MakesObject flows MakesState
     (λ replay extra policy starting origin reply. MakesShare (config_of replay extra policy) starting origin reply) MakesStated made result

@@ -9,7 +9,7 @@ use flow_terms::{Policy, Refusal};
 use script_commands::{Source, SourceFlow};
 use script_engines::Subscriptions;
 use script_objects::{Object, Sourced};
-use script_sharings::{Share, Stated};
+use script_sharings::{ScriptSharing, Stated};
 use script_states::Watched;
 use script_words::Start;
 use shared_core::Config;
@@ -24,7 +24,7 @@ pub(crate) type Kinds<'s, 'r, W, F> = Object<
     F,
     Watched,
     Subscriptions<'r, W>,
-    Share<'r, W, SourceFlow<'s>>,
+    ScriptSharing<'r, W, SourceFlow<'s>>,
     Stated<SourceFlow<'s>>,
 >;
 
@@ -49,12 +49,12 @@ pub(crate) fn share<'s, 'r, W: Wait>(
     config: Config,
     start: Start<'s>,
     source: Source<'s>,
-) -> Result<Sourced<Subscriptions<'r, W>, Share<'r, W, SourceFlow<'s>>>, Refusal>
+) -> Result<Sourced<Subscriptions<'r, W>, ScriptSharing<'r, W, SourceFlow<'s>>>, Refusal>
     ensures { MakesShare config (starting_in start.entry) (origin_in source.entry) result }
 {
     let started = start.started()?;
     let source = SourceFlow::new(alloc, source);
-    let (flow, source) = Share::new(rt, alloc, config, started, source)?;
+    let (flow, source) = ScriptSharing::new(rt, alloc, config, started, source)?;
     Ok(Sourced {
         shown: Subscriptions::new(rt, alloc, flow),
         source,

@@ -8,10 +8,10 @@ use crate::making::{Kinds, config_of, share, stated};
 use flow_terms::Refusal;
 use futures::task::Context;
 use script_calls::{MutableShared, MutableState, Shared, SharedSource, State};
-use script_commands::{Answer, Making, Part, Party, Request, ScriptObject, SourceFlow};
+use script_commands::{Answer, Joiner, Making, Part, Request, ScriptObject, SourceFlow};
 use script_engines::{ForThreads, OneThread, Subscriptions};
 use script_objects::{Object, ScriptBuffer};
-use script_sharings::{Share, Stated};
+use script_sharings::{ScriptSharing, Stated};
 use script_states::Watched;
 use std::alloc::{AllocError, Global};
 use std::sync::Wait;
@@ -73,7 +73,7 @@ impl<'s, 'r, W: Wait, F: EngineFlow<'r, W>> ScriptObject<'s> for EngineObject<'s
     ghost asks = { λ part request old answer new. AsksObject
         F.receipts F.emissions
         ⟦<Watched as State>⟧.readings ⟦<Watched as MutableState>⟧.settings
-        ⟦<Subscriptions<'r, W> as Shared>⟧.receipts ⟦<Share<'r, W, SourceFlow<'s>> as SharedSource>⟧.turns
+        ⟦<Subscriptions<'r, W> as Shared>⟧.receipts ⟦<ScriptSharing<'r, W, SourceFlow<'s>> as SharedSource>⟧.turns
         ⟦<Stated<SourceFlow<'s>> as SharedSource>⟧.turns
         part request old.object answer new.object };
 
@@ -102,8 +102,8 @@ impl<'s, 'r, W: Wait, F: EngineFlow<'r, W>> ScriptObject<'s> for EngineObject<'s
         self.object.ask(alloc, part, request, cx)
     }
 
-    fn join(&mut self, part: Part, party: Party<'_>) -> Option<(Answer, Option<Part>)> {
-        self.object.join(part, party)
+    fn join(&mut self, part: Part, joiner: Joiner<'_>) -> Option<(Answer, Option<Part>)> {
+        self.object.join(part, joiner)
     }
 
     fn close(self) {

@@ -2,7 +2,7 @@
 
 ghost use Rattle.std.specs.Prelude.{OnErr};
 ghost use Rattle.script_run.specs.Input.{TakesAtMost};
-ghost use Rattle.script_run.specs.Scripts.{Runs, Gives};
+ghost use Rattle.script_run.specs.Scripts.{ReadsToEnd, Gives};
 ghost use Rattle.flow_script.specs.Running.{On};
 
 use crate::object::{CoreObject, LaneObject};
@@ -29,11 +29,11 @@ pub fn run_script<'r, H: Wait + RandomSource + AllocGlobal, R: Read, W: Write>(
     engine: Engine,
 ) -> Result<(), ScriptFault>
     ensures runs { On engine
-        (Runs ⟦<CoreObject<'r, 'r, H> as ScriptObject<'r>>⟧.makes
+        (ReadsToEnd ⟦<CoreObject<'r, 'r, H> as ScriptObject<'r>>⟧.makes
         ⟦<CoreObject<'r, 'r, H> as ScriptObject<'r>>⟧.asks
         ⟦<CoreObject<'r, 'r, H> as ScriptObject<'r>>⟧.joins
         (R.remaining reader.old) (R.remaining reader.new) (W.contents writer.old) (W.contents writer.new) result)
-        (Runs ⟦<LaneObject<'r, 'r, H> as ScriptObject<'r>>⟧.makes
+        (ReadsToEnd ⟦<LaneObject<'r, 'r, H> as ScriptObject<'r>>⟧.makes
         ⟦<LaneObject<'r, 'r, H> as ScriptObject<'r>>⟧.asks
         ⟦<LaneObject<'r, 'r, H> as ScriptObject<'r>>⟧.joins
         (R.remaining reader.old) (R.remaining reader.new) (W.contents writer.old) (W.contents writer.new) result) }

@@ -3,18 +3,18 @@ use Rattle.std.proofs.Common.{◌≡◌, ◌≢◌, ℕ, Bool, true, false, Opti
 use Rattle.sharing_upstream.specs.declared.offer.Offer.{Offer}
 use Rattle.sharing_upstream.specs.declared.offer.Offer.TheVariants.{Accepted, Waiting, Refused}
 use Rattle.sharing_upstream.specs.Destinations.{Offered}
-use Rattle.flow_sharing.specs.FlowDestinations.{Place, emitting, Found}
+use Rattle.flow_sharing.specs.FlowDestinations.{DestinationSeen, emitting, Found}
 
 module _ {T : Type 0} where
-  pub accepted_frees : (word : T → ℕ) (s : Place T) (x : T) (offer : Offer) (t : Place T) → Offered (emitting word) s x offer t → offer ≡ Accepted → t.waiting ≡ None
-  accepted_frees word s x Accepted t offered is = ap (λ (p : Place T). p.waiting) offered.0
+  pub accepted_frees : (word : T → ℕ) (s : DestinationSeen T) (x : T) (offer : Offer) (t : DestinationSeen T) → Offered (emitting word) s x offer t → offer ≡ Accepted → t.waiting ≡ None
+  accepted_frees word s x Accepted t offered is = ap (λ (p : DestinationSeen T). p.waiting) offered.0
   accepted_frees word s x Waiting t offered is = let no = is in cc
   accepted_frees word s x (Refused refusal) t offered is = let no = is in cc
 
-  pub found_free : (s : Place T) (waits : Bool) (t : Place T) → Found s waits t → waits ≡ false → t.waiting ≡ None
+  pub found_free : (s : DestinationSeen T) (waits : Bool) (t : DestinationSeen T) → Found s waits t → waits ≡ false → t.waiting ≡ None
   found_free s true t found is = let no = is in cc
   found_free s false t found is =
-      ⊎_elim (λ none. ap (λ (p : Place T). p.waiting) none.1 ∙ none.0) (λ finished. ap (λ (p : Place T). p.waiting) finished.0) found
+      ⊎_elim (λ none. ap (λ (p : DestinationSeen T). p.waiting) none.1 ∙ none.0) (λ finished. ap (λ (p : DestinationSeen T). p.waiting) finished.0) found
 
   pub some_waits : (waiting : Option T) → is_some waiting ≡ true → waiting ≢ None
   some_waits None is none = let no = is in cc

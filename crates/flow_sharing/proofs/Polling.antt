@@ -15,7 +15,7 @@ use Rattle.sharing_upstream.specs.Courses.{kept_cause}
 use Rattle.sharing_upstream.specs.Polls.{Commands}
 use Rattle.sharing_upstream.specs.Sharings.{IsRefusedAt}
 use Rattle.sharing_upstream.specs.Upstreams.{flow_of, course_of, PollsAt}
-use Rattle.flow_sharing.specs.FlowDestinations.{Place, emitting}
+use Rattle.flow_sharing.specs.FlowDestinations.{DestinationSeen, emitting}
 use Rattle.flow_sharing.specs.StateDestinations.{setting}
 use Rattle.flow_sharing.specs.Taken.{Took}
 use Rattle.flow_sharing.specs.Shared.{Awaited, Emits, WaitsLast}
@@ -25,13 +25,13 @@ use Rattle.flow_sharing.proofs.StateShared as setting_proofs
 
 module _ {T F E U : Type 0} (may : U → Traces T E) (ended : U → Option (Cause E)) (polled : U → Poll (Event T E) → U → Type 0) (new_run : F → Traces T E) where
   -- of a shared flow
-  pub emits : (word : T → ℕ) (before after : Strategy) (now : ℕ) (result : Result Polled Refusal) (from : Upstream F T E U) (s : Place T) (to : Upstream F T E U) (t : Place T)
+  pub emits : (word : T → ℕ) (before after : Strategy) (now : ℕ) (result : Result Polled Refusal) (from : Upstream F T E U) (s : DestinationSeen T) (to : Upstream F T E U) (t : DestinationSeen T)
       → Waits s → WaitsLast word t.waiting (emitted t.emitter)
       → IfOk result (λ found. PollsAt (emitting word) may ended polled new_run before now found from s to t)
       → OnErr result ((after ≡ before) × (course_of to ≡ course_of from)) → IfErr result (λ _. IsRefusedAt (emitting word) before now s t)
       → Emits word (λ live. may live.run) (new_run (flow_of from)) (course_of from) s.waiting (emitted s.emitter) (course_of to) t.waiting (emitted t.emitter)
   emits word before after now (Ok found) from s to t waits last polls same refused =
-      subst (λ (p : Place T). Emits word (λ live. may live.run) (new_run (flow_of from)) (course_of from) p.waiting (emitted p.emitter) (course_of to) t.waiting (emitted t.emitter))
+      subst (λ (p : DestinationSeen T). Emits word (λ live. may live.run) (new_run (flow_of from)) (course_of from) p.waiting (emitted p.emitter) (course_of to) t.waiting (emitted t.emitter))
       polls.1.0
       (acts word (λ live. may live.run) (λ live. ended live.run) (λ was answer is. polled was.run answer is.run) (new_run (flow_of from))
       (kept_cause (course_of from)) (Commands before now found.count) found.on (course_of from) polls.0 (course_of to) t
@@ -39,7 +39,7 @@ module _ {T F E U : Type 0} (may : U → Traces T E) (ended : U → Option (Caus
   emits word before after now (Err refusal) from s to t waits last polls same refused =
       by_none word (λ live. may live.run) (λ live. ended live.run) (λ was answer is. polled was.run answer is.run) (new_run (flow_of from))
       (course_of from) s.waiting (emitted s.emitter) (course_of to) t.waiting (emitted t.emitter) (emitted s.emitter)
-      (Took.nothing refl same.1) (Awaited.is_unchanged refl refl) (ap (λ (p : Place T). emitted p.emitter) refused.1.0) last
+      (Took.nothing refl same.1) (Awaited.is_unchanged refl refl) (ap (λ (p : DestinationSeen T). emitted p.emitter) refused.1.0) last
 
   -- of a state
   pub sets : (initial : T) (before after : Strategy) (now : ℕ) (result : Result Polled Refusal) (from : Upstream F T E U) (s : View T) (to : Upstream F T E U) (t : View T)

@@ -24,7 +24,7 @@ use Rattle.sharing_upstream.specs.Courses.{stopped, kept_cause}
 use Rattle.sharing_upstream.specs.Destinations.{AcceptsEach}
 use Rattle.sharing_upstream.specs.Sharings.{Obeys, Takes, Shares, Acts}
 use Rattle.sharing_upstream.proofs.Sharings.{not_some}
-use Rattle.flow_sharing.specs.FlowDestinations.{Place, emitting, Withdrew, WasEndedAs}
+use Rattle.flow_sharing.specs.FlowDestinations.{DestinationSeen, emitting, Withdrew, WasEndedAs}
 use Rattle.flow_sharing.specs.Taken.{Took}
 use Rattle.flow_sharing.specs.Shared.{words_of, WaitsLast, Awaited, Stands, OnlyLastStands, Emits}
 use Rattle.flow_sharing.proofs.Taken.{TookOn, took_on, took_last, took_refused, took_same, took_new, took_none}
@@ -94,7 +94,7 @@ no_words (x ∷ xs) is = let no = is in cc
 -- ---- of an emitter
 
 -- its emission in flight waits
-abbrev pub Waits : {T : Type 0} → Place T → Type 0
+abbrev pub Waits : {T : Type 0} → DestinationSeen T → Type 0
 Waits s = is_some s.emitter.ticket ≡ is_some s.waiting
 
 some_by : {A B : Type 0} (a : Option A) (b : Option B) (x : A) → is_some a ≡ is_some b → a ≡ Some x → IsSome b
@@ -138,15 +138,15 @@ awaited_cancel waited old given_up.Gone some = Awaited.is_unchanged refl refl
 -- ---- of a place
 
 module _ {T : Type 0} (word : T → ℕ) where
-  one_more : (s : Place T) (x : T) (t : Place T) → (emitting word).Accepts s x t
+  one_more : (s : DestinationSeen T) (x : T) (t : DestinationSeen T) → (emitting word).Accepts s x t
       → (outcome : Outcome) × WasEmitted outcome × (emitted t.emitter ≡ emitted s.emitter ++ (word x, outcome) ∷ [])
   one_more s x t accepts = ⊎_elim
       (λ begins. (accepted begins.0.number, tt, has_started s.emitter t.emitter (emission_by s.emitter (word x)) (Ok (begun.Accepted begins.0)) begins.1))
       (λ begins. (dropped, tt, has_started s.emitter t.emitter (emission_by s.emitter (word x)) (Ok begun.Dropped) begins)) accepts.1
 
-  each_more : (s : Place T) (values : List T) (t : Place T) → AcceptsEach (emitting word) s values t
+  each_more : (s : DestinationSeen T) (values : List T) (t : DestinationSeen T) → AcceptsEach (emitting word) s values t
       → (more : Emissions) × (emitted t.emitter ≡ emitted s.emitter ++ more) × (words_of more ≡ map word values) × AllEmitted more
-  each_more s [] t each = ([], ap (λ (p : Place T). emitted p.emitter) each ∙ sym (append-nil (emitted s.emitter)), refl, tt)
+  each_more s [] t each = ([], ap (λ (p : DestinationSeen T). emitted p.emitter) each ∙ sym (append-nil (emitted s.emitter)), refl, tt)
   each_more s (x ∷ values) t each =
       let one = one_more s x each.0 each.1 in
       let rest = each_more each.0 values t each.2 in (
@@ -165,26 +165,26 @@ module _ {T : Type 0} (word : T → ℕ) where
   words_last more values x outcome is =
       joined_words more ((word x, outcome) ∷ []) ∙ ap (λ (l : List ℕ). l ++ word x ∷ []) is ∙ sym (map-append word values (x ∷ []))
 
-  withdrew : (s m : Place T) → Waits s → Withdrew s m
+  withdrew : (s m : DestinationSeen T) → Waits s → Withdrew s m
       → Awaited s.waiting (emitted s.emitter) [] (emitted m.emitter) × (m.waiting ≡ None) × (m.emitter.ticket ≡ None)
   withdrew s m waits did = ⊎_elim
       (λ none. (
-        Awaited.none_waited none.0 (ap (λ (p : Place T). emitted p.emitter) none.1),
-        ap (λ (p : Place T). p.waiting) none.1 ∙ none.0,
-        ap (λ (p : Place T). p.emitter.ticket) none.1 ∙ no_ticket s.emitter.ticket s.waiting waits none.0,
+        Awaited.none_waited none.0 (ap (λ (p : DestinationSeen T). emitted p.emitter) none.1),
+        ap (λ (p : DestinationSeen T). p.waiting) none.1 ∙ none.0,
+        ap (λ (p : DestinationSeen T). p.emitter.ticket) none.1 ∙ no_ticket s.emitter.ticket s.waiting waits none.0,
       ))
       (λ some.
       let has = ticket_of_some s.emitter.ticket s.waiting waits some.0 in
       let end = ended s.emitter m.emitter has.0 some.2.0 has.1 some.2.1 in (
         subst (λ (l : Emissions). Awaited s.waiting (emitted s.emitter) [] l) (sym end.0) (awaited_cancel s.waiting (emitted s.emitter) some.2.0 (is_some_by s.waiting some.0)),
-        ap (λ (p : Place T). p.waiting) some.1,
+        ap (λ (p : DestinationSeen T). p.waiting) some.1,
         end.1,
       ))
       did
 
   module _ {E U : Type 0} (may : U → Traces T E) (over : U → Option (Cause E)) (polled : U → Poll (Event T E) → U → Type 0) where
     -- what a part of a poll took, and emitted
-    record Part (from : Course U E) (s : Place T) (to : Course U E) (t : Place T) : Type 0 where
+    record Part (from : Course U E) (s : DestinationSeen T) (to : Course U E) (t : DestinationSeen T) : Type 0 where
       taken : List T
       took : TookOn may from taken to
       before : Emissions
@@ -195,7 +195,7 @@ module _ {T : Type 0} (word : T → ℕ) where
       only : OnlyLastStands (kept_cause to) t.waiting more
 
     -- where nothing was taken
-    part_none : (from : Course U E) (s : Place T) (to : Course U E) (t : Place T) → to ≡ from → emitted t.emitter ≡ emitted s.emitter → Part from s to t
+    part_none : (from : Course U E) (s : DestinationSeen T) (to : Course U E) (t : DestinationSeen T) → to ≡ from → emitted t.emitter ≡ emitted s.emitter → Part from s to t
     part_none from s to t same is = record {
       taken = [];
       took = inr (refl, same);
@@ -207,7 +207,7 @@ module _ {T : Type 0} (word : T → ℕ) where
       only = tt;
     }
 
-    takes : (from : Course U E) (s m : Place T) (to : Course U E) (t : Place T) → ((taken : List T) → Awaited s.waiting (emitted s.emitter) taken (emitted m.emitter))
+    takes : (from : Course U E) (s m : DestinationSeen T) (to : Course U E) (t : DestinationSeen T) → ((taken : List T) → Awaited s.waiting (emitted s.emitter) taken (emitted m.emitter))
         → Takes (emitting word) may over polled from m to t → Part from s to t
     takes from s m to t awaited (Takes.is_full values count goes each) =
         let e = each_more m values t each in record {
@@ -245,7 +245,7 @@ module _ {T : Type 0} (word : T → ℕ) where
     takes from s m to t awaited (Takes.last_waits values last between few goes each delays) =
         let e = each_more m values between each in
         let begins = has_started between.emitter t.emitter (emission_by between.emitter (word last)) (Ok (begun.Waiting tt)) delays.1 in
-        let waits : IsSome t.waiting = subst IsSome (sym (ap (λ (p : Place T). p.waiting) delays.0)) refl in record {
+        let waits : IsSome t.waiting = subst IsSome (sym (ap (λ (p : DestinationSeen T). p.waiting) delays.0)) refl in record {
           taken = values ++ last ∷ [];
           took = took_on may over from (values ++ last ∷ []) to goes;
           before = emitted m.emitter;
@@ -268,20 +268,20 @@ module _ {T : Type 0} (word : T → ℕ) where
           only = only_then (kept_cause to) t.waiting e.0 (word last) (refused refusal) e.3 (ap kept_cause broken);
         }
 
-    shares : (on : Bool) (from : Course U E) (s : Place T) (to : Course U E) (t : Place T) → Waits s
+    shares : (on : Bool) (from : Course U E) (s : DestinationSeen T) (to : Course U E) (t : DestinationSeen T) → Waits s
         → Shares (emitting word) may over polled on from s to t → Part from s to t
-    shares false from s to t waits did = part_none from s to t did.0 (ap (λ (p : Place T). emitted p.emitter) did.1)
+    shares false from s to t waits did = part_none from s to t did.0 (ap (λ (p : DestinationSeen T). emitted p.emitter) did.1)
     shares true from s to t waits did = ⊎_elim
         (λ still. part_none from s to t still.0 (has_waited s.emitter t.emitter still.1.2))
         (λ free. takes from s free.0 to t (λ taken. ⊎_elim
-        (λ none. Awaited.none_waited none.0 (ap (λ (p : Place T). emitted p.emitter) none.1))
+        (λ none. Awaited.none_waited none.0 (ap (λ (p : DestinationSeen T). emitted p.emitter) none.1))
         (λ done. Awaited.was_accepted (some_by s.emitter.ticket s.waiting done.1.1.0 waits done.1.1.1) done.1.0.number
         (has_finished s.emitter free.0.emitter done.1.0 done.1.1))
         free.1) free.2)
         did
 
     -- after a stop nothing is taken, and nothing emitted
-    shares_off : (on : Bool) (from between : Course U E) (m : Place T) (to : Course U E) (t : Place T) → between ≡ stopped from → m.waiting ≡ None → m.emitter.ticket ≡ None
+    shares_off : (on : Bool) (from between : Course U E) (m : DestinationSeen T) (to : Course U E) (t : DestinationSeen T) → between ≡ stopped from → m.waiting ≡ None → m.emitter.ticket ≡ None
         → Shares (emitting word) may over polled on between m to t → (to ≡ stopped from) × (emitted t.emitter ≡ emitted m.emitter)
     shares_off on from between m to t is none idle did =
         let waits : Waits m = ap is_some idle ∙ sym (ap is_some none) in
@@ -309,7 +309,7 @@ module _ {T : Type 0} (word : T → ℕ) where
         waits_last = last;
       }
 
-      by_part : (from between : Course U E) (s : Place T) (to : Course U E) (t : Place T) (part : Part between s to t) → Took may new_run from part.taken to
+      by_part : (from between : Course U E) (s : DestinationSeen T) (to : Course U E) (t : DestinationSeen T) (part : Part between s to t) → Took may new_run from part.taken to
           → WaitsLast word t.waiting (emitted t.emitter) → Emits word may new_run from s.waiting (emitted s.emitter) to t.waiting (emitted t.emitter)
       by_part from between s to t part took last =
           emits_by from s.waiting (emitted s.emitter) to t.waiting (emitted t.emitter) part.taken part.before part.more took part.awaited part.emits part.words part.only last
@@ -320,7 +320,7 @@ module _ {T : Type 0} (word : T → ℕ) where
       by_none from waited old to waits new before took awaited is last =
           emits_by from waited old to waits new [] before [] took awaited (is ∙ sym (append-nil before)) refl tt last
 
-      by_stop : (on : Bool) (from between : Course U E) (s b m : Place T) (to : Course U E) (t : Place T) → Waits s → between ≡ stopped from → Withdrew s b
+      by_stop : (on : Bool) (from between : Course U E) (s b m : DestinationSeen T) (to : Course U E) (t : DestinationSeen T) → Waits s → between ≡ stopped from → Withdrew s b
           → m.emitter ≡ b.emitter → m.waiting ≡ b.waiting → Shares (emitting word) may over polled on between m to t → WaitsLast word t.waiting (emitted t.emitter)
           → Emits word may new_run from s.waiting (emitted s.emitter) to t.waiting (emitted t.emitter)
       by_stop on from between s b m to t waits is did emitter waiting shared last =
@@ -328,25 +328,25 @@ module _ {T : Type 0} (word : T → ℕ) where
           let off = shares_off on from between m to t is (waiting ∙ gone.1) (ap (λ (e : Emitting). e.ticket) emitter ∙ gone.2) shared in
           by_none from s.waiting (emitted s.emitter) to t.waiting (emitted t.emitter) (emitted b.emitter) (Took.was_stopped refl off.0) gone.0 (off.1 ∙ ap emitted emitter) last
 
-      obeys : (command : Option Command) (on : Bool) (from between : Course U E) (s m : Place T) (to : Course U E) (t : Place T) → Waits s
+      obeys : (command : Option Command) (on : Bool) (from between : Course U E) (s m : DestinationSeen T) (to : Course U E) (t : DestinationSeen T) → Waits s
           → Obeys (emitting word) may over new_run command from s between m → Shares (emitting word) may over polled on between m to t
           → WaitsLast word t.waiting (emitted t.emitter) → Emits word may new_run from s.waiting (emitted s.emitter) to t.waiting (emitted t.emitter)
       obeys None on from between s m to t waits obeyed shared last =
           let on_same = subst (λ (c : Course U E). Shares (emitting word) may over polled on c m to t) obeyed.0 shared in
-          let part = shares on from s to t waits (subst (λ (p : Place T). Shares (emitting word) may over polled on from p to t) obeyed.1 on_same) in
+          let part = shares on from s to t waits (subst (λ (p : DestinationSeen T). Shares (emitting word) may over polled on from p to t) obeyed.1 on_same) in
           by_part from from s to t part (took_same may new_run from part.taken to part.took) last
       obeys (Some Start) on from between s m to t waits obeyed shared last =
-          let part = shares on between s to t waits (subst (λ (p : Place T). Shares (emitting word) may over polled on between p to t) obeyed.1 shared) in
+          let part = shares on between s to t waits (subst (λ (p : DestinationSeen T). Shares (emitting word) may over polled on between p to t) obeyed.1 shared) in
           by_part from between s to t part (took_new may over new_run from between part.taken to obeyed.0 part.took) last
       obeys (Some Stop) on from between s m to t waits obeyed shared last = by_stop on from between s m m to t waits obeyed.0 obeyed.1 refl refl shared last
       obeys (Some StopAndReset) on from between s m to t waits obeyed shared last =
-          by_stop on from between s obeyed.1.0 m to t waits obeyed.0 obeyed.1.1 (ap (λ (p : Place T). p.emitter) obeyed.1.2.0) (ap (λ (p : Place T). p.waiting) obeyed.1.2.0) shared last
+          by_stop on from between s obeyed.1.0 m to t waits obeyed.0 obeyed.1.1 (ap (λ (p : DestinationSeen T). p.emitter) obeyed.1.2.0) (ap (λ (p : DestinationSeen T). p.waiting) obeyed.1.2.0) shared last
 
       -- after a poll had counted
-      pub acts : (fault : Option (Cause E)) (IsCommand : Option Command → Type 0) (on : Bool) (from : Course U E) (s : Place T) (to : Course U E) (t : Place T) → Waits s
+      pub acts : (fault : Option (Cause E)) (IsCommand : Option Command → Type 0) (on : Bool) (from : Course U E) (s : DestinationSeen T) (to : Course U E) (t : DestinationSeen T) → Waits s
           → Acts (emitting word) may over polled fault new_run IsCommand on from s to t
           → WaitsLast word t.waiting (emitted t.emitter) → Emits word may new_run from s.waiting (emitted s.emitter) to t.waiting (emitted t.emitter)
       acts None IsCommand on from s to t waits did last = obeys did.0 on from did.2.0 s did.2.1 to t waits did.2.2 did.2.3 last
       acts (Some cause) IsCommand on from s to t waits did last =
           by_none from s.waiting (emitted s.emitter) to t.waiting (emitted t.emitter) (emitted s.emitter) (Took.nothing refl did.0) (Awaited.is_unchanged refl refl)
-          (ap (λ (p : Place T). emitted p.emitter) did.1) last
+          (ap (λ (p : DestinationSeen T). emitted p.emitter) did.1) last

@@ -18,7 +18,7 @@ use Rattle.shared_flow.specs.Emitters.{emission_by, WasStarted, Waits, WasFinish
 use Rattle.sharing_upstream.specs.Destinations.{Steps}
 
 -- the place where the values go: the owner of the flow that counts and resets, the emitter, and the value that waits
-pub record Place (T : Type 0) : Type 0 where
+pub record DestinationSeen (T : Type 0) : Type 0 where
   pub owner : Owning
   pub emitter : Emitting
   pub waiting : Option T
@@ -37,27 +37,27 @@ WasEndedAs e answer f = IfLeft answer (λ receipt. WasLeft e receipt f) × WasGi
 
 module _ {T : Type 0} where
   -- the owner made this round, and nothing else was done
-  abbrev pub OwnerMade : Round → Place T → Place T → Type 0
+  abbrev pub OwnerMade : Round → DestinationSeen T → DestinationSeen T → Type 0
   OwnerMade r s t = (t ≡ record s { owner = t.owner }) × (t.owner ≡ at_rest t.owner.party) × Made r s.owner.party t.owner.party
 
   -- nothing but the emitter and what waits has changed, and this waits now
-  abbrev pub EmitterDid : Option T → Place T → Place T → Type 0
+  abbrev pub EmitterDid : Option T → DestinationSeen T → DestinationSeen T → Type 0
   EmitterDid waiting s t = t ≡ record s { emitter = t.emitter; waiting = waiting }
 
   -- What was found of the waiting value: it waits still, since a poll had no receipt for its emission; or nothing waits any more, since a
   -- poll found that emission finished, or since none was in flight
-  abbrev pub Found : Place T → Bool → Place T → Type 0
+  abbrev pub Found : DestinationSeen T → Bool → DestinationSeen T → Type 0
   Found s true t = (s.waiting ≢ None) × EmitterDid s.waiting s t × Waits s.emitter t.emitter
   Found s false t = ((s.waiting ≡ None) × (t ≡ s)) ⊎ (EmitterDid None s t × ((receipt : ReceiptSeen) × WasFinished s.emitter receipt t.emitter))
 
   -- the emission that waits was given up, or nothing waited
-  abbrev pub Withdrew : Place T → Place T → Type 0
+  abbrev pub Withdrew : DestinationSeen T → DestinationSeen T → Type 0
   Withdrew s t = ((s.waiting ≡ None) × (t ≡ s))
       ⊎ ((s.waiting ≢ None) × EmitterDid None s t × ((answer : Withdrawn ReceiptSeen) × WasEndedAs s.emitter answer t.emitter))
 
   -- an owner and an emitter of this party's flow, with the id 0, which have made no call and have seen as much, and each of which has half
   -- as large a share of the lock as the party; and nothing waits
-  pub record IsNewPlace (p : Party) (s : Place T) : Type 0 where
+  pub record IsNewDestination (p : Party) (s : DestinationSeen T) : Type 0 where
     pub owner : s.owner ≡ at_rest (newcomer_of s.owner.party.pass p)
     pub emitter : s.emitter.party ≡ newcomer_of s.emitter.party.pass p
     pub id : s.emitter.id ≡ 0
@@ -66,11 +66,11 @@ module _ {T : Type 0} where
 
 module _ {T : Type 0} (word : T → ℕ) where
   -- an emission of this value was begun, with this answer
-  abbrev pub Began : Place T → T → Result (Begun ReceiptSeen (Unit {0})) Refusal → Place T → Type 0
+  abbrev pub Began : DestinationSeen T → T → Result (Begun ReceiptSeen (Unit {0})) Refusal → DestinationSeen T → Type 0
   Began s x answer t = WasStarted s.emitter (emission_by s.emitter (word x)) answer t.emitter
 
   -- Each step is a round of the owner or of the emitter. An emission waits only where the flow lets it
-  abbrev pub emitting : Steps T (Place T)
+  abbrev pub emitting : Steps T (DestinationSeen T)
   emitting = record {
     Counts = λ s count t. OwnerMade (round.Count count) s t;
     Asks = Found;

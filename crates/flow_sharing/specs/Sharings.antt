@@ -15,7 +15,7 @@ use Rattle.sharing_upstream.specs.declared.upstream.Upstream.{Upstream}
 use Rattle.sharing_upstream.specs.Sharings.{IsRefusedAt}
 use Rattle.sharing_upstream.specs.Upstreams.{flow_of, course_of, PollsAt}
 use Rattle.flow_sharing.specs.declared.sharing.Sharing.{Sharing}
-use Rattle.flow_sharing.specs.FlowDestinations.{Place, emitting}
+use Rattle.flow_sharing.specs.FlowDestinations.{DestinationSeen, emitting}
 use Rattle.flow_sharing.specs.Outlets.{place_at}
 use Rattle.flow_sharing.specs.Shared.{Emits, words_of}
 use Rattle.futures.specs.declared.task.Poll.{Poll}
@@ -63,7 +63,7 @@ module _ {T F E U : Type 0} {word : words.Ghosts T} {compare : compared.Ghosts T
 
   -- WHAT IT DID AT THE FLOW
   -- the place where its values go
-  abbrev pub place_of : Sharing T F E U word compare flow run → Place T
+  abbrev pub place_of : Sharing T F E U word compare flow run → DestinationSeen T
   place_of sharing = place_at sharing.flow sharing.outlet
 
   -- What a poll at this moment did. The first five words say what a value's word is, what a run may give, how it has ended, how it was

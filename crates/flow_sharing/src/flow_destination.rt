@@ -3,7 +3,7 @@
 ghost use Rattle.std.specs.Prelude.{◌≡◌, ℕ, None};
 ghost use Rattle.std.specs.Borrow.{GName};
 ghost use Rattle.shared_flow.specs.Parties.{PartyName, named};
-ghost use Rattle.flow_sharing.specs.FlowDestinations.{emitting, Place};
+ghost use Rattle.flow_sharing.specs.FlowDestinations.{emitting, DestinationSeen};
 ghost use Rattle.flow_sharing.specs.Outlets.{place_at};
 
 use crate::outlet::Outlet;
@@ -27,7 +27,7 @@ impl<'a, T: Word, W: Wait> Destination<T> for FlowDestination<'a, T, W> {
 
     ghost kept = { λ d. (d.flow.ghost_name, named d.flow.now.party, d.outlet.ghost_name, named d.outlet.now.emitter.party, d.outlet.now.emitter.id) };
 
-    ghost Seen = { Place T };
+    ghost Seen = { DestinationSeen T };
 
     ghost seen = { λ d. place_at d.flow.now d.outlet.now };
 

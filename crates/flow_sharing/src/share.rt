@@ -4,7 +4,7 @@ ghost use Rattle.std.specs.Prelude.{◌≡◌, [], None, IfOk, IfErr, IsOkUnless
 ghost use Rattle.shared_flow.specs.Parties.{named, sharing_of};
 ghost use Rattle.sharing_upstream.specs.Shown.{started_by, Shows};
 ghost use Rattle.sharing_upstream.specs.Upstreams.{IsUnstarted};
-ghost use Rattle.flow_sharing.specs.FlowDestinations.{IsNewPlace};
+ghost use Rattle.flow_sharing.specs.FlowDestinations.{IsNewDestination};
 ghost use Rattle.flow_sharing.specs.Sharings.{shared, shared_by, waiting_in, place_of, upstream_of, strategy_of};
 
 use crate::sharing::Sharing;
@@ -27,7 +27,7 @@ pub fn share_in<T: Word, F: Flow<Item = T>>(
     ensures has { IfOk result (λ sharing. (shared sharing ≡ []) × (waiting_in sharing ≡ None)) }
     ensures flow { IfOk result (λ sharing. shared_by sharing ≡ named flow.old.party) }
     ensures upstream { IfOk result (λ sharing. IsUnstarted upstream (upstream_of sharing)) }
-    ensures place { IfOk result (λ sharing. IsNewPlace flow.new.party (place_of sharing)) }
+    ensures place { IfOk result (λ sharing. IsNewDestination flow.new.party (place_of sharing)) }
     ensures started { IfOk result (λ sharing. (started_by (strategy_of sharing) ≡ started) × Shows (strategy_of sharing) []) }
     ensures memory { IsOkUnless result Refusal.NoMemory }
     ensures half { IfOk result (λ _. flow.new ≡ record flow.old { party = sharing_of flow.old.party }) }

@@ -6,7 +6,7 @@ ghost use Rattle.shared_flow.specs.Parties.{Emitting, IsSameEmitter};
 ghost use Rattle.flow_stopping.specs.Waits.{Emits, EndsAs, GrewByOne, after_polls, outcome_given_up, outcome_of_wait};
 
 use crate::answers::Emitted;
-use crate::parker::{StoppableParker, Turn};
+use crate::parker::{Attempt, StoppableParker};
 use flow_terms::{Refusal, Word};
 use futures::task::Poll;
 use shared_core::{Begun, Withdrawn};
@@ -100,7 +100,7 @@ impl StoppableParker {
     {
         emitter.look_on();
         for _ in rt.forever() {
-            let Some(Turn { mut cx, is_stopped }) = self.turn(rt) else {
+            let Some(Attempt { mut cx, is_stopped }) = self.turn(rt) else {
                 continue;
             };
             if is_stopped {

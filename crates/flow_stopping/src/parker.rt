@@ -35,7 +35,7 @@ impl Drop for StoppableParker {
 }
 
 /// A turn of a wait, in which the thread asks again, or is let go.
-pub(crate) struct Turn<'a> {
+pub(crate) struct Attempt<'a> {
     pub(crate) cx: Context<'a>,
     pub(crate) is_stopped: bool,
 }
@@ -79,7 +79,7 @@ impl StoppableParker {
     }
 
     /// Sleeps until the thread has to ask again, or is let go. Nothing only where it doesn't wait.
-    pub(crate) fn turn(&mut self, rt: &impl Wait) -> Option<Turn<'_>> {
+    pub(crate) fn turn(&mut self, rt: &impl Wait) -> Option<Attempt<'_>> {
         let StoppableParker {
             queue,
             is_set,
@@ -88,6 +88,6 @@ impl StoppableParker {
         *is_set = false;
         let mut cx = queue.next(rt)?;
         let is_stopped = stop.poll(&mut cx).is_ready();
-        Some(Turn { cx, is_stopped })
+        Some(Attempt { cx, is_stopped })
     }
 }

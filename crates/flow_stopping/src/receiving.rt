@@ -4,7 +4,7 @@ ghost use Rattle.shared_flow.specs.Parties.{IsSamePrelude, received};
 ghost use Rattle.flow_stopping.specs.Waits.{Receives, received_of};
 
 use crate::answers::Received;
-use crate::parker::{StoppableParker, Turn};
+use crate::parker::{Attempt, StoppableParker};
 use flow_terms::{Refusal, Word};
 use futures::task::Poll;
 use shared_flow::Subscription;
@@ -52,7 +52,7 @@ impl StoppableParker {
             return Received::Value(value);
         }
         for _ in rt.forever() {
-            let Some(Turn { mut cx, is_stopped }) = self.turn(rt) else {
+            let Some(Attempt { mut cx, is_stopped }) = self.turn(rt) else {
                 continue;
             };
             if is_stopped {

@@ -10,11 +10,11 @@ use Rattle.flow_terms.specs.declared.refusal.Refusal.TheVariants.{NoMemory}
 use Rattle.shared_core.specs.declared.config.Config.{Config}
 use Rattle.shared_lane.specs.declared.reader.Taken.{Taken}
 use Rattle.shared_lane.specs.Views.{LaneSeen, SequencerSeen, ReaderSeen}
-use Rattle.shared_lane.specs.Sequencers.{IsSameSequencer, HasNumber, HasTicketNumber, TriedOn, RefusedTry, BegunOn, RefusedStart, AfterScan, IsFresh, IsSequencerOf, Settled, IsStuck, OnlyLoaded}
+use Rattle.shared_lane.specs.Sequencers.{IsSameSequencer, HasNumber, HasTicketNumber, TriedOn, RefusedTry, BegunOn, RefusedStart, AfterScan, IsFresh, IsSequencerOf, AcceptedWaiting, IsStuck, OnlyLoaded}
 use Rattle.shared_lane.specs.Blocks.{TriedAllOn}
 use Rattle.shared_lane.specs.Picks.{TookAll}
 use Rattle.shared_lane.specs.Polls.{PolledOn, WithdrawnFrom}
-use Rattle.shared_lane.specs.Places.{LetIn, NotLetIn, Counted}
+use Rattle.shared_lane.specs.Places.{Admitted, NotAdmitted, Counted}
 use Rattle.shared_lane.specs.Readers.{IsSameReader, TookNext}
 use Rattle.hillgauze_c.specs.declared.object.Object.{Object}
 use Rattle.hillgauze_c.specs.declared.object.Object.TheVariants.{Sequencer, Reader}
@@ -30,10 +30,10 @@ OnReader Call = OnHandle reader_of Reader Call
 
 -- a reader was let in to the sequencer's lane
 abbrev pub IsAdmitted : SequencerSeen → ReaderSeen → SequencerSeen → Type 0
-IsAdmitted q r t = (lane : LaneSeen) × IsSequencerOf lane q × LetIn lane q r t
+IsAdmitted q r t = (lane : LaneSeen) × IsSequencerOf lane q × Admitted lane q r t
 
 abbrev pub IsNotAdmitted : SequencerSeen → Refusal → SequencerSeen → Type 0
-IsNotAdmitted q e t = NotLetIn q e t ⊎ ((e ≡ NoMemory) × (t ≡ q))
+IsNotAdmitted q e t = NotAdmitted q e t ⊎ ((e ≡ NoMemory) × (t ≡ q))
 
 -- What a try and a start answered, of a refusal or not. Of the other calls their own clause says that it is the same sequencer.
 abbrev pub TriedBy : ℕ → ℕ → SequencerSeen → Result (Tried ℕ) Refusal → SequencerSeen → Type 0
@@ -55,7 +55,7 @@ abbrev pub WithdrawnBy : ℕ → SequencerSeen → Withdrawn ℕ → SequencerSe
 WithdrawnBy ticket q answer t = WithdrawnFrom q ticket answer t
 
 abbrev pub Scans : SequencerSeen → Reply → SequencerSeen → Type 0
-Scans q reply t = (n : ℕ) × (reply ≡ answered 13 n) × IsSameSequencer q t × Settled n q t × (t.waiting ≢ [] → IsStuck q t)
+Scans q reply t = (n : ℕ) × (reply ≡ answered 13 n) × IsSameSequencer q t × AcceptedWaiting n q t × (t.waiting ≢ [] → IsStuck q t)
 
 abbrev pub CountsReaders : SequencerSeen → Reply → SequencerSeen → Type 0
 CountsReaders q reply t = (n : ℕ) × (reply ≡ answered 13 n) × OnlyLoaded q t × Counted q n t

@@ -10,5 +10,5 @@ mod exports;
 mod handle;
 mod object;
 mod parties;
-mod receipts;
+mod receiving;
 mod reply;

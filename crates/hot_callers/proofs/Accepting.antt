@@ -19,7 +19,7 @@ use Rattle.shared_rounds.specs.Entering.{IsLeftBy}
 use Rattle.shared_rounds.specs.Names.{FlowName, IsMadeWith, IsNew, SharedSeen}
 use Rattle.shared_rounds.specs.Reach.{Party, Rounds}
 use Rattle.shared_flow.specs.Emitted.{Emissions, Outcome, after_round, emitted, emitted_in, tried_as}
-use Rattle.shared_flow.specs.Looks.{WasLetInBy}
+use Rattle.shared_flow.specs.Looks.{WasAdmittedBy}
 use Rattle.shared_flow.specs.Parties.{Emitting}
 use Rattle.hot_callers.specs.Exchanges.{AreTries, TriesEach}
 use Rattle.hot_callers.specs.Receiving.{IsSettled, WereTried}
@@ -55,13 +55,13 @@ new_one : (made : SharedSeen) (log : Rounds) (now : SharedSeen) → IsLeftBy mad
 new_one made log now (first_one s new) = new
 new_one made log now (one_more first before s pass r t after does) = new_one first before s after
 
-pub shape_is : (config : Config) (p q : Party) (number : ℕ) (r : ReaderSeen) → IsMadeWith config p.flow → WasLetInBy number r p q → r.shape ≡ shape_of config
-shape_is config p q number r with let_in =
-    let made = let_in.made.saw.made in
-    let found_is : let_in.made.found.name ≡ with.0 = same_Some _ _ (sym let_in.flow_is ∙ with.1) in
-    let made_is : made.name ≡ with.0 = same_Some _ _ (sym let_in.made.saw.flow_is ∙ with.1) in
-    let guarded = (new_one made let_in.made.before let_in.made.found let_in.made.saw.after).0 in
-    let was = let_in.admitted.5.1 in
+pub shape_is : (config : Config) (p q : Party) (number : ℕ) (r : ReaderSeen) → IsMadeWith config p.flow → WasAdmittedBy number r p q → r.shape ≡ shape_of config
+shape_is config p q number r with admission =
+    let made = admission.made.saw.made in
+    let found_is : admission.made.found.name ≡ with.0 = same_Some _ _ (sym admission.flow_is ∙ with.1) in
+    let made_is : made.name ≡ with.0 = same_Some _ _ (sym admission.made.saw.flow_is ∙ with.1) in
+    let guarded = (new_one made admission.made.before admission.made.found admission.made.saw.after).0 in
+    let was = admission.admitted.5.1 in
     was.of_lane.1 ∙ ap (λ (name : FlowName). name.lane.shape) (found_is ∙ sym made_is) ∙ sym guarded.0.1 ∙ guarded.1.4
     ∙ ap shape_of (ap (λ (name : FlowName). name.config) made_is ∙ with.2)
 

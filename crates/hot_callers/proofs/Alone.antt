@@ -3,7 +3,7 @@ use Rattle.std.proofs.Common.{◌≡◌, ◌⊎◌, ⊎_elim, inl, inr, ◌-◌,
 use Rattle.std.proofs.lemmas.List.{take-append-drop}
 use Rattle.std.specs.List.{AllByRecursion}
 use Rattle.lane_steps.specs.Law.{Entry}
-use Rattle.round_lock.specs.declared.log.Part.{Part}
+use Rattle.round_lock.specs.declared.log.TakenOwner.{TakenOwner}
 use Rattle.round_lock.specs.History.After.{more as one_more}
 use Rattle.shared_core.specs.Headline.{EndsWith}
 use Rattle.shared_lane.specs.Caches.{word_of}
@@ -28,7 +28,7 @@ all_accepted ((word, refused refusal) ∷ xs) settled = all_accepted xs settled.
 all_accepted ((word, in_flight) ∷ xs) settled = absurd settled.0
 all_accepted ((word, withdrawn) ∷ xs) settled = absurd settled.0
 
-parts_by : (id pass : ℕ) (parts : List (Part Round)) → AllByRecursion (λ (p : Part Round). (p.pass ≡ pass) ⊎ NothingEmitted p.own) parts → AllByRecursion (IsPartBy id pass) parts
+parts_by : (id pass : ℕ) (parts : List (TakenOwner Round)) → AllByRecursion (λ (p : TakenOwner Round). (p.pass ≡ pass) ⊎ NothingEmitted p.own) parts → AllByRecursion (IsPartBy id pass) parts
 parts_by id pass [] each = tt
 parts_by id pass (p ∷ parts) each =
     (⊎_elim (λ (same : p.pass ≡ pass). inl same) (λ (nothing : NothingEmitted p.own). inr (nothing id)) each.0, parts_by id pass parts each.1)

@@ -15,8 +15,8 @@ use Rattle.round_lock.specs.History.After.{new, more}
 use Rattle.lane_steps.specs.Law.{Entry}
 use Rattle.shared_lane.specs.Blocks.{entries, AcceptedTogether, AcceptedInTurn, IsTurnedAway, TriedAllOn}
 use Rattle.shared_lane.specs.Views.{LaneSeen, SequencerSeen}
-use Rattle.shared_lane.specs.Sequencers.{OnlyLoaded, FoundNoRoom, TriedOn, Settled, RefusedStart, entry_of, next, seen, stood}
-use Rattle.shared_lane.specs.Places.{NotLetIn}
+use Rattle.shared_lane.specs.Sequencers.{OnlyLoaded, FoundNoRoom, TriedOn, AcceptedWaiting, RefusedStart, entry_of, next, seen, stood}
+use Rattle.shared_lane.specs.Places.{NotAdmitted}
 use Rattle.shared_lane.specs.declared.tickets.Standing.{Standing}
 use Rattle.shared_lane.specs.declared.tickets.Waiting.{Waiting}
 use Rattle.shared_rounds.specs.declared.round.Round.{Round}
@@ -24,7 +24,7 @@ use Rattle.shared_rounds.specs.declared.round.Round.TheVariants as round
 use Rattle.shared_rounds.specs.Entering.{IsLeftBy}
 use Rattle.shared_rounds.specs.Names.{SharedSeen}
 use Rattle.shared_rounds.specs.Reach.{Rounds}
-use Rattle.shared_rounds.specs.Rounds.{Makes, Rests, Scanned, Does, entry}
+use Rattle.shared_rounds.specs.Rounds.{Makes, Finishes, Scanned, Does, entry}
 
 -- of how many emissions a round answered that they were accepted
 abbrev pub answers : Round → ℕ
@@ -90,12 +90,12 @@ stood_length : (n : ℕ) (ws : List Waiting) → length (stood n ws) ≡ length 
 stood_length n [] = refl
 stood_length n (w ∷ ws) = ap suc (stood_length (suc n) ws)
 
-settled_by : (k : ℕ) (q m : SequencerSeen) → Settled k q m → Answered 0 q m
+settled_by : (k : ℕ) (q m : SequencerSeen) → AcceptedWaiting k q m → Answered 0 q m
 settled_by k q m settled =
     let ws = take k q.waiting in
     stood_by q m (stood (next q) ws) (map entry_of ws) (stood_length (next q) ws ∙ sym (length-map ws entry_of)) settled.standing_is settled.accepted
 
-rests_by : (q t : SequencerSeen) → Rests q t → Answered 0 q t
+rests_by : (q t : SequencerSeen) → Finishes q t → Answered 0 q t
 rests_by q t rests = ⊎_elim
     (λ is. then_by 0 0 q rests.0 t (same_by q rests.0 is) (loaded_by rests.0 t rests.2))
     (λ (scan : Scanned q rests.0). then_by 0 0 q rests.0 t
@@ -110,7 +110,7 @@ refused_by q refusals.Spent t on = same_by q t on.1
 refused_by q refusals.EmitsFull t on = let same = full_stands q t on.3 in none_by q t same.0 same.1
 refused_by q _ t on = absurd on
 
-shut_by : (q : SequencerSeen) (refusal : Refusal) (t : SequencerSeen) → NotLetIn q refusal t → Answered 0 q t
+shut_by : (q : SequencerSeen) (refusal : Refusal) (t : SequencerSeen) → NotAdmitted q refusal t → Answered 0 q t
 shut_by q refusals.Spent t on = same_by q t on.1
 shut_by q refusals.SubscribersFull t on = loaded_by q t on.2
 shut_by q _ t on = absurd on

@@ -7,8 +7,9 @@ use Rattle.std.specs.List.{AllByRecursion}
 use Rattle.flow_terms.specs.declared.refusal.Refusal.{Refusal}
 use Rattle.flow_terms.specs.declared.answers.Tried.{Tried}
 use Rattle.lane_steps.specs.Law.{Entry}
-use Rattle.round_lock.specs.declared.log.Part.{Part}
-use Rattle.round_lock.specs.History.{Apart, Begins, HasAll, MadeEach, Parts, halves, own_of}
+use Rattle.round_lock.specs.declared.log.TakenOwner.{TakenOwner}
+use Rattle.flow_terms.specs.Lists.{IsPrefix}
+use Rattle.round_lock.specs.History.{Apart, HasAll, MadeEach, Parts, halves, own_of}
 use Rattle.round_lock.specs.History.After.{more as one_more}
 use Rattle.shared_core.specs.declared.config.Config.{Config}
 use Rattle.shared_core.specs.Flow.{values_at}
@@ -27,7 +28,7 @@ use Rattle.shared_flow.specs.Emitted.{AreItsPart, Emissions, Outcome, accepted_w
 use Rattle.shared_flow.specs.Emitters.{after_try, emission_by}
 use Rattle.shared_flow.specs.Laws.{EachSubscriptionLaw, knowing}
 use Rattle.shared_flow.specs.Lives.{IsSubscriptionOf, Life, LivesOn, looked, received_in}
-use Rattle.shared_flow.specs.Looks.{WasLetInBy}
+use Rattle.shared_flow.specs.Looks.{WasAdmittedBy}
 use Rattle.shared_flow.specs.Queue.{emitted, taken_up, words_by}
 use Rattle.shared_rounds.specs.Names.{FlowName, IsMadeWith, SharedSeen}
 use Rattle.shared_flow.specs.Owners.{HasHeard, Meets}
@@ -163,45 +164,45 @@ module _ (p q r : Party) (s t u : Subscribed ℕ) (counts : Met) where
   pub last_look : Meets q r t u counts → LivesOn t.rest t.reader (looked None ∷ []) u.rest u.reader
   last_look met = (u.reader, tt, (at u.reader, met.has_met.went), met.has_met.same, (met.same.1, refl))
 
-  -- the list of rounds up to the meeting has the one by which the subscription was let in
-  pub rounds_are : (let_in : WasLetInBy s.number s.reader p q) (met : Meets q r t u counts)
-      → met.made.before ++ (q.pass, round.Hold met.count, met.made.left) ∷ [] ≡ (let_in.made.before ++ (p.pass, round.Subscribe (Ok s.number), let_in.made.left) ∷ [])
+  -- the list of rounds up to the meeting has the one by which the subscription was admitted
+  pub rounds_are : (admission : WasAdmittedBy s.number s.reader p q) (met : Meets q r t u counts)
+      → met.made.before ++ (q.pass, round.Hold met.count, met.made.left) ∷ [] ≡ (admission.made.before ++ (p.pass, round.Subscribe (Ok s.number), admission.made.left) ∷ [])
       ++ (met.made.saw.seen_on.0 ++ (q.pass, round.Hold met.count, met.made.left) ∷ [])
-  rounds_are let_in met =
-      let begun = let_in.made.before ++ (p.pass, round.Subscribe (Ok s.number), let_in.made.left) ∷ [] in
+  rounds_are admission met =
+      let begun = admission.made.before ++ (p.pass, round.Subscribe (Ok s.number), admission.made.left) ∷ [] in
       let rest = met.made.saw.seen_on.0 in
       let last = (q.pass, round.Hold met.count, met.made.left) ∷ [] in
-      ap (λ (l : Rounds). l ++ last) (met.made.saw.seen_on.1 ∙ ap (λ (l : Rounds). l ++ rest) (ap (λ (x : Party). x.seen) let_in.made.after))
+      ap (λ (l : Rounds). l ++ last) (met.made.saw.seen_on.1 ∙ ap (λ (l : Rounds). l ++ rest) (ap (λ (x : Party). x.seen) admission.made.after))
       ∙ append_assoc begun rest last
 
   abbrev pub receives : (config : Config) (received : List ℕ) → IsMadeWith config p.flow → q.flow ≡ p.flow → EachSubscriptionLaw {T = ℕ} (λ word. word)
-      → WasLetInBy s.number s.reader p q → TakesInTurn [] s received t → Meets q r t u counts → Receives config s.rest received
-  receives config received with same law let_in takes met =
-      let turns = takes.2.0 ++ looked None ∷ [] in
+      → WasAdmittedBy s.number s.reader p q → TakesInTurn [] s received t → Meets q r t u counts → Receives config s.rest received
+  receives config received with same law admission takes met =
+      let life_steps = takes.2.0 ++ looked None ∷ [] in
       let made = met.made.saw.made in
       let now = met.made.left in
       let log = met.made.before ++ (q.pass, round.Hold met.count, now) ∷ [] in
       let life : Life ℕ = record {
         prelude = s.rest;
-        cache = let_in.made.left.sequencer.cache;
+        cache = admission.made.left.sequencer.cache;
         start = s.reader;
-        turns = turns;
+        life_steps = life_steps;
         left = u.rest;
         reader = u.reader;
       } in
       let it : IsSubscriptionOf made log now life = record {
         left_by = one_more made met.made.before met.made.found q.pass (round.Hold met.count) now met.made.saw.after met.made.does;
         began = record {
-          before = let_in.made.before;
+          before = admission.made.before;
           later = met.made.saw.seen_on.0 ++ (q.pass, round.Hold met.count, now) ∷ [];
           pass = p.pass;
           number = s.number;
-          let_in = let_in.made.left;
-          log_is = rounds_are let_in met;
-          made = let_in.made.saw.made;
-          found = let_in.made.found;
-          found_is = let_in.made.saw.after;
-          admitted = let_in.admitted;
+          left_after = admission.made.left;
+          log_is = rounds_are admission met;
+          made = admission.made.saw.made;
+          found = admission.made.found;
+          found_is = admission.made.saw.after;
+          admitted = admission.admitted;
           cache_is = refl;
         };
         lived = lives_more s.rest s.reader takes.2.0 t.rest t.reader (looked None ∷ []) u.rest u.reader takes.2.1 (last_look met);
@@ -305,24 +306,24 @@ module _ {config : Config} {prelude received : List ℕ} (it : Receives config p
 -- ---- shares
 
 -- a party's share of the lock was halved so often, and it took these in
-abbrev pub HasShare : ℕ → List (Part Round) → Party → Type 0
+abbrev pub HasShare : ℕ → List (TakenOwner Round) → Party → Type 0
 HasShare halved taken p = (p.halved ≡ halved) × (p.taken ≡ taken)
 
 -- a party emitted nothing
 abbrev pub IsQuiet : Party → Type 0
 IsQuiet p = (e : ℕ) → EmitNothing e p.rounds
 
-abbrev pub IsQuietWith : ℕ → List (Part Round) → Party → Type 0
+abbrev pub IsQuietWith : ℕ → List (TakenOwner Round) → Party → Type 0
 IsQuietWith halved taken p = HasShare halved taken p × IsQuiet p
 
 -- after a round that emits nothing
-pub quiet_more : (halved : ℕ) (taken : List (Part Round)) (r : Round) (p q : Party) → IsQuietWith halved taken p → ((e : ℕ) → taken_up e r ≡ []) → Made r p q → IsQuietWith halved taken q
+pub quiet_more : (halved : ℕ) (taken : List (TakenOwner Round)) (r : Round) (p q : Party) → IsQuietWith halved taken p → ((e : ℕ) → taken_up e r ≡ []) → Made r p q → IsQuietWith halved taken q
 quiet_more halved taken r p q quiet nothing made = (
   (ap (λ (x : Party). x.halved) made.after ∙ quiet.0.0, ap (λ (x : Party). x.taken) made.after ∙ quiet.0.1),
   λ e. subst (EmitNothing e) (sym (ap (λ (x : Party). x.rounds) made.after)) (nothing_more e p.rounds r (quiet.1 e) (nothing e)),
 )
 
-pub quiet_same : (halved : ℕ) (taken : List (Part Round)) (list : Rounds) (p q : Party) → IsQuietWith halved taken p → q ≡ record p { seen = list } → IsQuietWith halved taken q
+pub quiet_same : (halved : ℕ) (taken : List (TakenOwner Round)) (list : Rounds) (p q : Party) → IsQuietWith halved taken p → q ≡ record p { seen = list } → IsQuietWith halved taken q
 quiet_same halved taken list p q quiet same = subst (IsQuietWith halved taken) (sym same) quiet
 
 has_same : (halved : ℕ) (p q : Party) → HasShare halved [] p → IsSameParty p q → HasShare halved [] q
@@ -333,24 +334,24 @@ pub quiet_new : (p : Party) → p.rounds ≡ [] → p.halved ≡ 0 → p.taken �
 quiet_new p none whole nobody = ((whole, nobody), λ e. subst (EmitNothing e) (sym none) tt)
 
 -- an owner that made another party
-pub quiet_sharing : (halved : ℕ) (taken : List (Part Round)) (p : Party) → IsQuietWith halved taken p → IsQuietWith (suc halved) taken (sharing_of p)
+pub quiet_sharing : (halved : ℕ) (taken : List (TakenOwner Round)) (p : Party) → IsQuietWith halved taken p → IsQuietWith (suc halved) taken (sharing_of p)
 quiet_sharing halved taken p quiet = ((ap suc quiet.0.0, quiet.0.1), quiet.1)
 
 -- and the one that it made
-pub quiet_newcomer : (halved : ℕ) (taken : List (Part Round)) (p q : Party) → IsQuietWith halved taken p → q ≡ newcomer_of q.pass p → IsQuietWith (suc halved) [] q
+pub quiet_newcomer : (halved : ℕ) (taken : List (TakenOwner Round)) (p q : Party) → IsQuietWith halved taken p → q ≡ newcomer_of q.pass p → IsQuietWith (suc halved) [] q
 quiet_newcomer halved taken p q quiet new = subst (IsQuietWith (suc halved) []) (sym new) ((ap suc quiet.0.0, refl), λ e. tt)
 
 -- an owner that took in another one, which had taken in nobody
-pub quiet_taking : (halved : ℕ) (taken : List (Part Round)) (other p q : Party) → IsQuietWith halved taken p → other.taken ≡ [] → q ≡ taking_of other p
+pub quiet_taking : (halved : ℕ) (taken : List (TakenOwner Round)) (other p q : Party) → IsQuietWith halved taken p → other.taken ≡ [] → q ≡ taking_of other p
     → IsQuietWith halved (taken ++ part_of other ∷ []) q
 quiet_taking halved taken other p q quiet none after = subst (IsQuietWith halved (taken ++ part_of other ∷ [])) (sym after)
     ((quiet.0.0, λ i. quiet.0.1 i ++ part_of other ∷ none i), quiet.1)
 
-pub has_whole : (halved : ℕ) (parts : List (Part Round)) (p : Party) → HasShare halved parts p → HasAll halved parts → HasAll p.halved p.taken
+pub has_whole : (halved : ℕ) (parts : List (TakenOwner Round)) (p : Party) → HasShare halved parts p → HasAll halved parts → HasAll p.halved p.taken
 has_whole halved parts p has all = subst (λ h. HasAll h p.taken) (sym has.0) (subst (HasAll halved) (sym has.1) all)
 
 -- An owner that has the whole lock made a round, and emitted nothing: each round before that is of one party, or nothing was emitted by it.
-who_emitted : (e pass halved : ℕ) (parts : List (Part Round)) (r : Round) (p q : Party) → IsQuietWith halved parts p → HasAll halved parts → (made : Made r p q)
+who_emitted : (e pass halved : ℕ) (parts : List (TakenOwner Round)) (r : Round) (p q : Party) → IsQuietWith halved parts p → HasAll halved parts → (made : Made r p q)
     → AllByRecursion (IsPartBy e pass) parts → AreBy e pass made.before
 who_emitted e pass halved parts r p q quiet all made others =
     are_by e pass p.pass p.rounds p.taken made.before made.saw.rounds_are made.saw.taken_in.parts_are (made.saw.taken_in.all (has_whole halved parts p quiet.0 all))
@@ -358,20 +359,20 @@ who_emitted e pass halved parts r p q quiet all made others =
 
 -- ---- lists that begin with others
 
-pub begins_then : (xs ys zs : Rounds) → Begins ys xs → Begins zs ys → Begins zs xs
-begins_then xs ys zs first then = (first.0 ++ then.0, then.1 ∙ ap (λ (l : Rounds). l ++ then.0) first.1 ∙ append_assoc xs first.0 then.0)
+pub prefix_then : (xs ys zs : Rounds) → IsPrefix xs ys → IsPrefix ys zs → IsPrefix xs zs
+prefix_then xs ys zs first then = (first.0 ++ then.0, then.1 ∙ ap (λ (l : Rounds). l ++ then.0) first.1 ∙ append_assoc xs first.0 then.0)
 
-are_before : (e pass : ℕ) (xs ys : Rounds) → Begins ys xs → AreBy e pass ys → AreBy e pass xs
+are_before : (e pass : ℕ) (xs ys : Rounds) → IsPrefix xs ys → AreBy e pass ys → AreBy e pass xs
 are_before e pass xs ys begins are = each_before (IsBy e pass) xs begins.0 (subst (AreBy e pass) begins.1 are)
 
-emitted_before : (e : ℕ) (xs ys : Rounds) → Begins ys xs → Within (emitted e xs) (emitted e ys)
+emitted_before : (e : ℕ) (xs ys : Rounds) → IsPrefix xs ys → Within (emitted e xs) (emitted e ys)
 emitted_before e xs ys begins =
     subst (Within (emitted e xs)) (sym (ap (emitted e) begins.1 ∙ emitted_more e xs begins.0)) (within_front (emitted e xs) (emitted e begins.0))
 
 -- ---- the exchanges
 
--- a subscription's party at its end, which was let in by a quiet owner
-quiet_end : (halved : ℕ) (taken : List (Part Round)) (p n q r : Party) (s t u : Subscribed ℕ) (received : List ℕ) (counts : Met) → IsQuietWith halved taken p
+-- a subscription's party at its end, which was admitted by a quiet owner
+quiet_end : (halved : ℕ) (taken : List (TakenOwner Round)) (p n q r : Party) (s t u : Subscribed ℕ) (received : List ℕ) (counts : Met) → IsQuietWith halved taken p
     → s.party ≡ newcomer_of s.party.pass p → TakesInTurn [] s received t → Meets n q t u counts → (end : TakesIn q r u) → IsQuietWith (suc halved) [] end.left
 quiet_end halved taken p n q r s t u received counts quiet new takes meets end =
     let began = quiet_newcomer halved taken p s.party quiet new in
@@ -381,11 +382,11 @@ quiet_end halved taken p n q r s t u received counts quiet new takes meets end =
 
 -- an owner that let a subscription in, met it, and took it in
 quiet_owner : (halved : ℕ) (p n q r : Party) (s t u : Subscribed ℕ) (received : List ℕ) (counts : Met) → IsQuietWith halved [] p
-    → s.party ≡ newcomer_of s.party.pass p → WasLetInBy s.number s.reader (sharing_of p) n → TakesInTurn [] s received t → Meets n q t u counts
+    → s.party ≡ newcomer_of s.party.pass p → WasAdmittedBy s.number s.reader (sharing_of p) n → TakesInTurn [] s received t → Meets n q t u counts
     → (end : TakesIn q r u) → IsQuietWith (suc halved) (part_of end.left ∷ []) r
-quiet_owner halved p n q r s t u received counts quiet new let_in takes meets end =
+quiet_owner halved p n q r s t u received counts quiet new admission takes meets end =
     let shared = quiet_sharing halved [] p quiet in
-    let after_it = quiet_more (suc halved) [] (round.Subscribe (Ok s.number)) (sharing_of p) n shared (λ e. refl) let_in.made in
+    let after_it = quiet_more (suc halved) [] (round.Subscribe (Ok s.number)) (sharing_of p) n shared (λ e. refl) admission.made in
     let met = quiet_more (suc halved) [] (round.Hold meets.count) n q after_it (λ e. refl) meets.made in
     quiet_taking (suc halved) [] end.left q r met (quiet_end halved [] p n q r s t u received counts quiet new takes meets end).0.1 end.after
 
@@ -409,7 +410,7 @@ ends_alone p q n last end emitter number count held rest meeting has all same_pa
     let are : Parts (log ++ rest) parts = subst (λ (l : Rounds). Parts l parts) full (subst (Parts made.before) has.1 knows.parts_are) in
     let apart : Apart p.pass parts = subst (Apart p.pass) has.1 knows.apart in
     let each : MadeEach p.pass p.rounds parts (log ++ rest) =
-    subst (λ (l : Rounds). MadeEach p.pass p.rounds parts l) full (subst (λ (l : List (Part Round)). MadeEach p.pass p.rounds l made.before) has.1 (knows.all (has_whole 2 parts p has all))) in
+    subst (λ (l : Rounds). MadeEach p.pass p.rounds parts l) full (subst (λ (l : List (TakenOwner Round)). MadeEach p.pass p.rounds l made.before) has.1 (knows.all (has_whole 2 parts p has all))) in
     let owner_log : own_of p.pass log ≡ p.rounds = ap (λ x. own_of x log) pass ∙ own_mine meeting.before n.pass (round.Hold held) meeting.left
     ∙ ap (λ (l : List Round). l ++ round.Hold held ∷ []) (sym meeting.saw.rounds_are) ∙ sym (ap (λ (x : Party). x.rounds) meeting.after) ∙ sym same_rounds in
     let of_owner : own_of p.pass rest ≡ [] =
@@ -422,24 +423,24 @@ ends_alone p q n last end emitter number count held rest meeting has all same_pa
     let of_end : own_of end.pass rest ≡ end.rounds = own_since end.pass log rest [] end.rounds (sym are.0) end_log in
     since_then p.pass p.rounds (part_of end) (part_of emitter) log rest each of_owner of_emitter ∙ of_end ∙ ended
 
--- What came of it for the owner, which had given half of its share to the emitter, and let the subscription in by half of what it had left.
+-- What came of it for the owner, which had given half of its share to the emitter, and admitted the subscription by half of what it had left.
 pub exchanged : (config : Config) (words received : List ℕ) (p n q last : Party) (s t u : Subscribed ℕ) (d e f : Emitting) (counts : Met) → IsMadeWith config p.flow
-    → EachSubscriptionLaw {T = ℕ} (λ word. word) → EmitterAloneLaw ℕ → IsQuietWith 1 [] p → s.party ≡ newcomer_of s.party.pass p → WasLetInBy s.number s.reader (sharing_of p) n
+    → EachSubscriptionLaw {T = ℕ} (λ word. word) → EmitterAloneLaw ℕ → IsQuietWith 1 [] p → s.party ≡ newcomer_of s.party.pass p → WasAdmittedBy s.number s.reader (sharing_of p) n
     → TakesInTurn [] s received t → (meets : Meets n q t u counts) → d.party.rounds ≡ [] → d.id ≡ 1 → HasShare 1 [] d.party → TriesEach words d e
     → HasHeard meets.made.before e.party f.party → AreItsPart f → EndsBoth q last f u
     → ReceivesItsOwn config.policy s.rest words received × Exchange config s.rest words received last
-exchanged config words received p n q last s t u d e f counts with law alone_law quiet newcomer let_in takes meets new first share tries heard its ends =
-    let it = receives (sharing_of p) n q s t u counts config received with (ap (λ (x : Party). x.flow) let_in.made.after) law let_in takes meets in
+exchanged config words received p n q last s t u d e f counts with law alone_law quiet newcomer admission takes meets new first share tries heard its ends =
+    let it = receives (sharing_of p) n q s t u counts config received with (ap (λ (x : Party). x.flow) admission.made.after) law admission takes meets in
     let left = ends.takes_in.left in
     let ended = quiet_end 1 [] p n q ends.then s t u received counts quiet newcomer takes meets ends.takes_in in
     let emitter = has_same 1 e.party f.party (has_same 1 d.party e.party share tries.3) (heard_party meets.made.before e.party f.party heard) in
     let parts = part_of left ∷ part_of f.party ∷ [] in
-    let took_in = quiet_owner 1 p n q ends.then s t u received counts quiet newcomer let_in takes meets ends.takes_in in
+    let took_in = quiet_owner 1 p n q ends.then s t u received counts quiet newcomer admission takes meets ends.takes_in in
     let holder = taking_of f.party ends.then in
     let owner : IsQuietWith 2 parts holder = quiet_taking 2 (part_of left ∷ []) f.party ends.then holder took_in emitter.1 refl in
     let all : HasAll 2 parts = (2, λ i. halves 2 2 + (halves 2 (ended.0.0 i) + (halves 2 (emitter.0 i) + 0))) in
     let full = ends.made.before in
-    let sees : Begins full it.log = subst (Begins full) (ap (λ (x : Party). x.seen) ends.takes_in.after ∙ ap (λ (x : Party). x.seen) meets.made.after) ends.made.saw.seen_on in
+    let sees : IsPrefix it.log full = subst (λ front. IsPrefix front full) (ap (λ (x : Party). x.seen) ends.takes_in.after ∙ ap (λ (x : Party). x.seen) meets.made.after) ends.made.saw.seen_on in
     let same : f.party.pass ≡ e.party.pass = ap (λ (x : Party). x.pass) heard.same in
     let emitter_heard : f.party.rounds ≡ own_of f.party.pass it.before =
     ap (λ (x : Party). x.rounds) heard.same ∙ heard.part ∙ ap (λ x. own_of x it.before) (sym same) in
@@ -453,10 +454,10 @@ exchanged config words received p n q last s t u d e f counts with law alone_law
       left = last;
       last_round = round.Count ends.count;
       made = ends.made;
-      later = begins_then it.before it.log full ((it.owner, round.Hold it.count, it.now) ∷ [], refl) sees;
+      later = prefix_then it.before it.log full ((it.owner, round.Hold it.count, it.now) ∷ [], refl) sees;
       has_all = has_whole 2 parts holder owner.0 all;
       quiet = owner.1;
-      others = subst (AllByRecursion (λ (x : Part Round). (x.pass ≡ f.party.pass) ⊎ NothingEmitted x.own)) (sym owner.0.1) (inr ended.1, (inl refl, tt));
+      others = subst (AllByRecursion (λ (x : TakenOwner Round). (x.pass ≡ f.party.pass) ⊎ NothingEmitted x.own)) (sym owner.0.1) (inr ended.1, (inl refl, tt));
     } in
     let own_rounds : AreTries 1 words f.party.rounds = subst (AreTries 1 words) (sym (ap (λ (x : Party). x.rounds) heard.same)) (own_tries 1 words d e new first tries) in
     let come = tries_come 1 words f.party.rounds [] own_rounds in
@@ -476,7 +477,7 @@ exchanged config words received p n q last s t u d e f counts with law alone_law
     let since = ends_alone holder q n last left f.party u.number ends.count meets.count sees.0 meets.made owner.0 all
     (ap (λ (x : Party). x.pass) ends.takes_in.after) (ap (λ (x : Party). x.rounds) ends.takes_in.after) end_rounds not_ended emitter_heard ends.made sees.1 in
     let counted : ℕ × Round × SharedSeen = (ends.then.pass, round.Count ends.count, ends.made.left) in
-    let shape = shape_is config (sharing_of p) n s.number s.reader with let_in in (
+    let shape = shape_is config (sharing_of p) n s.number s.reader with admission in (
       own_of_these it words (emitted_by_it f) words_are (alone_law f t u its settled by_itself).accepted_are_its shape,
       record {
         received_with_others_is_prelude_then_words = received_of_one it f.party.pass words own are;
@@ -504,11 +505,11 @@ pub late : (config : Config) (prelude first second later received : List ℕ) (p
 late config prelude first second later received p q r last a b h c m n k with law quiet new_one one share_one new_two two share_two tries_first tries_second tries_later between told ends =
     let before = between.began in
     let meets = between.meets in
-    let same_flow = ap (λ (x : Party). x.flow) between.let_in.made.after in
-    let it = receives (sharing_of p) between.then between.last before between.took between.met between.counts config received with same_flow law between.let_in between.takes meets in
+    let same_flow = ap (λ (x : Party). x.flow) between.admission.made.after in
+    let it = receives (sharing_of p) between.then between.last before between.took between.met between.counts config received with same_flow law between.admission between.takes meets in
     let left = between.takes_in.left in
     let ended = quiet_end 2 [] p between.then between.last q before between.took between.met received between.counts quiet between.is_newcomer between.takes meets between.takes_in in
-    let took_in = quiet_owner 2 p between.then between.last q before between.took between.met received between.counts quiet between.is_newcomer between.let_in between.takes meets between.takes_in in
+    let took_in = quiet_owner 2 p between.then between.last q before between.took between.met received between.counts quiet between.is_newcomer between.admission between.takes meets between.takes_in in
     let rounds = told.made.before in
     let tries_both = tries_on second later c m n tries_second tries_later in
     let has_one = has_same 1 b.party h.party (has_same 1 a.party b.party share_one tries_first.3) (heard_party rounds b.party h.party told.first) in
@@ -520,12 +521,12 @@ late config prelude first second later received p q r last a b h c m n k with la
     quiet_taking 3 (part_of left ∷ part_of h.party ∷ []) k.party (taking_of h.party r) (taking_of k.party (taking_of h.party r)) with_one has_two.1 refl in
     let all : HasAll 3 parts = (3, λ i. halves 3 3 + (halves 3 (ended.0.0 i) + (halves 3 (has_one.0 i) + (halves 3 (has_two.0 i) + 0)))) in
     let full = ends.made.before in
-    let goes_on : Begins rounds it.log =
-    subst (Begins rounds) (ap (λ (x : Party). x.seen) between.takes_in.after ∙ ap (λ (x : Party). x.seen) meets.made.after) told.made.saw.seen_on in
-    let before_is : Begins it.log it.before = ((it.owner, round.Hold it.count, it.now) ∷ [], refl) in
-    let told_is : Begins r.seen rounds = ((q.pass, round.Hold told.count, told.made.left) ∷ [], ap (λ (x : Party). x.seen) told.made.after) in
-    let sees : Begins full rounds = begins_then rounds r.seen full told_is ends.made.saw.seen_on in
-    let meeting : Begins rounds it.before = begins_then it.before it.log rounds before_is goes_on in
+    let goes_on : IsPrefix it.log rounds =
+    subst (λ front. IsPrefix front rounds) (ap (λ (x : Party). x.seen) between.takes_in.after ∙ ap (λ (x : Party). x.seen) meets.made.after) told.made.saw.seen_on in
+    let before_is : IsPrefix it.before it.log = ((it.owner, round.Hold it.count, it.now) ∷ [], refl) in
+    let told_is : IsPrefix rounds r.seen = ((q.pass, round.Hold told.count, told.made.left) ∷ [], ap (λ (x : Party). x.seen) told.made.after) in
+    let sees : IsPrefix rounds full = prefix_then rounds r.seen full told_is ends.made.saw.seen_on in
+    let meeting : IsPrefix it.before rounds = prefix_then it.before it.log rounds before_is goes_on in
     let whole : (e pass : ℕ) → AllByRecursion (IsPartBy e pass) parts → AreBy e pass full =
     λ e pass others. who_emitted e pass 3 parts (round.Count ends.count) (taking_of k.party (taking_of h.party r)) last owner all ends.made others in
     let own_one = tries_in 1 first rounds a b new_one one tries_first told.first.part in
@@ -556,7 +557,7 @@ late config prelude first second later received p q r last a b h c m n k with la
       goes_on = goes_on;
       emits_first = (b.party.pass, own_one);
       emits_second = (n.party.pass, all_two);
-      seen = begins_then rounds full last.seen sees ((r.pass, round.Count ends.count, ends.made.left) ∷ [], ap (λ (x : Party). x.seen) ends.made.after);
+      seen = prefix_then rounds full last.seen sees ((r.pass, round.Count ends.count, ends.made.left) ∷ [], ap (λ (x : Party). x.seen) ends.made.after);
       halved = has.0;
       has_all = has_whole 3 parts last has all;
     })

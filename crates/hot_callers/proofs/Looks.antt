@@ -5,7 +5,7 @@ use Rattle.flow_terms.specs.declared.refusal.Refusal.TheVariants.{NoMemory}
 use Rattle.shared_lane.specs.Views.{ReaderSeen}
 use Rattle.shared_lane.specs.declared.reader.Taken.TheVariants.{Value, Nothing, Overtaken}
 use Rattle.shared_lane.proofs.Lives.{took_went}
-use Rattle.shared_flow.specs.Lives.{Turn, greeted, looked, LivesOn, received_in}
+use Rattle.shared_flow.specs.Lives.{LifeStep, greeted, looked, LivesOn, received_in}
 use Rattle.shared_flow.specs.Looks.{Gave, GaveIn, Missed, MissedTwice, MissedOn, not_once, once_more, Waited}
 use Rattle.shared_flow.specs.Parties.{Subscribed}
 use Rattle.shared_flow.specs.Preludes.{IsGreeted, IsPast, GreetedOr, TookFirst}
@@ -14,7 +14,7 @@ use Rattle.hot_callers.specs.SharedCalls.{HasTaken}
 
 -- the same of what is left of the prelude, and of the reader
 abbrev Takes : List ℕ → ReaderSeen → List ℕ → List ℕ → ReaderSeen → Type 0
-Takes rest r values left t = (turns : List (Turn ℕ)) × LivesOn rest r turns left t × (received_in (λ word. word) turns ≡ values)
+Takes rest r values left t = (life_steps : List (LifeStep ℕ)) × LivesOn rest r life_steps left t × (received_in (λ word. word) life_steps ≡ values)
 
 nothing_yet : (rest : List ℕ) (r : ReaderSeen) → Takes rest r [] rest r
 nothing_yet rest r = ([], (refl, refl), refl)

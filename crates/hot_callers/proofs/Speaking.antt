@@ -9,7 +9,7 @@ use Rattle.flow_terms.specs.declared.refusal.Refusal.{Refusal}
 use Rattle.flow_terms.specs.declared.answers.Tried.{Tried}
 use Rattle.flow_terms.specs.declared.answers.Tried.TheVariants as tried
 use Rattle.lane_steps.specs.Law.{Entry}
-use Rattle.round_lock.specs.declared.log.Part.{Part}
+use Rattle.round_lock.specs.declared.log.TakenOwner.{TakenOwner}
 use Rattle.round_lock.specs.History.{TakenIn, Parts, MadeEach, own_of}
 use Rattle.shared_core.specs.Story.{Interleaves, none, left, right}
 use Rattle.shared_lane.specs.Caches.{word_of}
@@ -79,10 +79,10 @@ of_party P pass (t ∷ log) all =
     by false is these = (λ same. absurd (eqb-false t.0 pass is same), these)
 
 -- a party is this one, or emitted nothing
-abbrev pub IsPartBy : ℕ → ℕ → Part Round → Type 0
+abbrev pub IsPartBy : ℕ → ℕ → TakenOwner Round → Type 0
 IsPartBy e pass p = (p.pass ≡ pass) ⊎ EmitNothing e p.own
 
-by_parts : (e pass : ℕ) (parts : List (Part Round)) (log : Rounds) → Parts log parts → AllByRecursion (IsPartBy e pass) parts
+by_parts : (e pass : ℕ) (parts : List (TakenOwner Round)) (log : Rounds) → Parts log parts → AllByRecursion (IsPartBy e pass) parts
     → AllByRecursion (λ (t : ℕ × Round × SharedSeen). TakenIn parts t.0 → IsBy e pass t) log
 by_parts e pass [] log are each = each_of_all (λ (t : ℕ × Round × SharedSeen). ⊥ → IsBy e pass t) log (λ t no. absurd no)
 by_parts e pass (p ∷ parts) log are each =
@@ -109,7 +109,7 @@ by_parts e pass (p ∷ parts) log are each =
 
 -- Where an owner and those that it took in made each round, and none of them but one emitted anything by this emitter, each round is of
 -- that one or none of its emissions.
-pub are_by : (e pass owner : ℕ) (own : List Round) (parts : List (Part Round)) (log : Rounds) → own ≡ own_of owner log → Parts log parts → MadeEach owner own parts log
+pub are_by : (e pass owner : ℕ) (own : List Round) (parts : List (TakenOwner Round)) (log : Rounds) → own ≡ own_of owner log → Parts log parts → MadeEach owner own parts log
     → EmitNothing e own → AllByRecursion (IsPartBy e pass) parts → AreBy e pass log
 are_by e pass owner own parts log mine are each nothing others = each_then
     (λ (t : ℕ × Round × SharedSeen). (owner ≡ t.0) ⊎ TakenIn parts t.0)
@@ -249,7 +249,7 @@ each_after P [] ys all = all
 each_after P (x ∷ xs) ys all = each_after P xs ys all.1
 
 -- so it is of the rounds since then that an owner and two others made
-pub since_then : (owner : ℕ) (own : List Round) (one two : Part Round) (log rest : Rounds) → MadeEach owner own (one ∷ two ∷ []) (log ++ rest)
+pub since_then : (owner : ℕ) (own : List Round) (one two : TakenOwner Round) (log rest : Rounds) → MadeEach owner own (one ∷ two ∷ []) (log ++ rest)
     → own_of owner rest ≡ [] → own_of two.pass rest ≡ [] → map (λ (t : ℕ × Round × SharedSeen). t.1) rest ≡ own_of one.pass rest
 since_then owner own one two log rest each none_of_owner none_of_two =
     let callers = each_by_index (λ (t : ℕ × Round × SharedSeen). (owner ≡ t.0) ⊎ TakenIn (one ∷ two ∷ []) t.0) (log ++ rest) each.callers in

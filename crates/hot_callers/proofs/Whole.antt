@@ -6,8 +6,9 @@ use Rattle.std.proofs.lemmas.Option.{same_Some}
 use Rattle.std.specs.List.{AllByRecursion, range_with_len}
 use Rattle.lane_steps.specs.Law.{Entry}
 use Rattle.lane_steps.specs.declared.view.Shape.{Shape}
-use Rattle.round_lock.specs.declared.log.Part.{Part}
-use Rattle.round_lock.specs.History.{Begins, HasAll, Parts, halves}
+use Rattle.round_lock.specs.declared.log.TakenOwner.{TakenOwner}
+use Rattle.flow_terms.specs.Lists.{IsPrefix}
+use Rattle.round_lock.specs.History.{HasAll, Parts, halves}
 use Rattle.round_lock.specs.History.After.{new as first_one, more as one_more}
 use Rattle.shared_core.specs.declared.config.Config.{Config}
 use Rattle.shared_core.specs.Flow.{values_at}
@@ -31,7 +32,7 @@ use Rattle.hot_callers.specs.Alone.{AreNew, EmitsAlone, HasSeenItsLast, HaveWhol
 use Rattle.hot_callers.specs.Exchanges.{TakesEach}
 use Rattle.hot_callers.specs.Receiving.{AreSettled, IsSettled, ReceivesItsOwn}
 use Rattle.hot_callers.proofs.Accepting.{keeps_all}
-use Rattle.hot_callers.proofs.Exchanging.{IsQuietWith, begins_then, has_whole, quiet_more, quiet_same, quiet_taking}
+use Rattle.hot_callers.proofs.Exchanging.{IsQuietWith, prefix_then, has_whole, quiet_more, quiet_same, quiet_taking}
 
 -- ---- the lock
 
@@ -39,7 +40,7 @@ use Rattle.hot_callers.proofs.Exchanging.{IsQuietWith, begins_then, has_whole, q
 module _ (p q r m last : Party) (e : Emitting) (s t : Subscribed ℕ) (met ended_met : Met) (left : Party) (count : ℕ) (whole : HaveWholeLock p e.party s.party)
     (took_emitter : q ≡ taking_of e.party p) (meets : Meets q r s t met) (ended : WasEnded t.number t.reader ended_met t.party left) (took : m ≡ taking_of left r)
     (made : Made (round.Count count) m last) where
-  abbrev parts : List (Part Round)
+  abbrev parts : List (TakenOwner Round)
   parts = part_of e.party ∷ part_of left ∷ []
 
   abbrev with_emitter : IsQuietWith p.halved (part_of e.party ∷ []) q
@@ -63,7 +64,7 @@ module _ (p q r m last : Party) (e : Emitting) (s t : Subscribed ℕ) (met ended
   emits_alone =
       let known : Parts meets.made.before (part_of e.party ∷ []) = subst (Parts meets.made.before) with_emitter.0.1 meets.made.saw.taken_in.parts_are in
       let log_is : m.seen ≡ meets.made.before ++ (q.pass, round.Hold meets.count, meets.made.left) ∷ [] = ap (λ (x : Party). x.seen) took ∙ ap (λ (x : Party). x.seen) meets.made.after in
-      let sees : Begins made.before m.seen = made.saw.seen_on in record {
+      let sees : IsPrefix m.seen made.before = made.saw.seen_on in record {
         before = q;
         after = r;
         counts = met;
@@ -73,10 +74,10 @@ module _ (p q r m last : Party) (e : Emitting) (s t : Subscribed ℕ) (met ended
         left = last;
         last_round = round.Count count;
         made = made;
-        later = begins_then meets.made.before m.seen made.before ((q.pass, round.Hold meets.count, meets.made.left) ∷ [], log_is) sees;
+        later = prefix_then meets.made.before m.seen made.before ((q.pass, round.Hold meets.count, meets.made.left) ∷ [], log_is) sees;
         has_all = has_whole p.halved parts m with_both.0 has_parts;
         quiet = with_both.1;
-        others = subst (AllByRecursion (λ (x : Part Round). (x.pass ≡ e.party.pass) ⊎ NothingEmitted x.own)) (sym with_both.0.1) (inl refl, (inr of_left.1, tt));
+        others = subst (AllByRecursion (λ (x : TakenOwner Round). (x.pass ≡ e.party.pass) ⊎ NothingEmitted x.own)) (sym with_both.0.1) (inl refl, (inr of_left.1, tt));
       }
 
   pub has_whole_lock : HasAll last.halved last.taken

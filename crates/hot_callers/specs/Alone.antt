@@ -1,8 +1,9 @@
 -- A flow into which one emitter alone emitted: who knows that, and what a subscription has seen of it.
 use Rattle.std.specs.Prelude.{◌≡◌, ◌⊎◌, ℕ, List, [], ◌∷◌, ◌++◌, map, Option, None}
 use Rattle.std.specs.List.{AllByRecursion}
-use Rattle.round_lock.specs.declared.log.Part.{Part}
-use Rattle.round_lock.specs.History.{Begins, HasAll, own_of}
+use Rattle.round_lock.specs.declared.log.TakenOwner.{TakenOwner}
+use Rattle.flow_terms.specs.Lists.{IsPrefix}
+use Rattle.round_lock.specs.History.{HasAll, own_of}
 use Rattle.shared_core.specs.declared.config.Config.{Config}
 use Rattle.shared_core.specs.Headline.{EndsWith}
 use Rattle.shared_lane.specs.Caches.{word_of}
@@ -35,10 +36,10 @@ pub record EmitsAlone {T : Type 0} (e : Emitting) (s t : Subscribed T) : Type 0 
   pub left : Party
   pub last_round : Round
   pub made : Made last_round holder left
-  pub later : Begins made.before meets.made.before
+  pub later : IsPrefix meets.made.before made.before
   pub has_all : HasAll holder.halved holder.taken
   pub quiet : NothingEmitted holder.rounds
-  pub others : AllByRecursion (λ (p : Part Round). (p.pass ≡ e.party.pass) ⊎ NothingEmitted p.own) holder.taken
+  pub others : AllByRecursion (λ (p : TakenOwner Round). (p.pass ≡ e.party.pass) ⊎ NothingEmitted p.own) holder.taken
 
 -- What the flow had accepted up to the meeting are the words that the emitter emitted and that were accepted, in order; and the last of these
 -- are what the subscription has seen since its start.
@@ -58,7 +59,7 @@ abbrev pub OnlyTakes : {T : Type 0} → Subscribed T → Subscribed T → Type 0
 OnlyTakes s t = IsSamePrelude s t × OnlyReceives s.party t.party
 
 -- how a party stands with the one that takes it in
-abbrev pub part_of : Party → Part Round
+abbrev pub part_of : Party → TakenOwner Round
 part_of p = record { pass = p.pass; halved = p.halved; own = p.rounds }
 
 -- An owner, an emitter and a subscription have the whole lock of one flow between them; they took in nobody, and neither the owner nor the

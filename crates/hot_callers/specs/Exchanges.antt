@@ -2,7 +2,8 @@
 use Rattle.std.specs.Prelude.{◌≡◌, ℕ, List, [], ◌∷◌, ◌++◌, None, Result, map}
 use Rattle.flow_terms.specs.declared.refusal.Refusal.{Refusal}
 use Rattle.flow_terms.specs.declared.answers.Tried.{Tried}
-use Rattle.round_lock.specs.History.{Begins, HasAll, own_of}
+use Rattle.flow_terms.specs.Lists.{IsPrefix}
+use Rattle.round_lock.specs.History.{HasAll, own_of}
 use Rattle.shared_core.specs.declared.config.Config.{Config}
 use Rattle.shared_core.specs.Story.{Interleaves}
 use Rattle.shared_lane.specs.declared.meeting.Met.{Met}
@@ -11,7 +12,7 @@ use Rattle.shared_rounds.specs.declared.round.Round.TheVariants as round
 use Rattle.shared_rounds.specs.Entering.{Made}
 use Rattle.shared_flow.specs.Laws.{IsOneFlow, knowing}
 use Rattle.shared_flow.specs.Lives.{Life, IsSubscriptionOf, ReceivesPreludeCacheThenLater, received_in}
-use Rattle.shared_flow.specs.Looks.{WasEnded, WasLetInBy}
+use Rattle.shared_flow.specs.Looks.{WasEnded, WasAdmittedBy}
 use Rattle.shared_rounds.specs.Names.{SharedSeen}
 use Rattle.shared_flow.specs.Owners.{HasHeard, Meets}
 use Rattle.shared_flow.specs.Parties.{Emitting, Subscribed, newcomer_of, received, sharing_of, taking_of}
@@ -68,7 +69,7 @@ pub record EndsEmitters (p q : Party) (e d : Emitting) : Type 0 where
   pub count : ℕ
   pub made : Made (round.Count count) (taking_of d.party (taking_of e.party p)) q
 
--- Between these two moments of an owner a subscription was let in, with half its share of the lock, took values that others emitted, met
+-- Between these two moments of an owner a subscription was admitted, with half its share of the lock, took values that others emitted, met
 -- the owner, and was ended. An emitter heard of all rounds before that meeting.
 pub record ReceivesBetween (p q : Party) (prelude received : List ℕ) (emitter : Party) : Type 0 where
   pub began : Subscribed ℕ
@@ -78,7 +79,7 @@ pub record ReceivesBetween (p q : Party) (prelude received : List ℕ) (emitter 
   pub last : Party
   pub counts : Met
   pub is_newcomer : began.party ≡ newcomer_of began.party.pass p
-  pub let_in : WasLetInBy began.number began.reader (sharing_of p) then
+  pub admission : WasAdmittedBy began.number began.reader (sharing_of p) then
   pub prelude_is : began.rest ≡ prelude
   pub takes : TakesInTurn [] began received took
   pub meets : Meets then last took met counts
@@ -109,7 +110,7 @@ pub record Receives (config : Config) (prelude received : List ℕ) : Type 0 whe
   pub is_one_flow : IsOneFlow made log now
   pub life : Life ℕ
   pub prelude_is : life.prelude ≡ prelude
-  pub received_is : received_in (λ word. word) life.turns ≡ received
+  pub received_is : received_in (λ word. word) life.life_steps ≡ received
   pub is_subscription : IsSubscriptionOf made log now life
   pub receives : ReceivesPreludeCacheThenLater (λ word. word) life (knowing now life.reader)
 
@@ -143,9 +144,9 @@ pub record LateExchange (config : Config) (prelude first second late received : 
   pub received_with_others_is_prelude_then_both : ReceivesOfBoth prelude first second received
   pub receives : Receives config prelude received
   pub rounds : Rounds
-  pub goes_on : Begins rounds receives.log
+  pub goes_on : IsPrefix receives.log rounds
   pub emits_first : Emits 1 first rounds
   pub emits_second : Emits 2 (second ++ late) rounds
-  pub seen : Begins owner.seen rounds
+  pub seen : IsPrefix rounds owner.seen
   pub halved : owner.halved ≡ 3
   pub has_all : HasAll owner.halved owner.taken

@@ -2,7 +2,7 @@
 use Rattle.std.specs.Prelude.{◌≡◌, ℕ, List, Some}
 use Rattle.shared_lane.specs.Readers.{IsReaderOf}
 use Rattle.shared_rounds.specs.declared.round.Round.TheVariants as round
-use Rattle.shared_flow.specs.Lives.{Turn, LivesOn, received_in}
+use Rattle.shared_flow.specs.Lives.{LifeStep, LivesOn, received_in}
 use Rattle.shared_rounds.specs.Names.{FlowName, SharedSeen}
 use Rattle.shared_flow.specs.Parties.{Emitting, Subscribed, named}
 use Rattle.shared_rounds.specs.Reach.{Party}
@@ -14,7 +14,7 @@ IsSameSubscription old new = (named new.party ≡ named old.party) × (new.numbe
 
 -- turn by turn the subscription received these values, those that were left of its prelude first, and no other
 abbrev pub HasTaken : Subscribed ℕ → List ℕ → Subscribed ℕ → Type 0
-HasTaken old values new = (turns : List (Turn ℕ)) × LivesOn old.rest old.reader turns new.rest new.reader × (received_in (λ word. word) turns ≡ values)
+HasTaken old values new = (life_steps : List (LifeStep ℕ)) × LivesOn old.rest old.reader life_steps new.rest new.reader × (received_in (λ word. word) life_steps ≡ values)
 
 -- both are of one flow, whose lane the subscription reads
 abbrev pub AreOfOneFlow : Emitting → Subscribed ℕ → Type 0

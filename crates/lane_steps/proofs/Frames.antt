@@ -11,7 +11,7 @@ use Rattle.lane_steps.specs.declared.view.Shape.{Shape}
 use Rattle.lane_steps.specs.declared.view.Reading.{Reading}
 use Rattle.lane_steps.specs.declared.view.View.{View}
 use Rattle.lane_steps.specs.Layout.{cursor_word, cell_word}
-use Rattle.lane_steps.specs.Law.{Begins, Place, PlaceOk, QuitOk, IsOver, SeatOk, Law}
+use Rattle.lane_steps.specs.Law.{IsPrefix, Place, PlaceOk, QuitOk, IsOver, SeatOk, Law}
 use Rattle.lane_steps.proofs.Apart.{cursor_is_no_tail, cursors_differ, cell_is_no_cursor, cursor_within}
 
 abbrev pick : {A : Type 0} {P : Type 0} → Dec P → A → A → A
@@ -43,8 +43,8 @@ pub seats_stay : (K : ℕ → View → Type 0) (vs : List View) (me : ℕ) (w : 
 seats_stay K vs me w mine others j v e = ⊎_elim (λ (t : (j ≡ me) × (w ≡ v)). subst (λ (x : ℕ × View). K x.0 x.1) (λ i. (sym t.0 i, t.1 i)) mine)
     (λ (t : (j ≢ me) × (get_elem? vs j ≡ some v)). others j v t.0 t.1) (at_set vs me j w v e)
 
-pub begins_more : {A : Type 0} (xs start : List A) (more : List A) → Begins xs start → Begins (xs ++ more) start
-begins_more xs start more b = (b.0 ++ more, ap (λ l. l ++ more) b.1 ∙ append_assoc start b.0 more)
+pub prefix_more : {A : Type 0} (xs start : List A) (more : List A) → IsPrefix start xs → IsPrefix start (xs ++ more)
+prefix_more xs start more b = (b.0 ++ more, ap (λ l. l ++ more) b.1 ∙ append_assoc start b.0 more)
 
 -- what a seat closed stays closed, or was opened again, where a place changes in a way that it may
 pub quit_stays : (key : Shape) (place : ℕ → Place) (p : ℕ) (pl : Place) (rd : Reading) → (IsOver rd (place p) → IsOver rd pl) → QuitOk key place rd → QuitOk key (put place p pl) rd

@@ -14,9 +14,9 @@ use Rattle.lane_steps.specs.declared.view.Sequencing.{Sequencing}
 use Rattle.lane_steps.specs.declared.view.Reading.{Reading}
 use Rattle.lane_steps.specs.declared.view.View.{View}
 use Rattle.lane_steps.specs.Layout.{cursor_word, cell_word}
-use Rattle.lane_steps.specs.Law.{Entry, closed, Begins, HasWord, Place, cursor, PlaceOk, KnownOk, SequencerOk, ReaderOk, SeatOk, IsOver, Law}
+use Rattle.lane_steps.specs.Law.{Entry, closed, IsPrefix, HasWord, Place, cursor, PlaceOk, KnownOk, SequencerOk, ReaderOk, SeatOk, IsOver, Law}
 use Rattle.lane_steps.specs.Steps.{position, next_to_pick, next_number, got, got_picked, found_at, ended, noticed, picked, picked_more, took, took_picked, looked, quit}
-use Rattle.lane_steps.proofs.Lists.{which, not_both, there, within, index_there, at_end, some_length, begins_self, begins_length, begins_at, none_lost, lost_none}
+use Rattle.lane_steps.proofs.Lists.{which, not_both, there, within, index_there, at_end, some_length, prefix_self, prefix_length, prefix_at, none_lost, lost_none}
 use Rattle.lane_steps.proofs.Frames.{put, put_here, put_else, quit_stays, unmoved, place_step}
 
 module _ (key : Shape) where
@@ -80,14 +80,14 @@ module _ (key : Shape) where
           w,
           keeps,
           tt,
-          unmoved key s r 0 id w record { seen = begins_self r.log; told = (r.log, refl); sequencing = λ a. let q = ok.sequencing a in (q.0, refl, q.2); reading = ok.reading; quit = ok.quit },
+          unmoved key s r 0 id w record { seen = prefix_self r.log; told = (r.log, refl); sequencing = λ a. let q = ok.sequencing a in (q.0, refl, q.2); reading = ok.reading; quit = ok.quit },
           (refl, (refl, ok.seen, ok.told, is, omega arith)),
         )
 
     -- a load of the cell of the number j after the position: the word found there is the accepted one, where the cursor still stands at the position
     cell_has : (s : State S View) (r : Law key s) (id i j : ℕ) (v : View) → get_elem? s.views id ≡ some v → v.reading.active ≡ true → i ≡ cell_word key (position v.reading + j) → position v.reading + j < next_number v
         → cursor (r.place v.reading.place) ≡ position v.reading → HasWord key.first r.log (cursor (r.place v.reading.place) + j) (get_or s.words i 0)
-    cell_has s r id i j v at act word near e = let rd : Reading = v.reading in let pl : Place = r.place rd.place in let own = mine s r id v at act in let ok = r.each_seat id v at in let shorter = begins_length r.log v.seen ok.seen in
+    cell_has s r id i j v at act word near e = let rd : Reading = v.reading in let pl : Place = r.place rd.place in let own = mine s r id v at act in let ok = r.each_seat id v at in let shorter = prefix_length r.log v.seen ok.seen in
         let first : v.shape.first ≡ key.first = ap (λ (k : Shape). k.first) own.0 in let below : position rd + j < v.shape.first + length v.seen = near in let after = own.2.after_first in
         let m : ℕ = (position rd + j) - key.first in let same : key.first + m ≡ position rd + j = omega arith in let a = there r.log m (omega arith) in let close = own.2.near own.1.live in
         let x : get_or s.words (cell_word key (key.first + m)) 0 ≡ a.0.1 = r.each_cell m a.0.0 a.0.1 (at_longer r.log r.flight m a.0 a.1) (omega arith) in
@@ -157,8 +157,8 @@ module _ (key : Shape) where
         → w.shape ≡ me.0.shape → w.seen ≡ me.0.seen → w.told ≡ me.0.told → w.sequencing ≡ me.0.sequencing → w.reading ≡ found_at n me.0.reading
         → SeatOk key r.log r.flight r.place r.sequencer id w
     finds slots id i me s r w at act n is a b c d e = let v : View = me.0 in let ok = r.each_seat id v at in let own = mine s r id v at act in record {
-      seen = subst (Begins r.log) (sym b) ok.seen;
-      told = subst (Begins r.log) (sym c) ok.told;
+      seen = subst (λ front. IsPrefix front r.log) (sym b) ok.seen;
+      told = subst (λ front. IsPrefix front r.log) (sym c) ok.told;
       sequencing = λ h. let o = ok.sequencing (ap (λ (q : Sequencing). q.active) (sym d) ∙ h) in (a ∙ o.0, b ∙ o.1, subst (SequencerOk key r.flight r.place r.sequencer id) (sym d) o.2);
       reading = λ h. (a ∙ own.0, subst (λ (x : Reading). ReaderOk key r.log id x (r.place x.place)) (sym e) (found_ok r.log id n v.reading (r.place v.reading.place) own.1 is));
       quit = λ h. not_both v.reading.active act (ok.quit (ap (λ (x : Reading). x.quit) (sym e) ∙ h)).0;
@@ -181,7 +181,7 @@ module _ (key : Shape) where
         → Law key (let w : View = record me.0 { reading = record me.0.reading { story = me.0.reading.story ++ replicate k true; picked = [] } } in let t : State S View = stepped s i new id me.1 w keeps in t)
     receives s r id i k old new me at act word from next near hit = let v : View = me.0 in let rd : Reading = v.reading in let own = mine s r id v at act in let pl : Place = r.place rd.place in let ok = r.each_seat id v at in
         let reach = reaches r.log id rd pl own.1 in let is : get_or s.words i 0 ≡ cursor pl = ap (λ (z : ℕ). get_or s.words z 0) word ∙ own.2.stands own.1.live in let more : List Bool = replicate k true in
-        let shorter = begins_length r.log v.seen ok.seen in let first : v.shape.first ≡ key.first = ap (λ (z : Shape). z.first) own.0 in let near' : old + k ≤ v.shape.first + length v.seen = near in
+        let shorter = prefix_length r.log v.seen ok.seen in let first : v.shape.first ≡ key.first = ap (λ (z : Shape). z.first) own.0 in let near' : old + k ≤ v.shape.first + length v.seen = near in
         let pl' : Place = record pl { story = pl.story ++ more } in let rd' : Reading = record rd { story = rd.story ++ more; picked = [] } in let w : View = record v { reading = rd' } in let none_lost' : own.1.story.0 ≡ 0 = omega arith in
         let longer : length pl'.story ≡ length pl.story + k = length-append pl.story more ∙ ap (λ (z : ℕ). length pl.story + z) (length-replicate k true) in
         let stays : (c : Known) → KnownOk c pl → KnownOk c pl' = λ c was. record {
@@ -230,7 +230,7 @@ module _ (key : Shape) where
     picked_words s r id i old m x v at act word from hit near here = let rd : Reading = v.reading in let own = mine s r id v at act in let pl : Place = r.place rd.place in let ok = r.each_seat id v at in
         let is : old ≡ cursor pl = sym hit ∙ (ap (λ (z : ℕ). get_or s.words z 0) word ∙ own.2.stands own.1.live) in let has = own.1.picked (sym is ∙ from) m x here in
         let first : v.shape.first ≡ key.first = ap (λ (z : Shape). z.first) own.0 in let near' : old + m < v.shape.first + length v.seen = near in let index : cursor pl + m ≡ key.first + has.0 = has.2 in
-        (has.0, has.1, ap (λ (z : ℕ). z + m) is ∙ (index ∙ ap (λ (z : ℕ). z + has.0) (sym first)), sym (begins_at r.log v.seen has.0 ok.seen (omega arith)) ∙ has.3)
+        (has.0, has.1, ap (λ (z : ℕ). z + m) is ∙ (index ∙ ap (λ (z : ℕ). z + has.0) (sym first)), sym (prefix_at r.log v.seen has.0 ok.seen (omega arith)) ∙ has.3)
 
     -- the exchange found it elsewhere, and moves nothing
     misses : (s : State S View) (r : Law key s) (id i old : ℕ) (me : Me S View) → get_elem? s.views id ≡ some me.0 → me.0.reading.active ≡ true → i ≡ cursor_word me.0.reading.place → old ≡ position me.0.reading → get_or s.words i 0 ≢ old

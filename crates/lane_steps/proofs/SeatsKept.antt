@@ -12,7 +12,7 @@ use Rattle.lane_steps.specs.declared.view.Sequencing.{Sequencing}
 use Rattle.lane_steps.specs.declared.view.Reading.{Reading}
 use Rattle.lane_steps.specs.declared.view.View.{View}
 use Rattle.lane_steps.specs.Layout.{cursor_word, width}
-use Rattle.lane_steps.specs.Law.{Entry, closed, Begins, Place, cursor, lost, PlaceOk, KnownOk, ReaderOk, IsOver, SeatOk, Law, shut_place, opening_view, no_sequencing}
+use Rattle.lane_steps.specs.Law.{Entry, closed, IsPrefix, Place, cursor, lost, PlaceOk, KnownOk, ReaderOk, IsOver, SeatOk, Law, shut_place, opening_view, no_sequencing}
 use Rattle.lane_steps.specs.Steps.{known_over, next_number, known_of, with_known, found_at, handed_out, new_reader, receipt_of, without_reader, only_reader, telling, joined, end_note, hearing_end, spent, witness, met}
 use Rattle.lane_steps.proofs.Lists.{which, not_both, front, index_there, at_end}
 use Rattle.lane_steps.proofs.Frames.{put, put_here, put_else, quit_stays, seats_stay, unmoved}
@@ -21,7 +21,7 @@ use Rattle.lane_steps.proofs.SequencerKept.{learns}
 
 module _ (key : Shape) where
   -- a seat that knows no more than some first entries
-  witness_ok : (log flight : List Entry) (place : ℕ → Place) (sequencer j : ℕ) (shape : Shape) (some_entries : List Entry) → Begins log some_entries
+  witness_ok : (log flight : List Entry) (place : ℕ → Place) (sequencer j : ℕ) (shape : Shape) (some_entries : List Entry) → IsPrefix some_entries log
       → SeatOk key log flight place sequencer j (witness shape some_entries)
   witness_ok log flight place sequencer j shape l b = record { seen = b; told = (log, refl); sequencing = λ e. not_both false e refl; reading = λ e. not_both false e refl; quit = λ e. not_both false e refl }
 
@@ -260,7 +260,7 @@ module _ (key : Shape) where
             refl,
             (
               refl,
-              subst (λ (l : List Entry). Begins l v.told) (sym own.1) ok.told,
+              subst (λ (l : List Entry). IsPrefix v.told l) (sym own.1) ok.told,
               knows.lost known ∙ (λ c. lost (start c) (story c)),
               omega arith,
               omega arith,

@@ -14,12 +14,12 @@ use Rattle.lane_steps.specs.declared.view.Sequencing.{Sequencing}
 use Rattle.lane_steps.specs.declared.view.Reading.{Reading}
 use Rattle.lane_steps.specs.declared.view.View.{View}
 use Rattle.lane_steps.specs.Layout.{cursor_word, cell_word}
-use Rattle.lane_steps.specs.Law.{Entry, closed, Begins, Place, cursor, lost, PlaceOk, KnownOk, SequencerOk, ReaderOk, IsOver, SeatOk, Law, shut_place}
+use Rattle.lane_steps.specs.Law.{Entry, closed, IsPrefix, Place, cursor, lost, PlaceOk, KnownOk, SequencerOk, ReaderOk, IsOver, SeatOk, Law, shut_place}
 use Rattle.lane_steps.specs.Steps.{next_number, next_to_store, known_of, known_at, known_past, known_from, with_known, Standing, surveyed, filled, filled_next, accepted, accepted_all, dropped, opened}
 use Rattle.lane_steps.proofs.Apart.{cursor_is_no_tail, cursors_differ, cell_is_no_tail, cell_is_no_cursor, cells_differ, tail_within, cell_within}
-use Rattle.lane_steps.proofs.Lists.{which, not_both, within, index_there, at_end, at_first, first_length, first_longer, one_taken, front, begins_self, one_more, lost_one}
+use Rattle.lane_steps.proofs.Lists.{which, not_both, within, index_there, at_end, at_first, first_length, first_longer, one_taken, front, prefix_self, one_more, lost_one}
 use Rattle.lane_steps.proofs.ReaderKept.{reaches}
-use Rattle.lane_steps.proofs.Frames.{put, put_here, put_else, quit_stays, seats_stay, begins_more, unmoved, place_step}
+use Rattle.lane_steps.proofs.Frames.{put, put_here, put_else, quit_stays, seats_stay, prefix_more, unmoved, place_step}
 
 module _ (key : Shape) where
   -- the sequencer knows k of the place p, which may have changed, and of the others what it did
@@ -89,7 +89,7 @@ module _ (key : Shape) where
             refl,
             λ p' e. let is : p ≡ p' = cursors_differ p p' e in (
               ap (λ (z : ℕ). let u : View = record v { told = []; loads = v.loads ++ (cursor_word z, n) ∷ []; sequencing = with_known z (known_at n (known_of q z)) q } in u) is,
-              subst (λ (l : List Entry). Begins l v.told) (sym own.1) ok.told,
+              subst (λ (l : List Entry). IsPrefix v.told l) (sym own.1) ok.told,
               subst (λ (z : ℕ). Standing v z n) is (λ other. let g = f.1 other in let b = all.behind g.3 in let c = all.near g.3 in let cells : v.shape.cells ≡ key.cells = ap (λ (z : Shape). z.cells) own.0 in (g.0, g.1, omega arith, omega arith)),
             ),
           ),
@@ -219,15 +219,15 @@ module _ (key : Shape) where
               };
           each_seat = seats_stay (SeatOk key log' later r.place r.sequencer) s.views id w
               record {
-                seen = subst (λ (z : List Entry). Begins log' z) (λ c. sym own.1 c ++ now) (begins_self log');
-                told = begins_more r.log v.told now ok.told;
+                seen = subst (λ (z : List Entry). IsPrefix z log') (λ c. sym own.1 c ++ now) (prefix_self log');
+                told = prefix_more r.log v.told now ok.told;
                 sequencing = λ _. (own.0, (λ c. own.1 c ++ now), record { seat = own.2.seat; in_flight = refl; count = own.2.count; knows = own.2.knows });
                 reading = λ a. let o = ok.reading a in (o.0, grows id v.reading (r.place v.reading.place) o.1);
                 quit = ok.quit;
               }
               (λ j u other here. let o = r.each_seat j u here in record {
-                seen = begins_more r.log u.seen now o.seen;
-                told = begins_more r.log u.told now o.told;
+                seen = prefix_more r.log u.seen now o.seen;
+                told = prefix_more r.log u.told now o.told;
                 sequencing = λ a. absurd (other ((o.sequencing a).2.seat ∙ sym own.2.seat));
                 reading = λ a. let x = o.reading a in (x.0, grows j u.reading (r.place u.reading.place) x.1);
                 quit = o.quit;

@@ -18,9 +18,9 @@ Entry = ℕ × ℕ
 abbrev pub closed : ℕ
 closed = 18446744073709551615
 
--- the list begins with these
-abbrev pub Begins : {A : Type 0} → List A → List A → Type 0
-Begins {A} xs start = (more : List A) × (xs ≡ start ++ more)
+-- a list begins with this one
+abbrev pub IsPrefix : {A : Type 0} → List A → List A → Type 0
+IsPrefix {A} front xs = (rest : List A) × (xs ≡ front ++ rest)
 
 -- the emission with the number n had the word x, where the first of the log has the number f
 abbrev pub HasWord : ℕ → List Entry → ℕ → ℕ → Type 0
@@ -105,8 +105,8 @@ abbrev pub QuitOk : Shape → (ℕ → Place) → Reading → Type 0
 QuitOk key place r = r.quit ≡ true → (r.active ≡ false) × (r.place < key.places) × IsOver r (place r.place)
 
 pub record SeatOk (key : Shape) (log flight : List Entry) (place : ℕ → Place) (sequencer j : ℕ) (v : View) : Type 0 where
-  pub seen : Begins log v.seen
-  pub told : Begins log v.told
+  pub seen : IsPrefix v.seen log
+  pub told : IsPrefix v.told log
   pub sequencing : v.sequencing.active ≡ true → (v.shape ≡ key) × (v.seen ≡ log) × SequencerOk key flight place sequencer j v.sequencing
   pub reading : v.reading.active ≡ true → (v.shape ≡ key) × ReaderOk key log j v.reading (place v.reading.place)
   pub quit : QuitOk key place v.reading

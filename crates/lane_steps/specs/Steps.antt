@@ -10,7 +10,7 @@ use Rattle.lane_steps.specs.declared.view.Sequencing.{Sequencing}
 use Rattle.lane_steps.specs.declared.view.Reading.{Reading}
 use Rattle.lane_steps.specs.declared.view.View.{View}
 use Rattle.lane_steps.specs.Layout.{tail_word, cursor_word}
-use Rattle.lane_steps.specs.Law.{Entry, closed, Begins, HasWord, HasWords, lost, shut_place, no_sequencing, no_reading}
+use Rattle.lane_steps.specs.Law.{Entry, closed, IsPrefix, HasWord, HasWords, lost, shut_place, no_sequencing, no_reading}
 
 -- the number of the next value for this reader, as it has seen it
 abbrev pub position : Reading → ℕ
@@ -73,7 +73,7 @@ known_over opening k = cond (eqb k.opening opening) (record k { is_open = false 
 -- a load of the tail
 abbrev pub Noticed : View → ℕ → View → Type 0
 Noticed v n v' = (v' ≡ record v { seen = v'.seen; told = []; loads = v.loads ++ (tail_word, n) ∷ [] })
-    × Begins v'.seen v.seen × Begins v'.seen v.told × (n ≡ next_number v') × (position v.reading ≤ n)
+    × IsPrefix v.seen v'.seen × IsPrefix v.told v'.seen × (n ≡ next_number v') × (position v.reading ≤ n)
 
 -- the reader's load of the cell of its position, the word i
 abbrev pub Picked : ℕ → View → ℕ → View → Type 0
@@ -120,7 +120,7 @@ place_moved_past p n q = with_known p (known_past n (known_of q p)) q
 abbrev pub Surveyed : ℕ → View → ℕ → View → Type 0
 Surveyed p v n v' =
     (v' ≡ record v { told = []; loads = v.loads ++ (cursor_word p, n) ∷ []; sequencing = place_found_at p n v.sequencing })
-    × Begins v.seen v.told × Standing v p n
+    × IsPrefix v.told v.seen × Standing v p n
 
 -- each place that may be open has read the cell of the next number
 abbrev pub IsRoomy : ℕ → View → Type 0
@@ -177,7 +177,7 @@ Met i v n v' =
       reading = found_at n v.reading;
       sequencing = place_stands_at v.reading.place n v.sequencing;
     })
-    × Begins v.seen v.told × ((known_of v.sequencing v.reading.place).lost ≡ lost v.reading.start (found_at n v.reading).story)
+    × IsPrefix v.told v.seen × ((known_of v.sequencing v.reading.place).lost ≡ lost v.reading.start (found_at n v.reading).story)
     × (position (found_at n v.reading) ≡ n) × (position v.reading ≤ n) × (n ≤ next_number v) × (v.shape.drops ≡ false → n ≡ position v.reading)
 
 -- the same as a table's step tells it

@@ -38,6 +38,6 @@ mod view;
 mod words;
 
 pub use promises::{closed_cursors_stay, unread_values_stay};
-pub use rule::{LaneRule, Place};
+pub use rule::{LaneRule, LaneSeat};
 pub use view::{Known, Reading, Sequencing, Shape, View};
 pub use words::{CLOSED, DISTANCE, Words};

@@ -12,7 +12,7 @@ use crate::plays::{
     Accept, AcceptAll, Copied, CopiedAll, CopiedEnd, Enter, Fill, FillNext, HandOut, Hear, HearEnd,
     Leave, Look, Lose, Meet, Notice, Open, Pick, PickNext, Quit, Survey, Take, TakePicked, Told,
 };
-use crate::rule::{LaneRule, Place};
+use crate::rule::{LaneRule, LaneSeat};
 use crate::view::{Shape, View};
 use crate::words::{CLOSED, DISTANCE, Words, lay};
 use atomic_table::Table;
@@ -62,14 +62,14 @@ fn index_after(shape: &Shape, cell: usize) -> usize
 impl<A: Allocator> Words<A> {
     /// A lane where each place is closed, and the sequencer's seat.
     #[tactic(auto, using(crate::proofs::Apart::tail_within))]
-    pub fn new(alloc: A, shape: Shape) -> Result<(Words<A>, Place), AllocError>
+    pub fn new(alloc: A, shape: Shape) -> Result<(Words<A>, LaneSeat), AllocError>
     where
         A: Clone,
         requires { IsShape shape }
         ensures { IfOk result (λ t. IsNewLane shape t.0 t.1) }
     {
         let words = lay(alloc.clone()?, shape)?;
-        let (table, seat): (Table<(), View, Shape, LaneRule, A>, Place) = Table::of_words(
+        let (table, seat): (Table<(), View, Shape, LaneRule, A>, LaneSeat) = Table::of_words(
             alloc,
             words.as_slice(),
             &shape,
@@ -109,7 +109,7 @@ impl<A: Allocator> Words<A> {
 // The steps of the sequencer.
 impl<A: Allocator> Words<A> {
     /// Loads the cursor of a place.
-    pub fn load_cursor(&self, seat: &mut Place, place: usize) -> u64
+    pub fn load_cursor(&self, seat: &mut LaneSeat, place: usize) -> u64
         requires seat { IsSeatOf self.now seat.old × (seat.old.me.0.sequencing.active ≡ true) × (place < self.now.shape.places) }
         ensures seat { IsSameSeat seat.old seat.new }
         ensures view { Surveyed place seat.old.me.0 result seat.new.me.0 }
@@ -117,7 +117,7 @@ impl<A: Allocator> Words<A> {
         self.table.shared.load::<Survey>(seat, cursor_at(place))
     }
 
-    fn fill<E: Told>(&self, seat: &mut Place, cell: usize, emitter: u32, word: u64)
+    fn fill<E: Told>(&self, seat: &mut LaneSeat, cell: usize, emitter: u32, word: u64)
         requires told { E.number ≡ emitter }
         requires seat { IsSeatOf self.now seat.old × (seat.old.me.0.sequencing.active ≡ true) }
         requires cell { cell ≡ cell_index self.now.shape (next_number seat.old.me.0) }
@@ -131,7 +131,7 @@ impl<A: Allocator> Words<A> {
     }
 
     /// Stores the word of the next emission in its cell, which has the index `cell`.
-    pub fn store_cell(&self, seat: &mut Place, cell: usize, emitter: u32, word: u64)
+    pub fn store_cell(&self, seat: &mut LaneSeat, cell: usize, emitter: u32, word: u64)
         requires seat { IsSeatOf self.now seat.old × (seat.old.me.0.sequencing.active ≡ true) }
         requires cell { cell ≡ cell_index self.now.shape (next_number seat.old.me.0) }
         requires room { IsRoomy self.now.shape.cells seat.old.me.0 }
@@ -141,7 +141,7 @@ impl<A: Allocator> Words<A> {
         self.fill::<Brand>(seat, cell, emitter, word);
     }
 
-    fn fill_next<E: Told>(&self, seat: &mut Place, cell: usize, emitter: u32, word: u64)
+    fn fill_next<E: Told>(&self, seat: &mut LaneSeat, cell: usize, emitter: u32, word: u64)
         requires told { E.number ≡ emitter }
         requires seat { IsSeatOf self.now seat.old × (seat.old.me.0.sequencing.active ≡ true) }
         requires cell { cell ≡ cell_index self.now.shape (next_to_store seat.old.me.0) }
@@ -157,7 +157,7 @@ impl<A: Allocator> Words<A> {
 
     /// Stores the word of the emission after those in flight in its cell, which has the index `cell`: it is in flight too,
     /// and no more may be than there are cells.
-    pub fn store_next_cell(&self, seat: &mut Place, cell: usize, emitter: u32, word: u64)
+    pub fn store_next_cell(&self, seat: &mut LaneSeat, cell: usize, emitter: u32, word: u64)
         requires seat { IsSeatOf self.now seat.old × (seat.old.me.0.sequencing.active ≡ true) }
         requires cell { cell ≡ cell_index self.now.shape (next_to_store seat.old.me.0) }
         requires room { IsRoomyAt self.now.shape.cells (next_to_store seat.old.me.0) seat.old.me.0 }
@@ -169,7 +169,7 @@ impl<A: Allocator> Words<A> {
     }
 
     /// Stores the tail, and so accepts the first emission in flight.
-    pub fn store_tail(&self, seat: &mut Place, tail: u64)
+    pub fn store_tail(&self, seat: &mut LaneSeat, tail: u64)
         requires seat { IsSeatOf self.now seat.old × (seat.old.me.0.sequencing.active ≡ true) × (seat.old.me.0.sequencing.flight ≢ []) }
         requires tail { (tail ≡ next_number seat.old.me.0 + 1) × (tail ≤ 4611686018427387904) }
         ensures seat { IsSameSeat seat.old seat.new }
@@ -179,7 +179,7 @@ impl<A: Allocator> Words<A> {
     }
 
     /// Stores the tail past all emissions in flight, and so accepts them.
-    pub fn store_tail_past(&self, seat: &mut Place, tail: u64)
+    pub fn store_tail_past(&self, seat: &mut LaneSeat, tail: u64)
         requires seat { IsSeatOf self.now seat.old × (seat.old.me.0.sequencing.active ≡ true) }
         requires tail { (tail ≡ next_to_store seat.old.me.0) × (tail ≤ 4611686018427387904) }
         ensures seat { IsSameSeat seat.old seat.new }
@@ -189,7 +189,7 @@ impl<A: Allocator> Words<A> {
     }
 
     /// Moves the cursor of a place from `at` up by one, where it still stands there, and returns what it found.
-    pub fn lose(&self, seat: &mut Place, place: usize, at: u64) -> u64
+    pub fn lose(&self, seat: &mut LaneSeat, place: usize, at: u64) -> u64
         requires seat { IsSeatOf self.now seat.old × (seat.old.me.0.sequencing.active ≡ true) × (place < self.now.shape.places) }
         requires full { (self.now.shape.drops ≡ true) × (at + self.now.shape.cells ≡ next_number seat.old.me.0) × (at < 18446744073709551615) }
         ensures seat { IsSameSeat seat.old seat.new }
@@ -200,7 +200,7 @@ impl<A: Allocator> Words<A> {
             .compare_exchange::<Lose>(seat, cursor_at(place), at, at + 1)
     }
 
-    fn open_as<O: Told>(&self, seat: &mut Place, place: usize, start: u64, opening: u64)
+    fn open_as<O: Told>(&self, seat: &mut LaneSeat, place: usize, start: u64, opening: u64)
         requires told { O.number ≡ opening }
         requires seat { IsSeatOf self.now seat.old × (seat.old.me.0.sequencing.active ≡ true) × (place < self.now.shape.places) }
         requires closed { ((known_of seat.old.me.0.sequencing place).is_open ≡ false) × (seat.old.me.0.sequencing.flight ≡ []) }
@@ -216,7 +216,7 @@ impl<A: Allocator> Words<A> {
     }
 
     /// Opens the cursor of a closed place at `start`, by an opening with a number above that of the place's last one.
-    pub fn open(&self, seat: &mut Place, place: usize, start: u64, opening: u64)
+    pub fn open(&self, seat: &mut LaneSeat, place: usize, start: u64, opening: u64)
         requires seat { IsSeatOf self.now seat.old × (seat.old.me.0.sequencing.active ≡ true) × (place < self.now.shape.places) }
         requires closed { ((known_of seat.old.me.0.sequencing place).is_open ≡ false) × (seat.old.me.0.sequencing.flight ≡ []) }
         requires start { MayOpenAt self.now.shape seat.old.me.0 start }
@@ -228,7 +228,7 @@ impl<A: Allocator> Words<A> {
     }
 
     /// Loads the cursor of the reader that the seat has taken in.
-    pub fn meet_cursor(&self, seat: &mut Place, place: usize) -> u64
+    pub fn meet_cursor(&self, seat: &mut LaneSeat, place: usize) -> u64
         requires seat { IsMeetingAt self.now seat.old place }
         ensures seat { IsSameSeat seat.old seat.new }
         ensures view { Met (cursor_word place) seat.old.me.0 result seat.new.me.0 }
@@ -240,7 +240,7 @@ impl<A: Allocator> Words<A> {
 // The steps of a reader.
 impl<A: Allocator> Words<A> {
     /// Loads the tail.
-    pub fn load_tail(&self, seat: &mut Place) -> u64
+    pub fn load_tail(&self, seat: &mut LaneSeat) -> u64
         requires seat { IsSeatOf self.now seat.old × (seat.old.me.0.reading.active ≡ true) }
         ensures seat { IsSameSeat seat.old seat.new }
         ensures view { Noticed seat.old.me.0 result seat.new.me.0 }
@@ -249,7 +249,7 @@ impl<A: Allocator> Words<A> {
     }
 
     /// Loads the cell of the reader's position, which has the index `cell`.
-    pub fn load_cell(&self, seat: &mut Place, cell: usize) -> u64
+    pub fn load_cell(&self, seat: &mut LaneSeat, cell: usize) -> u64
         requires seat { IsSeatOf self.now seat.old × (seat.old.me.0.reading.active ≡ true) }
         requires cell { cell ≡ cell_index self.now.shape (position seat.old.me.0.reading) }
         requires position { position seat.old.me.0.reading < next_number seat.old.me.0 }
@@ -261,7 +261,7 @@ impl<A: Allocator> Words<A> {
     }
 
     /// Loads the cell of the number after those that the reader has picked, which has the index `cell`.
-    pub fn load_next_cell(&self, seat: &mut Place, cell: usize) -> u64
+    pub fn load_next_cell(&self, seat: &mut LaneSeat, cell: usize) -> u64
         requires seat { IsSeatOf self.now seat.old × (seat.old.me.0.reading.active ≡ true) }
         requires cell { cell ≡ cell_index self.now.shape (next_to_pick seat.old.me.0.reading) }
         requires position { next_to_pick seat.old.me.0.reading < next_number seat.old.me.0 }
@@ -273,7 +273,7 @@ impl<A: Allocator> Words<A> {
     }
 
     /// Moves the reader's cursor from `at` up by one, where it still stands there, and returns what it found.
-    pub fn receive(&self, seat: &mut Place, place: usize, at: u64) -> u64
+    pub fn receive(&self, seat: &mut LaneSeat, place: usize, at: u64) -> u64
         requires seat { IsReaderAt self.now seat.old place }
         requires position { (at ≡ position seat.old.me.0.reading) × (at < next_number seat.old.me.0) × (at < 18446744073709551615) }
         requires picked { seat.old.me.0.reading.picked ≢ [] }
@@ -287,7 +287,7 @@ impl<A: Allocator> Words<A> {
 
     /// Moves the reader's cursor from `at` past all that it has picked, which are `count` words, where it still stands
     /// there, and returns what it found.
-    pub fn receive_picked(&self, seat: &mut Place, place: usize, at: u64, count: u64) -> u64
+    pub fn receive_picked(&self, seat: &mut LaneSeat, place: usize, at: u64, count: u64) -> u64
         requires seat { IsReaderAt self.now seat.old place }
         requires position { (at ≡ position seat.old.me.0.reading) × (at + count ≤ next_number seat.old.me.0) × (at + count ≤ 18446744073709551615) }
         requires picked { length seat.old.me.0.reading.picked ≡ count }
@@ -300,7 +300,7 @@ impl<A: Allocator> Words<A> {
     }
 
     /// Loads the reader's cursor.
-    pub fn load_own(&self, seat: &mut Place, place: usize) -> u64
+    pub fn load_own(&self, seat: &mut LaneSeat, place: usize) -> u64
         requires seat { IsReaderAt self.now seat.old place }
         ensures seat { IsSameSeat seat.old seat.new }
         ensures view { Looked (cursor_word place) seat.old.me.0 result seat.new.me.0 }
@@ -309,7 +309,7 @@ impl<A: Allocator> Words<A> {
     }
 
     /// Closes the reader's cursor.
-    pub fn quit(&self, seat: &mut Place, place: usize)
+    pub fn quit(&self, seat: &mut LaneSeat, place: usize)
         requires seat { IsReaderAt self.now seat.old place }
         ensures seat { IsSameSeat seat.old seat.new }
         ensures view { HasQuit seat.old.me.0 seat.new.me.0 }
@@ -322,7 +322,7 @@ impl<A: Allocator> Words<A> {
 
 // Seats are split and joined.
 impl<A: Allocator> Words<A> {
-    fn split_copy<N: Told>(&self, seat: &mut Place, count: u64) -> Place
+    fn split_copy<N: Told>(&self, seat: &mut LaneSeat, count: u64) -> LaneSeat
         requires told { N.number ≡ count }
         requires seat { IsSeatOf self.now seat.old }
         ensures seat { IsSameSeat seat.old seat.new × (seat.new.me.0 ≡ seat.old.me.0) }
@@ -333,7 +333,7 @@ impl<A: Allocator> Words<A> {
     }
 
     /// A seat that knows the first `count` entries.
-    pub fn copy_seen(&self, seat: &mut Place, count: u64) -> Place
+    pub fn copy_seen(&self, seat: &mut LaneSeat, count: u64) -> LaneSeat
         requires { IsSeatOf self.now seat.old }
         ensures seat { IsSameSeat seat.old seat.new × (seat.new.me.0 ≡ seat.old.me.0) }
         ensures copy { IsSeatOf self.now result × (result.me ≡ (receipt_of count seat.old.me.0, [])) }
@@ -342,7 +342,7 @@ impl<A: Allocator> Words<A> {
     }
 
     /// A seat that knows the same entries.
-    pub fn copy_all(&self, seat: &mut Place) -> Place
+    pub fn copy_all(&self, seat: &mut LaneSeat) -> LaneSeat
         requires { IsSeatOf self.now seat.old }
         ensures seat { IsSameSeat seat.old seat.new × (seat.new.me.0 ≡ seat.old.me.0) }
         ensures copy { IsSeatOf self.now result × (result.me ≡ (witness seat.old.me.0.shape seat.old.me.0.seen, [])) }
@@ -351,14 +351,14 @@ impl<A: Allocator> Words<A> {
     }
 
     /// The seat hears of what another has seen. Its next load compares both.
-    pub fn hear(&self, seat: &mut Place, other: Place)
+    pub fn hear(&self, seat: &mut LaneSeat, other: LaneSeat)
         requires { IsSeatOf self.now seat.old × IsSeatOf self.now other × (other.me.1 ≡ []) }
         ensures seat { IsSameSeat seat.old seat.new × (seat.new.me.0 ≡ telling seat.old.me.0 other.me.0) }
     {
         self.table.shared.join_seat::<Hear>(seat, other);
     }
 
-    fn split_reader<P: Told>(&self, seat: &mut Place, place: usize) -> Place
+    fn split_reader<P: Told>(&self, seat: &mut LaneSeat, place: usize) -> LaneSeat
         requires told { P.number ≡ place }
         requires seat { IsSeatOf self.now seat.old × (seat.old.me.0.sequencing.active ≡ true) × (place < self.now.shape.places) }
         requires opened { ((known_of seat.old.me.0.sequencing place).is_open ≡ true) × ((known_of seat.old.me.0.sequencing place).unread ≡ true) }
@@ -370,7 +370,7 @@ impl<A: Allocator> Words<A> {
     }
 
     /// The seat of a reader of an open place that has none yet.
-    pub fn hand_out(&self, seat: &mut Place, place: usize) -> Place
+    pub fn hand_out(&self, seat: &mut LaneSeat, place: usize) -> LaneSeat
         requires seat { IsSeatOf self.now seat.old × (seat.old.me.0.sequencing.active ≡ true) × (place < self.now.shape.places) }
         requires opened { ((known_of seat.old.me.0.sequencing place).is_open ≡ true) × ((known_of seat.old.me.0.sequencing place).unread ≡ true) }
         ensures seat { IsSameSeat seat.old seat.new × (seat.new.me.0 ≡ handed_out place seat.old.me.0) }
@@ -380,7 +380,7 @@ impl<A: Allocator> Words<A> {
     }
 
     /// The reader's part leaves a seat.
-    pub fn split_reading(&self, seat: &mut Place) -> Place
+    pub fn split_reading(&self, seat: &mut LaneSeat) -> LaneSeat
         requires { IsSeatOf self.now seat.old × (seat.old.me.0.reading.active ≡ true) }
         ensures seat { IsSameSeat seat.old seat.new × (seat.new.me.0 ≡ without_reader seat.old.me.0) }
         ensures reader { IsSeatOf self.now result × (result.me ≡ (only_reader seat.old.me.0, [])) }
@@ -389,7 +389,7 @@ impl<A: Allocator> Words<A> {
     }
 
     /// The reader's part comes into the sequencer's seat.
-    pub fn join_reading(&self, seat: &mut Place, reader: Place)
+    pub fn join_reading(&self, seat: &mut LaneSeat, reader: LaneSeat)
         requires seat { IsSeatOf self.now seat.old × (seat.old.me.0.sequencing.active ≡ true) }
         requires reader { IsSeatOf self.now reader × (reader.me.1 ≡ []) × (reader.me.0.reading.active ≡ true) }
         ensures { IsSameSeat seat.old seat.new × (seat.new.me.0 ≡ joined seat.old.me.0 reader.me.0) }
@@ -398,7 +398,7 @@ impl<A: Allocator> Words<A> {
     }
 
     /// A seat that knows the end of a reader, as this one does, which closed that reader's cursor.
-    pub fn copy_end(&self, seat: &mut Place) -> Place
+    pub fn copy_end(&self, seat: &mut LaneSeat) -> LaneSeat
         requires { IsSeatOf self.now seat.old × (seat.old.me.0.reading.quit ≡ true) }
         ensures seat { IsSameSeat seat.old seat.new × (seat.new.me.0 ≡ seat.old.me.0) }
         ensures copy { IsSeatOf self.now result × (result.me ≡ (end_note seat.old.me.0, [])) }
@@ -407,7 +407,7 @@ impl<A: Allocator> Words<A> {
     }
 
     /// The sequencer's seat hears of the end of a reader: the reader's place is closed, unless it was opened again.
-    pub fn hear_end(&self, seat: &mut Place, end: Place)
+    pub fn hear_end(&self, seat: &mut LaneSeat, end: LaneSeat)
         requires seat { IsSeatOf self.now seat.old × (seat.old.me.0.sequencing.active ≡ true) }
         requires end { IsSeatOf self.now end × (end.me.1 ≡ []) × (end.me.0.reading.quit ≡ true) }
         ensures { IsSameSeat seat.old seat.new × (seat.new.me.0 ≡ hearing_end seat.old.me.0 end.me.0) }

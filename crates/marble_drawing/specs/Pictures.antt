@@ -2,10 +2,10 @@
 use Rattle.std.specs.Prelude.{◌≡◌, ℕ, List, Option, Result, String, map, string_bytes}
 use Rattle.std.specs.List.Sorted.{IsPermutation}
 use Rattle.marble_marks.specs.declared.mark.Mark.{Mark}
-use Rattle.marble_marks.specs.Turns.{Asked, Saying, saying, asked_of}
+use Rattle.marble_marks.specs.AnsweredLines.{Asked, Saying, saying, asked_of}
 use Rattle.marble_marks.specs.Marks.{mark_in}
 use Rattle.marble_marks.specs.Showing.{Shows}
-use Rattle.marble_marks.specs.Receipts.{receipts_in, receipts_of}
+use Rattle.marble_marks.specs.Receivings.{receipts_in, receipts_of}
 use Rattle.marble_pictures.specs.Drawings.{Draws}
 use Rattle.flow_terms.specs.declared.refusal.Refusal.{Refusal}
 use Rattle.script_commands.specs.declared.answer.Answer.{Answer}

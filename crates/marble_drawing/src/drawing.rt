@@ -4,7 +4,7 @@ ghost use Rattle.std.specs.Prelude.{◌≡◌, ◌≤◌, length, map, IfOk, str
 ghost use Rattle.flow_script.specs.Running.{On};
 ghost use Rattle.marble_drawing.specs.Pictures.{DrawsLines, ShowsLines, DrawnBy, saying_of};
 ghost use Rattle.marble_drawing.specs.declared.drawing.Form.TheVariants.{Text};
-ghost use Rattle.marble_marks.specs.Turns.{asked_of, saying_in};
+ghost use Rattle.marble_marks.specs.AnsweredLines.{asked_of, saying_in};
 
 use flow_script::{CoreObject, Engine, LaneObject, LineAnswer, ScriptFault, answers_of};
 use marble_marks::{Said, marks};

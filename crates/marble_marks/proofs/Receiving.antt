@@ -18,17 +18,17 @@ use Rattle.marble_marks.specs.Deeds.{Doing, Done, done_by}
 use Rattle.marble_marks.specs.declared.moves.Move.{Move}
 use Rattle.marble_marks.specs.declared.standing.Step.{Step}
 use Rattle.marble_marks.specs.declared.standing.Step.TheVariants as steps
-use Rattle.marble_marks.specs.Standings.{Stand, begun, stepped, let_in_values}
+use Rattle.marble_marks.specs.Standings.{Stand, begun, stepped, accepted_later_values}
 use Rattle.marble_marks.specs.Moves.{moves_on}
 use Rattle.marble_marks.specs.Numbers.{at_once, late_marks, all_late, move_marks, moved, moves_seen, numbered_on, numbers_of}
 use Rattle.marble_marks.specs.Losses.{host_met, guest_met, value_met, lost_mark, lost_at, lost_by, loss_mark, losses_of}
 use Rattle.marble_marks.specs.Replies.{reply_of}
-use Rattle.marble_marks.specs.Turns.{Asked}
+use Rattle.marble_marks.specs.AnsweredLines.{Asked}
 use Rattle.marble_marks.specs.Happenings.{Event, event, if_made, emits, joins, asks, said, next_kind, ticket_kind, value_kind, try_kind, cancel_kind, set_kind, compare_kind, tick_kind}
 use Rattle.marble_marks.specs.Homes.{name_by, home_after}
 use Rattle.marble_marks.specs.Preludes.{kind_by, left_after}
 use Rattle.marble_marks.specs.Marks.{Seen, seen, marks_at, marks_from, marks_on, marks_of, row_marks, label_marks, line_kind, shown, shown_by, names_in, row_of}
-use Rattle.marble_marks.specs.Receipts.{Receipt, receipt, receipt_in, receipts_in, receipt_at, receipt_by, receipts_of, value_said}
+use Rattle.marble_marks.specs.Receivings.{Receipt, receipt, receipt_in, receipts_in, receipt_at, receipt_by, receipts_of, value_said}
 
 -- the marks of what is shown by a line alone: on the row of its name, a value of a prelude as any other
 abbrev plain_marks : List (List ℕ) → ℕ → List ℕ → Option Event → List Seen
@@ -72,7 +72,7 @@ none_emitted names column answer host name value replies.Dropped = refl
 none_emitted names column answer host name value replies.Waiting = refl
 none_emitted names column answer host name value _ = refl
 
-none_joined : (names : List (List ℕ)) (column : ℕ) (answer host name : List ℕ) (party : Joining) (reply : Reply) → received names column answer (joins host name party reply) ≡ []
+none_joined : (names : List (List ℕ)) (column : ℕ) (answer host name : List ℕ) (joiner : Joining) (reply : Reply) → received names column answer (joins host name joiner reply) ≡ []
 none_joined names column answer host name (commands.subscription prelude) reply = none_made names column answer name reply _
 none_joined names column answer host name commands.collector reply = none_made names column answer name reply _
 none_joined names column answer host name (commands.emission value) reply = none_emitted names column answer host name value reply
@@ -153,7 +153,7 @@ order_counted : (names : List (List ℕ)) (column : ℕ) (answer : List ℕ) (or
     received names column answer (shown_by order reply) ≡ wanted names column answer order reply
 order_counted names column answer None reply = refl
 order_counted names column answer (Some (commands.make name made)) reply = none_made names column answer name reply _
-order_counted names column answer (Some (commands.join host name party)) reply = none_joined names column answer host name party reply
+order_counted names column answer (Some (commands.join host name joiner)) reply = none_joined names column answer host name joiner reply
 order_counted names column answer (Some (commands.ask name request)) reply = asked_counted names column answer name request reply
 order_counted names column answer (Some (commands.cold pipe)) reply = refl
 
@@ -205,8 +205,8 @@ both_none front back none_front none_back =
 none_moved : (row : ℕ) (stand : Stand) (it : Move) → receipts_in (move_marks row stand it) ≡ []
 none_moved row stand it =
     let after = stepped it.step stand in
-    both_none (at_once it.column row stand.accepted it.step) (all_late it.column row after.accepted (let_in_values after))
-    (none_at_once it.column row stand.accepted it.step) (none_late it.column row after.accepted 0 (length (let_in_values after)) (let_in_values after))
+    both_none (at_once it.column row stand.accepted it.step) (all_late it.column row after.accepted (accepted_later_values after))
+    (none_at_once it.column row stand.accepted it.step) (none_late it.column row after.accepted 0 (length (accepted_later_values after)) (accepted_later_values after))
 
 none_moves : (row : ℕ) (stand : Stand) (moves : List Move) → receipts_in (moves_seen row stand moves) ≡ []
 none_moves row stand [] = refl

@@ -3,10 +3,10 @@ use Rattle.std.proofs.Common.{◌≡◌, ◌<◌, ◌+◌, ◌++◌, ◌∷◌, 
 use Rattle.std.specs.Prelude.{unwrap_or}
 use Rattle.std.specs.Option.{option_map}
 use denote.Ref.{Bor}
-use Rattle.marble_marks.specs.declared.turn.Turn.{Turn}
+use Rattle.marble_marks.specs.declared.answered.AnsweredLine.{AnsweredLine}
 use Rattle.std.specs.List.{filter_map}
 use Rattle.marble_marks.specs.declared.loss.Loss.{Loss}
-use Rattle.marble_marks.specs.Turns.{Asked, asked_in}
+use Rattle.marble_marks.specs.AnsweredLines.{Asked, asked_in}
 use Rattle.marble_marks.specs.Deeds.{Done, done_by}
 use Rattle.marble_marks.specs.Numbers.{numbered_in, numbers_of}
 use Rattle.marble_marks.specs.Losses.{loss_mark, losses_of}
@@ -28,17 +28,17 @@ left_noted true before after count given = ap (λ left. unwrap_or left 0) given
 left_noted false before after count given = ap (λ left. unwrap_or left 0) given
 
 -- THE MARKS OF ONE MORE LINE, and those of the lines after it
-pub marks_more : (names : List (List ℕ)) (home home_then : List ℕ → Option (List ℕ)) (left left_then : List ℕ → ℕ) (turns : List Turn) (i : ℕ) (turn : Turn) (before after whole : List Seen) → i < length turns
-    → turn ≡ get_or turns i turn
-    → ((name : List ℕ) → home_then name ≡ home_after (home name) name (asked_in turn))
-    → ((name : List ℕ) → left_then name ≡ left_after (left name) name (shown (asked_in turn)) (asked_in turn))
-    → after ≡ before ++ marks_at names home left (asked_in turn)
-    → before ++ marks_from names home left (map asked_in (drop i turns)) ≡ whole
-    → after ++ marks_from names home_then left_then (map asked_in (drop (i + 1) turns)) ≡ whole
-marks_more names home home_then left left_then turns i turn before after whole within is homes lefts made was =
-    let it = asked_in turn in
-    let rest = map asked_in (drop (i + 1) turns) in
-    let next : drop i turns ≡ turn ∷ drop (i + 1) turns = drop_step turns i turn within ∙ ap (λ t. t ∷ drop (i + 1) turns) (sym is) in
+pub marks_more : (names : List (List ℕ)) (home home_then : List ℕ → Option (List ℕ)) (left left_then : List ℕ → ℕ) (answered_lines : List AnsweredLine) (i : ℕ) (answered : AnsweredLine) (before after whole : List Seen) → i < length answered_lines
+    → answered ≡ get_or answered_lines i answered
+    → ((name : List ℕ) → home_then name ≡ home_after (home name) name (asked_in answered))
+    → ((name : List ℕ) → left_then name ≡ left_after (left name) name (shown (asked_in answered)) (asked_in answered))
+    → after ≡ before ++ marks_at names home left (asked_in answered)
+    → before ++ marks_from names home left (map asked_in (drop i answered_lines)) ≡ whole
+    → after ++ marks_from names home_then left_then (map asked_in (drop (i + 1) answered_lines)) ≡ whole
+marks_more names home home_then left left_then answered_lines i answered before after whole within is homes lefts made was =
+    let it = asked_in answered in
+    let rest = map asked_in (drop (i + 1) answered_lines) in
+    let next : drop i answered_lines ≡ answered ∷ drop (i + 1) answered_lines = drop_step answered_lines i answered within ∙ ap (λ t. t ∷ drop (i + 1) answered_lines) (sym is) in
     ap (λ ys. ys ++ marks_from names home_then left_then rest) made
     ∙ append_assoc before (marks_at names home left it) (marks_from names home_then left_then rest)
     ∙ ap₂ (λ h l. before ++ (marks_at names home left it ++ marks_from names h l rest)) (λ k name. homes name k) (λ k name. lefts name k)

@@ -10,7 +10,7 @@ use Rattle.marble_marks.specs.declared.deed.Deed.TheVariants as deeds
 use Rattle.marble_marks.specs.declared.reply.Reply.{Reply}
 use Rattle.marble_marks.specs.declared.reply.Reply.TheVariants as replies
 use Rattle.marble_marks.specs.Replies.{reply_of}
-use Rattle.marble_marks.specs.Turns.{Asked}
+use Rattle.marble_marks.specs.AnsweredLines.{Asked}
 
 -- what a line does, its names as bytes
 pub data Doing : Type 0 where
@@ -99,7 +99,7 @@ asking name _ reply = nothing
 abbrev pub doing_of : Option Order → Reply → Doing
 doing_of None reply = nothing
 doing_of (Some (commands.make name made)) reply = making name made reply
-doing_of (Some (commands.join host name party)) reply = joining host name party reply
+doing_of (Some (commands.join host name joiner)) reply = joining host name joiner reply
 doing_of (Some (commands.ask name request)) reply = asking name request reply
 doing_of (Some (commands.cold pipe)) reply = nothing
 

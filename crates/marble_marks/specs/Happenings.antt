@@ -111,6 +111,6 @@ asks (requested.Tick moment) reply = tick_kind reply
 -- WHAT A COMMAND WITH THIS REPLY SHOWS, and for whom
 abbrev pub happening_of : Order → Reply → Option Event
 happening_of (commands.make name made) reply = if_made reply (event name (kinds.Begun (row_made made)))
-happening_of (commands.join host name party) reply = joins host name party reply
+happening_of (commands.join host name joiner) reply = joins host name joiner reply
 happening_of (commands.ask name request) reply = option_map (λ kind. event name kind) (asks request reply)
 happening_of (commands.cold pipe) reply = None

@@ -10,7 +10,7 @@ use Rattle.marble_marks.specs.declared.mark.Kind.TheVariants as kinds
 use Rattle.marble_marks.specs.declared.reply.Reply.{Reply}
 use Rattle.marble_marks.specs.declared.reply.Reply.TheVariants as replies
 use Rattle.marble_marks.specs.Replies.{reply_of}
-use Rattle.marble_marks.specs.Turns.{Asked}
+use Rattle.marble_marks.specs.AnsweredLines.{Asked}
 
 -- ---- by the lines
 
@@ -25,7 +25,7 @@ home_joined host name (commands.emission value) reply = if_at_once reply name ho
 home_joined host name _ reply = None
 
 abbrev pub home_by : Option Order → Reply → Option (List ℕ × List ℕ)
-home_by (Some (commands.join host name party)) reply = home_joined host name party reply
+home_by (Some (commands.join host name joiner)) reply = home_joined host name joiner reply
 home_by _ reply = None
 
 -- the emission that a line finishes at once, if it does, and its flow

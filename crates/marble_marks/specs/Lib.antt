@@ -1,5 +1,5 @@
 pub mod Replies
-pub mod Turns
+pub mod AnsweredLines
 pub mod Happenings
 pub mod Homes
 pub mod Preludes
@@ -13,4 +13,4 @@ pub mod Numbers
 pub mod Guests
 pub mod Losses
 pub mod Showing
-pub mod Receipts
+pub mod Receivings

@@ -4,7 +4,7 @@ use Rattle.std.specs.Prelude.{ℕ, List, [], map, Option, Some, None, bytes_eq, 
 use Rattle.std.specs.List.{filter_map, slice_get}
 use Rattle.marble_marks.specs.declared.loss.Loss.{Loss}
 use Rattle.marble_marks.specs.declared.mark.Kind.TheVariants as kinds
-use Rattle.marble_marks.specs.Turns.{Asked}
+use Rattle.marble_marks.specs.AnsweredLines.{Asked}
 use Rattle.marble_marks.specs.Marks.{Seen, seen, names_in, row_of}
 use Rattle.marble_marks.specs.Deeds.{Doing, Done, done_by}
 use Rattle.marble_marks.specs.Deeds as deeds

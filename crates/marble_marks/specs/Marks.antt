@@ -8,7 +8,7 @@ use Rattle.marble_marks.specs.declared.mark.Mark.{Mark}
 use Rattle.marble_marks.specs.declared.reply.Reply.{Reply}
 use Rattle.marble_marks.specs.declared.reply.Reply.TheVariants as replies
 use Rattle.marble_marks.specs.Replies.{reply_of}
-use Rattle.marble_marks.specs.Turns.{Asked}
+use Rattle.marble_marks.specs.AnsweredLines.{Asked}
 use Rattle.marble_marks.specs.Happenings.{Event, happening_of}
 use Rattle.marble_marks.specs.Homes.{name_by, home_after}
 use Rattle.marble_marks.specs.Preludes.{kind_by, left_after}

@@ -40,7 +40,7 @@ flow_row names all (deeds.ends guest) = host_row names guest all
 flow_row names all (deeds.empties host) = Some (row_of names host)
 flow_row names all _ = None
 
--- what a line does to that flow, where these are all the lines: an emission that is taken back later is never let in
+-- what a line does to that flow, where these are all the lines: an emission that is taken back later is never accepted
 abbrev pub step_of : List (List ℕ) → List Done → Doing → Option Step
 step_of names all (deeds.opens host replay extra) = Some (steps.Opened replay extra)
 step_of names all (deeds.accepts host value) = Some steps.Accepted

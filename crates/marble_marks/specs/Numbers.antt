@@ -9,10 +9,10 @@ use Rattle.marble_marks.specs.declared.standing.Step.{Step}
 use Rattle.marble_marks.specs.declared.standing.Step.TheVariants as steps
 use Rattle.marble_marks.specs.declared.mark.Kind.TheVariants as kinds
 use Rattle.marble_marks.specs.declared.mark.Spot.{Spot}
-use Rattle.marble_marks.specs.Turns.{Asked}
+use Rattle.marble_marks.specs.AnsweredLines.{Asked}
 use Rattle.marble_marks.specs.Marks.{Seen, seen, names_in, row_of}
 use Rattle.marble_marks.specs.Deeds.{Done, done_by}
-use Rattle.marble_marks.specs.Standings.{Stand, begun, stepped, settled, let_in_values}
+use Rattle.marble_marks.specs.Standings.{Stand, begun, stepped, settled, accepted_later_values}
 use Rattle.marble_marks.specs.Moves.{moves_on}
 
 abbrev pub spot : ℕ → ℕ → Spot
@@ -26,12 +26,12 @@ abbrev pub at_once : ℕ → ℕ → ℕ → Step → List Seen
 at_once column row number steps.Accepted = number_mark column row number (spot 0 1) ∷ []
 at_once column row number _ = []
 
--- the marks of these values, which one line lets in, each with its number, where so many were accepted before the first of so many,
+-- the marks of these values, which one line accepts, each with its number, where so many were accepted before the first of so many,
 -- and this many of those come before
 abbrev pub late_marks : ℕ → ℕ → ℕ → ℕ → ℕ → List ℕ → List Seen
 late_marks column row first index count [] = []
 late_marks column row first index count (value ∷ values) =
-    seen column row (kinds.LetIn value (spot index count)) [] ∷ number_mark column row (first + index) (spot index count)
+    seen column row (kinds.AcceptedLater value (spot index count)) [] ∷ number_mark column row (first + index) (spot index count)
     ∷ late_marks column row first (index + 1) count values
 
 abbrev pub all_late : ℕ → ℕ → ℕ → List ℕ → List Seen
@@ -41,7 +41,7 @@ all_late column row first values = late_marks column row first 0 (length values)
 abbrev pub move_marks : ℕ → Stand → Move → List Seen
 move_marks row stand it =
     let after = stepped it.step stand in
-    at_once it.column row stand.accepted it.step ++ all_late it.column row after.accepted (let_in_values after)
+    at_once it.column row stand.accepted it.step ++ all_late it.column row after.accepted (accepted_later_values after)
 
 -- how the flow stands after a line
 abbrev pub moved : Stand → Move → Stand

@@ -10,7 +10,7 @@ use Rattle.marble_marks.specs.declared.reply.Reply.{Reply}
 use Rattle.marble_marks.specs.declared.reply.Reply.TheVariants as replies
 use Rattle.marble_marks.specs.Happenings.{Event}
 use Rattle.marble_marks.specs.Replies.{reply_of}
-use Rattle.marble_marks.specs.Turns.{Asked}
+use Rattle.marble_marks.specs.AnsweredLines.{Asked}
 
 -- ---- by the lines
 
@@ -27,7 +27,7 @@ greeted_joined name (commands.subscription prelude) reply = if_greeted reply nam
 greeted_joined name _ reply = None
 
 abbrev pub greeted_by : Option Order → Reply → Option (List ℕ × ℕ)
-greeted_by (Some (commands.join host name party)) reply = greeted_joined name party reply
+greeted_by (Some (commands.join host name joiner)) reply = greeted_joined name joiner reply
 greeted_by _ reply = None
 
 -- the subscription that begins with a prelude by a line, if one does, and how many values that has

@@ -1,7 +1,7 @@
 -- READ THIS FIRST: all the marks of a picture.
 use Rattle.std.specs.Prelude.{◌≡◌, List, ◌++◌}
 use Rattle.marble_marks.specs.declared.loss.Loss.{Loss}
-use Rattle.marble_marks.specs.Turns.{Asked}
+use Rattle.marble_marks.specs.AnsweredLines.{Asked}
 use Rattle.marble_marks.specs.Marks.{Seen, marks_of}
 use Rattle.marble_marks.specs.Numbers.{numbers_of}
 use Rattle.marble_marks.specs.Losses.{losses_of}

@@ -72,7 +72,7 @@ stepped (steps.Took row) stand = record stand { seats = map (given_on row stand.
 stepped (steps.Ended row) stand = record stand { seats = filter_map (not_on row) stand.seats }
 stepped steps.Emptied stand = record stand { reset_at = stand.accepted }
 
--- ---- who is let in
+-- ---- who is accepted
 
 -- how many more values this subscription has places for
 abbrev pub free : ℕ → ℕ → Seat → ℕ
@@ -84,12 +84,12 @@ room_for places accepted most [] = most
 room_for places accepted most (it ∷ seats) = room_for places accepted (min most (free places accepted it)) seats
 
 -- HOW MANY OF THOSE THAT WAIT ARE LET IN
-abbrev pub let_in : Stand → ℕ
-let_in stand = room_for stand.places stand.accepted (length stand.waiting) stand.seats
+abbrev pub accepted_later : Stand → ℕ
+accepted_later stand = room_for stand.places stand.accepted (length stand.waiting) stand.seats
 
 abbrev pub settled : Stand → Stand
-settled stand = record stand { accepted = stand.accepted + let_in stand; waiting = drop (let_in stand) stand.waiting }
+settled stand = record stand { accepted = stand.accepted + accepted_later stand; waiting = drop (accepted_later stand) stand.waiting }
 
--- the values that are let in, the one that waited longest first
-abbrev pub let_in_values : Stand → List ℕ
-let_in_values stand = take (let_in stand) stand.waiting
+-- the values that are accepted, the one that waited longest first
+abbrev pub accepted_later_values : Stand → List ℕ
+accepted_later_values stand = take (accepted_later stand) stand.waiting

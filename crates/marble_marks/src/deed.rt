@@ -3,12 +3,12 @@
 ghost use Rattle.std.specs.Prelude.{◌≡◌, IfOk, map};
 ghost use Rattle.std.specs.Option.{option_map};
 ghost use Rattle.script_commands.specs.Commands.{order_of, made_in, joining_in};
-ghost use Rattle.marble_marks.specs.Turns.{asked_in};
+ghost use Rattle.marble_marks.specs.AnsweredLines.{asked_in};
 ghost use Rattle.marble_marks.specs.Deeds.{doing_in, emitting, withdrawing, making, joining, asking, doing_of, done_in, done_by};
 
+use crate::answered::AnsweredLine;
 use crate::reply::Reply;
-use crate::turn::Turn;
-use script_commands::{Command, Making, Party, Request};
+use script_commands::{Command, Joiner, Making, Request};
 use std::alloc::{AllocError, Global};
 
 /// What a line does.
@@ -120,11 +120,11 @@ fn making<'a>(name: &'a [u8], made: Making<'a>, reply: Reply) -> Deed<'a>
 }
 
 /// What it does to join something.
-fn joining<'a>(host: &'a [u8], name: &'a [u8], party: Party<'a>, reply: Reply) -> Deed<'a>
-    ensures { doing_in result ≡ joining host.now name.now (joining_in party.entry) reply }
+fn joining<'a>(host: &'a [u8], name: &'a [u8], joiner: Joiner<'a>, reply: Reply) -> Deed<'a>
+    ensures { doing_in result ≡ joining host.now name.now (joining_in joiner.entry) reply }
 {
-    match party {
-        Party::Subscription(prelude) => match reply {
+    match joiner {
+        Joiner::Subscription(prelude) => match reply {
             Reply::Ok => Deed::Joins {
                 host,
                 guest: name,
@@ -132,7 +132,7 @@ fn joining<'a>(host: &'a [u8], name: &'a [u8], party: Party<'a>, reply: Reply) -
             },
             _ => Deed::Nothing,
         },
-        Party::Collector => match reply {
+        Joiner::Collector => match reply {
             Reply::Ok => Deed::Joins {
                 host,
                 guest: name,
@@ -140,7 +140,7 @@ fn joining<'a>(host: &'a [u8], name: &'a [u8], party: Party<'a>, reply: Reply) -
             },
             _ => Deed::Nothing,
         },
-        Party::Emission(value) => emitting(host, name, value, reply),
+        Joiner::Emission(value) => emitting(host, name, value, reply),
     }
 }
 
@@ -184,21 +184,24 @@ fn deed_of<'a>(command: Option<Command<'a>>, reply: Reply) -> Deed<'a>
 {
     match command {
         Some(Command::Make { name, making: made }) => making(name, made, reply),
-        Some(Command::Join { host, name, party }) => joining(host, name, party, reply),
+        Some(Command::Join { host, name, joiner }) => joining(host, name, joiner, reply),
         Some(Command::Ask { name, request }) => asking(name, request, reply),
         Some(Command::Cold { .. }) | None => Deed::Nothing,
     }
 }
 
 /// What these lines do.
-pub(crate) fn acts<'a>(alloc: Global, turns: &[Turn<'a>]) -> Result<Vec<Act<'a>>, AllocError>
-    ensures { IfOk result (λ acts. map done_in acts.items ≡ map done_by (map asked_in turns.now)) }
+pub(crate) fn acts<'a>(
+    alloc: Global,
+    answered_lines: &[AnsweredLine<'a>],
+) -> Result<Vec<Act<'a>>, AllocError>
+    ensures { IfOk result (λ acts. map done_in acts.items ≡ map done_by (map asked_in answered_lines.now)) }
 {
     let mut acts = Vec::new(alloc);
-    for turn in turns {
+    for answered in answered_lines {
         acts.push(Act {
-            column: turn.column,
-            deed: deed_of(turn.command, Reply::of(turn.answer)),
+            column: answered.column,
+            deed: deed_of(answered.command, Reply::of(answered.answer)),
         })?;
     }
     Ok(acts)

@@ -4,13 +4,13 @@
 
 ghost use Rattle.std.specs.Prelude.{◌≡◌, ℕ, List, None, OnOk};
 ghost use Rattle.std.specs.Option.{option_map};
-ghost use Rattle.marble_marks.specs.Turns.{asked_in};
+ghost use Rattle.marble_marks.specs.AnsweredLines.{asked_in};
 ghost use Rattle.marble_marks.specs.Homes.{home_in, home_put, home_after, home_of, name_by};
 
+use crate::answered::AnsweredLine;
 use crate::mark::Kind;
 use crate::reply::Reply;
-use crate::turn::Turn;
-use script_commands::{Command, NameHash, Party};
+use script_commands::{Command, Joiner, NameHash};
 use std::alloc::{AllocError, Global};
 use std::collections::HashMap;
 
@@ -21,17 +21,17 @@ pub(crate) struct Homes<'a> {
 }
 
 /// The emission that a line finishes at once, if it does, and its flow.
-fn home_in<'a>(turn: &Turn<'a>) -> Option<(&'a [u8], &'a [u8])>
-    ensures { option_map (λ home. (home.0.now, home.1.now)) result ≡ home_in (asked_in turn.now) }
+fn home_in<'a>(answered: &AnsweredLine<'a>) -> Option<(&'a [u8], &'a [u8])>
+    ensures { option_map (λ home. (home.0.now, home.1.now)) result ≡ home_in (asked_in answered.now) }
 {
-    match turn.command {
+    match answered.command {
         Some(
             Command::Join {
                 host,
                 name,
-                party: Party::Emission(_),
+                joiner: Joiner::Emission(_),
             },
-        ) => match Reply::of(turn.answer) {
+        ) => match Reply::of(answered.answer) {
             Reply::Accepted | Reply::Dropped => Some((name, host)),
             _ => None,
         },
@@ -58,10 +58,10 @@ impl<'a> Homes<'a> {
     }
 
     /// Notes what a line finishes at once.
-    pub(crate) fn note(&mut self, turn: &Turn<'a>) -> Result<(), AllocError>
-        ensures { OnOk result ((ticket : List ℕ) → home_of self.new ticket ≡ home_after (home_of self.old ticket) ticket (asked_in turn.now)) }
+    pub(crate) fn note(&mut self, answered: &AnsweredLine<'a>) -> Result<(), AllocError>
+        ensures { OnOk result ((ticket : List ℕ) → home_of self.new ticket ≡ home_after (home_of self.old ticket) ticket (asked_in answered.now)) }
     {
-        match home_in(turn) {
+        match home_in(answered) {
             Some((ticket, host)) => self.put(ticket, host),
             None => Ok(()),
         }

@@ -3,12 +3,12 @@
 //! Where more values than a flow's capacity are pending for a subscription and the oldest makes way, the subscription loses
 //! the oldest. A state is such a flow with a capacity of one, a value that is set again being no new one.
 
+use crate::answered::AnsweredLine;
 use crate::firsts::Firsts;
 use crate::loss::Loss;
 use crate::reply::Reply;
-use crate::turn::Turn;
 use flow_terms::Policy;
-use script_commands::{Command, Making, NameHash, Party, Request};
+use script_commands::{Command, Joiner, Making, NameHash, Request};
 use std::alloc::{AllocError, Global};
 use std::collections::HashMap;
 
@@ -256,28 +256,35 @@ impl<'a> Ledger<'a> {
         line: usize,
         host: &[u8],
         name: &'a [u8],
-        party: Party<'a>,
+        joiner: Joiner<'a>,
         reply: Reply,
     ) -> Result<(), AllocError> {
-        match (party, reply) {
-            (Party::Emission(value), Reply::Accepted) => self.accept(line, host, value),
-            (Party::Subscription(prelude), Reply::Ok) => {
+        match (joiner, reply) {
+            (Joiner::Emission(value), Reply::Accepted) => self.accept(line, host, value),
+            (Joiner::Subscription(prelude), Reply::Ok) => {
                 self.begin(line, host, name, prelude.count())
             }
-            (Party::Collector, Reply::Ok) => self.begin(line, host, name, 0),
+            (Joiner::Collector, Reply::Ok) => self.begin(line, host, name, 0),
             _ => Ok(()),
         }
     }
 
     /// A line with its answer.
-    fn read(&mut self, alloc: Global, line: usize, turn: &Turn<'a>) -> Result<(), AllocError> {
-        let reply = Reply::of(turn.answer);
-        match turn.command {
+    fn read(
+        &mut self,
+        alloc: Global,
+        line: usize,
+        answered: &AnsweredLine<'a>,
+    ) -> Result<(), AllocError> {
+        let reply = Reply::of(answered.answer);
+        match answered.command {
             Some(Command::Make { name, making }) => match reply {
                 Reply::Ok => self.make(alloc, line, name, making),
                 _ => Ok(()),
             },
-            Some(Command::Join { host, name, party }) => self.join(line, host, name, party, reply),
+            Some(Command::Join { host, name, joiner }) => self.join(
+                line, host, name, joiner, reply,
+            ),
             Some(Command::Ask { name, request }) => self.ask(line, name, request, reply),
             Some(Command::Cold { .. }) | None => Ok(()),
         }
@@ -288,7 +295,7 @@ impl<'a> Ledger<'a> {
 pub(crate) fn losses_in(
     alloc: Global,
     hash: NameHash,
-    turns: &[Turn<'_>],
+    answered_lines: &[AnsweredLine<'_>],
 ) -> Result<Vec<Loss>, AllocError> {
     let mut ledger = Ledger {
         hosts: Vec::new(alloc),
@@ -297,8 +304,8 @@ pub(crate) fn losses_in(
         guest_of: HashMap::with_hasher(alloc, hash),
         losses: Vec::new(alloc),
     };
-    for (line, turn) in turns.iter().enumerate() {
-        ledger.read(alloc, line, turn)?;
+    for (line, answered) in answered_lines.iter().enumerate() {
+        ledger.read(alloc, line, answered)?;
     }
     Ok(ledger.losses)
 }

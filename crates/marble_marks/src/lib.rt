@@ -1,6 +1,7 @@
 //! The marks of a picture of a script: which there are, and where they stand, by the script's lines and their answers.
 #![tactic(auto)]
 
+mod answered;
 mod deed;
 mod firsts;
 mod guests;
@@ -18,7 +19,6 @@ mod rows;
 mod said;
 mod standing;
 mod told;
-mod turn;
 
 pub use mark::{Kind, Mark, Row, Spot};
 pub use marking::marks;

@@ -19,7 +19,7 @@ pub enum Row {
     Ticket(u64),
 }
 
-/// Where something stands among all that one line lets in, side by side.
+/// Where something stands among all that one line accepts, side by side.
 #[derive(Clone, Copy)]
 pub struct Spot {
     /// How many stand before it.
@@ -47,7 +47,7 @@ pub enum Kind {
     /// A flow accepted this value.
     Accepted(u64),
     /// A flow accepted this value here, whose emission had to wait until then.
-    LetIn(u64, Spot),
+    AcceptedLater(u64, Spot),
     /// The number of the emission whose acceptance stands in the same place and spot.
     Number(u64, Spot),
     /// This value made way before it was taken.

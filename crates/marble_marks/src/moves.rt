@@ -32,7 +32,7 @@ fn flow_row(told: &Told<'_, '_, '_, '_>, deed: Deed<'_>) -> Option<usize>
     }
 }
 
-/// What this does to that flow. An emission that is taken back later is never let in.
+/// What this does to that flow. An emission that is taken back later is never accepted.
 fn step_of(told: &Told<'_, '_, '_, '_>, deed: Deed<'_>) -> Option<Step>
     ensures { is_met (map done_in told.now.acts.now) (doing_in deed.entry) ≡ true → result ≡ step_of (map (λ known. known.now) told.now.rows.now.names.now) (map done_in told.now.acts.now) (doing_in deed.entry) }
 {

@@ -44,7 +44,7 @@ fn add_at_once(
     Ok(())
 }
 
-/// Adds the marks of these values, which a line lets in.
+/// Adds the marks of these values, which a line accepts.
 fn add_late(
     marks: &mut Vec<Mark<'_>>,
     column: usize,
@@ -60,14 +60,14 @@ fn add_late(
     for value in values {
         let spot = Spot { index, count };
         let number = first + index;
-        marks.push(plain(column, row, Kind::LetIn(*value, spot)))?;
+        marks.push(plain(column, row, Kind::AcceptedLater(*value, spot)))?;
         marks.push(plain(column, row, Kind::Number(number as u64, spot)))?;
         index += 1;
     }
     Ok(())
 }
 
-/// Adds the marks of what a line does to a flow, and lets in what waits.
+/// Adds the marks of what a line does to a flow, and accepts what waits.
 fn add_move(
     alloc: Global,
     marks: &mut Vec<Mark<'_>>,

@@ -4,13 +4,13 @@
 
 ghost use Rattle.std.specs.Prelude.{◌≡◌, ℕ, List, IfOk, OnOk, bytes_eq, if◌then◌else◌};
 ghost use Rattle.std.specs.Option.{option_map};
-ghost use Rattle.marble_marks.specs.Turns.{asked_in};
+ghost use Rattle.marble_marks.specs.AnsweredLines.{asked_in};
 ghost use Rattle.marble_marks.specs.Preludes.{greeted_in, left_put, left_received, left_of, kind_by};
 
+use crate::answered::AnsweredLine;
 use crate::mark::Kind;
 use crate::reply::Reply;
-use crate::turn::Turn;
-use script_commands::{Command, NameHash, Party};
+use script_commands::{Command, Joiner, NameHash};
 use std::alloc::{AllocError, Global};
 use std::collections::HashMap;
 
@@ -21,17 +21,17 @@ pub(crate) struct Preludes<'a> {
 }
 
 /// The subscription that begins with a prelude by a line, if one does, and how many values that has.
-fn greeted_in<'a>(turn: &Turn<'a>) -> Option<(&'a [u8], usize)>
-    ensures { option_map (λ greeted. (greeted.0.now, greeted.1)) result ≡ greeted_in (asked_in turn.now) }
+fn greeted_in<'a>(answered: &AnsweredLine<'a>) -> Option<(&'a [u8], usize)>
+    ensures { option_map (λ greeted. (greeted.0.now, greeted.1)) result ≡ greeted_in (asked_in answered.now) }
 {
-    match turn.command {
+    match answered.command {
         Some(
             Command::Join {
                 name,
-                party: Party::Subscription(prelude),
+                joiner: Joiner::Subscription(prelude),
                 ..
             },
-        ) => match Reply::of(turn.answer) {
+        ) => match Reply::of(answered.answer) {
             Reply::Ok => {
                 let count = prelude.count();
                 if count == 0 {
@@ -65,10 +65,10 @@ impl<'a> Preludes<'a> {
     }
 
     /// Notes the prelude that a subscription begins with by a line.
-    pub(crate) fn greet(&mut self, turn: &Turn<'a>) -> Result<(), AllocError>
-        ensures { OnOk result ((name : List ℕ) → left_of self.new name ≡ left_put (left_of self.old name) name (greeted_in (asked_in turn.now))) }
+    pub(crate) fn greet(&mut self, answered: &AnsweredLine<'a>) -> Result<(), AllocError>
+        ensures { OnOk result ((name : List ℕ) → left_of self.new name ≡ left_put (left_of self.old name) name (greeted_in (asked_in answered.now))) }
     {
-        match greeted_in(turn) {
+        match greeted_in(answered) {
             Some((name, count)) => self.put(name, count),
             None => Ok(()),
         }

@@ -1,7 +1,7 @@
 //! The answer to a line of a script.
 
 ghost use Rattle.std.specs.Prelude.{◌≡◌, IfOk, string_bytes};
-ghost use Rattle.marble_marks.specs.Turns.{saying, saying_in};
+ghost use Rattle.marble_marks.specs.AnsweredLines.{saying, saying_in};
 
 use script_commands::Answer;
 use std::alloc::{AllocError, Global};

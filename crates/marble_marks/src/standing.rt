@@ -1,11 +1,11 @@
 //! How a shared flow stands: which emissions it has accepted, who waits, and how far its subscriptions are.
 //!
-//! After each line those that wait are let in, the one that waited longest first, while each live subscription has a place. No
+//! After each line those that wait are accepted, the one that waited longest first, while each live subscription has a place. No
 //! answer says that: it follows from the flow's rules, as those lines tell its state.
 
 ghost use Rattle.std.specs.Prelude.{◌≡◌, ◌≤◌, ◌<◌, ◌+◌, length, map, IfOk, OnOk};
 ghost use Rattle.std.specs.List.{filter_map};
-ghost use Rattle.marble_marks.specs.Standings.{stand_in, begun, given, given_on, not_on, places_for, joined, stepped, free, room_for, let_in, settled, let_in_values};
+ghost use Rattle.marble_marks.specs.Standings.{stand_in, begun, given, given_on, not_on, places_for, joined, stepped, free, room_for, accepted_later, settled, accepted_later_values};
 
 use std::alloc::{AllocError, Global};
 
@@ -199,7 +199,7 @@ impl Standing {
     pub(crate) fn settle(&mut self, alloc: Global) -> Result<Vec<u64>, AllocError>
         requires { self.old.accepted + length self.old.waiting.items < 18446744073709551616 }
         ensures settled { OnOk result (stand_in self.new ≡ settled (stand_in self.old)) }
-        ensures values { IfOk result (λ values. values.items ≡ let_in_values (stand_in self.old)) }
+        ensures values { IfOk result (λ values. values.items ≡ accepted_later_values (stand_in self.old)) }
         ensures few { OnOk result (self.new.accepted + length self.new.waiting.items ≤ self.old.accepted + length self.old.waiting.items) }
     {
         if self.waiting.is_empty() {

@@ -27,7 +27,7 @@ sign (kinds.Begun (rows.Ticket value)) = codes "?"
 sign (kinds.Begun row) = codes "o"
 sign (kinds.Set value) = codes "="
 sign kinds.Waiting = codes "?"
-sign (kinds.LetIn value at) = codes "<"
+sign (kinds.AcceptedLater value at) = codes "<"
 sign kinds.Nothing = codes "."
 sign kinds.Cancelled = codes "|"
 sign kinds.Ticked = codes ">"
@@ -55,7 +55,7 @@ words_of (kinds.Bad number reason) text = decimal number
 words_of (kinds.Named row) text = role row ++ plain text
 words_of (kinds.Begun row) text = begun_words row
 words_of (kinds.Accepted value) text = decimal value
-words_of (kinds.LetIn value at) text = decimal value
+words_of (kinds.AcceptedLater value at) text = decimal value
 words_of (kinds.Number number at) text = codes "#" ++ decimal number
 words_of (kinds.Lost value) text = decimal value
 words_of (kinds.Dropped value) text = decimal value

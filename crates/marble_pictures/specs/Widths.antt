@@ -5,17 +5,17 @@ use Rattle.marble_marks.specs.declared.mark.Kind.TheVariants as kinds
 use Rattle.marble_marks.specs.declared.mark.Mark.{Mark}
 use Rattle.marble_marks.specs.declared.mark.Spot.{Spot}
 use Rattle.marble_marks.specs.declared.mark.Row.TheVariants as rows
-use Rattle.marble_pictures.specs.declared.caption.Part.{Part}
-use Rattle.marble_pictures.specs.declared.caption.Part.TheVariants as parts
+use Rattle.marble_pictures.specs.declared.caption.Purpose.{Purpose}
+use Rattle.marble_pictures.specs.declared.caption.Purpose.TheVariants as purposes
 use Rattle.marble_pictures.specs.declared.line.Span.{Span}
 use Rattle.marble_pictures.specs.declared.widths.Widths.{Widths}
 use Rattle.marble_pictures.specs.Captions.{words_of, sign}
 
 -- what a mark's words are for
-abbrev pub part_of : Kind → Part
-part_of (kinds.Named row) = parts.Name
-part_of (kinds.Number number at) = parts.Number
-part_of _ = parts.Place
+abbrev pub purpose_of : Kind → Purpose
+purpose_of (kinds.Named row) = purposes.Name
+purpose_of (kinds.Number number at) = purposes.Number
+purpose_of _ = purposes.Place
 
 -- the value of a state from a mark on, where the mark says one
 abbrev pub state_value : Kind → Option ℕ
@@ -24,12 +24,12 @@ state_value (kinds.Set value) = Some value
 state_value (kinds.Holds value) = Some value
 state_value _ = None
 
--- where a mark stands among all that one line lets in
+-- where a mark stands among all that one line accepts
 abbrev pub alone : Spot
 alone = record { index = 0; count = 1 }
 
 abbrev pub spot_of : Kind → Spot
-spot_of (kinds.LetIn value at) = at
+spot_of (kinds.AcceptedLater value at) = at
 spot_of (kinds.Number number at) = at
 spot_of _ = alone
 
@@ -42,16 +42,16 @@ said_length mark = length (words_of mark.kind mark.text.now)
 abbrev pub shown_length : Mark → ℕ
 shown_length mark = min (said_length mark + length (sign mark.kind)) 18446744073709551615
 
-abbrev pub for_name : Part → ℕ → ℕ → ℕ
-for_name parts.Name shown most = max shown most
+abbrev pub for_name : Purpose → ℕ → ℕ → ℕ
+for_name purposes.Name shown most = max shown most
 for_name _ shown most = most
 
-abbrev pub for_number : Part → ℕ → ℕ → ℕ
-for_number parts.Number shown most = max shown most
+abbrev pub for_number : Purpose → ℕ → ℕ → ℕ
+for_number purposes.Number shown most = max shown most
 for_number _ shown most = most
 
-abbrev pub for_place : Part → ℕ → ℕ → ℕ
-for_place parts.Place shown most = max shown most
+abbrev pub for_place : Purpose → ℕ → ℕ → ℕ
+for_place purposes.Place shown most = max shown most
 for_place _ shown most = most
 
 abbrev pub for_value : Option ℕ → ℕ → ℕ → ℕ
@@ -59,15 +59,15 @@ for_value (Some value) said most = max said most
 for_value None said most = most
 
 abbrev pub for_late : Kind → ℕ → ℕ → ℕ
-for_late (kinds.LetIn value at) shown most = max shown most
+for_late (kinds.AcceptedLater value at) shown most = max shown most
 for_late _ shown most = most
 
 -- with one more mark
 abbrev pub wider : Widths → Mark → Widths
 wider widths mark = record {
-  name = for_name (part_of mark.kind) (shown_length mark) widths.name;
-  number = for_number (part_of mark.kind) (shown_length mark) widths.number;
-  place = for_place (part_of mark.kind) (shown_length mark) widths.place;
+  name = for_name (purpose_of mark.kind) (shown_length mark) widths.name;
+  number = for_number (purpose_of mark.kind) (shown_length mark) widths.number;
+  place = for_place (purpose_of mark.kind) (shown_length mark) widths.place;
   value = for_value (state_value mark.kind) (said_length mark) widths.value;
   late = for_late mark.kind (shown_length mark) widths.late;
   slots = max (spot_of mark.kind).count widths.slots;

@@ -1,7 +1,7 @@
 //! The words of marks.
 
 ghost use Rattle.std.specs.Prelude.{◌≡◌, ◌<◌, ◌≤◌, ◌++◌, OnOk, length, map, decimal, string_bytes};
-ghost use Rattle.marble_pictures.specs.Widths.{part_of};
+ghost use Rattle.marble_pictures.specs.Widths.{purpose_of};
 ghost use Rattle.marble_pictures.specs.Captions.{plain_byte, plain, plain_answer, sign, role, begun_words, words_of};
 
 use itoa::Buffer;
@@ -13,7 +13,7 @@ const MOST_ANSWER_BYTES: usize = 14;
 
 /// What a mark's words are for.
 #[derive(Clone, Copy)]
-pub(crate) enum Part {
+pub(crate) enum Purpose {
     /// The name of a row.
     Name,
     /// The number beside an accepted value.
@@ -22,15 +22,15 @@ pub(crate) enum Part {
     Place,
 }
 
-impl Part {
+impl Purpose {
     /// What this mark's words are for.
-    pub(crate) fn of(mark: &Mark<'_>) -> Part
-        ensures { result ≡ part_of mark.now.kind }
+    pub(crate) fn of(mark: &Mark<'_>) -> Purpose
+        ensures { result ≡ purpose_of mark.now.kind }
     {
         match mark.kind {
-            Kind::Named(_) => Part::Name,
-            Kind::Number(_, _) => Part::Number,
-            _ => Part::Place,
+            Kind::Named(_) => Purpose::Name,
+            Kind::Number(_, _) => Purpose::Number,
+            _ => Purpose::Place,
         }
     }
 }
@@ -108,7 +108,7 @@ pub(crate) fn sign(kind: Kind) -> &'static str
         Kind::Full(_) => "!",
         Kind::Begun(Row::State(_)) | Kind::Set(_) => "=",
         Kind::Begun(Row::Ticket(_)) | Kind::Waiting => "?",
-        Kind::LetIn(_, _) => "<",
+        Kind::AcceptedLater(_, _) => "<",
         Kind::Begun(_) => "o",
         Kind::Nothing => ".",
         Kind::Cancelled => "|",
@@ -150,7 +150,7 @@ pub(crate) fn push_words(text: &mut String, mark: &Mark<'_>) -> Result<(), Alloc
         Kind::Line(value)
         | Kind::Bad(value, _)
         | Kind::Accepted(value)
-        | Kind::LetIn(value, _)
+        | Kind::AcceptedLater(value, _)
         | Kind::Lost(value)
         | Kind::Dropped(value)
         | Kind::Full(value)
@@ -203,7 +203,7 @@ pub(crate) fn words_len(mark: &Mark<'_>) -> usize
         Kind::Line(value)
         | Kind::Bad(value, _)
         | Kind::Accepted(value)
-        | Kind::LetIn(value, _)
+        | Kind::AcceptedLater(value, _)
         | Kind::Lost(value)
         | Kind::Dropped(value)
         | Kind::Full(value)

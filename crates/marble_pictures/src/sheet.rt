@@ -3,7 +3,7 @@
 ghost use Rattle.std.specs.Prelude.{◌≡◌};
 ghost use Rattle.marble_pictures.specs.Symbols.{x_of, y_of, place_of};
 
-use crate::steps::Place;
+use crate::steps::Position;
 use crate::widths::{Widths, spot_of};
 use marble_marks::Mark;
 
@@ -21,7 +21,7 @@ pub(crate) struct Sheet {
     names: usize,
     /// How wide a column is.
     column: usize,
-    /// How far those that one line lets in stand apart.
+    /// How far those that one line accepts stand apart.
     slot: usize,
     pub(crate) last_column: usize,
     last_row: usize,
@@ -65,13 +65,13 @@ impl Sheet {
         row.saturating_mul(ROW).saturating_add(ROW / 2)
     }
 
-    /// The place of a mark: where one line lets in several, they stand side by side in its column.
-    pub(crate) fn place(self, mark: &Mark<'_>) -> Place
+    /// The place of a mark: where one line accepts several, they stand side by side in its column.
+    pub(crate) fn place(self, mark: &Mark<'_>) -> Position
         ensures { result ≡ place_of self mark.now }
     {
         let spot = spot_of(mark.kind);
         let before = spot.count.saturating_sub(1).saturating_mul(self.slot / 2);
-        let middle = Place {
+        let middle = Position {
             x: self.x(mark.column),
             y: self.y(mark.row),
         };

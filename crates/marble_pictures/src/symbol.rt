@@ -7,7 +7,7 @@ ghost use Rattle.marble_pictures.specs.Symbols.{escaped_byte, escaped, line_text
 
 use crate::caption::{plain_byte, push_numbered, push_words};
 use crate::sheet::{CHARACTER, Sheet};
-use crate::steps::{LOWEST, Place};
+use crate::steps::{LOWEST, Position};
 use marble_marks::{Kind, Mark, Row};
 use script_commands::Reason;
 use std::alloc::AllocError;
@@ -20,8 +20,8 @@ const BYTE_BY_BYTE: usize = 256;
 #[derive(Clone, Copy)]
 pub(crate) struct Segment {
     pub(crate) class: &'static str,
-    pub(crate) from: Place,
-    pub(crate) to: Place,
+    pub(crate) from: Position,
+    pub(crate) to: Position,
 }
 
 /// A mark, and how many steps above the lowest value of its row it stands, where it is a state's value.
@@ -141,7 +141,12 @@ pub(crate) fn push_escaped(picture: &mut String, bytes: &[u8]) -> Result<(), All
 
 /// Adds a line.
 #[tactic(auto, unfolding(crate::specs::Symbols::line_text))]
-fn push_line(picture: &mut String, class: &str, from: Place, to: Place) -> Result<(), AllocError>
+fn push_line(
+    picture: &mut String,
+    class: &str,
+    from: Position,
+    to: Position,
+) -> Result<(), AllocError>
     ensures { OnOk result (string_bytes picture.new ≡ string_bytes picture.old ++ line_text class.now from to) }
 {
     picture.push_str("<line class=\"")?;
@@ -164,7 +169,7 @@ impl Segment {
 
 /// Adds the begin of a text at this place.
 #[tactic(auto, unfolding(crate::specs::Symbols::opening_text))]
-fn push_opening(picture: &mut String, class: &str, at: Place) -> Result<(), AllocError>
+fn push_opening(picture: &mut String, class: &str, at: Position) -> Result<(), AllocError>
     ensures { OnOk result (string_bytes picture.new ≡ string_bytes picture.old ++ opening_text class.now at) }
 {
     picture.push_str("<text class=\"")?;
@@ -175,7 +180,7 @@ fn push_opening(picture: &mut String, class: &str, at: Place) -> Result<(), Allo
 }
 
 /// Adds a text at this place.
-fn push_text(picture: &mut String, class: &str, said: &str, at: Place) -> Result<(), AllocError>
+fn push_text(picture: &mut String, class: &str, said: &str, at: Position) -> Result<(), AllocError>
     ensures { OnOk result (string_bytes picture.new ≡ string_bytes picture.old ++ said_text class.now said.now at) }
 {
     push_opening(picture, class, at)?;
@@ -191,7 +196,7 @@ fn half_width(said: &str) -> usize
 }
 
 /// Adds the line of a cross that falls.
-fn push_falling(picture: &mut String, at: Place, half: usize) -> Result<(), AllocError>
+fn push_falling(picture: &mut String, at: Position, half: usize) -> Result<(), AllocError>
     ensures { OnOk result (string_bytes picture.new ≡ string_bytes picture.old ++ falling_text at half) }
 {
     let reach = half.saturating_sub(2);
@@ -204,7 +209,7 @@ fn push_falling(picture: &mut String, at: Place, half: usize) -> Result<(), Allo
 }
 
 /// Adds the line of a cross that rises.
-fn push_rising(picture: &mut String, at: Place, half: usize) -> Result<(), AllocError>
+fn push_rising(picture: &mut String, at: Position, half: usize) -> Result<(), AllocError>
     ensures { OnOk result (string_bytes picture.new ≡ string_bytes picture.old ++ rising_text at half) }
 {
     let reach = half.saturating_sub(2);
@@ -217,7 +222,7 @@ fn push_rising(picture: &mut String, at: Place, half: usize) -> Result<(), Alloc
 }
 
 /// Adds a cross that reaches a little less to both sides than a frame.
-fn push_cross(picture: &mut String, at: Place, half: usize) -> Result<(), AllocError>
+fn push_cross(picture: &mut String, at: Position, half: usize) -> Result<(), AllocError>
     ensures { OnOk result (string_bytes picture.new ≡ string_bytes picture.old ++ cross_text at half) }
 {
     push_falling(picture, at, half)?;
@@ -225,7 +230,7 @@ fn push_cross(picture: &mut String, at: Place, half: usize) -> Result<(), AllocE
 }
 
 /// Adds the wall on the left of a frame, which is higher than that.
-fn push_left_wall(picture: &mut String, at: Place, half: usize) -> Result<(), AllocError>
+fn push_left_wall(picture: &mut String, at: Position, half: usize) -> Result<(), AllocError>
     ensures { OnOk result (string_bytes picture.new ≡ string_bytes picture.old ++ left_wall at half) }
 {
     push_line(
@@ -237,7 +242,7 @@ fn push_left_wall(picture: &mut String, at: Place, half: usize) -> Result<(), Al
 }
 
 /// Adds the wall on the right of a frame.
-fn push_right_wall(picture: &mut String, at: Place, half: usize) -> Result<(), AllocError>
+fn push_right_wall(picture: &mut String, at: Position, half: usize) -> Result<(), AllocError>
     ensures { OnOk result (string_bytes picture.new ≡ string_bytes picture.old ++ right_wall at half) }
 {
     push_line(
@@ -249,7 +254,7 @@ fn push_right_wall(picture: &mut String, at: Place, half: usize) -> Result<(), A
 }
 
 /// Adds a wall at each side of a frame.
-fn push_walls(picture: &mut String, at: Place, half: usize) -> Result<(), AllocError>
+fn push_walls(picture: &mut String, at: Position, half: usize) -> Result<(), AllocError>
     ensures { OnOk result (string_bytes picture.new ≡ string_bytes picture.old ++ walls_text at half) }
 {
     push_left_wall(picture, at, half)?;
@@ -261,7 +266,7 @@ fn push_walls(picture: &mut String, at: Place, half: usize) -> Result<(), AllocE
 fn push_rect(
     picture: &mut String,
     class: &str,
-    corner: Place,
+    corner: Position,
     width: usize,
     round: usize,
 ) -> Result<(), AllocError>
@@ -280,7 +285,7 @@ fn push_rect(
 fn push_strike(
     picture: &mut String,
     strike: Strike,
-    at: Place,
+    at: Position,
     half: usize,
 ) -> Result<(), AllocError>
     ensures { OnOk result (string_bytes picture.new ≡ string_bytes picture.old ++ strike_text strike at half) }
@@ -294,7 +299,12 @@ fn push_strike(
 }
 
 /// Adds the edge of a frame that reaches so far to both sides.
-fn push_edge(picture: &mut String, frame: Frame, half: usize, at: Place) -> Result<(), AllocError>
+fn push_edge(
+    picture: &mut String,
+    frame: Frame,
+    half: usize,
+    at: Position,
+) -> Result<(), AllocError>
     ensures { OnOk result (string_bytes picture.new ≡ string_bytes picture.old ++ edge_text (look_in frame) half at) }
 {
     let corner = at.up(11).left(half);
@@ -308,7 +318,7 @@ fn push_edge(picture: &mut String, frame: Frame, half: usize, at: Place) -> Resu
 }
 
 /// Adds a text that stands in a frame.
-fn push_framed(picture: &mut String, said: &str, at: Place) -> Result<(), AllocError>
+fn push_framed(picture: &mut String, said: &str, at: Position) -> Result<(), AllocError>
     ensures { OnOk result (string_bytes picture.new ≡ string_bytes picture.old ++ framed_text said.now at) }
 {
     push_text(picture, "framed", said, at.down(4))
@@ -320,7 +330,7 @@ fn push_around(
     frame: Frame,
     half: usize,
     said: &str,
-    at: Place,
+    at: Position,
 ) -> Result<(), AllocError>
     ensures { OnOk result (string_bytes picture.new ≡ string_bytes picture.old ++ frame_around (look_in frame) half said.now at) }
 {
@@ -330,7 +340,12 @@ fn push_around(
 }
 
 /// Adds a text in a frame.
-fn push_frame(picture: &mut String, frame: Frame, said: &str, at: Place) -> Result<(), AllocError>
+fn push_frame(
+    picture: &mut String,
+    frame: Frame,
+    said: &str,
+    at: Position,
+) -> Result<(), AllocError>
     ensures { OnOk result (string_bytes picture.new ≡ string_bytes picture.old ++ frame_text (look_in frame) said.now at) }
 {
     push_around(picture, frame, half_width(said), said, at)
@@ -338,7 +353,7 @@ fn push_frame(picture: &mut String, frame: Frame, said: &str, at: Place) -> Resu
 
 /// Adds the begin of the head of a line's column.
 #[tactic(auto, unfolding(crate::specs::Symbols::heading_text))]
-fn push_heading(picture: &mut String, said: &str, at: Place) -> Result<(), AllocError>
+fn push_heading(picture: &mut String, said: &str, at: Position) -> Result<(), AllocError>
     ensures { OnOk result (string_bytes picture.new ≡ string_bytes picture.old ++ heading_text said.now at) }
 {
     push_numbered(picture, "<text class=\"head\" x=\"", at.x)?;
@@ -349,7 +364,12 @@ fn push_heading(picture: &mut String, said: &str, at: Place) -> Result<(), Alloc
 }
 
 /// Adds the begin of that head, with the line's text to it.
-fn push_titled(picture: &mut String, line: &[u8], said: &str, at: Place) -> Result<(), AllocError>
+fn push_titled(
+    picture: &mut String,
+    line: &[u8],
+    said: &str,
+    at: Position,
+) -> Result<(), AllocError>
     ensures { OnOk result (string_bytes picture.new ≡ string_bytes picture.old ++ titled_text line.now said.now at) }
 {
     push_heading(picture, said, at)?;
@@ -357,7 +377,12 @@ fn push_titled(picture: &mut String, line: &[u8], said: &str, at: Place) -> Resu
 }
 
 /// Adds the head of a line's column, with the line's text to it, at this place.
-fn push_head_at(picture: &mut String, line: &[u8], said: &str, at: Place) -> Result<(), AllocError>
+fn push_head_at(
+    picture: &mut String,
+    line: &[u8],
+    said: &str,
+    at: Position,
+) -> Result<(), AllocError>
     ensures { OnOk result (string_bytes picture.new ≡ string_bytes picture.old ++ head_at line.now said.now at) }
 {
     push_titled(picture, line, said, at)?;
@@ -365,7 +390,7 @@ fn push_head_at(picture: &mut String, line: &[u8], said: &str, at: Place) -> Res
 }
 
 /// Adds the head of a line's column: its number, with the line's text to it.
-fn push_head(picture: &mut String, line: &[u8], said: &str, at: Place) -> Result<(), AllocError>
+fn push_head(picture: &mut String, line: &[u8], said: &str, at: Position) -> Result<(), AllocError>
     ensures { OnOk result (string_bytes picture.new ≡ string_bytes picture.old ++ head_text line.now said.now at) }
 {
     push_head_at(picture, line, said, at.down(4))
@@ -385,7 +410,7 @@ fn push_bad_head_at(
     reason: Reason,
     line: &[u8],
     said: &str,
-    at: Place,
+    at: Position,
 ) -> Result<(), AllocError>
     ensures { OnOk result (string_bytes picture.new ≡ string_bytes picture.old ++ bad_head_at reason line.now said.now at) }
 {
@@ -400,7 +425,7 @@ fn push_bad_head(
     reason: Reason,
     line: &[u8],
     said: &str,
-    at: Place,
+    at: Position,
 ) -> Result<(), AllocError>
     ensures { OnOk result (string_bytes picture.new ≡ string_bytes picture.old ++ bad_head reason line.now said.now at) }
 {
@@ -414,7 +439,7 @@ fn push_crossed_head(
     line: &[u8],
     half: usize,
     said: &str,
-    at: Place,
+    at: Position,
 ) -> Result<(), AllocError>
     ensures { OnOk result (string_bytes picture.new ≡ string_bytes picture.old ++ crossed_head reason line.now half said.now at) }
 {
@@ -462,7 +487,7 @@ fn frame_of(kind: Kind) -> Option<Frame>
 {
     match kind {
         Kind::Accepted(_) => Some(Frame::round("accepted")),
-        Kind::LetIn(_, _) => Some(Frame::round("accepted before")),
+        Kind::AcceptedLater(_, _) => Some(Frame::round("accepted before")),
         Kind::Received(_) => Some(Frame::round("received")),
         Kind::FromPrelude(_) => Some(Frame::square("received prelude")),
         Kind::Lost(_) => Some(Frame {
@@ -486,7 +511,7 @@ fn frame_of(kind: Kind) -> Option<Frame>
 }
 
 /// Adds a bar across a row's line.
-fn push_bar(picture: &mut String, at: Place) -> Result<(), AllocError>
+fn push_bar(picture: &mut String, at: Position) -> Result<(), AllocError>
     ensures { OnOk result (string_bytes picture.new ≡ string_bytes picture.old ++ bar_text at) }
 {
     push_line(picture, "bar", at.up(10), at.down(10))
@@ -494,7 +519,7 @@ fn push_bar(picture: &mut String, at: Place) -> Result<(), AllocError>
 
 /// Adds a small ring.
 #[tactic(auto, unfolding(crate::specs::Symbols::ring_text))]
-fn push_ring(picture: &mut String, at: Place) -> Result<(), AllocError>
+fn push_ring(picture: &mut String, at: Position) -> Result<(), AllocError>
     ensures { OnOk result (string_bytes picture.new ≡ string_bytes picture.old ++ ring_text at) }
 {
     push_numbered(picture, "<circle cx=\"", at.x)?;
@@ -503,7 +528,7 @@ fn push_ring(picture: &mut String, at: Place) -> Result<(), AllocError>
 }
 
 /// Adds a value of a state, so many steps above its lowest.
-fn push_value(picture: &mut String, step: usize, said: &str, at: Place) -> Result<(), AllocError>
+fn push_value(picture: &mut String, step: usize, said: &str, at: Position) -> Result<(), AllocError>
     ensures { OnOk result (string_bytes picture.new ≡ string_bytes picture.old ++ value_text step said.now at) }
 {
     let place = at.down(LOWEST).up(step).right(4).up(5);
@@ -516,7 +541,7 @@ fn push_begun(
     row: Row,
     step: usize,
     said: &str,
-    at: Place,
+    at: Position,
 ) -> Result<(), AllocError>
     ensures { OnOk result (string_bytes picture.new ≡ string_bytes picture.old ++ begun_text row step said.now at) }
 {
@@ -528,7 +553,7 @@ fn push_begun(
 
 /// Adds an arrowhead, whose point is here.
 #[tactic(auto, unfolding(crate::specs::Symbols::arrow_text))]
-fn push_arrow(picture: &mut String, at: Place) -> Result<(), AllocError>
+fn push_arrow(picture: &mut String, at: Position) -> Result<(), AllocError>
     ensures { OnOk result (string_bytes picture.new ≡ string_bytes picture.old ++ arrow_text at) }
 {
     push_numbered(picture, "<path d=\"M", at.x)?;
@@ -537,7 +562,7 @@ fn push_arrow(picture: &mut String, at: Place) -> Result<(), AllocError>
 }
 
 /// Adds the answer to a tick, with what a tick is.
-fn push_ticked_words(picture: &mut String, said: &str, at: Place) -> Result<(), AllocError>
+fn push_ticked_words(picture: &mut String, said: &str, at: Position) -> Result<(), AllocError>
     ensures { OnOk result (string_bytes picture.new ≡ string_bytes picture.old ++ ticked_words said.now at) }
 {
     push_opening(picture, "framed", at)?;
@@ -548,7 +573,7 @@ fn push_ticked_words(picture: &mut String, said: &str, at: Place) -> Result<(), 
 }
 
 /// Adds a tick: its answer in a frame, and an arrowhead that points down at it.
-fn push_ticked(picture: &mut String, said: &str, at: Place) -> Result<(), AllocError>
+fn push_ticked(picture: &mut String, said: &str, at: Position) -> Result<(), AllocError>
     ensures { OnOk result (string_bytes picture.new ≡ string_bytes picture.old ++ ticked_text said.now at) }
 {
     push_edge(picture, Frame::square("said"), half_width(said), at)?;
@@ -561,7 +586,7 @@ fn push_bare(
     picture: &mut String,
     placed: &Placed<'_>,
     said: &str,
-    at: Place,
+    at: Position,
 ) -> Result<(), AllocError>
     ensures { OnOk result (string_bytes picture.new ≡ string_bytes picture.old ++ bare_text placed.now.mark.kind placed.now.mark.text.now placed.now.step said.now at) }
 {
@@ -572,8 +597,8 @@ fn push_bare(
             push_crossed_head(picture, reason, placed.mark.text, half, said, at)
         }
         Kind::Named(_) => {
-            let Place { y, .. } = at.down(4);
-            push_text(picture, "name", said, Place { x: 8, y })
+            let Position { y, .. } = at.down(4);
+            push_text(picture, "name", said, Position { x: 8, y })
         }
         Kind::Number(_, _) => push_text(picture, "number", said, at.up(14)),
         Kind::Set(_) | Kind::Holds(_) => push_value(picture, placed.step, said, at),
@@ -590,7 +615,7 @@ fn push_looking(
     frame: Option<Frame>,
     placed: &Placed<'_>,
     said: &str,
-    at: Place,
+    at: Position,
 ) -> Result<(), AllocError>
     ensures { OnOk result (string_bytes picture.new ≡ string_bytes picture.old ++ symbol_by (option_map look_in frame) placed.now.mark.kind placed.now.mark.text.now placed.now.step said.now at) }
 {

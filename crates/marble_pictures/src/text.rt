@@ -8,7 +8,7 @@
 ghost use Rattle.std.specs.Prelude.{◌<◌, ◌≤◌, length};
 ghost use Rattle.std.specs.List.Sorted.{IsPermutation};
 
-use crate::caption::{Part, push_numbered, push_words, sign};
+use crate::caption::{Purpose, push_numbered, push_words, sign};
 use crate::line::Line;
 use crate::widths::Widths;
 use marble_marks::Mark;
@@ -106,7 +106,7 @@ impl Pen {
 
     /// Adds a mark of the row.
     fn mark(&mut self, strip: Strip, mark: &Mark<'_>) -> Result<(), AllocError> {
-        if Part::of(mark) == Part::Name {
+        if Purpose::of(mark) == Purpose::Name {
             return push_words(&mut self.text, mark);
         }
         self.pass_names(strip)?;
@@ -131,7 +131,7 @@ impl Pen {
             } else {
                 mark.column >= strip.end
             };
-            if stands_there && Part::of(mark) == Part::Name {
+            if stands_there && Purpose::of(mark) == Purpose::Name {
                 push_words(&mut self.text, mark)?;
             }
         }
@@ -203,7 +203,7 @@ fn up_to_names(marks: &[Mark<'_>]) -> usize
 {
     let mut end = 0;
     for (index, mark) in marks.iter().enumerate() {
-        if Part::of(mark) == Part::Name {
+        if Purpose::of(mark) == Purpose::Name {
             end = index + 1;
         }
     }
@@ -377,7 +377,7 @@ impl<'m, 'a> Rows<'m, 'a> {
     }
 }
 
-/// How wide a column is: it has room for all that one line lets in.
+/// How wide a column is: it has room for all that one line accepts.
 fn width_of(widths: Widths) -> usize
     ensures { 0 < result }
 {

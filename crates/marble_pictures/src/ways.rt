@@ -2,10 +2,10 @@
 
 ghost use Rattle.std.specs.Prelude.{◌≡◌, IfOk, map};
 
-use crate::caption::Part;
+use crate::caption::Purpose;
 use crate::line::{Line, state_value};
 use crate::sheet::Sheet;
-use crate::steps::{Pen, Place};
+use crate::steps::{Pen, Position};
 use crate::symbol::{Placed, Segment};
 use marble_marks::Mark;
 use std::alloc::{AllocError, Global};
@@ -18,8 +18,8 @@ fn add_guides(segments: &mut Vec<Segment>, sheet: Sheet) -> Result<(), AllocErro
         let x = sheet.x(column);
         segments.push(Segment {
             class: "guide",
-            from: Place { x, y: top },
-            to: Place { x, y: foot },
+            from: Position { x, y: top },
+            to: Position { x, y: foot },
         })?;
     }
     Ok(())
@@ -36,7 +36,7 @@ fn add_row_line(segments: &mut Vec<Segment>, pen: Pen, x: usize) -> Result<(), A
     segments.push(Segment {
         class,
         from: pen.at,
-        to: Place { x, y: pen.at.y },
+        to: Position { x, y: pen.at.y },
     })?;
     Ok(())
 }
@@ -49,12 +49,12 @@ fn add_way(
     mark: &Mark<'_>,
 ) -> Result<(), AllocError> {
     let place = pen.place(sheet, mark);
-    let Place { x, y } = place;
+    let Position { x, y } = place;
     add_row_line(segments, *pen, x)?;
     if pen.line.is_there() && y != pen.at.y {
         segments.push(Segment {
             class: "step",
-            from: Place { x, y: pen.at.y },
+            from: Position { x, y: pen.at.y },
             to: place,
         })?;
     }
@@ -79,7 +79,7 @@ pub(crate) fn ways(
             let (_, rest) = marks.split_at(index);
             pen = Pen::new(sheet, rest, mark.row);
         }
-        if Part::of(mark) == Part::Place {
+        if Purpose::of(mark) == Purpose::Place {
             add_way(&mut segments, sheet, &mut pen, mark)?;
         }
     }

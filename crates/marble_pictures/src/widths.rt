@@ -3,7 +3,7 @@
 ghost use Rattle.std.specs.Prelude.{◌≡◌};
 ghost use Rattle.marble_pictures.specs.Widths.{spot_of, for_late, wider, widths_of};
 
-use crate::caption::{Part, sign, words_len};
+use crate::caption::{Purpose, sign, words_len};
 use crate::line::state_value;
 use marble_marks::{Kind, Mark, Spot};
 
@@ -18,29 +18,29 @@ pub(crate) struct Widths {
     pub(crate) place: usize,
     /// Of a state's value.
     pub(crate) value: usize,
-    /// Of a value that is let in, with its sign.
+    /// Of a value that is accepted later, with its sign.
     pub(crate) late: usize,
-    /// The most values that one line lets in.
+    /// The most values that one line accepts.
     pub(crate) slots: usize,
     pub(crate) last_column: usize,
 }
 
-/// Where a mark stands among all that one line lets in.
+/// Where a mark stands among all that one line accepts.
 pub(crate) fn spot_of(kind: Kind) -> Spot
     ensures { result ≡ spot_of kind }
 {
     match kind {
-        Kind::LetIn(_, spot) | Kind::Number(_, spot) => spot,
+        Kind::AcceptedLater(_, spot) | Kind::Number(_, spot) => spot,
         _ => Spot::ALONE,
     }
 }
 
-/// The most characters of values that are let in, with one more mark, which has so many.
+/// The most characters of values that are accepted later, with one more mark, which has so many.
 fn for_late(kind: Kind, shown: usize, most: usize) -> usize
     ensures { result ≡ for_late kind shown most }
 {
     match kind {
-        Kind::LetIn(_, _) => shown.max(most),
+        Kind::AcceptedLater(_, _) => shown.max(most),
         _ => most,
     }
 }
@@ -52,19 +52,19 @@ impl Widths {
     {
         let said = words_len(mark);
         let shown = said.saturating_add(sign(mark.kind).len());
-        let part = Part::of(mark);
+        let part = Purpose::of(mark);
         Widths {
-            name: if part == Part::Name {
+            name: if part == Purpose::Name {
                 shown.max(self.name)
             } else {
                 self.name
             },
-            number: if part == Part::Number {
+            number: if part == Purpose::Number {
                 shown.max(self.number)
             } else {
                 self.number
             },
-            place: if part == Part::Place {
+            place: if part == Purpose::Place {
                 shown.max(self.place)
             } else {
                 self.place

@@ -81,7 +81,7 @@ ticket g                       ?2~~~~~~~~~~~~done   gone
 ",
 };
 
-/// What one line lets in stands side by side in its column, less what was taken back; that it is done is told later, on rows of
+/// What one line accepts stands side by side in its column, less what was taken back; that it is done is told later, on rows of
 /// their own.
 const TOGETHER: Drawn = Drawn {
     script: "shared f 0 1 suspend
@@ -215,8 +215,8 @@ impl Drawn {
 }
 
 /// Whether this stands in a picture, and nothing else there was let in.
-fn has_once(picture: &str, let_in: &str) -> bool {
-    match picture.split_once(let_in) {
+fn has_once(picture: &str, accepted_later: &str) -> bool {
+    match picture.split_once(accepted_later) {
         Some((before, after)) => {
             !before.contains("accepted before") && !after.contains("accepted before")
         }

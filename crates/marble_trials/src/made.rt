@@ -56,7 +56,7 @@ fn numbered(code: usize, number: u64, spot: Spot) -> Kind {
     match code {
         0 => Kind::Line(number),
         4 => Kind::Accepted(number),
-        5 => Kind::LetIn(number, spot),
+        5 => Kind::AcceptedLater(number, spot),
         6 => Kind::Number(number, spot),
         7 => Kind::Lost(number),
         8 => Kind::Dropped(number),

@@ -2,6 +2,7 @@
 //! one after another, `text_picture` goes over all marks for each strip, `svg_picture` over all for each row, and each
 //! caption is a text of its own.
 
+mod answered;
 mod caption;
 mod deed;
 mod happening;
@@ -17,7 +18,6 @@ mod steps;
 mod svg;
 mod symbol;
 mod text;
-mod turn;
 mod ways;
 
 pub(crate) use marking::marks;

@@ -9,7 +9,7 @@ use Rattle.cold_flow.specs.declared.event.Event.TheVariants.{Value, End}
 use Rattle.cold_flow.specs.Trace.{Trace, ◌⊑◌, so_far, ended_by, led_by}
 use Rattle.cold_flow.specs.Poll.{Traces, Narrows, IsReady, Fixes, Unless, end_of}
 use Rattle.cold_flow.specs.Laws.{ended-begins}
-use Rattle.more_operators.specs.declared.operators.paced.Held.{Held}
+use Rattle.more_operators.specs.declared.operators.paced.Timestamped.{Timestamped}
 use Rattle.more_operators.specs.Paced.{held_at, due_at, last_event, Answers, Paces, step, given_at, paced}
 
 module _ {A E : Type 0} where
@@ -39,12 +39,12 @@ module _ {A E : Type 0} where
   fixed-fresh ended may whole fresh fixed t h = fixed t (subst (λ (o : Option (Cause E)). Unless o may t) fresh h)
 
 -- what one poll answers, what is held then, and that the source may give what is left, and still never answers pending
-abbrev pub Exactly : {A E : Type 0} → Poll (Event A E) × Option (Held A) × Trace A E → Poll (Event A E) → Option (Held A)
+abbrev pub Exactly : {A E : Type 0} → Poll (Event A E) × Option (Timestamped A) × Trace A E → Poll (Event A E) → Option (Timestamped A)
     → Option (Cause E) → Traces A E → Bool → Type 0
 Exactly s result kept ended may prompt =
     (result ≡ s.0) × (kept ≡ s.1) × Fixes s.2 (Unless ended may) × IsTrue prompt
 
-module _ {A E : Type 0} (gives_last : Bool) (now : ℕ) (held kept : Option (Held A)) (result : Poll (Event A E)) where
+module _ {A E : Type 0} (gives_last : Bool) (now : ℕ) (held kept : Option (Timestamped A)) (result : Poll (Event A E)) where
   -- an end, which is that of the whole trace
   end-exactly : (k : Cause E) (t : Trace A E) (may : Traces A E) (prompt : Bool) → ended_by [] k ⊑ t → IsTrue prompt
       → result ≡ Ready (last_event gives_last held k) → kept ≡ None → Exactly (step gives_last now None held t) result kept (Some k) may prompt
@@ -72,7 +72,7 @@ module _ {A E : Type 0} (gives_last : Bool) (now : ℕ) (held kept : Option (Hel
 module _ {A E S : Type 0} (may : S → Traces A E) (ended : S → Option (Cause E)) (prompt : S → Bool)
     (polled : S → Poll (Event A E) → S → Type 0) (begins : (s : S) → may s (so_far [])) (old new : S) (gives_last : Bool) where
   -- one poll
-  polls-exactly : (now : ℕ) (due : Option A) (over : Option (Cause E)) (held kept : Option (Held A)) (t : Trace A E)
+  polls-exactly : (now : ℕ) (due : Option A) (over : Option (Cause E)) (held kept : Option (Timestamped A)) (t : Trace A E)
       (result : Poll (Event A E)) → over ≡ ended old → Fixes t (Unless over (may old)) → IsTrue (prompt old)
       → Paces may ended prompt polled gives_last now due over held old result kept new
       → Exactly (step gives_last now due held t) result kept (ended new) (may new) (prompt new)
@@ -96,14 +96,14 @@ module _ {A E : Type 0} (items more : List (ℕ × Event A E)) (now : ℕ) where
   gives_none result is same rest = rw (is, same) refl
 
 -- a list of what is given that stands so far as items, and goes on with what is given of some trace at the moments that are left
-abbrev pub Left : {A E : Type 0} → Traces A E → Option (Cause E) → Bool → (ℕ → ℕ → Bool) → Bool → Option (Held A) → List ℕ → List (ℕ × Event A E)
+abbrev pub Left : {A E : Type 0} → Traces A E → Option (Cause E) → Bool → (ℕ → ℕ → Bool) → Bool → Option (Timestamped A) → List ℕ → List (ℕ × Event A E)
     → List (ℕ × Event A E) → Type 0
 Left {A} {E} may ended prompt is_due gives_last held moments items list =
     (rest : Trace A E) × Fixes rest (Unless ended may) × IsTrue prompt × (list ≡ items ++ paced is_due gives_last held rest moments)
 
 module _ {A E S : Type 0} (may : S → Traces A E) (ended : S → Option (Cause E)) (prompt : S → Bool)
     (polled : S → Poll (Event A E) → S → Type 0) (begins : (s : S) → may s (so_far [])) (old new : S) (is_due : ℕ → ℕ → Bool) (gives_last : Bool) (now : ℕ)
-    (held kept : Option (Held A)) (result : Poll (Event A E))
+    (held kept : Option (Timestamped A)) (result : Poll (Event A E))
     (polls : Paces may ended prompt polled gives_last now (due_at is_due now held) (ended old) held old result kept new) where
   pub left_after : (moments : List ℕ) (items more list : List (ℕ × Event A E))
       → ((rest : List (ℕ × Event A E)) → items ++ given_at now result rest ≡ more ++ rest)
@@ -117,6 +117,6 @@ module _ {A E S : Type 0} (may : S → Traces A E) (ended : S → Option (Cause 
         p.2,
         p.3,
         h.3 ∙ ap (λ (r : Poll (Event A E)). items ++ given_at now r (paced is_due gives_last s.1 s.2 moments)) (sym p.0)
-            ∙ ap (λ (c : Option (Held A)). items ++ given_at now result (paced is_due gives_last c s.2 moments)) (sym p.1)
+            ∙ ap (λ (c : Option (Timestamped A)). items ++ given_at now result (paced is_due gives_last c s.2 moments)) (sym p.1)
             ∙ e (paced is_due gives_last kept s.2 moments),
       )

@@ -24,7 +24,7 @@ pub use operators::on_each::{Acting, on_each};
 pub use operators::on_empty::{Defaulting, on_empty};
 pub use operators::on_start::{Unchanged, on_start};
 pub use operators::onward::Onward;
-pub use operators::paced::{Held, Pace, Paced, list_at};
+pub use operators::paced::{Pace, Paced, Timestamped, list_at};
 pub use operators::relay::{Relay, Relayed, RelayedRun};
 pub use operators::retry::{FiniteFlow, Regardless, Retried, RetriedRun, retry};
 pub use operators::retry_when::retry_when;

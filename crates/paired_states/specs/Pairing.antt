@@ -2,7 +2,7 @@
 use Rattle.std.specs.Prelude.{◌⊎◌, List, [], Option, Some, None, IsSome}
 use Rattle.state_flow.specs.declared.view.View.{View}
 use Rattle.state_flow.specs.Calls.{Collects}
-use Rattle.state_flow.specs.Collected.{some_of}
+use Rattle.flow_terms.specs.Lists.{some_of}
 use Rattle.state_waiting.specs.Waits.{AskedOn}
 use Rattle.paired_states.specs.declared.fresh.Fresh.{Fresh}
 

@@ -6,7 +6,7 @@ use mathlib.Core.Option.{some}
 use lib.ListN.{get_elem?}
 use Rattle.atomic_table.proofs.Lists.{at_set, set_again, set_else}
 use Rattle.round_lock.specs.declared.log.Log.{Log}
-use Rattle.round_lock.specs.declared.log.Part.{Part}
+use Rattle.round_lock.specs.declared.log.TakenOwner.{TakenOwner}
 use Rattle.round_lock.specs.History.{newcomer, sharing, another, noted, whole_again, taking, telling, spent, called, Saw, AreKept, Apart, Stands, OneList, OneHistory}
 use Rattle.round_lock.proofs.Rounds as Rounds
 use Rattle.round_lock.proofs.Rounds.{alone, length-snoc, Found}

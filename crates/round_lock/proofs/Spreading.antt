@@ -3,7 +3,7 @@ use Rattle.std.proofs.Common.{◌≡◌, ◌≢◌, ◌⊎◌, ℕ, ◌+◌, Opt
 use mathlib.Core.Option.{some}
 use lib.ListN.{get_elem?}
 use Rattle.round_lock.specs.declared.log.Log.{Log}
-use Rattle.round_lock.specs.declared.log.Part.{Part}
+use Rattle.round_lock.specs.declared.log.TakenOwner.{TakenOwner}
 use Rattle.round_lock.specs.History.{TakenIn, Apart, HasAll, Parts, MadeEach, halves, whole, share, shares_of, shares_taken, calls_of, calls_taken, Among, AmongAll, Seated, AreAll, own_of, spent, IsKept, AreKept, Stands, OneList, OneHistory}
 use Rattle.round_lock.proofs.Shares.{bare_shares, bare_calls, all_callers, no_more}
 use Rattle.round_lock.proofs.Standing.{AllStand, not_taken, taken_home}
@@ -15,15 +15,15 @@ module _ {S : Type 0} where
 
 module _ {S E : Type 0} where
   -- those that were taken in, as they are kept, and then others
-  abbrev onto : (kept : List (Log S E)) (home : ℕ → ℕ) (pass : ℕ) (parts : List (Part E)) → AreKept kept home pass parts → List (ℕ × Log S E) → List (ℕ × Log S E)
+  abbrev onto : (kept : List (Log S E)) (home : ℕ → ℕ) (pass : ℕ) (parts : List (TakenOwner E)) → AreKept kept home pass parts → List (ℕ × Log S E) → List (ℕ × Log S E)
   onto kept home pass [] are rest = rest
   onto kept home pass (p ∷ parts) are rest = (p.pass, are.0.view) ∷ onto kept home pass parts are.1 rest
 
-  onto_among : (kept : List (Log S E)) (home : ℕ → ℕ) (pass : ℕ) (parts : List (Part E)) (are : AreKept kept home pass parts) (rest : List (ℕ × Log S E)) (n : ℕ) → Among (onto kept home pass parts are rest) n → TakenIn parts n ⊎ Among rest n
+  onto_among : (kept : List (Log S E)) (home : ℕ → ℕ) (pass : ℕ) (parts : List (TakenOwner E)) (are : AreKept kept home pass parts) (rest : List (ℕ × Log S E)) (n : ℕ) → Among (onto kept home pass parts are rest) n → TakenIn parts n ⊎ Among rest n
   onto_among kept home pass [] are rest n is = inr is
   onto_among kept home pass (p ∷ parts) are rest n is = ⊎_elim (λ here. inl (inl here)) (λ more. ⊎_elim (λ t. inl (inr t)) (λ t. inr t) (onto_among kept home pass parts are.1 rest n more)) is
 
-  onto_seated : (kept : List (Log S E)) (home : ℕ → ℕ) (pass : ℕ) (parts : List (Part E)) (are : AreKept kept home pass parts) (rest : List (ℕ × Log S E)) → Apart pass parts → ((n : ℕ) → Among rest n → home n ≢ pass) → Seated kept rest
+  onto_seated : (kept : List (Log S E)) (home : ℕ → ℕ) (pass : ℕ) (parts : List (TakenOwner E)) (are : AreKept kept home pass parts) (rest : List (ℕ × Log S E)) → Apart pass parts → ((n : ℕ) → Among rest n → home n ≢ pass) → Seated kept rest
       → Seated kept (onto kept home pass parts are rest)
   onto_seated kept home pass [] are rest apart out seated = seated
   onto_seated kept home pass (p ∷ parts) are rest apart out seated = (
@@ -32,14 +32,14 @@ module _ {S E : Type 0} where
     onto_seated kept home pass parts are.1 rest apart.2 out seated,
   )
 
-  onto_shares : (kept : List (Log S E)) (home : ℕ → ℕ) (pass : ℕ) (parts : List (Part E)) (are : AreKept kept home pass parts) (rest : List (ℕ × Log S E)) (h : ℕ) → bare_shares h (onto kept home pass parts are rest) ≡ shares_taken h parts + bare_shares h rest
+  onto_shares : (kept : List (Log S E)) (home : ℕ → ℕ) (pass : ℕ) (parts : List (TakenOwner E)) (are : AreKept kept home pass parts) (rest : List (ℕ × Log S E)) (h : ℕ) → bare_shares h (onto kept home pass parts are rest) ≡ shares_taken h parts + bare_shares h rest
   onto_shares kept home pass [] are rest h = omega arith
   onto_shares kept home pass (p ∷ parts) are rest h =
       let one : share h are.0.view.made are.0.view.halved ≡ halves h p.halved = share_owned h are.0.view.made are.0.view.halved p.halved are.0.owner are.0.halved_is in
       let more = onto_shares kept home pass parts are.1 rest h in
       omega (arith, one, more)
 
-  onto_calls : (kept : List (Log S E)) (home : ℕ → ℕ) (pass : ℕ) (parts : List (Part E)) (are : AreKept kept home pass parts) (rest : List (ℕ × Log S E)) → bare_calls (onto kept home pass parts are rest) ≡ calls_taken parts + bare_calls rest
+  onto_calls : (kept : List (Log S E)) (home : ℕ → ℕ) (pass : ℕ) (parts : List (TakenOwner E)) (are : AreKept kept home pass parts) (rest : List (ℕ × Log S E)) → bare_calls (onto kept home pass parts are rest) ≡ calls_taken parts + bare_calls rest
   onto_calls kept home pass [] are rest = omega arith
   onto_calls kept home pass (p ∷ parts) are rest =
       let one : length are.0.view.own ≡ length p.own = ap length are.0.own_is in
@@ -99,7 +99,7 @@ module _ {S E : Type 0} where
       s.here
 
   -- the calls of those that were taken in are their part
-  parts_kept : (kept : List (Log S E)) (home : ℕ → ℕ) (pass : ℕ) (log : List (ℕ × E × S)) (parts : List (Part E)) → ((j : ℕ) (u : Log S E) → get_elem? kept j ≡ some u → u.own ≡ own_of j log) → AreKept kept home pass parts → Parts log parts
+  parts_kept : (kept : List (Log S E)) (home : ℕ → ℕ) (pass : ℕ) (log : List (ℕ × E × S)) (parts : List (TakenOwner E)) → ((j : ℕ) (u : Log S E) → get_elem? kept j ≡ some u → u.own ≡ own_of j log) → AreKept kept home pass parts → Parts log parts
   parts_kept kept home pass log [] each are = tt
   parts_kept kept home pass log (p ∷ parts) each are = (sym are.0.own_is ∙ each p.pass are.0.view are.0.there, parts_kept kept home pass log parts each are.1)
 

@@ -5,7 +5,7 @@ use mathlib.Core.Option.{some}
 use lib.ListN.{get_elem?}
 use Rattle.atomic_table.proofs.Lists.{set_here, set_else, at_longer, at_last}
 use Rattle.round_lock.specs.declared.log.Log.{Log}
-use Rattle.round_lock.specs.declared.log.Part.{Part}
+use Rattle.round_lock.specs.declared.log.TakenOwner.{TakenOwner}
 use Rattle.round_lock.specs.History.{TakenIn, Apart, taking, spent, IsKept, AreKept, Stands}
 use Rattle.round_lock.proofs.Rounds.{at_below, at_end, reviewed}
 
@@ -20,11 +20,11 @@ pub rehomed_else : (home : ℕ → ℕ) (id other n : ℕ) → home n ≢ other 
 rehomed_else home id other n ne = ap (λ b. cond b id (home n)) (ne_eqb (home n) other ne)
 
 module _ {E : Type 0} where
-  taken_by_either : (parts more : List (Part E)) (n : ℕ) → TakenIn (parts ++ more) n → TakenIn parts n ⊎ TakenIn more n
+  taken_by_either : (parts more : List (TakenOwner E)) (n : ℕ) → TakenIn (parts ++ more) n → TakenIn parts n ⊎ TakenIn more n
   taken_by_either [] more n is = inr is
   taken_by_either (p ∷ parts) more n is = ⊎_elim (λ here. inl (inl here)) (λ rest. ⊎_elim (λ t. inl (inr t)) (λ t. inr t) (taken_by_either parts more n rest)) is
 
-  apart_both : (id : ℕ) (parts more : List (Part E)) → Apart id parts → Apart id more → ((n : ℕ) → TakenIn parts n → ¬ TakenIn more n) → Apart id (parts ++ more)
+  apart_both : (id : ℕ) (parts more : List (TakenOwner E)) → Apart id parts → Apart id more → ((n : ℕ) → TakenIn parts n → ¬ TakenIn more n) → Apart id (parts ++ more)
   apart_both id [] more apart and out = and
   apart_both id (p ∷ parts) more apart and out = (
     apart.0,
@@ -45,7 +45,7 @@ module _ {S E : Type 0} where
   is_there kept home pass v s here = ⊎_elim (λ t. t) (λ gone. absurd (here gone)) s.here
 
   -- a seat that is its own was taken in by none
-  pub not_taken : (kept : List (Log S E)) (home : ℕ → ℕ) (pass j : ℕ) (parts : List (Part E)) → home pass ≡ pass → Apart j parts → AreKept kept home j parts → ¬ TakenIn parts pass
+  pub not_taken : (kept : List (Log S E)) (home : ℕ → ℕ) (pass j : ℕ) (parts : List (TakenOwner E)) → home pass ≡ pass → Apart j parts → AreKept kept home j parts → ¬ TakenIn parts pass
   not_taken kept home pass j [] own apart are is = is
   not_taken kept home pass j (p ∷ parts) own apart are is = ⊎_elim
       (λ (here : p.pass ≡ pass). apart.0 (here ∙ sym own ∙ ap home (sym here) ∙ are.0.home_is))
@@ -53,7 +53,7 @@ module _ {S E : Type 0} where
       is
 
   -- those that were taken in are as they were, where another seat's view is another now, or there is one more
-  kept_still : (kept : List (Log S E)) (home : ℕ → ℕ) (pass : ℕ) (w : Log S E) (j : ℕ) (parts : List (Part E)) → ¬ TakenIn parts pass → AreKept kept home j parts → AreKept (set kept pass w) home j parts
+  kept_still : (kept : List (Log S E)) (home : ℕ → ℕ) (pass : ℕ) (w : Log S E) (j : ℕ) (parts : List (TakenOwner E)) → ¬ TakenIn parts pass → AreKept kept home j parts → AreKept (set kept pass w) home j parts
   kept_still kept home pass w j [] out are = tt
   kept_still kept home pass w j (p ∷ parts) out are = (
     record {
@@ -67,7 +67,7 @@ module _ {S E : Type 0} where
     kept_still kept home pass w j parts (λ is. out (inr is)) are.1,
   )
 
-  kept_longer : (kept : List (Log S E)) (home : ℕ → ℕ) (x : Log S E) (j : ℕ) (parts : List (Part E)) → AreKept kept home j parts → AreKept (kept ++ x ∷ []) home j parts
+  kept_longer : (kept : List (Log S E)) (home : ℕ → ℕ) (x : Log S E) (j : ℕ) (parts : List (TakenOwner E)) → AreKept kept home j parts → AreKept (kept ++ x ∷ []) home j parts
   kept_longer kept home x j [] are = tt
   kept_longer kept home x j (p ∷ parts) are = (
     record {
@@ -114,7 +114,7 @@ module _ {S E : Type 0} where
       (at_end views x u j here)
 
   -- those that another seat took in are its own as before
-  kept_else : (kept : List (Log S E)) (home : ℕ → ℕ) (id other j : ℕ) (parts : List (Part E)) → j ≢ other → AreKept kept home j parts → AreKept kept (rehomed home id other) j parts
+  kept_else : (kept : List (Log S E)) (home : ℕ → ℕ) (id other j : ℕ) (parts : List (TakenOwner E)) → j ≢ other → AreKept kept home j parts → AreKept kept (rehomed home id other) j parts
   kept_else kept home id other j [] apart are = tt
   kept_else kept home id other j (p ∷ parts) apart are = (
     record {
@@ -128,7 +128,7 @@ module _ {S E : Type 0} where
     kept_else kept home id other j parts apart are.1,
   )
 
-  kept_over : (kept : List (Log S E)) (home : ℕ → ℕ) (id other : ℕ) (parts : List (Part E)) → AreKept kept home other parts → AreKept kept (rehomed home id other) id parts
+  kept_over : (kept : List (Log S E)) (home : ℕ → ℕ) (id other : ℕ) (parts : List (TakenOwner E)) → AreKept kept home other parts → AreKept kept (rehomed home id other) id parts
   kept_over kept home id other [] are = tt
   kept_over kept home id other (p ∷ parts) are = (
     record {
@@ -142,17 +142,17 @@ module _ {S E : Type 0} where
     kept_over kept home id other parts are.1,
   )
 
-  kept_both : (kept : List (Log S E)) (home : ℕ → ℕ) (id : ℕ) (parts more : List (Part E)) → AreKept kept home id parts → AreKept kept home id more → AreKept kept home id (parts ++ more)
+  kept_both : (kept : List (Log S E)) (home : ℕ → ℕ) (id : ℕ) (parts more : List (TakenOwner E)) → AreKept kept home id parts → AreKept kept home id more → AreKept kept home id (parts ++ more)
   kept_both kept home id [] more are and = and
   kept_both kept home id (p ∷ parts) more are and = (are.0, kept_both kept home id parts more are.1 and)
 
   -- who was taken in by one is the one's
-  pub taken_home : (kept : List (Log S E)) (home : ℕ → ℕ) (pass n : ℕ) (parts : List (Part E)) → AreKept kept home pass parts → TakenIn parts n → home n ≡ pass
+  pub taken_home : (kept : List (Log S E)) (home : ℕ → ℕ) (pass n : ℕ) (parts : List (TakenOwner E)) → AreKept kept home pass parts → TakenIn parts n → home n ≡ pass
   taken_home kept home pass n [] are is = absurd is
   taken_home kept home pass n (p ∷ parts) are is = ⊎_elim (λ (here : p.pass ≡ n). ap home (sym here) ∙ are.0.home_is) (λ more. taken_home kept home pass n parts are.1 more) is
 
   -- those of another are none of this seat's
-  apart_else : (kept : List (Log S E)) (home : ℕ → ℕ) (id other : ℕ) (parts : List (Part E)) → home id ≡ id → other ≢ id → AreKept kept home other parts → Apart other parts → Apart id parts
+  apart_else : (kept : List (Log S E)) (home : ℕ → ℕ) (id other : ℕ) (parts : List (TakenOwner E)) → home id ≡ id → other ≢ id → AreKept kept home other parts → Apart other parts → Apart id parts
   apart_else kept home id other [] own apart are different = tt
   apart_else kept home id other (p ∷ parts) own apart are different = (
     (λ (is : p.pass ≡ id). apart (sym are.0.home_is ∙ ap home is ∙ own)),
@@ -168,7 +168,7 @@ module _ {S E : Type 0} where
       let mine = stands id v at in
       let theirs = stands other w there in
       let now = set kept id (taking other v w) in
-      let part : Part E = record { pass = other; halved = w.halved; own = w.own } in
+      let part : TakenOwner E = record { pass = other; halved = w.halved; own = w.own } in
       let parts : AreKept kept (rehomed home id other) id (v.taken ++ part ∷ w.taken) = kept_both kept (rehomed home id other) id v.taken (part ∷ w.taken)
       (kept_else kept home id other id v.taken (λ is. apart (sym is)) mine.parts)
       (record { view = w; there = here_other; owner = begun; halved_is = refl; own_is = refl; home_is = rehomed_there home id other other own_other }, kept_over kept home id other w.taken theirs.parts) in

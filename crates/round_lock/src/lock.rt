@@ -23,7 +23,7 @@ use std::sync::{Arc, Wait};
 /// halved.
 #[derive(Drop)]
 pub struct Lock<S: Called<E> + Drop, E> {
-    place: Arc<Place<S, E>>,
+    place: Arc<LockTable<S, E>>,
     // A token of no bytes, with what the proofs know of the owner.
     seat: Seat<Option<S>, Log<S, E>>,
 }
@@ -205,11 +205,11 @@ const WANTED: u64 = 2;
 const LOOKS: u32 = 11;
 
 /// What all owners of a lock share: the word, and the place for the state.
-type Place<S, E> = Table<Option<S>, Log<S, E>, Snapshot<S>, Rounds, Global>;
+type LockTable<S, E> = Table<Option<S>, Log<S, E>, Snapshot<S>, Rounds, Global>;
 
 /// Takes the lock where it is free.
 fn try_take<S: Called<E> + Drop, E, N: Numbered>(
-    place: &Place<S, E>,
+    place: &LockTable<S, E>,
     seat: &mut Seat<Option<S>, Log<S, E>>,
 ) -> bool
     requires number { N.number ≡ seat.old.id }
@@ -233,7 +233,7 @@ fn pause(turns: u32) {
 
 /// Takes the lock where it is free at one of a few looks.
 fn look_and_take<S: Called<E> + Drop, E, N: Numbered>(
-    place: &Place<S, E>,
+    place: &LockTable<S, E>,
     seat: &mut Seat<Option<S>, Log<S, E>>,
 ) -> bool
     requires number { N.number ≡ seat.old.id }
@@ -257,7 +257,7 @@ fn look_and_take<S: Called<E> + Drop, E, N: Numbered>(
 #[inline(never)]
 fn wait_and_take<S: Called<E> + Drop, E, N: Numbered, R: Wait>(
     rt: &R,
-    place: &Place<S, E>,
+    place: &LockTable<S, E>,
     seat: &mut Seat<Option<S>, Log<S, E>>,
 )
     requires number { N.number ≡ seat.old.id }
@@ -281,7 +281,7 @@ fn wait_and_take<S: Called<E> + Drop, E, N: Numbered, R: Wait>(
 #[inline(always)]
 fn take<S: Called<E> + Drop, E, N: Numbered, R: Wait>(
     rt: &R,
-    place: &Place<S, E>,
+    place: &LockTable<S, E>,
     seat: &mut Seat<Option<S>, Log<S, E>>,
 )
     requires number { N.number ≡ seat.old.id }
@@ -295,7 +295,7 @@ fn take<S: Called<E> + Drop, E, N: Numbered, R: Wait>(
 }
 
 /// The state, out of its place.
-fn lift<S: Called<E> + Drop, E>(place: &Place<S, E>, seat: &mut Seat<Option<S>, Log<S, E>>) -> S
+fn lift<S: Called<E> + Drop, E>(place: &LockTable<S, E>, seat: &mut Seat<Option<S>, Log<S, E>>) -> S
     requires seat { seat.old.table_id ≡ place.now.shared.table_id }
     requires there { (state : S) × (seat.old.me.1 ≡ (0, Some state) ∷ []) }
     ensures seat { (seat.new.table_id ≡ seat.old.table_id) × (seat.new.id ≡ seat.old.id) }
@@ -308,7 +308,7 @@ fn lift<S: Called<E> + Drop, E>(place: &Place<S, E>, seat: &mut Seat<Option<S>, 
 /// Gives the lock up, with the state as a call left it, where the proof picks the call; and wakes one that may sleep.
 #[inline(always)]
 fn give_as<S: Called<E> + Drop, E, M: Turned<S, E>>(
-    place: &Place<S, E>,
+    place: &LockTable<S, E>,
     seat: &mut Seat<Option<S>, Log<S, E>>,
     state: S,
 )
@@ -325,7 +325,7 @@ fn give_as<S: Called<E> + Drop, E, M: Turned<S, E>>(
 
 /// Gives the lock up, with the state as a call left it.
 fn give<S: Called<E> + Drop, E: Drop, M: Turned<S, E>>(
-    place: &Place<S, E>,
+    place: &LockTable<S, E>,
     seat: &mut Seat<Option<S>, Log<S, E>>,
     state: S,
     entry: E,
@@ -341,7 +341,7 @@ fn give<S: Called<E> + Drop, E: Drop, M: Turned<S, E>>(
 
 /// Looks at the word: then the owner has seen each call that was made before.
 fn look<S: Called<E> + Drop, E, N: Numbered>(
-    place: &Place<S, E>,
+    place: &LockTable<S, E>,
     seat: &mut Seat<Option<S>, Log<S, E>>,
 )
     requires number { N.number ≡ seat.old.id }
@@ -354,7 +354,7 @@ fn look<S: Called<E> + Drop, E, N: Numbered>(
 
 /// Takes in another owner's seat, for good.
 fn absorb<S: Called<E> + Drop, E, N: Numbered>(
-    place: &Place<S, E>,
+    place: &LockTable<S, E>,
     seat: &mut Seat<Option<S>, Log<S, E>>,
     other: Seat<Option<S>, Log<S, E>>,
 )

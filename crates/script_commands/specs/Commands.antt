@@ -8,8 +8,8 @@ use Rattle.script_commands.specs.declared.making.Making.{Making}
 use Rattle.script_commands.specs.declared.making.Making.TheVariants as makings
 use Rattle.script_commands.specs.declared.request.Request.{Request}
 use Rattle.script_commands.specs.declared.request.Request.TheVariants as requested
-use Rattle.script_commands.specs.declared.request.Party.{Party}
-use Rattle.script_commands.specs.declared.request.Party.TheVariants as parties_of
+use Rattle.script_commands.specs.declared.request.Joiner.{Joiner}
+use Rattle.script_commands.specs.declared.request.Joiner.TheVariants as parties_of
 use Rattle.script_commands.specs.Pipes.{Pipe, pipe_in, pipe_of}
 use Rattle.script_commands.specs.Sources.{Origin, origin_in, origin_of}
 use Rattle.script_words.specs.Numbers.{written, list_at}
@@ -45,14 +45,14 @@ made_in (makings.Buffer capacity policy source) = buffer capacity policy (origin
 made_in (makings.Share replay extra policy start source) = share replay extra policy (starting_in start) (origin_in source)
 made_in (makings.Stated value start source) = stated value (starting_in start) (origin_in source)
 
-abbrev pub joining_in : Party → Joining
+abbrev pub joining_in : Joiner → Joining
 joining_in (parties_of.Subscription numbers) = subscription (written numbers)
 joining_in parties_of.Collector = collector
 joining_in (parties_of.Emission value) = emission value
 
 abbrev pub order_of : Command → Order
 order_of (commands.Make name making) = make name.now (made_in making)
-order_of (commands.Join host name party) = join host.now name.now (joining_in party)
+order_of (commands.Join host name joiner) = join host.now name.now (joining_in joiner)
 order_of (commands.Ask name request) = ask name.now request
 order_of (commands.Cold pipe) = cold (pipe_in pipe)
 

@@ -10,7 +10,7 @@ mod keywords;
 
 use crate::making::Making;
 use crate::pipe::Pipe;
-use crate::request::{Party, Request};
+use crate::request::{Joiner, Request};
 use script_words::{Numbers, Words};
 
 /// What a line asks for. Names are parts of the script.
@@ -25,7 +25,7 @@ pub enum Command<'a> {
     Join {
         host: &'a [u8],
         name: &'a [u8],
-        party: Party<'a>,
+        joiner: Joiner<'a>,
     },
     /// What a name stands for is asked something.
     Ask {
@@ -97,24 +97,24 @@ fn collect<'a>(mut words: Words<'a>) -> Option<Command<'a>>
     let host = words.name()?;
     let name = words.name()?;
     words.end()?;
-    let party = Party::Collector;
-    Some(Command::Join { host, name, party })
+    let joiner = Joiner::Collector;
+    Some(Command::Join { host, name, joiner })
 }
 
 /// A subscription, by the words after its name: none, or `with` and the numbers of its prelude.
 #[tactic(auto, unfolding(crate::specs::Commands::subscribing))]
-fn subscription<'a>(mut words: Words<'a>) -> Option<Party<'a>>
+fn subscription<'a>(mut words: Words<'a>) -> Option<Joiner<'a>>
     ensures { option_map joining_in result ≡ subscribing (words_of words.entry.rest.now) }
 {
     let Some(word) = words.next() else {
-        return Some(Party::Subscription(Numbers::none()));
+        return Some(Joiner::Subscription(Numbers::none()));
     };
     if word != b"with".as_slice() {
         return None;
     }
     let numbers = Numbers::take(&mut words)?;
     words.end()?;
-    Some(Party::Subscription(numbers))
+    Some(Joiner::Subscription(numbers))
 }
 
 #[tactic(auto, unfolding(crate::specs::Commands::subscribes))]
@@ -123,8 +123,8 @@ fn subscribe<'a>(mut words: Words<'a>) -> Option<Command<'a>>
 {
     let host = words.name()?;
     let name = words.name()?;
-    let party = subscription(words)?;
-    Some(Command::Join { host, name, party })
+    let joiner = subscription(words)?;
+    Some(Command::Join { host, name, joiner })
 }
 
 #[tactic(auto, unfolding(crate::specs::Commands::joins_with))]
@@ -133,9 +133,9 @@ fn emit<'a>(mut words: Words<'a>) -> Option<Command<'a>>
 {
     let host = words.name()?;
     let name = words.name()?;
-    let party = Party::Emission(words.number()?);
+    let joiner = Joiner::Emission(words.number()?);
     words.end()?;
-    Some(Command::Join { host, name, party })
+    Some(Command::Join { host, name, joiner })
 }
 
 #[tactic(auto, unfolding(crate::specs::Commands::cold_of))]

@@ -34,6 +34,6 @@ pub use object::ScriptObject;
 pub use part::Part;
 pub use pipe::Pipe;
 pub use reason::Reason;
-pub use request::{Party, Request};
+pub use request::{Joiner, Request};
 pub use source::Source;
 pub use source_flow::{SourceFlow, SourceRun};

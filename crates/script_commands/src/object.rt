@@ -10,7 +10,7 @@ ghost use Rattle.script_commands.specs.declared.request.Request.{Request};
 use crate::answer::Answer;
 use crate::making::Making;
 use crate::part::Part;
-use crate::request::{Party, Request};
+use crate::request::{Joiner, Request};
 use flow_terms::Refusal;
 use futures::task::Context;
 use std::alloc::{AllocError, Global};
@@ -47,8 +47,8 @@ pub trait ScriptObject<'a> {
 
     /// Lets a party join the part that a name is of it, and says what the party's name is, if anything was made; nothing where that
     /// part takes no such party.
-    fn join(&mut self, part: Part, party: Party<'_>) -> Option<(Answer, Option<Part>)>
-        ensures { joins part (joining_in party.entry) self.old result self.new };
+    fn join(&mut self, part: Part, joiner: Joiner<'_>) -> Option<(Answer, Option<Part>)>
+        ensures { joins part (joining_in joiner.entry) self.old result self.new };
 
     /// Ends what was made of it, and lets it go.
     fn close(self);

@@ -35,7 +35,7 @@ pub enum Request {
 
 /// What joins a flow or a state, under a name of its own. A prelude is read where it is wanted, so that a command stays small.
 #[derive(Clone, Copy)]
-pub enum Party<'a> {
+pub enum Joiner<'a> {
     /// A subscription with a prelude of these numbers: `sub`.
     Subscription(Numbers<'a>),
     /// A collector of a state: `collect`.

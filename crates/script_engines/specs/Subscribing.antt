@@ -9,7 +9,7 @@ use Rattle.flow_terms.specs.declared.answers.Next.TheVariants.{Value, Nothing, C
 use Rattle.shared_rounds.specs.declared.round.Round.{Round}
 use Rattle.shared_rounds.specs.declared.round.Round.TheVariants as round
 use Rattle.shared_rounds.specs.Entering.{Made}
-use Rattle.shared_flow.specs.Looks.{WasLetInBy, GaveIn, MissedTwice}
+use Rattle.shared_flow.specs.Looks.{WasAdmittedBy, GaveIn, MissedTwice}
 use Rattle.shared_flow.specs.Owners.{Owning, at_rest, IsLeftOut}
 use Rattle.shared_rounds.specs.Reach.{with_round}
 use Rattle.shared_flow.specs.Parties.{Subscribed, newcomer_of, sharing_of}
@@ -30,7 +30,7 @@ subscribing_of it = record { flow = it.flow; places = it.places.items }
 -- given; or its round left it out, or there was no memory for one and nobody made a call, and before both, these values are too many
 abbrev pub Subscribes : Subscribing → List ℕ → Result SubId Refusal → Subscribing → Type 0
 Subscribes old prelude (Ok id) new = (length prelude ≤ 16) × (id.0 ≡ length old.places) × ((s : Subscribed ℕ) × (s.rest ≡ prelude)
-    × (s.party ≡ newcomer_of s.party.pass old.flow.party) × WasLetInBy s.number s.reader (sharing_of old.flow.party) new.flow.party
+    × (s.party ≡ newcomer_of s.party.pass old.flow.party) × WasAdmittedBy s.number s.reader (sharing_of old.flow.party) new.flow.party
     × (new ≡ record { flow = at_rest (with_round (round.Subscribe (Ok s.number)) new.flow.party.seen (sharing_of old.flow.party)); places = old.places ++ Some s ∷ [] }))
 Subscribes old prelude (Err refusal) new = ((16 < length prelude) × (refusal ≡ PreludeTooLong) × (new ≡ old))
     ⊎ ((length prelude ≤ 16) × IsLeftOut old.flow refusal new.flow × (new.places ≡ old.places))

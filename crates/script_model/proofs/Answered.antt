@@ -12,7 +12,7 @@ use Rattle.script_run.specs.declared.fault.ScriptFault.TheVariants.{Read, TooLon
 use Rattle.script_run.specs.declared.line_answer.LineAnswer.{LineAnswer}
 use Rattle.script_run.specs.Executing.{Joined}
 use Rattle.script_run.specs.Output.{AppendsFront}
-use Rattle.script_run.specs.Scripts.{text_of_answers, AnswersFront, Writes, Gives, ReadsAndWrites, Runs}
+use Rattle.script_run.specs.Scripts.{text_of_answers, AnswersFront, Writes, Gives, ReadsAndWrites, ReadsToEnd}
 use Rattle.script_model.specs.Findings.{Findings}
 use Rattle.script_model.specs.Things.{Thing}
 use Rattle.script_model.specs.Worlds.{empty_world}
@@ -67,7 +67,7 @@ module _ {O : Type 0} (makes : Made → Result O Refusal → Type 0)
     reads_and_writes left rest old new result h = (h.0, h.1, h.2, h.3, writes_text old new h.0 result h.4)
 
   -- THE TEXT THAT IS WRITTEN OF A SCRIPT IS ITS MODEL'S
-  pub runs_by_model : (left rest old new : Option (List ℕ)) (result : Result (Unit {0}) ScriptFault) → Runs makes asks joins left rest old new result
+  pub runs_by_model : (left rest old new : Option (List ℕ)) (result : Result (Unit {0}) ScriptFault) → ReadsToEnd makes asks joins left rest old new result
       → (Stands : O → Thing → Type 0) → Meets Stands makes asks joins → RunsByModel left rest old new result
   runs_by_model left rest old new (Ok done) h Stands meets = reads_and_writes Stands meets left rest old new (Ok done) h
   runs_by_model left rest old new (Err Write) h Stands meets = reads_and_writes Stands meets left rest old new (Err Write) h

@@ -27,12 +27,12 @@ module _ {F L H K : Type 0} (seen : F → Seen ℕ) (share_receipts : Receipts L
   asks_known share_turns stated_turns part request (objects.Stated shown) new answer h = h
   asks_known share_turns stated_turns part request (objects.Buffer shown) new answer h = h
 
-  pub joins_known : (part : Part) (party : Joining) (old new : Object F Watch L H K) (joined : Option Joined)
-      → JoinsObject (receipts_of seen receiving) (emissions_of seen emitting) watching share_receipts part party old joined new
-      → JoinsKnown seen (λ before after. JoinsShare share_receipts part party before joined after)
-      (λ before after. JoinsStated watching part party before joined after) part party old joined new
-  joins_known part party (objects.Flow shown) new joined h = h
-  joins_known part party (objects.State shown) new joined h = h
-  joins_known part party (objects.Share shown) new joined h = h
-  joins_known part party (objects.Stated shown) new joined h = h
-  joins_known part party (objects.Buffer shown) new joined h = h
+  pub joins_known : (part : Part) (joiner : Joining) (old new : Object F Watch L H K) (joined : Option Joined)
+      → JoinsObject (receipts_of seen receiving) (emissions_of seen emitting) watching share_receipts part joiner old joined new
+      → JoinsKnown seen (λ before after. JoinsShare share_receipts part joiner before joined after)
+      (λ before after. JoinsStated watching part joiner before joined after) part joiner old joined new
+  joins_known part joiner (objects.Flow shown) new joined h = h
+  joins_known part joiner (objects.State shown) new joined h = h
+  joins_known part joiner (objects.Share shown) new joined h = h
+  joins_known part joiner (objects.Stated shown) new joined h = h
+  joins_known part joiner (objects.Buffer shown) new joined h = h

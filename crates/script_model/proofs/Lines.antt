@@ -68,7 +68,7 @@ module _ {O : Type 0} (Stands : O → Thing → Type 0) (makes : Made → Result
   -- a command has the same reason on objects as on the world
   same_reason : (order : Order) (old : Standing O) (world : World) → Pictures Stands old world → reason_of order old.bound ≡ reason_of order (binding_of world.names)
   same_reason (commands.make name made) old world p = refl
-  same_reason (commands.join host name party) old world p =
+  same_reason (commands.join host name joiner) old world p =
       ap (λ binding. against_joining binding (old.bound name)) (p.names host) ∙ ap (λ taken. against_joining (binding_of world.names host) taken) (p.names name)
   same_reason (commands.ask name request) old world p = ap against_asking (p.names name)
   same_reason (commands.cold pipe) old world p = refl

@@ -14,7 +14,7 @@ use Rattle.script_objects.specs.declared.sourced.Sourced.{Sourced}
 use Rattle.script_run.specs.declared.fault.ScriptFault.{ScriptFault}
 use Rattle.script_run.specs.declared.line_answer.LineAnswer.{LineAnswer}
 use Rattle.script_run.specs.Executing.{Joined}
-use Rattle.script_run.specs.Scripts.{Gives, Runs}
+use Rattle.script_run.specs.Scripts.{Gives, ReadsToEnd}
 use Rattle.script_states.specs.Watching.{Watch}
 use Rattle.script_words.specs.Starts.{Starting}
 use Rattle.flow_script.specs.Makers.{made_as}
@@ -33,14 +33,14 @@ module _ {O F L H K : Type 0} (makes : Made → Result O Refusal → Type 0)
       → ((made : Made) (reply : Result O Refusal) → makes made reply → MakesKnown seen shares stateds made (made_as object reply))
       → ((part : Part) (request : Request) (old new : O) (answer : Option Answer) → asks part request old answer new
       → AsksKnown seen (shares' part request answer) (stateds' part request answer) part request (object old) answer (object new))
-      → ((part : Part) (party : Joining) (old new : O) (joined : Option Joined) → joins part party old joined new
-      → JoinsKnown seen (shares'' part party joined) (stateds'' part party joined) part party (object old) joined (object new))
+      → ((part : Part) (joiner : Joining) (old new : O) (joined : Option Joined) → joins part joiner old joined new
+      → JoinsKnown seen (shares'' part joiner joined) (stateds'' part joiner joined) part joiner (object old) joined (object new))
       → GivesAnswers script result
   gives_as_model script result gives seen object shares stateds shares' stateds' shares'' stateds'' making asking joining =
       gives_answers makes asks joins script result gives (StandsInside seen object)
       (object_meets seen object makes asks joins shares stateds shares' stateds' shares'' stateds'' making asking joining)
 
-  pub runs_as_model : (left rest old new : Option (List ℕ)) (result : Result (Unit {0}) ScriptFault) → Runs makes asks joins left rest old new result
+  pub runs_as_model : (left rest old new : Option (List ℕ)) (result : Result (Unit {0}) ScriptFault) → ReadsToEnd makes asks joins left rest old new result
       → (seen : F → Seen ℕ) (object : O → Object F Watch L H K)
       (shares : ℕ → ℕ → Policy → Starting → Origin → Started → Sourced L H → Type 0) (stateds : ℕ → Starting → Origin → Started → Sourced Watch K → Type 0)
       (shares' : Part → Request → Option Answer → Sourced L H → Sourced L H → Type 0) (stateds' : Part → Request → Option Answer → Sourced Watch K → Sourced Watch K → Type 0)
@@ -48,8 +48,8 @@ module _ {O F L H K : Type 0} (makes : Made → Result O Refusal → Type 0)
       → ((made : Made) (reply : Result O Refusal) → makes made reply → MakesKnown seen shares stateds made (made_as object reply))
       → ((part : Part) (request : Request) (before after : O) (answer : Option Answer) → asks part request before answer after
       → AsksKnown seen (shares' part request answer) (stateds' part request answer) part request (object before) answer (object after))
-      → ((part : Part) (party : Joining) (before after : O) (joined : Option Joined) → joins part party before joined after
-      → JoinsKnown seen (shares'' part party joined) (stateds'' part party joined) part party (object before) joined (object after))
+      → ((part : Part) (joiner : Joining) (before after : O) (joined : Option Joined) → joins part joiner before joined after
+      → JoinsKnown seen (shares'' part joiner joined) (stateds'' part joiner joined) part joiner (object before) joined (object after))
       → RunsByModel left rest old new result
   runs_as_model left rest old new result runs seen object shares stateds shares' stateds' shares'' stateds'' making asking joining =
       runs_by_model makes asks joins left rest old new result runs (StandsInside seen object)

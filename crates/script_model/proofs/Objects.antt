@@ -86,14 +86,14 @@ module _ {F : Type 0} (seen : F → Seen ℕ) where
   subscribes true numbers old new reply M is shows h = h M shows
   subscribes false numbers old new reply M is shows h = rw is (h.0, subst (λ it. Shows (seen it) M) (sym h.1) shows)
 
-  flow_joins : (part : Part) (party : Joining) (old new : F) (joined : Option Joined) (M : State ℕ) → Shows (seen old) M
-      → JoinsFlow (receipts_of seen receiving) (emissions_of seen emitting) part party old joined new → (joined ≡ (join_flow part party M).0) × Shows (seen new) (join_flow part party M).1
+  flow_joins : (part : Part) (joiner : Joining) (old new : F) (joined : Option Joined) (M : State ℕ) → Shows (seen old) M
+      → JoinsFlow (receipts_of seen receiving) (emissions_of seen emitting) part joiner old joined new → (joined ≡ (join_flow part joiner M).0) × Shows (seen new) (join_flow part joiner M).1
   flow_joins Whole (commands.subscription numbers) old new joined M shows h =
       let came = subscribes (nat_le (length numbers) 16) numbers old new h.0 M refl shows h.1 in
       (h.2 ∙ ap (λ r. Some (subscribe_answer r, subscription_in r)) came.0, came.1)
   flow_joins Whole (commands.emission value) old new joined M shows h =
       call_joined (calls.start_emit 0 value) emit_answer emission_in (seen old) (seen new) joined M h.0 shows h.1 h.2
-  flow_joins part party old new joined M shows h = uncalled old new joined M shows h
+  flow_joins part joiner old new joined M shows h = uncalled old new joined M shows h
 
 -- ---- a state
 
@@ -117,13 +117,13 @@ state_asks (Subscription id) requests.Cancel old new answer kept shows h =
 state_asks part request old new answer kept shows h = unchanged old new answer kept shows h
 
 -- memory was refused to a collector, or not
-state_joins : (part : Part) (party : Joining) (old new : Watch) (joined : Option Joined) (kept : states.Kept) → watched.Shows old kept → JoinsState watching part party old joined new
-    → (finding : Finding) × (joined ≡ (join_state (was_refused finding) part party kept).0) × watched.Shows new (join_state (was_refused finding) part party kept).1
+state_joins : (part : Part) (joiner : Joining) (old new : Watch) (joined : Option Joined) (kept : states.Kept) → watched.Shows old kept → JoinsState watching part joiner old joined new
+    → (finding : Finding) × (joined ≡ (join_state (was_refused finding) part joiner kept).0) × watched.Shows new (join_state (was_refused finding) part joiner kept).1
 state_joins Whole commands.collector old new joined kept shows h = ⊎_elim
     (λ (lacked : (h.0 ≡ Err NoMemory) × (new ≡ old)). (refused, h.2 ∙ ap (λ r. Some (subscribe_answer r, subscription_in r)) lacked.0, subst (λ it. watched.Shows it kept) (sym lacked.1) shows))
     (λ (follows : watched.Follows states.collected old h.0 new). let came = follows kept shows in (plain, h.2 ∙ ap (λ r. Some (subscribe_answer r, subscription_in r)) came.0, came.1))
     (acts_as_kept.collects_one old new h.0 h.1)
-state_joins part party old new joined kept shows h = let came = unchanged old new joined kept shows h in (plain, came.0, came.1)
+state_joins part joiner old new joined kept shows h = let came = unchanged old new joined kept shows h in (plain, came.0, came.1)
 
 -- it begins with its value
 made_state : (value : ℕ) (reply : Result Watch Refusal) → MakesState value reply → MadeUnless None reply (λ it. watched.Shows it (states.begun value))
@@ -242,25 +242,25 @@ module _ {F L H K : Type 0} (seen : F → Seen ℕ) where
 
     -- what an object answers to a party, whatever what shares a source does
     abbrev pub JoinsKnown : Part → Joining → Object F Watch L H K → Option Joined → Object F Watch L H K → Type 0
-    JoinsKnown part party (objects.Flow shown) joined new =
-        Keeps objects.Flow (λ after. JoinsFlow (receipts_of seen receiving) (emissions_of seen emitting) part party shown joined after) new
-    JoinsKnown part party (objects.State shown) joined new = Keeps objects.State (λ after. JoinsState watching part party shown joined after) new
-    JoinsKnown part party (objects.Share shown) joined new = Keeps objects.Share (λ after. shares shown after) new
-    JoinsKnown part party (objects.Stated shown) joined new = Keeps objects.Stated (λ after. stateds shown after) new
-    JoinsKnown part party (objects.Buffer shown) joined new = NoAnswer (objects.Buffer shown) joined new
+    JoinsKnown part joiner (objects.Flow shown) joined new =
+        Keeps objects.Flow (λ after. JoinsFlow (receipts_of seen receiving) (emissions_of seen emitting) part joiner shown joined after) new
+    JoinsKnown part joiner (objects.State shown) joined new = Keeps objects.State (λ after. JoinsState watching part joiner shown joined after) new
+    JoinsKnown part joiner (objects.Share shown) joined new = Keeps objects.Share (λ after. shares shown after) new
+    JoinsKnown part joiner (objects.Stated shown) joined new = Keeps objects.Stated (λ after. stateds shown after) new
+    JoinsKnown part joiner (objects.Buffer shown) joined new = NoAnswer (objects.Buffer shown) joined new
 
-    pub joins_object : (part : Part) (party : Joining) (old new : Object F Watch L H K) (joined : Option Joined) (thing : Thing) → JoinsKnown part party old joined new → Stands old thing
-        → (finding : Finding) × (joined ≡ (join finding part party thing).0) × Stands new (join finding part party thing).1
-    joins_object part party (objects.Flow shown) new joined (flow M) h stands =
-        let came = flow_joins seen part party shown h.0 joined M stands h.1 in
-        (plain, came.0, subst (λ object. Stands object (flow (join_flow part party M).1)) (sym h.2) came.1)
-    joins_object part party (objects.Buffer shown) new joined (buffer held) h stands = (plain, h.0, subst (λ object. Stands object (buffer held)) (sym h.1) stands)
-    joins_object part party (objects.State shown) new joined (state kept) h stands =
-        let came = state_joins part party shown h.0 joined kept stands h.1 in
-        (came.0, came.1, subst (λ object. Stands object (state (join_state (was_refused came.0) part party kept).1)) (sym h.2) came.2)
-    joins_object part party (objects.Share shown) new joined untold h stands = (took joined, refl, subst (λ object. Stands object untold) (sym h.2) tt)
-    joins_object part party (objects.Stated shown) new joined untold h stands = (took joined, refl, subst (λ object. Stands object untold) (sym h.2) tt)
-    joins_object part party old new joined thing h stands = absurd stands
+    pub joins_object : (part : Part) (joiner : Joining) (old new : Object F Watch L H K) (joined : Option Joined) (thing : Thing) → JoinsKnown part joiner old joined new → Stands old thing
+        → (finding : Finding) × (joined ≡ (join finding part joiner thing).0) × Stands new (join finding part joiner thing).1
+    joins_object part joiner (objects.Flow shown) new joined (flow M) h stands =
+        let came = flow_joins seen part joiner shown h.0 joined M stands h.1 in
+        (plain, came.0, subst (λ object. Stands object (flow (join_flow part joiner M).1)) (sym h.2) came.1)
+    joins_object part joiner (objects.Buffer shown) new joined (buffer held) h stands = (plain, h.0, subst (λ object. Stands object (buffer held)) (sym h.1) stands)
+    joins_object part joiner (objects.State shown) new joined (state kept) h stands =
+        let came = state_joins part joiner shown h.0 joined kept stands h.1 in
+        (came.0, came.1, subst (λ object. Stands object (state (join_state (was_refused came.0) part joiner kept).1)) (sym h.2) came.2)
+    joins_object part joiner (objects.Share shown) new joined untold h stands = (took joined, refl, subst (λ object. Stands object untold) (sym h.2) tt)
+    joins_object part joiner (objects.Stated shown) new joined untold h stands = (took joined, refl, subst (λ object. Stands object untold) (sym h.2) tt)
+    joins_object part joiner old new joined thing h stands = absurd stands
 
 -- ---- what an object is kept in
 
@@ -281,13 +281,13 @@ module _ {O F L H K : Type 0} (seen : F → Seen ℕ) (object : O → Object F W
       → ((made : Made) (reply : Result O Refusal) → makes made reply → MakesKnown seen shares stateds made (made_as object reply))
       → ((part : Part) (request : Request) (old new : O) (answer : Option Answer) → asks part request old answer new
       → AsksKnown seen (shares' part request answer) (stateds' part request answer) part request (object old) answer (object new))
-      → ((part : Part) (party : Joining) (old new : O) (joined : Option Joined) → joins part party old joined new
-      → JoinsKnown seen (shares'' part party joined) (stateds'' part party joined) part party (object old) joined (object new))
+      → ((part : Part) (joiner : Joining) (old new : O) (joined : Option Joined) → joins part joiner old joined new
+      → JoinsKnown seen (shares'' part joiner joined) (stateds'' part joiner joined) part joiner (object old) joined (object new))
       → Meets StandsInside makes asks joins
   object_meets makes asks joins shares stateds shares' stateds' shares'' stateds'' making asking joining = record {
     making = λ made reply h. makes_inside object (Stands seen) made reply (makes_object seen shares stateds made (made_as object reply) (making made reply h));
     asking = λ part request old new answer thing h stands.
         asks_object seen (shares' part request answer) (stateds' part request answer) part request (object old) (object new) answer thing (asking part request old new answer h) stands;
-    joining = λ part party old new joined thing h stands.
-        joins_object seen (shares'' part party joined) (stateds'' part party joined) part party (object old) (object new) joined thing (joining part party old new joined h) stands;
+    joining = λ part joiner old new joined thing h stands.
+        joins_object seen (shares'' part joiner joined) (stateds'' part joiner joined) part joiner (object old) (object new) joined thing (joining part joiner old new joined h) stands;
   }

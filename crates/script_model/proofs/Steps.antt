@@ -34,8 +34,8 @@ module _ {O : Type 0} (Stands : O → Thing → Type 0) where
       pub making : (made : Made) (reply : Result O Refusal) → makes made reply → MakesThing made reply
       pub asking : (part : Part) (request : Request) (old new : O) (answer : Option Answer) (thing : Thing) → asks part request old answer new → Stands old thing
           → (finding : Finding) × (answer ≡ (ask finding part request thing).0) × Stands new (ask finding part request thing).1
-      pub joining : (part : Part) (party : Joining) (old new : O) (reply : Option Joined) (thing : Thing) → joins part party old reply new → Stands old thing
-          → (finding : Finding) × (reply ≡ (join finding part party thing).0) × Stands new (join finding part party thing).1
+      pub joining : (part : Part) (joiner : Joining) (old new : O) (reply : Option Joined) (thing : Thing) → joins part joiner old reply new → Stands old thing
+          → (finding : Finding) × (reply ≡ (join finding part joiner thing).0) × Stands new (join finding part joiner thing).1
 
     module _ (meets : Meets) (old new : Standing O) (world : World) (answer : Option Answer) (p : Pictures Stands old world) where
       -- nothing was answered
@@ -119,31 +119,31 @@ module _ {O : Type 0} (Stands : O → Thing → Type 0) where
 
       -- ---- joins
 
-      joins_at : (name : List ℕ) (index : ℕ) (part : Part) (party : Joining) (object : Option O) (thing : Option Thing) → AtEach Stands object thing
-          → JoinsObject makes asks joins name index part party object old answer new → (finding : Finding) × Comes Stands (join_thing finding name index part party thing world) new answer
-      joins_at name index part party None None stands h = (plain, unanswered h)
-      joins_at name index part party None (Some thing) stands h = absurd stands
-      joins_at name index part party (Some before) None stands h = absurd stands
-      joins_at name index part party (Some before) (Some thing) stands h =
-          let came = meets.joining part party before h.1 h.0 thing h.2 stands in (
+      joins_at : (name : List ℕ) (index : ℕ) (part : Part) (joiner : Joining) (object : Option O) (thing : Option Thing) → AtEach Stands object thing
+          → JoinsObject makes asks joins name index part joiner object old answer new → (finding : Finding) × Comes Stands (join_thing finding name index part joiner thing world) new answer
+      joins_at name index part joiner None None stands h = (plain, unanswered h)
+      joins_at name index part joiner None (Some thing) stands h = absurd stands
+      joins_at name index part joiner (Some before) None stands h = absurd stands
+      joins_at name index part joiner (Some before) (Some thing) stands h =
+          let came = meets.joining part joiner before h.1 h.0 thing h.2 stands in (
             came.0,
             record {
               answered = h.3 ∙ ap answer_in came.1;
               pictured = record {
-                names = names_more Stands old new world name (option_map (part_of index) (part_in (join came.0 part party thing).0)) p
+                names = names_more Stands old new world name (option_map (part_of index) (part_in (join came.0 part joiner thing).0)) p
                     (subst (λ reply. Binds old new name (option_map (part_of index) (part_in reply))) came.1 h.4);
-                things = subst (λ objects. StandEach Stands objects (set world.things index (join came.0 part party thing).1)) (sym h.5)
-                    (stand_set Stands old.objects world.things index h.1 (join came.0 part party thing).1 p.things came.2);
+                things = subst (λ objects. StandEach Stands objects (set world.things index (join came.0 part joiner thing).1)) (sym h.5)
+                    (stand_set Stands old.objects world.things index h.1 (join came.0 part joiner thing).1 p.things came.2);
               };
             },
           )
 
-      joins_by : (name : List ℕ) (party : Joining) (binding taken : Option Binding) → JoinsAt makes asks joins name party binding taken old answer new
-          → (finding : Finding) × Comes Stands (join_for finding name party binding taken world) new answer
-      joins_by name party None taken h = (plain, unanswered h)
-      joins_by name party (Some binding) (Some taken) h = (plain, unanswered h)
-      joins_by name party (Some binding) None h =
-          joins_at name binding.object_index binding.part party (slice_get old.objects binding.object_index) (slice_get world.things binding.object_index)
+      joins_by : (name : List ℕ) (joiner : Joining) (binding taken : Option Binding) → JoinsAt makes asks joins name joiner binding taken old answer new
+          → (finding : Finding) × Comes Stands (join_for finding name joiner binding taken world) new answer
+      joins_by name joiner None taken h = (plain, unanswered h)
+      joins_by name joiner (Some binding) (Some taken) h = (plain, unanswered h)
+      joins_by name joiner (Some binding) None h =
+          joins_at name binding.object_index binding.part joiner (slice_get old.objects binding.object_index) (slice_get world.things binding.object_index)
           (stand_at Stands old.objects world.things binding.object_index p.things) h
 
       -- ---- a pipe, which changes nothing
@@ -157,10 +157,10 @@ module _ {O : Type 0} (Stands : O → Thing → Type 0) where
       pub executes : (order : Order) → Executes makes asks joins order old answer new → (finding : Finding) × Comes Stands (step finding order world) new answer
       executes (commands.make name made) h =
           subst (λ binding. (finding : Finding) × Comes Stands (make_for finding name made binding world) new answer) (p.names name) (makes_by name made (old.bound name) h)
-      executes (commands.join host name party) h =
-          subst (λ binding. (finding : Finding) × Comes Stands (join_for finding name party binding (binding_of world.names name) world) new answer) (p.names host)
-          (subst (λ taken. (finding : Finding) × Comes Stands (join_for finding name party (old.bound host) taken world) new answer) (p.names name)
-          (joins_by name party (old.bound host) (old.bound name) h))
+      executes (commands.join host name joiner) h =
+          subst (λ binding. (finding : Finding) × Comes Stands (join_for finding name joiner binding (binding_of world.names name) world) new answer) (p.names host)
+          (subst (λ taken. (finding : Finding) × Comes Stands (join_for finding name joiner (old.bound host) taken world) new answer) (p.names name)
+          (joins_by name joiner (old.bound host) (old.bound name) h))
       executes (commands.ask name request) h =
           subst (λ binding. (finding : Finding) × Comes Stands (ask_for finding request binding world) new answer) (p.names name) (asks_by request (old.bound name) h)
       executes (commands.cold pipe) h = collects pipe h.0 h.1 h.2

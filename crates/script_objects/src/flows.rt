@@ -7,7 +7,7 @@ ghost use Rattle.script_objects.specs.Flows.{AsksFlow, JoinsFlow};
 use crate::subscriptions::{ask_shared, join_shared};
 use futures::task::Context;
 use script_calls::MutableShared;
-use script_commands::{Answer, Part, Party, Request};
+use script_commands::{Answer, Joiner, Part, Request};
 use std::alloc::{AllocError, Global};
 
 /// Answers a command to a part of a shared flow, or nothing.
@@ -38,15 +38,15 @@ pub(crate) fn ask_flow<F: MutableShared>(
 pub(crate) fn join_flow<F: MutableShared>(
     flow: &mut F,
     part: Part,
-    party: Party<'_>,
+    joiner: Joiner<'_>,
 ) -> Option<(Answer, Option<Part>)>
-    ensures { JoinsFlow F.receipts F.emissions part (joining_in party.entry) flow.old result flow.new }
+    ensures { JoinsFlow F.receipts F.emissions part (joining_in joiner.entry) flow.old result flow.new }
 {
-    match (part, party) {
-        (Part::Whole, Party::Emission(value)) => {
+    match (part, joiner) {
+        (Part::Whole, Joiner::Emission(value)) => {
             let begun = flow.start_emit(value);
             Some((Answer::from(begun), Part::of_emission(begun)))
         }
-        _ => join_shared(flow, part, party),
+        _ => join_shared(flow, part, joiner),
     }
 }

@@ -12,7 +12,7 @@ use crate::states::{ask_state, join_state};
 use crate::subscriptions::join_shared;
 use futures::task::Context;
 use script_calls::{MutableShared, MutableState, Shared, SharedSource};
-use script_commands::{Answer, Part, Party, Request};
+use script_commands::{Answer, Joiner, Part, Request};
 use std::alloc::{AllocError, Global};
 
 /// What a name of a script may stand for. It must be spent, by [`close`](Object::close).
@@ -59,15 +59,15 @@ impl<F: MutableShared, S: MutableState, L: Shared, H: SharedSource, K: SharedSou
 
     /// Lets a party join the part that a name is of it, and says what the party's name is, if anything was made; nothing where that
     /// part takes no such party.
-    pub fn join(&mut self, part: Part, party: Party<'_>) -> Option<(Answer, Option<Part>)>
+    pub fn join(&mut self, part: Part, joiner: Joiner<'_>) -> Option<(Answer, Option<Part>)>
         ensures { JoinsObject F.receipts F.emissions S.readings L.receipts
-            part (joining_in party.entry) self.old result self.new }
+            part (joining_in joiner.entry) self.old result self.new }
     {
         match self {
-            Object::Flow(flow) => join_flow(flow, part, party),
-            Object::State(state) => join_state(state, part, party),
-            Object::Share(share) => join_shared(&mut share.shown, part, party),
-            Object::Stated(stated) => join_state(&mut stated.shown, part, party),
+            Object::Flow(flow) => join_flow(flow, part, joiner),
+            Object::State(state) => join_state(state, part, joiner),
+            Object::Share(share) => join_shared(&mut share.shown, part, joiner),
+            Object::Stated(stated) => join_state(&mut stated.shown, part, joiner),
             Object::Buffer(_) => None,
         }
     }

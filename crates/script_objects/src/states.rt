@@ -4,7 +4,7 @@ ghost use Rattle.script_commands.specs.Commands.{joining_in};
 ghost use Rattle.script_objects.specs.States.{AsksRead, AsksState, JoinsState};
 
 use script_calls::{MutableState, State};
-use script_commands::{Answer, Part, Party, Request};
+use script_commands::{Answer, Joiner, Part, Request};
 
 /// Answers a command to a part of a state that any state knows, or nothing.
 pub(crate) fn ask_read<S: State>(state: &mut S, part: Part, request: Request) -> Option<Answer>
@@ -43,12 +43,12 @@ pub(crate) fn ask_state<S: MutableState>(
 pub(crate) fn join_state<S: State>(
     state: &mut S,
     part: Part,
-    party: Party<'_>,
+    joiner: Joiner<'_>,
 ) -> Option<(Answer, Option<Part>)>
-    ensures { JoinsState S.readings part (joining_in party.entry) state.old result state.new }
+    ensures { JoinsState S.readings part (joining_in joiner.entry) state.old result state.new }
 {
-    match (part, party) {
-        (Part::Whole, Party::Collector) => {
+    match (part, joiner) {
+        (Part::Whole, Joiner::Collector) => {
             let collected = state.collect();
             Some((Answer::from(collected), Part::of_subscription(collected)))
         }

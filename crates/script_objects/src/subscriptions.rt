@@ -9,7 +9,7 @@ ghost use Rattle.script_words.specs.Numbers.{written};
 use flow_terms::{Refusal, SubId};
 use futures::task::Context;
 use script_calls::Shared;
-use script_commands::{Answer, Part, Party, Request};
+use script_commands::{Answer, Joiner, Part, Request};
 use script_words::Numbers;
 use std::alloc::{AllocError, Global};
 
@@ -65,12 +65,12 @@ pub(crate) fn ask_shared<F: Shared>(
 pub(crate) fn join_shared<F: Shared>(
     flow: &mut F,
     part: Part,
-    party: Party<'_>,
+    joiner: Joiner<'_>,
 ) -> Option<(Answer, Option<Part>)>
-    ensures { JoinsShared F.receipts part (joining_in party.entry) flow.old result flow.new }
+    ensures { JoinsShared F.receipts part (joining_in joiner.entry) flow.old result flow.new }
 {
-    match (part, party) {
-        (Part::Whole, Party::Subscription(numbers)) => {
+    match (part, joiner) {
+        (Part::Whole, Joiner::Subscription(numbers)) => {
             let subscribed = subscribe(flow, numbers);
             Some((Answer::from(subscribed), Part::of_subscription(subscribed)))
         }

@@ -9,7 +9,7 @@ use Rattle.script_words.specs.Lines.{lines_of}
 use Rattle.script_run.specs.declared.line_answer.LineAnswer.{LineAnswer}
 use Rattle.script_run.specs.Standings.{Standing, IsFresh}
 use Rattle.script_run.specs.Executing.{Joined}
-use Rattle.script_run.specs.Replying.{Place, first_place, answer_at, Replies, Answers, Comes}
+use Rattle.script_run.specs.Replying.{RunState, first_state, answer_at, Replies, Answers, Comes}
 use Rattle.script_run.specs.Scripts.{AnswersScript, AnswersFront}
 
 module _ {O : Type 0} (makes : Made → Result O Refusal → Type 0)
@@ -30,11 +30,11 @@ module _ {O : Type 0} (makes : Made → Result O Refusal → Type 0)
   )
 
   -- no line was run yet
-  pub comes_none : (here : Place O) → Comes makes asks joins here [] here
+  pub comes_none : (here : RunState O) → Comes makes asks joins here [] here
   comes_none here = record { passed = []; lines = refl; counted = omega arith; answered = (refl, refl) }
 
   -- a line was run
-  pub comes_line : (old new : Place O) (line : List ℕ) (answer : Option Answer) → lines_of old.rest ≡ line ∷ lines_of new.rest → new.number ≡ old.number + 1
+  pub comes_line : (old new : RunState O) (line : List ℕ) (answer : Option Answer) → lines_of old.rest ≡ line ∷ lines_of new.rest → new.number ≡ old.number + 1
       → Replies makes asks joins (old.number + 1) line old.stands answer new.stands → Comes makes asks joins old (answer_at (old.number + 1) answer) new
   comes_line old new line answer lines counted replies = record {
     passed = line ∷ [];
@@ -44,7 +44,7 @@ module _ {O : Type 0} (makes : Made → Result O Refusal → Type 0)
   }
 
   -- some lines were run, and then some more
-  pub comes_more : (old between new : Place O) (all later : List LineAnswer) → Comes makes asks joins old all between → Comes makes asks joins between later new
+  pub comes_more : (old between new : RunState O) (all later : List LineAnswer) → Comes makes asks joins old all between → Comes makes asks joins between later new
       → Comes makes asks joins old (all ++ later) new
   comes_more old between new all later p q = record {
     passed = p.passed ++ q.passed;
@@ -57,17 +57,17 @@ module _ {O : Type 0} (makes : Made → Result O Refusal → Type 0)
   }
 
   -- one more line was run, the first of them that may have an answer
-  pub next_line : (start old new : Place O) (line : List ℕ) (answer : Option Answer) → Comes makes asks joins start [] old → lines_of old.rest ≡ line ∷ lines_of new.rest
+  pub next_line : (start old new : RunState O) (line : List ℕ) (answer : Option Answer) → Comes makes asks joins start [] old → lines_of old.rest ≡ line ∷ lines_of new.rest
       → new.number ≡ old.number + 1 → Replies makes asks joins (old.number + 1) line old.stands answer new.stands → Comes makes asks joins start (answer_at (old.number + 1) answer) new
   next_line start old new line answer p lines counted replies =
       comes_more start old new [] (answer_at (old.number + 1) answer) p (comes_line old new line answer lines counted replies)
 
   -- some lines were run, and then some without an answer
-  pub comes_end : (start old new : Place O) (all : List LineAnswer) → Comes makes asks joins start all old → Comes makes asks joins old [] new → Comes makes asks joins start all new
+  pub comes_end : (start old new : RunState O) (all : List LineAnswer) → Comes makes asks joins start all old → Comes makes asks joins old [] new → Comes makes asks joins start all new
   comes_end start old new all p q = rw (append-nil all) at (comes_more start old new all [] p q)
 
   -- the lines so far
-  pub front_came : (script : List ℕ) (start : Standing O) (all : List LineAnswer) (now : Place O) → IsFresh start → Comes makes asks joins (first_place script start) all now
+  pub front_came : (script : List ℕ) (start : Standing O) (all : List LineAnswer) (now : RunState O) → IsFresh start → Comes makes asks joins (first_state script start) all now
       → AnswersFront makes asks joins script all
   front_came script start all now fresh p = record {
     before = p.passed;
@@ -77,7 +77,7 @@ module _ {O : Type 0} (makes : Made → Result O Refusal → Type 0)
   }
 
   -- all lines
-  pub whole_came : (script : List ℕ) (start : Standing O) (all : List LineAnswer) (now : Place O) → IsFresh start → Comes makes asks joins (first_place script start) all now
+  pub whole_came : (script : List ℕ) (start : Standing O) (all : List LineAnswer) (now : RunState O) → IsFresh start → Comes makes asks joins (first_state script start) all now
       → lines_of now.rest ≡ [] → AnswersScript makes asks joins script all
   whole_came script start all now fresh p none = record {
     start = start;

@@ -7,13 +7,13 @@ use Rattle.script_commands.specs.declared.request.Request.{Request}
 use Rattle.script_commands.specs.Commands.{Made, Joining}
 use Rattle.script_run.specs.declared.line_answer.LineAnswer.{LineAnswer}
 use Rattle.script_run.specs.Executing.{Joined}
-use Rattle.script_run.specs.Scripts.{Runs, AnswersScript, text_of_answers}
+use Rattle.script_run.specs.Scripts.{ReadsToEnd, AnswersScript, text_of_answers}
 
 module _ {O : Type 0} (makes : Made → Result O Refusal → Type 0)
     (asks : Part → Request → O → Option Answer → O → Type 0)
     (joins : Part → Joining → O → Option Joined → O → Type 0) where
   -- THE WHOLE TEXT WAS WRITTEN of all of the script
-  pub whole_text : (script rest old text : List ℕ) → old ≡ [] → Runs makes asks joins (Some script) (Some rest) (Some old) (Some text) (Ok tt)
+  pub whole_text : (script rest old text : List ℕ) → old ≡ [] → ReadsToEnd makes asks joins (Some script) (Some rest) (Some old) (Some text) (Ok tt)
       → (all : List LineAnswer) × AnswersScript makes asks joins script all × (text ≡ text_of_answers all)
   whole_text script rest old text none (read, took, over, short, written) =
       let same : read ≡ script = sym (append-nil read) ∙ ap (λ r. read ++ r) (sym over) ∙ sym took in (

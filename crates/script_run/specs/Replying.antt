@@ -11,7 +11,7 @@ use Rattle.script_commands.specs.Commands.{Order, Made, Joining, command_of}
 use Rattle.script_commands.specs.Reasons.{against_words}
 use Rattle.script_words.specs.Lines.{lines_of, words_of, starts_with_hash}
 use Rattle.script_run.specs.declared.line_answer.LineAnswer.{LineAnswer}
-use Rattle.script_run.specs.declared.run.Run.{Run}
+use Rattle.script_run.specs.declared.run.ScriptRun.{ScriptRun}
 use Rattle.script_run.specs.Standings.{Standing, Stays, standing}
 use Rattle.script_run.specs.Executing.{Joined, NoAnswer, Executes, reason_of}
 
@@ -21,19 +21,19 @@ answer_at number None = []
 answer_at number (Some answer) = record { line = number; answer = answer } ∷ []
 
 -- how far a script was run
-pub record Place (O : Type 0) : Type 0 where
+pub record RunState (O : Type 0) : Type 0 where
   -- how many lines there were so far
   pub number : ℕ
   -- the bytes that are left
   pub rest : List ℕ
   pub stands : Standing O
 
-abbrev pub place : {O M : Type 0} → Run O M → Place O
-place run = record { number = run.number; rest = run.lines.rest.now; stands = standing run.runner }
+abbrev pub run_state : {O M : Type 0} → ScriptRun O M → RunState O
+run_state run = record { number = run.number; rest = run.lines.rest.now; stands = standing run.runner }
 
 -- before the first line
-abbrev pub first_place : {O : Type 0} → List ℕ → Standing O → Place O
-first_place script start = record { number = 0; rest = script; stands = start }
+abbrev pub first_state : {O : Type 0} → List ℕ → Standing O → RunState O
+first_state script start = record { number = 0; rest = script; stands = start }
 
 module _ {O : Type 0} (makes : Made → Result O Refusal → Type 0)
     (asks : Part → Request → O → Option Answer → O → Type 0)
@@ -79,13 +79,13 @@ module _ {O : Type 0} (makes : Made → Result O Refusal → Type 0)
       × Replies number line old answer between × (all ≡ answer_at number answer ++ rest) × Answers (number + 1) lines between rest new
 
   -- from one place in a script to a later one these answers came
-  pub record Comes (old : Place O) (all : List LineAnswer) (new : Place O) : Type 0 where
+  pub record Comes (old : RunState O) (all : List LineAnswer) (new : RunState O) : Type 0 where
     pub passed : List (List ℕ)
     pub lines : lines_of old.rest ≡ passed ++ lines_of new.rest
     pub counted : new.number ≡ old.number + length passed
     pub answered : Answers (old.number + 1) passed old.stands all new.stands
 
   -- up to the next answer, or to the end of the script
-  abbrev pub GoesOn : Place O → Option LineAnswer → Place O → Type 0
+  abbrev pub GoesOn : RunState O → Option LineAnswer → RunState O → Type 0
   GoesOn old None new = Comes old [] new × (lines_of new.rest ≡ [])
   GoesOn old (Some answered) new = Comes old (answered ∷ []) new

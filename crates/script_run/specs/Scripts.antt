@@ -67,12 +67,12 @@ module _ {O : Type 0} (makes : Made → Result O Refusal → Type 0)
   -- WHAT RUNNING A SCRIPT DOES, by what the reader had left and has left, and by what the writer held and holds.
   -- All of the input was read, and its answers were written, or a front of them, or those of the lines before
   -- memory was refused. Past the limit, and where reading failed, nothing was written.
-  abbrev pub Runs : Option (List ℕ) → Option (List ℕ) → Option (List ℕ) → Option (List ℕ) → Result (Unit {0}) ScriptFault → Type 0
-  Runs left rest old new (Ok done) = ReadsAndWrites left rest old new (Ok done)
-  Runs left rest old new (Err Write) = ReadsAndWrites left rest old new (Err Write)
-  Runs left rest old new (Err NoMemory) = Keeps old new ⊎ ReadsAndWrites left rest old new (Err NoMemory)
-  Runs left rest old new (Err Read) = Keeps old new
-  Runs left rest old new (Err TooLong) = Keeps old new × ((bytes : List ℕ) × Consumes left rest bytes × (1048576 < length bytes))
+  abbrev pub ReadsToEnd : Option (List ℕ) → Option (List ℕ) → Option (List ℕ) → Option (List ℕ) → Result (Unit {0}) ScriptFault → Type 0
+  ReadsToEnd left rest old new (Ok done) = ReadsAndWrites left rest old new (Ok done)
+  ReadsToEnd left rest old new (Err Write) = ReadsAndWrites left rest old new (Err Write)
+  ReadsToEnd left rest old new (Err NoMemory) = Keeps old new ⊎ ReadsAndWrites left rest old new (Err NoMemory)
+  ReadsToEnd left rest old new (Err Read) = Keeps old new
+  ReadsToEnd left rest old new (Err TooLong) = Keeps old new × ((bytes : List ℕ) × Consumes left rest bytes × (1048576 < length bytes))
 
 -- an answer's line was written, or a front of it, or none for want of memory
 abbrev pub WritesAnswer : Option (List ℕ) → Option (List ℕ) → Answer → Result (Unit {0}) ScriptFault → Type 0

@@ -2,7 +2,7 @@
 
 ghost use Rattle.std.specs.Prelude.{◌≡◌, ◌≤◌, ◌<◌, ◌+◌, length, IfOk, OnSome};
 ghost use Rattle.script_run.specs.Standings.{IsFresh, standing};
-ghost use Rattle.script_run.specs.Replying.{GoesOn, place, first_place};
+ghost use Rattle.script_run.specs.Replying.{GoesOn, run_state, first_state};
 
 use crate::line_answer::LineAnswer;
 use crate::runner::Runner;
@@ -11,9 +11,9 @@ use script_commands::{NameHash, ScriptObject};
 use script_words::Lines;
 use std::alloc::{AllocError, Global};
 
-/// A script that was read, and is run as far as its answers are taken. It must be spent, by [`close`](Run::close), since what
+/// A script that was read, and is run as far as its answers are taken. It must be spent, by [`close`](ScriptRun::close), since what
 /// it made must be.
-pub struct Run<'s, 't, O: ScriptObject<'s>> {
+pub struct ScriptRun<'s, 't, O: ScriptObject<'s>> {
     runner: Runner<'s, 't, O>,
     // The lines that are left.
     lines: Lines<'s>,
@@ -21,7 +21,7 @@ pub struct Run<'s, 't, O: ScriptObject<'s>> {
     number: u64,
 }
 
-impl<'s, 't, O: ScriptObject<'s>> Run<'s, 't, O> {
+impl<'s, 't, O: ScriptObject<'s>> ScriptRun<'s, 't, O> {
     /// Before the first line of a script, whose names will be hashed so.
     pub fn new(
         alloc: Global,
@@ -29,11 +29,11 @@ impl<'s, 't, O: ScriptObject<'s>> Run<'s, 't, O> {
         task: &'t Solo,
         maker: &'t O::Maker,
         script: &'s [u8],
-    ) -> Run<'s, 't, O>
+    ) -> ScriptRun<'s, 't, O>
         ensures fresh { IsFresh (standing result.runner) }
-        ensures first { place result ≡ first_place script.now (standing result.runner) }
+        ensures first { run_state result ≡ first_state script.now (standing result.runner) }
     {
-        Run {
+        ScriptRun {
             runner: Runner::new(alloc, hash, task, maker),
             lines: Lines::new(script),
             number: 0,
@@ -43,7 +43,7 @@ impl<'s, 't, O: ScriptObject<'s>> Run<'s, 't, O> {
     /// Runs the lines up to the next one that has an answer, and gives that answer; nothing where no such line is left.
     pub fn next(&mut self, alloc: Global) -> Result<Option<LineAnswer>, AllocError>
         requires { self.old.number + length self.old.lines.rest.now ≤ 1048576 }
-        ensures goes_on { IfOk result (λ answered. GoesOn O.makes O.asks O.joins (place self.old) answered (place self.new)) }
+        ensures goes_on { IfOk result (λ answered. GoesOn O.makes O.asks O.joins (run_state self.old) answered (run_state self.new)) }
         ensures room { self.new.number + length self.new.lines.rest.now ≤ 1048576 }
         ensures shorter { IfOk result (λ answered. OnSome answered (length self.new.lines.rest.now < length self.old.lines.rest.now)) }
     {
@@ -66,7 +66,7 @@ impl<'s, 't, O: ScriptObject<'s>> Run<'s, 't, O> {
     pub fn close(self) -> usize
         ensures { result ≡ length self.entry.runner.objects.items }
     {
-        let Run {
+        let ScriptRun {
             runner,
             lines: _,
             number: _,

@@ -13,7 +13,7 @@ use crate::names::Names;
 use crate::reasons::{against_asking, against_joining};
 use futures::task::{Context, Solo};
 use script_commands::{
-    Answer, Command, Making, NameHash, Part, Party, Reason, Request, ScriptObject,
+    Answer, Command, Joiner, Making, NameHash, Part, Reason, Request, ScriptObject,
 };
 use script_words::Words;
 use std::alloc::{AllocError, Global};
@@ -100,9 +100,9 @@ impl<'s, 't, O: ScriptObject<'s>> Runner<'s, 't, O> {
         &mut self,
         host: &[u8],
         name: &'s [u8],
-        party: Party<'_>,
+        joiner: Joiner<'_>,
     ) -> Result<Option<Answer>, AllocError>
-        ensures { IfOk result (λ answer. Executes O.makes O.asks O.joins (join host.now name.entry.now (joining_in party.entry)) (standing self.old) answer (standing self.new)) }
+        ensures { IfOk result (λ answer. Executes O.makes O.asks O.joins (join host.now name.entry.now (joining_in joiner.entry)) (standing self.old) answer (standing self.new)) }
     {
         let Some(binding) = self.names.get(host) else {
             return Ok(None);
@@ -114,7 +114,7 @@ impl<'s, 't, O: ScriptObject<'s>> Runner<'s, 't, O> {
         let Some(object) = self.objects.get_mut(binding.object_index) else {
             return Ok(None);
         };
-        let Some((answer, joined)) = object.join(binding.part, party) else {
+        let Some((answer, joined)) = object.join(binding.part, joiner) else {
             return Ok(None);
         };
         if let Some(part) = joined {
@@ -151,7 +151,7 @@ impl<'s, 't, O: ScriptObject<'s>> Runner<'s, 't, O> {
     {
         match *command {
             Command::Make { name, making } => self.make(alloc, name, making),
-            Command::Join { host, name, party } => self.join(host, name, party),
+            Command::Join { host, name, joiner } => self.join(host, name, joiner),
             Command::Ask { name, request } => self.ask(alloc, name, request),
             Command::Cold { pipe } => Ok(Some(pipe.answer(alloc, &mut self.cx))),
         }

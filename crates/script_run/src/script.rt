@@ -5,14 +5,14 @@ ghost use Rattle.script_commands.specs.Answers.{line_of};
 ghost use Rattle.script_run.specs.Input.{TakesAtMost};
 ghost use Rattle.script_run.specs.declared.fault.ScriptFault.TheVariants.{NoMemory};
 ghost use Rattle.script_run.specs.Standings.{IsFresh, standing};
-ghost use Rattle.script_run.specs.Replying.{place, first_place};
-ghost use Rattle.script_run.specs.Scripts.{Writes, WritesAnswer, Gives, Runs};
+ghost use Rattle.script_run.specs.Replying.{run_state, first_state};
+ghost use Rattle.script_run.specs.Scripts.{Writes, WritesAnswer, Gives, ReadsToEnd};
 
 use crate::fault::ScriptFault;
 use crate::input::{MOST_BYTES, read_script};
 use crate::line_answer::LineAnswer;
 use crate::output::write_whole;
-use crate::run::Run;
+use crate::run::ScriptRun;
 use futures::task::{Doorbell, Solo};
 use script_commands::{Answer, NameHash, ScriptObject};
 use std::alloc::{AllocError, AllocGlobal, Global};
@@ -44,13 +44,13 @@ fn write_answer<W: Write>(
 /// Writes the answers of a script, one by one.
 fn write_answers<'s, W: Write, O: ScriptObject<'s>>(
     alloc: Global,
-    run: &mut Run<'s, '_, O>,
+    run: &mut ScriptRun<'s, '_, O>,
     writer: &mut W,
     script: &[u8],
 ) -> Result<(), ScriptFault>
     requires short { length script.now ≤ 1048576 }
     requires fresh { IsFresh (standing run.old.runner) }
-    requires first { place run.old ≡ first_place script.now (standing run.old.runner) }
+    requires first { run_state run.old ≡ first_state script.now (standing run.old.runner) }
     ensures { Writes O.makes O.asks O.joins (W.contents writer.old) (W.contents writer.new) script.now result }
 {
     let mut text = Vec::new(alloc);
@@ -75,7 +75,7 @@ fn write_script<'s, W: Write, O: ScriptObject<'s>>(
     requires { length script.now ≤ 1048576 }
     ensures { Writes O.makes O.asks O.joins (W.contents writer.old) (W.contents writer.new) script.now result }
 {
-    let mut run = Run::<O>::new(alloc, hash, task, maker, script);
+    let mut run = ScriptRun::<O>::new(alloc, hash, task, maker, script);
     let written = write_answers(alloc, &mut run, writer, script);
     // What must be spent is spent whatever ended the script.
     let _closed = run.close();
@@ -85,12 +85,12 @@ fn write_script<'s, W: Write, O: ScriptObject<'s>>(
 /// Keeps the answers of a script, one by one.
 fn keep_answers<'s, O: ScriptObject<'s>>(
     alloc: Global,
-    run: &mut Run<'s, '_, O>,
+    run: &mut ScriptRun<'s, '_, O>,
     script: &[u8],
 ) -> Result<Vec<LineAnswer>, ScriptFault>
     requires short { length script.now ≤ 1048576 }
     requires fresh { IsFresh (standing run.old.runner) }
-    requires first { place run.old ≡ first_place script.now (standing run.old.runner) }
+    requires first { run_state run.old ≡ first_state script.now (standing run.old.runner) }
     ensures { Gives O.makes O.asks O.joins script.now result }
 {
     let mut answers = Vec::new(alloc);
@@ -127,7 +127,7 @@ pub fn answers_of<'s, O: ScriptObject<'s>>(
     let alloc = rt.alloc();
     let task = own_task(rt)?;
     let hash = NameHash::new(rt);
-    let mut run = Run::<O>::new(alloc, hash, &task, maker, script);
+    let mut run = ScriptRun::<O>::new(alloc, hash, &task, maker, script);
     let answers = keep_answers(alloc, &mut run, script);
     // What must be spent is spent whatever ended the script.
     let _closed = run.close();
@@ -149,7 +149,7 @@ pub fn run_script<'s, R: Read, W: Write, O: ScriptObject<'s>>(
     reader: &mut R,
     writer: &mut W,
 ) -> Result<(), ScriptFault>
-    ensures runs { Runs O.makes O.asks O.joins (R.remaining reader.old) (R.remaining reader.new) (W.contents writer.old) (W.contents writer.new) result }
+    ensures runs { ReadsToEnd O.makes O.asks O.joins (R.remaining reader.old) (R.remaining reader.new) (W.contents writer.old) (W.contents writer.new) result }
     ensures within { TakesAtMost (R.remaining reader.old) (R.remaining reader.new) 1048577 }
 {
     let alloc = rt.alloc();

@@ -16,7 +16,7 @@ use Rattle.sharing_upstream.specs.declared.polled.Polled.{Polled}
 use Rattle.sharing_upstream.specs.declared.strategy.Strategy.{Strategy}
 use Rattle.sharing_upstream.specs.Courses.{kept_cause}
 use Rattle.sharing_upstream.specs.Destinations.{Steps}
-use Rattle.flow_sharing.specs.FlowDestinations.{IsNewPlace, Place, emitting}
+use Rattle.flow_sharing.specs.FlowDestinations.{IsNewDestination, DestinationSeen, emitting}
 use Rattle.sharing_upstream.specs.Polls.{ShowsMore, Answers}
 use Rattle.sharing_upstream.specs.Sharings.{ActsAt, IsRefusedAt}
 use Rattle.sharing_upstream.specs.Shown.{started_by}
@@ -29,7 +29,7 @@ use Rattle.shared_flow.specs.Parties.{named}
 use Rattle.state_flow.specs.Views.{SeatSeen}
 use Rattle.script_calls.specs.Calls.{Turns}
 use Rattle.script_calls.specs.declared.ticked.Ticked.{Ticked}
-use Rattle.script_sharings.specs.declared.share.Share.{Share}
+use Rattle.script_sharings.specs.declared.share.ScriptSharing.{ScriptSharing}
 use Rattle.script_sharings.specs.declared.stated.Stated.{Stated}
 use Rattle.script_calls.specs.declared.ticked.Ticked.TheVariants.{On, Off, Failed, Refused}
 
@@ -82,7 +82,7 @@ pub record Stating (F U : Type 0) : Type 0 where
 
 -- what emits into a flow: an owner of it with an emitter and the value that waits, and a source with what is kept of its sharing
 pub record Sharings (F U : Type 0) : Type 0 where
-  pub place : Place ℕ
+  pub place : DestinationSeen ℕ
   pub source : F
   pub course : Course U ℕ
   pub strategy : Strategy
@@ -100,7 +100,7 @@ stating_of it = record {
 abbrev pub SetsFrom : {F U : Type 0} → Started → F → Stated F ℕ U → Type 0
 SetsFrom started source it = (started_by (stated.strategy_of it.sharing) ≡ started) × IsUnstarted source (stated.upstream_of it.sharing)
 
-abbrev pub sharings_of : {W F U : Type 0} {flow : flows.Ghosts F ℕ ℕ U} {run : runs.Ghosts U ℕ ℕ} → Share W F ℕ U flow run → Sharings F (LiveRun U)
+abbrev pub sharings_of : {W F U : Type 0} {flow : flows.Ghosts F ℕ ℕ U} {run : runs.Ghosts U ℕ ℕ} → ScriptSharing W F ℕ U flow run → Sharings F (LiveRun U)
 sharings_of it = record {
   place = shared.place_of it.sharing;
   source = flow_of (shared.upstream_of it.sharing);
@@ -109,8 +109,8 @@ sharings_of it = record {
 }
 
 -- it emits into the flow of this owner, and nothing waits; it was started so, and this source isn't collected yet
-abbrev pub SharesFrom : {W F U : Type 0} {flow : flows.Ghosts F ℕ ℕ U} {run : runs.Ghosts U ℕ ℕ} → Owning → Started → F → Share W F ℕ U flow run → Type 0
-SharesFrom owner started source it = (shared.shared_by it.sharing ≡ named owner.party) × IsNewPlace owner.party (shared.place_of it.sharing)
+abbrev pub SharesFrom : {W F U : Type 0} {flow : flows.Ghosts F ℕ ℕ U} {run : runs.Ghosts U ℕ ℕ} → Owning → Started → F → ScriptSharing W F ℕ U flow run → Type 0
+SharesFrom owner started source it = (shared.shared_by it.sharing ≡ named owner.party) × IsNewDestination owner.party (shared.place_of it.sharing)
     × (started_by (shared.strategy_of it.sharing) ≡ started) × IsUnstarted source (shared.upstream_of it.sharing)
 
 module _ {F U : Type 0} (may : U → Traces ℕ ℕ) (ended : U → Option (Cause ℕ)) (asked : U → Poll (Event ℕ ℕ) → U → Type 0)

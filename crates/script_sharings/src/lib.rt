@@ -1,4 +1,4 @@
-//! What shares the sources of a script: into a shared flow for threads ([`Share`]), or onto a state ([`Stated`]).
+//! What shares the sources of a script: into a shared flow for threads ([`ScriptSharing`]), or onto a state ([`Stated`]).
 //!
 //! A ghost member says what a tick does: it is one poll of the sharing, at that very moment.
 #![tactic(auto)]
@@ -7,5 +7,5 @@ mod share;
 mod stated;
 mod ticks;
 
-pub use share::Share;
+pub use share::ScriptSharing;
 pub use stated::Stated;

@@ -19,12 +19,12 @@ use std::alloc::Global;
 use std::sync::Wait;
 
 /// A source that is shared into a flow for threads, as a script calls it. It must be spent, by [`close`](SharedSource::close).
-pub struct Share<'a, W, S: Flow<Item = u64>> {
+pub struct ScriptSharing<'a, W, S: Flow<Item = u64>> {
     rt: &'a W,
     sharing: Sharing<u64, S>,
 }
 
-impl<'a, W: Wait, S: Flow<Item = u64, Fault = u64>> Share<'a, W, S> {
+impl<'a, W: Wait, S: Flow<Item = u64, Fault = u64>> ScriptSharing<'a, W, S> {
     ghost use Rattle.script_sharings.specs.Ticks.{sharings_of, SharesFrom};
 
     /// A new flow, and what shares this source into it, which isn't collected yet. Refused as `SharedFlow::new` is by its config, and
@@ -35,18 +35,18 @@ impl<'a, W: Wait, S: Flow<Item = u64, Fault = u64>> Share<'a, W, S> {
         config: Config,
         started: Started,
         source: S,
-    ) -> Result<(SharedFlow<u64>, Share<'a, W, S>), Refusal>
+    ) -> Result<(SharedFlow<u64>, ScriptSharing<'a, W, S>), Refusal>
         ensures made { MadeUnless (making_refusal config) result (λ made. IsMadeWith config made.0.party.flow × HasMadeNoCall 1 made.0) }
         ensures sharing { IfOk result (λ made. SharesFrom made.0 started source made.1) }
         ensures shows { IfOk result (λ made. Shows (sharings_of made.1).strategy []) }
     {
         let mut flow = SharedFlow::new(alloc, config)?;
         let sharing = share_in(rt, &mut flow, source, started)?;
-        Ok((flow, Share { rt, sharing }))
+        Ok((flow, ScriptSharing { rt, sharing }))
     }
 }
 
-impl<'a, W: Wait, S: Flow<Item = u64, Fault = u64>> SharedSource for Share<'a, W, S> {
+impl<'a, W: Wait, S: Flow<Item = u64, Fault = u64>> SharedSource for ScriptSharing<'a, W, S> {
     ghost use Rattle.script_calls.specs.Views.{turns_of};
     ghost use Rattle.script_sharings.specs.Ticks.{sharings_of, sharing};
 
@@ -60,7 +60,7 @@ impl<'a, W: Wait, S: Flow<Item = u64, Fault = u64>> SharedSource for Share<'a, W
     }
 
     fn close(self) {
-        let Share { rt, sharing } = self;
+        let ScriptSharing { rt, sharing } = self;
         let _withdrawn = sharing.close(rt);
     }
 }

@@ -5,29 +5,30 @@ use Rattle.std.proofs.lemmas.Option.{none-some, same_Some}
 use Rattle.std.proofs.Math.ListN.{length-map}
 use Rattle.shared_core.specs.Flow.{cache_start, State, Subscription, empty, accept, lose_oldest, open_next, change, rest, greet_first, receive_first, lose_first, greeted, received_next, lost_next, pending, capacity, values}
 use Rattle.shared_core.specs.Calls.{after}
-use Rattle.shared_core.specs.Story.{BeginsWith, GoesOn, Grows, BeginsWithPrelude, GrowthLaw, CacheLaw}
+use Rattle.flow_terms.specs.Lists.{IsPrefix}
+use Rattle.shared_core.specs.Story.{GoesOn, Grows, BeginsWithPrelude, GrowthLaw, CacheLaw}
 use Rattle.shared_core.proofs.Greeting.{rest-closed}
 use Rattle.shared_core.proofs.Pending.{pending-closed, opened_with}
 use Rattle.shared_core.specs.Accepting.{IsSound}
 use Rattle.shared_core.proofs.Sound.{sound-empty, sound-after}
 use Rattle.shared_core.proofs.Walks.{OverEvents, after_over}
 
-begins_same : {X : Type 0} (xs : List X) → BeginsWith xs xs
-begins_same xs = ([], sym (append-nil xs))
+prefix_self : {X : Type 0} (xs : List X) → IsPrefix xs xs
+prefix_self xs = ([], sym (append-nil xs))
 
-begins_then : {X : Type 0} (xs ys zs : List X) → BeginsWith xs ys → BeginsWith ys zs → BeginsWith xs zs
-begins_then xs ys zs first second = (first.0 ++ second.0, second.1 ∙ ap (λ front. front ++ second.0) first.1 ∙ append_assoc xs first.0 second.0)
+prefix_then : {X : Type 0} (xs ys zs : List X) → IsPrefix xs ys → IsPrefix ys zs → IsPrefix xs zs
+prefix_then xs ys zs first second = (first.0 ++ second.0, second.1 ∙ ap (λ front. front ++ second.0) first.1 ∙ append_assoc xs first.0 second.0)
 
 on_same : {T : Type 0} (s : Subscription T) → GoesOn s s
-on_same s = record { prelude = refl; given = omega arith; start = refl; received = begins_same s.received; lost = begins_same s.lost; closed = λ _. refl }
+on_same s = record { prelude = refl; given = omega arith; start = refl; received = prefix_self s.received; lost = prefix_self s.lost; closed = λ _. refl }
 
 on_then : {T : Type 0} (s t u : Subscription T) → GoesOn s t → GoesOn t u → GoesOn s u
 on_then {T = T} s t u first second = record {
   prelude = second.prelude ∙ first.prelude;
   given = omega (arith, first.given, second.given);
   start = second.start ∙ first.start;
-  received = begins_then s.received t.received u.received first.received second.received;
-  lost = begins_then s.lost t.lost u.lost first.lost second.lost;
+  received = prefix_then s.received t.received u.received first.received second.received;
+  lost = prefix_then s.lost t.lost u.lost first.lost second.lost;
   closed = λ closed. second.closed (ap (λ (v : Subscription T). v.live) (first.closed closed) ∙ closed) ∙ first.closed closed;
 }
 
@@ -37,8 +38,8 @@ on_greet_first s (v ∷ vs) none = record {
   prelude = refl;
   given = omega arith;
   start = refl;
-  received = begins_same s.received;
-  lost = begins_same s.lost;
+  received = prefix_self s.received;
+  lost = prefix_self s.lost;
   closed = λ closed. absurd (let h = none closed in cc);
 }
 
@@ -50,7 +51,7 @@ on_receive_first s [] (i ∷ more) none = record {
   given = omega arith;
   start = refl;
   received = (i ∷ [], refl);
-  lost = begins_same s.lost;
+  lost = prefix_self s.lost;
   closed = λ closed. absurd (let h = none closed in cc);
 }
 
@@ -60,7 +61,7 @@ on_lose_first s (i ∷ more) none = record {
   prelude = refl;
   given = omega arith;
   start = refl;
-  received = begins_same s.received;
+  received = prefix_self s.received;
   lost = (i ∷ [], refl);
   closed = λ closed. absurd (let h = none closed in cc);
 }
@@ -70,8 +71,8 @@ on_close s = record {
   prelude = refl;
   given = omega arith;
   start = refl;
-  received = begins_same s.received;
-  lost = begins_same s.lost;
+  received = prefix_self s.received;
+  lost = prefix_self s.lost;
   closed = λ closed. ap (λ b. record s { live = b }) (sym closed);
 }
 
@@ -107,11 +108,11 @@ last_pushed (x ∷ xs) new = last_pushed xs new
 
 module _ {T : Type 0} where
   pub grows_same : (M : State T) → Grows M M
-  grows_same M = record { accepted = begins_same M.accepted; subscriptions = λ k s gets. (s, gets, on_same s) }
+  grows_same M = record { accepted = prefix_self M.accepted; subscriptions = λ k s gets. (s, gets, on_same s) }
 
   pub grows_then : {M N K : State T} → Grows M N → Grows N K → Grows M K
   grows_then {M = M} {N = N} {K = K} first second = record {
-    accepted = begins_then M.accepted N.accepted K.accepted first.accepted second.accepted;
+    accepted = prefix_then M.accepted N.accepted K.accepted first.accepted second.accepted;
     subscriptions = λ k s gets.
         let mid = first.subscriptions k s gets in
         let last = second.subscriptions k mid.0 mid.1 in
@@ -123,14 +124,14 @@ module _ {T : Type 0} where
 
   grows_lose_oldest : (M : State T) → Grows M (lose_oldest M)
   grows_lose_oldest M = record {
-    accepted = begins_same M.accepted;
+    accepted = prefix_self M.accepted;
     subscriptions = all_mapped _ (λ s. on_cond (s.live && (length (pending (length M.accepted) s) == capacity M.parameters)) s (lost_next (length M.accepted) s)
         (on_lose_first s (pending (length M.accepted) s) (pending-closed (length M.accepted) s))) M.subscriptions;
   }
 
   pub grows_lose : (k : ℕ) (M : State T) → Grows M (record M { subscriptions = change k (lost_next (length M.accepted)) M.subscriptions })
   grows_lose k M = record {
-    accepted = begins_same M.accepted;
+    accepted = prefix_self M.accepted;
     subscriptions = all_changed k (lost_next (length M.accepted)) (λ s. on_lose_first s (pending (length M.accepted) s) (pending-closed (length M.accepted) s)) M.subscriptions;
   }
 
@@ -141,17 +142,17 @@ module _ {T : Type 0} where
       then = λ first second. grows_then first second;
       accepts = λ emitter v M _. grows_accept emitter v M;
       pushes = λ emitter v M _. grows_then (grows_lose_oldest M) (grows_accept emitter v (lose_oldest M));
-      opens = λ prelude M. record { accepted = begins_same M.accepted; subscriptions = all_pushed M.subscriptions _ };
-      closes = λ k M. record { accepted = begins_same M.accepted; subscriptions = all_changed k (λ s. record s { live = false }) on_close M.subscriptions };
-      tickets = λ M tickets. record { accepted = begins_same M.accepted; subscriptions = λ k s gets. (s, gets, on_same s) };
+      opens = λ prelude M. record { accepted = prefix_self M.accepted; subscriptions = all_pushed M.subscriptions _ };
+      closes = λ k M. record { accepted = prefix_self M.accepted; subscriptions = all_changed k (λ s. record s { live = false }) on_close M.subscriptions };
+      tickets = λ M tickets. record { accepted = prefix_self M.accepted; subscriptions = λ k s gets. (s, gets, on_same s) };
     };
-    resets = λ M. record { accepted = begins_same M.accepted; subscriptions = λ k s gets. (s, gets, on_same s) };
+    resets = λ M. record { accepted = prefix_self M.accepted; subscriptions = λ k s gets. (s, gets, on_same s) };
     greets = λ k M. record {
-      accepted = begins_same M.accepted;
+      accepted = prefix_self M.accepted;
       subscriptions = all_changed k greeted (λ s. on_greet_first s (rest s) (rest-closed s)) M.subscriptions;
     };
     receives = λ k M. record {
-      accepted = begins_same M.accepted;
+      accepted = prefix_self M.accepted;
       subscriptions = all_changed k (received_next (length M.accepted)) (λ s. on_receive_first s (rest s) (pending (length M.accepted) s) (pending-closed (length M.accepted) s)) M.subscriptions;
     };
   }

@@ -14,7 +14,8 @@ use Rattle.flow_terms.specs.declared.ids.SubId.{SubId}
 use Rattle.shared_core.specs.Flow.{cache_start, Parameters, State, Subscription, empty, contains, pending, pending_values, rest, values, values_at, cache, open_next, live_count, number, number_limit, capacity, drop_oldest}
 use Rattle.shared_core.specs.Calls.{Call, subscribing, subscribe_with, Reply, to_subscribe, step, replies, after, cancelling, to_cancel}
 use Rattle.shared_core.specs.Shown.{seen_of, live_from, rests_from, rest_of, Seen}
-use Rattle.shared_core.specs.Story.{Interleaves, none, left, right, IsTold, told_count, received_values, BeginsWith, GoesOn, Grows, given_to}
+use Rattle.flow_terms.specs.Lists.{IsPrefix}
+use Rattle.shared_core.specs.Story.{Interleaves, none, left, right, IsTold, told_count, received_values, GoesOn, Grows, given_to}
 use Rattle.shared_core.specs.Headline.{Execution, execution_of, Moment, until, accepted, received, Opening, until_opened, cache_then_later, IsDropped, ReceivesPreludeCacheThenLater, Cancellation, EachReceivesPreludeCacheThenLater, LiveUntilCancelled, OfEveryExecution, EachLiveWasOpened, NothingAfterCancellation}
 use Rattle.shared_core.proofs.Emissions.{accepted_is}
 use Rattle.shared_core.proofs.Growing.{growth_law}
@@ -222,7 +223,7 @@ module _ {T : Type 0} where
     same_first = ap (λ (q : Parameters). q.first) (after_over fixed_parameters opening.moment.before (empty p) ∙ sym (after_over fixed_parameters calls (empty p)))
 
     -- the list of the subscription, at any later moment
-    story_at : (later : Execution T) (all : List (ℕ × T)) → accepted later ≡ all → BeginsWith M.accepted all → cache_then_later (until_opened opening) later ≡ drop new.start (values all)
+    story_at : (later : Execution T) (all : List (ℕ × T)) → accepted later ≡ all → IsPrefix M.accepted all → cache_then_later (until_opened opening) later ≡ drop new.start (values all)
     unfolding seen_of
     story_at later all is begins =
         let before : accepted (until_opened opening) ≡ M.accepted = ap accepted (until_is p calls opening.moment) ∙ accepted_is p opening.moment.before in

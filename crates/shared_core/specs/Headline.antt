@@ -10,7 +10,8 @@ use Rattle.shared_core.specs.Flow.{Parameters, suspend, drop_oldest, capacity, p
 use Rattle.shared_core.specs.Calls.{Call, trying, starting, subscribing, receiving, cancelling, resetting, Reply, to_try}
 use Rattle.shared_core.specs.Calls.{to_start, to_subscribe, to_receive, to_cancel, to_reset, replies, after}
 use Rattle.shared_core.specs.Shown.{Seen, seen_of, rest_of}
-use Rattle.shared_core.specs.Story.{Interleaves, BeginsWith, given_to, emitted, if_waiting, by_emitter}
+use Rattle.flow_terms.specs.Lists.{IsPrefix}
+use Rattle.shared_core.specs.Story.{Interleaves, given_to, emitted, if_waiting, by_emitter}
 
 -- an execution of calls: those made on a new flow, the replies to them, and what contracts see afterwards
 pub record Execution (T : Type 0) : Type 0 where
@@ -141,7 +142,7 @@ pub record ReceivesNoMore {T : Type 0} (execution : Execution T) (n : ℕ) (end 
   pub was_opened : Opening (until end) n
   -- what was pending at the cancellation is given up
   pub would_have_received : ReceivesPreludeCacheThenLater (until end) n was_opened was_live.0
-  pub begins_what_it_would_have_received : BeginsWith (received n execution)
+  pub begins_what_it_would_have_received : IsPrefix (received n execution)
       (was_opened.prelude ++ values_at (cache_then_later (until_opened was_opened) (until end)) would_have_received.kept)
   pub has_what_it_had : received n execution ≡ received n (until end)
   pub closed : IsClosedFrom (length end.before) n execution

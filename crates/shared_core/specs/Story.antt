@@ -4,6 +4,7 @@ use Rattle.std.specs.Prelude.{[], ◌∷◌, ◌++◌, length, take, drop, Optio
 use Rattle.std.specs.List.{AllByRecursion, filter, filter_map, range_with_len}
 use Rattle.shared_core.specs.Flow.{State, Standing, waits, stands, gone, Subscription, Parameters, contains}
 use Rattle.shared_core.specs.Flow.{empty, rest, pending, pending_values, values, values_at, cache, open_next}
+use Rattle.flow_terms.specs.Lists.{IsPrefix}
 use Rattle.flow_terms.specs.declared.answers.Next.TheVariants.{Value}
 use Rattle.flow_terms.specs.declared.answers.Withdrawn.TheVariants.{Removed}
 use Rattle.flow_terms.specs.declared.answers.Tried.TheVariants as tried
@@ -53,23 +54,19 @@ pub record HasStory {T : Type 0} (M : State T) (s : Subscription T) : Type 0 whe
 abbrev pub StoryLaw : (T : Type 0) → Type 0
 StoryLaw T = (p : Parameters) (calls : List (Call T)) → let M = after calls (empty p) in AllByRecursion (HasStory M) M.subscriptions
 
--- the list begins so
-abbrev pub BeginsWith : {X : Type 0} → List X → List X → Type 0
-BeginsWith {X} front xs = (rest : List X) × (xs ≡ front ++ rest)
-
 -- A subscription later on: its prelude and its start are the same, what it received and lost comes first, and once closed it
 -- stays as it was.
 pub record GoesOn {T : Type 0} (s later : Subscription T) : Type 0 where
   pub prelude : later.prelude ≡ s.prelude
   pub given : s.given ≤ later.given
   pub start : later.start ≡ s.start
-  pub received : BeginsWith s.received later.received
-  pub lost : BeginsWith s.lost later.lost
+  pub received : IsPrefix s.received later.received
+  pub lost : IsPrefix s.lost later.lost
   pub closed : s.live ≡ false → later ≡ s
 
 -- no acceptance is taken back, and each subscription goes on
 pub record Grows {T : Type 0} (M N : State T) : Type 0 where
-  pub accepted : BeginsWith M.accepted N.accepted
+  pub accepted : IsPrefix M.accepted N.accepted
   pub subscriptions : (k : ℕ) (s : Subscription T) → slice_get M.subscriptions k ≡ Some s
       → (later : Subscription T) × (slice_get N.subscriptions k ≡ Some later) × GoesOn s later
 

@@ -3,8 +3,8 @@ use Rattle.std.proofs.Common.{◌≡◌, ℕ, ◌+◌, ◌-◌, ◌≤◌, List,
 use Rattle.std.proofs.lemmas.List.{append-nil}
 use Rattle.round_lock.specs.declared.log.Log.{Log}
 use Rattle.round_lock.proofs.Readings.{reads}
-use Rattle.lane_steps.specs.Law.{Begins}
-use Rattle.shared_lane.specs.Headline.{Lived, Went, WasLetIn, given, ReceivesCacheThenLater}
+use Rattle.flow_terms.specs.Lists.{IsPrefix}
+use Rattle.shared_lane.specs.Headline.{Lived, Went, StartsAtCache, given, ReceivesCacheThenLater}
 use Rattle.shared_lane.specs.Readers.{at, IsSameReader}
 use Rattle.shared_lane.specs.Sequencers.{seen}
 use Rattle.shared_lane.specs.Views.{ReaderSeen, SequencerSeen}
@@ -17,7 +17,7 @@ use Rattle.shared_rounds.specs.Reach.{Rounds, rounds_in}
 use Rattle.shared_rounds.specs.Rounds.{Does, WasAdmitted}
 use Rattle.shared_flow.specs.Laws.{IsOneFlow, IsRuled, HasOneList, EachSubscriptionLaw, knowing}
 use Rattle.shared_flow.proofs.Lives.{looks, reader_lived, with_prelude}
-use Rattle.shared_rounds.proofs.Boxes.{in_begins, same_own, same_parts, unboxed}
+use Rattle.shared_rounds.proofs.Boxes.{in_prefix, same_own, same_parts, unboxed}
 use Rattle.shared_rounds.proofs.Numbers.{same_name}
 use Rattle.shared_flow.proofs.Ordering.{each_in_its_own_order}
 use Rattle.shared_flow.proofs.Queueing.{comes_to}
@@ -35,7 +35,7 @@ module _ {S : Type 0} (value : S → SharedSeen) where
     log = rounds_in value one.log;
     parts = λ pass v at here. one.parts pass v at here ∙ same_own value pass one.log;
     parts_taken = λ pass v at. same_parts value one.log v.taken (one.parts_taken pass v at);
-    seen_by = λ pass v at. in_begins value one.log v.seen (one.seen_by pass v at);
+    seen_by = λ pass v at. in_prefix value one.log v.seen (one.seen_by pass v at);
     under = λ now is. (value one.made, unboxed value one.made one.log now (one.under now is));
     taken = λ pass v now at is. (value one.made, unboxed value one.made one.log now (one.taken pass v now at is).0);
   }
@@ -46,7 +46,7 @@ heard now r = let none : 0 ≡ at r - at r = omega arith in (at r, (omega arith,
 
 -- what its reader received
 each_reader : (now : SharedSeen) (cache : List ℕ) (start reader : ReaderSeen) (calls : List (Option ℕ))
-    → WasLetIn cache start → Lived start calls reader → at reader ≤ reader.shape.first + length reader.seen → Begins (seen now.sequencer) reader.seen
+    → StartsAtCache cache start → Lived start calls reader → at reader ≤ reader.shape.first + length reader.seen → IsPrefix reader.seen (seen now.sequencer)
     → ReceivesCacheThenLater cache start (knowing now reader) (given calls)
 each_reader now cache start reader calls begun lived far begins =
     let same : IsSameReader reader (knowing now reader) = (refl, refl, refl, begins, refl, refl) in
@@ -55,17 +55,17 @@ each_reader now cache start reader calls begun lived far begins =
     let longer : at reader ≤ reader.shape.first + length (seen now.sequencer) = let more = ap length begins.1 ∙ length-append reader.seen begins.0 in omega (arith, far, more) in
     subst (ReceivesCacheThenLater cache start (knowing now reader)) none (receives cache start (knowing now reader) (calls ++ None ∷ []) begun told longer)
 
--- who was let in by a round starts at the replay cache that this round left
-let_in_at : (found let_in : SharedSeen) (start : ReaderSeen) → WasAdmitted found start let_in → WasLetIn let_in.sequencer.cache start
-let_in_at found let_in start was =
-    let same : let_in.sequencer.cache ≡ was.0.cache = ap (λ (q : SequencerSeen). q.cache) was.5.2.0 ∙ ap (λ (q : SequencerSeen). q.cache) was.5.1.counted in
-    subst (λ (cache : List ℕ). WasLetIn cache start) (sym same) was.5.1.begins
+-- who was admitted by a round starts at the replay cache that this round left
+starts_at_cache : (found left_after : SharedSeen) (start : ReaderSeen) → WasAdmitted found start left_after → StartsAtCache left_after.sequencer.cache start
+starts_at_cache found left_after start was =
+    let same : left_after.sequencer.cache ≡ was.0.cache = ap (λ (q : SequencerSeen). q.cache) was.5.2.0 ∙ ap (λ (q : SequencerSeen). q.cache) was.5.1.counted in
+    subst (λ (cache : List ℕ). StartsAtCache cache start) (sym same) was.5.1.begins
 
 pub each_subscription : {T : Type 0} (read_as : ℕ → T) → EachSubscriptionLaw read_as
 each_subscription read_as = λ made now log life it.
-    let began = subst (λ (cache : List ℕ). WasLetIn cache life.start) (sym it.began.cache_is) (let_in_at it.began.found it.began.let_in life.start it.began.admitted) in
-    let lived = reader_lived life.prelude life.start life.turns life.left life.reader it.lived in (
+    let began = subst (λ (cache : List ℕ). StartsAtCache cache life.start) (sym it.began.cache_is) (starts_at_cache it.began.found it.began.left_after life.start it.began.admitted) in
+    let lived = reader_lived life.prelude life.start life.life_steps life.left life.reader it.lived in (
       one_flow made now log it.left_by,
       with_prelude read_as life (knowing now life.reader) it.lived
-          (each_reader now life.cache life.start life.reader (looks life.turns) began lived it.has_seen_so_far it.has_seen_this),
+          (each_reader now life.cache life.start life.reader (looks life.life_steps) began lived it.has_seen_so_far it.has_seen_this),
     )

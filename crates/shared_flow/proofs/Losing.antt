@@ -19,16 +19,16 @@ use Rattle.lane_steps.specs.declared.view.View.{View}
 use Rattle.lane_steps.specs.Law.{Entry, closed, shut_place}
 use Rattle.lane_steps.specs.Steps.{known_of, known_at, known_over}
 use Rattle.shared_lane.specs.Views.{LaneSeen, SequencerSeen}
-use Rattle.shared_lane.specs.Surveys.{WholeRound, Cleared, lost_at, LosesNone}
-use Rattle.shared_lane.specs.Sequencers.{ByCursors, FoundNoRoom, RoundedBy, AcceptedOn, TriedOn, BegunOn, RefusedStart, next, seen}
-use Rattle.shared_lane.specs.Blocks.{AcceptedTogether, AcceptedInTurn, IsTurnedAway, RoundedFor, TriedAllOn}
-use Rattle.shared_lane.specs.Places.{lost_by, LosesNothing, NotLetIn}
-use Rattle.shared_lane.proofs.Rounds.{same_lost}
-use Rattle.shared_lane.proofs.WholeRounds.{found_loses_none}
+use Rattle.shared_lane.specs.Surveys.{WholePass, Cleared, lost_at, LosesNone}
+use Rattle.shared_lane.specs.Sequencers.{ByCursors, FoundNoRoom, PassedBy, AcceptedOn, TriedOn, BegunOn, RefusedStart, next, seen}
+use Rattle.shared_lane.specs.Blocks.{AcceptedTogether, AcceptedInTurn, IsTurnedAway, PassedFor, TriedAllOn}
+use Rattle.shared_lane.specs.Places.{lost_by, LosesNothing, NotAdmitted}
+use Rattle.shared_lane.proofs.Passes.{same_lost}
+use Rattle.shared_lane.proofs.WholePasses.{found_loses_none}
 use Rattle.shared_rounds.specs.declared.round.Round.{Round}
 use Rattle.shared_rounds.specs.declared.round.Round.TheVariants as round
 use Rattle.shared_rounds.specs.Names.{SharedSeen}
-use Rattle.shared_rounds.specs.Rounds.{Makes, Rests, Scanned}
+use Rattle.shared_rounds.specs.Rounds.{Makes, Finishes, Scanned}
 use Rattle.shared_rounds.proofs.Numbers.{settled_next, makes_next, rests_next, rests_shape}
 use Rattle.shared_flow.specs.Losses.{StandBehind, LosesBy, OpensOne, Loses, OnlyAcceptancesLose}
 
@@ -72,33 +72,33 @@ cleared_one tail cells high n k k' above cleared = dite (ℕ_discrete n closed) 
     still : (n ≡ closed) ⊎ (tail < n + cells) → (ns : List ℕ) × (k'.lost ≡ k.lost ++ ns) × StandBehind cells tail high ns
     still why = ([], ap (λ (z : Known). z.lost) (cleared.kept why) ∙ (same_lost n k ∙ sym (append-nil k.lost)), tt)
 
-cleared_all : (tail cells high : ℕ) (v w : View) (ns : List ℕ) → tail < high → WholeRound (Cleared tail cells) v ns w → (p : ℕ) → (xs : List ℕ) × (lost_at w p ≡ lost_at v p ++ xs) × StandBehind cells tail high xs
+cleared_all : (tail cells high : ℕ) (v w : View) (ns : List ℕ) → tail < high → WholePass (Cleared tail cells) v ns w → (p : ℕ) → (xs : List ℕ) × (lost_at w p ≡ lost_at v p ++ xs) × StandBehind cells tail high xs
 cleared_all tail cells high v w ns above round p = dite (dec_le (length ns) p)
     (λ far. ([], ap (λ (k : Known). k.lost) (round.rest p far) ∙ sym (append-nil (lost_at v p)), tt))
     (λ near. cleared_one tail cells high (get_or ns p 0) (known_of v.sequencing p) (known_of w.sequencing p) above (round.each p (lt_of_not-le near)))
 
 -- an acceptance, by one round
-rounded_loses : (policy : Policy) (lag : ℕ) (q m t : SequencerSeen) (room : Bool) → RoundedBy policy lag q room m.view → t.view.sequencing ≡ m.view.sequencing → next q < next t → LosesBy policy q t
-rounded_loses Suspend lag q m t room r same more = λ p. ap (λ (z : Sequencing). (known_of z p).lost) same ∙ found_loses_none q.view m.view r.0 r.2 p
-rounded_loses DropLatest lag q m t room r same more = λ p. ap (λ (z : Sequencing). (known_of z p).lost) same ∙ found_loses_none q.view m.view r.0 r.2 p
-rounded_loses DropOldest lag q m t room r same more = λ p. let one = cleared_all (next q) q.view.shape.cells (next t) q.view m.view r.1.0 more r.1.2 p in
+passed_loses : (policy : Policy) (lag : ℕ) (q m t : SequencerSeen) (room : Bool) → PassedBy policy lag q room m.view → t.view.sequencing ≡ m.view.sequencing → next q < next t → LosesBy policy q t
+passed_loses Suspend lag q m t room r same more = λ p. ap (λ (z : Sequencing). (known_of z p).lost) same ∙ found_loses_none q.view m.view r.0 r.2 p
+passed_loses DropLatest lag q m t room r same more = λ p. ap (λ (z : Sequencing). (known_of z p).lost) same ∙ found_loses_none q.view m.view r.0 r.2 p
+passed_loses DropOldest lag q m t room r same more = λ p. let one = cleared_all (next q) q.view.shape.cells (next t) q.view m.view r.1.0 more r.1.2 p in
     (one.0, ap (λ (z : Sequencing). (known_of z p).lost) same ∙ one.1, one.2)
 
 -- the same of a block
-block_loses : (policy : Policy) (k : ℕ) (q m t : SequencerSeen) → RoundedFor policy k q m.view → t.view.sequencing ≡ m.view.sequencing → next q < next t → LosesBy policy q t
+block_loses : (policy : Policy) (k : ℕ) (q m t : SequencerSeen) → PassedFor policy k q m.view → t.view.sequencing ≡ m.view.sequencing → next q < next t → LosesBy policy q t
 block_loses Suspend k q m t r same more = λ p. ap (λ (z : Sequencing). (known_of z p).lost) same ∙ found_loses_none q.view m.view r.0 r.2 p
 block_loses DropLatest k q m t r same more = λ p. ap (λ (z : Sequencing). (known_of z p).lost) same ∙ found_loses_none q.view m.view r.0 r.2 p
 block_loses DropOldest k q m t r same more = λ p. let one = cleared_all (next q) q.view.shape.cells (next t) q.view m.view r.0 more r.2 p in
     (one.0, ap (λ (z : Sequencing). (known_of z p).lost) same ∙ one.1, one.2)
 
 -- a round that found no room lost nothing: under `DropOldest` there is room always
-no_room : (policy : Policy) (lag : ℕ) (q : SequencerSeen) (v : View) → RoundedBy policy lag q false v → LosesNone q.view v
+no_room : (policy : Policy) (lag : ℕ) (q : SequencerSeen) (v : View) → PassedBy policy lag q false v → LosesNone q.view v
 no_room Suspend lag q v r = found_loses_none q.view v r.0 r.2
 no_room DropLatest lag q v r = found_loses_none q.view v r.0 r.2
 no_room DropOldest lag q v r = absurd (true≢false (sym r.0))
 
 -- where emissions wait none is lost
-suspended : (policy : Policy) (lag : ℕ) (q : SequencerSeen) (room : Bool) (v : View) → policy ≡ Suspend → RoundedBy policy lag q room v → LosesNone q.view v
+suspended : (policy : Policy) (lag : ℕ) (q : SequencerSeen) (room : Bool) (v : View) → policy ≡ Suspend → PassedBy policy lag q room v → LosesNone q.view v
 suspended Suspend lag q room v is r = found_loses_none q.view v r.0 r.2
 suspended DropLatest lag q room v is r = found_loses_none q.view v r.0 r.2
 suspended DropOldest lag q room v is r = let no : ⊥ = cc (is) in absurd no
@@ -113,7 +113,7 @@ grown q t es same is = let first : t.view.shape.first ≡ q.view.shape.first = a
 
 accepted_loses : (q t : SequencerSeen) (e : Entry) (n : ℕ) → t.view.shape ≡ q.view.shape → AcceptedOn q e n t → LosesBy q.policy q t
 accepted_loses q t e n shape on = let m : SequencerSeen = on.6.0 in let more = grown q t (e ∷ []) shape on.2 in
-    rounded_loses q.policy q.capacity q m t true on.6.1.1 (ap (λ (z : SequencerSeen). z.view.sequencing) on.6.2) (omega (arith, more))
+    passed_loses q.policy q.capacity q m t true on.6.1.1 (ap (λ (z : SequencerSeen). z.view.sequencing) on.6.2) (omega (arith, more))
 
 together_shape : (q t : SequencerSeen) (es : List Entry) → AcceptedTogether q es t → t.view.shape ≡ q.view.shape
 together_shape q t es on = ap (λ (z : SequencerSeen). z.view.shape) on.1.3 ∙ on.1.1.1
@@ -140,7 +140,7 @@ turn_loses policy q t (es ∷ blocks) is on =
     let shape = together_shape q n es on.2 in
     let one = grown q n es shape (together_seen q n es on.2) in
     let some = on.1 in
-    let first = block_loses policy (length es) q m n (subst (λ (z : Policy). RoundedFor z (length es) q m.view) is on.2.1.2) (ap (λ (z : SequencerSeen). z.view.sequencing) on.2.1.3) (omega (arith, one, some)) in
+    let first = block_loses policy (length es) q m n (subst (λ (z : Policy). PassedFor z (length es) q m.view) is on.2.1.2) (ap (λ (z : SequencerSeen). z.view.sequencing) on.2.1.3) (omega (arith, one, some)) in
     loses_then policy q n t shape (omega (arith, one)) (turn_next n t blocks on.3) first (turn_loses policy n t blocks (turn_policy q n es on.2 ∙ is) on.3)
 
 full_loses : (q t : SequencerSeen) → FoundNoRoom q t → LosesNothing q t
@@ -180,7 +180,7 @@ refused_loses q refusals.Spent t on = same_state q t on.1
 refused_loses q refusals.EmitsFull t on = full_loses q t on.3
 refused_loses q _ t on = absurd on
 
-shut_loses : (q : SequencerSeen) (refusal : Refusal) (t : SequencerSeen) → NotLetIn q refusal t → LosesNothing q t
+shut_loses : (q : SequencerSeen) (refusal : Refusal) (t : SequencerSeen) → NotAdmitted q refusal t → LosesNothing q t
 shut_loses q refusals.Spent t on = same_state q t on.1
 shut_loses q refusals.SubscribersFull t on = on.2.4
 shut_loses q _ t on = absurd on
@@ -296,7 +296,7 @@ around (round.Cache answer) q m n t a one = around_nothing q m n t a one
 around (round.Count count) q m n t a one = around_nothing q m n t a one
 around (round.Hold count) q m n t a one = around_nothing q m n t a one
 
-rests_lose : (q t : SequencerSeen) → Rests q t → LosesNothing q t
+rests_lose : (q t : SequencerSeen) → Finishes q t → LosesNothing q t
 rests_lose q t rests p = rests.2.4 p ∙ ⊎_elim (λ is. ap (λ (z : SequencerSeen). lost_by z p) is) (λ (scan : Scanned q rests.0). ap (λ (z : SequencerSeen). lost_by z p) scan.5 ∙ scan.3.none_lost p) rests.1
 
 pub only_acceptances_lose : OnlyAcceptancesLose

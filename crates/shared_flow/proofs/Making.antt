@@ -1,6 +1,7 @@
 -- A party's round, put together from what it found and how it left.
 use Rattle.std.proofs.Common.{◌≡◌, ◌+◌, ◌≤◌, ◌++◌, ◌∷◌, [], ℕ, length, inl, Ok, Some, refl, sym, ap, ◌∙◌, subst}
-use Rattle.round_lock.specs.History.{Begins, KnowsTaken, own_of}
+use Rattle.flow_terms.specs.Lists.{IsPrefix}
+use Rattle.round_lock.specs.History.{KnowsTaken, own_of}
 use Rattle.std.proofs.lemmas.List.{append-nil}
 use Rattle.std.proofs.lemmas.Option.{same_Some}
 use Rattle.shared_lane.specs.declared.meeting.Met.{Met}
@@ -12,13 +13,13 @@ use Rattle.shared_lane.proofs.Sameness.{loaded_twice}
 use Rattle.shared_rounds.specs.declared.round.Round.{Round}
 use Rattle.shared_rounds.specs.declared.round.Round.TheVariants as round
 use Rattle.shared_rounds.specs.Entering.{Found, Left, Made, MadeOf}
-use Rattle.shared_flow.specs.Looks.{MissedUnder, WasEnded, WasLetInBy, WasMadeWithin}
+use Rattle.shared_flow.specs.Looks.{MissedUnder, WasEnded, WasAdmittedBy, WasMadeWithin}
 use Rattle.shared_rounds.specs.Names.{SharedSeen}
 use Rattle.shared_rounds.specs.Meeting.{HasMet, Looked}
 use Rattle.shared_flow.specs.Owners.{HasHeard, Keeping, Meets}
 use Rattle.shared_rounds.specs.Reach.{with_round, Party, Reach, Rounds, party_of}
 use Rattle.shared_flow.specs.Parties.{Subscribed}
-use Rattle.shared_rounds.specs.Rounds.{HasClosed, HasFreed, IsLetIn, WasAdmitted}
+use Rattle.shared_rounds.specs.Rounds.{HasClosed, HasFreed, IsAdmitted, WasAdmitted}
 
 -- the owner took the lock, and gave it back with a round
 pub made : {called : SharedSeen} (r : Round) (p q t : Reach) (found : SharedSeen) → q ≡ record p { held = Some found; seen = q.seen } → Found (party_of p) found q.seen → Left r called q t → Made r (party_of p) (party_of t)
@@ -32,15 +33,15 @@ made r p q t found taken saw went = record {
 }
 
 -- so it did, and let a reader in
-pub was_let_in : (number : ℕ) (p q t : Reach) (found called : SharedSeen) (reader : ReaderSeen) → q ≡ record p { held = Some found; seen = q.seen }
-    → Found (party_of p) found q.seen → p.flow ≡ Some found.name → Left (round.Subscribe (Ok number)) called q t → IsLetIn found number reader called
-    → WasLetInBy number reader (party_of p) (party_of t)
+pub was_admitted : (number : ℕ) (p q t : Reach) (found called : SharedSeen) (reader : ReaderSeen) → q ≡ record p { held = Some found; seen = q.seen }
+    → Found (party_of p) found q.seen → p.flow ≡ Some found.name → Left (round.Subscribe (Ok number)) called q t → IsAdmitted found number reader called
+    → WasAdmittedBy number reader (party_of p) (party_of t)
 unfolding made
-was_let_in number p q t found called reader taken saw named went let_in =
+was_admitted number p q t found called reader taken saw named went admission =
     let same : found ≡ went.found = same_Some _ _ (sym (ap (λ (x : Reach). x.held) taken) ∙ went.held) in record {
       made = made (round.Subscribe (Ok number)) p q t found taken saw went;
       flow_is = named ∙ ap (λ (s : SharedSeen). Some s.name) same;
-      admitted = subst (λ (s : SharedSeen). WasAdmitted s reader went.left) same (let_in.0, let_in.1, let_in.2, let_in.3, let_in.4, (called.sequencer, let_in.5.1, went.only));
+      admitted = subst (λ (s : SharedSeen). WasAdmitted s reader went.left) same (admission.0, admission.1, admission.2, admission.3, admission.4, (called.sequencer, admission.5.1, went.only));
     }
 
 -- so it did, and ended a reader
@@ -93,7 +94,7 @@ made_of r p t found held saw went = record {
 }
 
 -- what a party made that had the lock, it made of what it was before it had taken that
-abbrev pub made_since : {called : SharedSeen} (r : Round) (p q t : Party) → q ≡ record p { seen = q.seen } → Begins q.seen p.seen → MadeOf called r q t → Made r p t
+abbrev pub made_since : {called : SharedSeen} (r : Round) (p q t : Party) → q ≡ record p { seen = q.seen } → IsPrefix p.seen q.seen → MadeOf called r q t → Made r p t
 made_since r p q t same on it = record {
   found = it.made.found;
   left = it.made.left;
@@ -103,7 +104,7 @@ made_since r p q t same on it = record {
     flow_is = sym (ap (λ (x : Party). x.flow) same) ∙ it.made.saw.flow_is;
     after = it.made.saw.after;
     rounds_are = sym (ap (λ (x : Party). x.rounds) same) ∙ it.made.saw.rounds_are ∙ ap (λ pass. own_of pass it.made.before) (ap (λ (x : Party). x.pass) same);
-    seen_on = subst (λ (l : Rounds). Begins l p.seen) (sym it.before_is) on;
+    seen_on = subst (λ (l : Rounds). IsPrefix p.seen l) (sym it.before_is) on;
     taken_in = subst (λ (x : Party). KnowsTaken x.pass x.rounds x.halved x.taken it.made.before) same it.made.saw.taken_in;
   };
   does = it.made.does;
@@ -111,7 +112,7 @@ made_since r p q t same on it = record {
 }
 
 -- An owner told a subscription of all rounds while it kept the lock, and met it, before it made its round.
-abbrev pub meets : {T : Type 0} (p q r : Party) (s m t : Subscribed T) (met : Met) (kept : Keeping) → q ≡ record p { seen = q.seen } → Begins q.seen p.seen
+abbrev pub meets : {T : Type 0} (p q r : Party) (s m t : Subscribed T) (met : Met) (kept : Keeping) → q ≡ record p { seen = q.seen } → IsPrefix p.seen q.seen
     → HasHeard q.seen s.party m.party → m ≡ record s { party = m.party } → (t.party ≡ m.party) × (t.number ≡ m.number) → t.rest ≡ m.rest
     → HasMet kept.shared.sequencer m.reader t.reader met → MadeOf kept.shared (round.Hold kept.count) q r → Meets p r s t met
 meets {T} p q r s m t met kept owner on told only same rest has_met it = record {

@@ -15,7 +15,7 @@ use Rattle.shared_lane.specs.declared.tickets.Waiting.{Waiting}
 use Rattle.shared_rounds.specs.declared.round.Emission.{Emission}
 use Rattle.shared_rounds.specs.declared.round.Round.{Round}
 use Rattle.shared_rounds.specs.declared.round.Round.TheVariants as round
-use Rattle.shared_flow.specs.Queue.{Progress, let_in, with_ticket, waits_in, IsAcceptedNow, AreAcceptedNow, IsWithdrawn, Goes, ComesTo, one_by, words_by, taken_up, emitted, gives_up, is_given_up, one_given_up, given_up_of, given_up, EachInItsOwnOrder}
+use Rattle.shared_flow.specs.Queue.{Progress, with_accepted, with_ticket, waits_in, IsAcceptedNow, AreAcceptedNow, IsWithdrawn, Goes, ComesTo, one_by, words_by, taken_up, emitted, gives_up, is_given_up, one_given_up, given_up_of, given_up, EachInItsOwnOrder}
 use Rattle.shared_flow.specs.Queue.ComesTo.{begins, goes_on}
 use Rattle.shared_rounds.specs.Names.{SharedSeen}
 use Rattle.shared_rounds.specs.Reach.{Rounds}
@@ -150,9 +150,9 @@ record Ledger (gone : ℕ → Bool) (l : List Item) (p : Progress) : Type 0 wher
   pub below : AllBelow p.ticket l
   pub gone_below : (k : ℕ) → gone k ≡ true → k < p.ticket
 
--- some that wait are let in
-let_in_on : (k : ℕ) (gone : ℕ → Bool) (l : List Item) (p : Progress) → Ledger gone l p → Ledger gone l (let_in k p)
-let_in_on k gone l p was = let us : List Waiting = take k p.waiting in let vs : List Waiting = drop k p.waiting in record {
+-- some that wait are accepted
+with_accepted_on : (k : ℕ) (gone : ℕ → Bool) (l : List Item) (p : Progress) → Ledger gone l p → Ledger gone l (with_accepted k p)
+with_accepted_on k gone l p was = let us : List Waiting = take k p.waiting in let vs : List Waiting = drop k p.waiting in record {
   first = was.first ++ map item_of us;
   kept_is = was.kept_is ∙ (ap (λ (ws : List Waiting). was.first ++ map item_of ws) (sym (take_drop k p.waiting))
       ∙ (ap (λ (t : List Item). was.first ++ t) (map-append item_of us vs) ∙ sym (append_assoc was.first (map item_of us) (map item_of vs))));
@@ -297,9 +297,9 @@ goes_on_with (round.Hold count) gone l p p' goes was = still gone _ p' (same_on 
 ledger : (log : Rounds) (p : Progress) → ComesTo log p → Ledger (λ k. is_given_up k log) (all_items log) p
 ledger _ _ (begins n) = record { first = []; kept_is = refl; accepted_is = refl; once = tt; below = tt; gone_below = λ k is. absurd (true≢false (sym is)) }
 ledger _ _ (goes_on log p pass r now p' before goes) =
-    let was = let_in_on goes.0 (λ k. is_given_up k log) (all_items log) p (ledger log p before) in
-    let called = goes_on_with r (λ k. is_given_up k log) (all_items log) (let_in goes.0 p) goes.1 goes.3 was in
-    let last = let_in_on goes.2 (λ k. is_given_up k log || gives_up k r) (all_items log ++ items r) goes.1 called in
+    let was = with_accepted_on goes.0 (λ k. is_given_up k log) (all_items log) p (ledger log p before) in
+    let called = goes_on_with r (λ k. is_given_up k log) (all_items log) (with_accepted goes.0 p) goes.1 goes.3 was in
+    let last = with_accepted_on goes.2 (λ k. is_given_up k log || gives_up k r) (all_items log ++ items r) goes.1 called in
     let here = subst (Ledger (λ k. is_given_up k log || gives_up k r) (all_items log ++ items r)) (sym goes.4) last in
     subst (λ (z : (ℕ → Bool) × List Item). Ledger z.0 z.1 p') (λ i. ((λ k. sym (given_snoc k log (pass, r, now)) i), sym (all_items-snoc log (pass, r, now)) i)) here
 

@@ -11,8 +11,8 @@ use Rattle.round_lock.specs.History.After.{new, more}
 use Rattle.lane_steps.specs.Law.{Entry}
 use Rattle.shared_lane.specs.Blocks.{entries, AcceptedTogether, AcceptedInTurn, IsTurnedAway, TriedAllOn}
 use Rattle.shared_lane.specs.Views.{LaneSeen, SequencerSeen}
-use Rattle.shared_lane.specs.Sequencers.{OnlyLoaded, LoadedOrMoved, FoundNoRoom, Rounded, TriedOn, waited, Settled, RefusedStart, seen}
-use Rattle.shared_lane.specs.Places.{NotLetIn}
+use Rattle.shared_lane.specs.Sequencers.{OnlyLoaded, LoadedOrMoved, FoundNoRoom, Passed, TriedOn, waited, AcceptedWaiting, RefusedStart, seen}
+use Rattle.shared_lane.specs.Places.{NotAdmitted}
 use Rattle.shared_lane.specs.declared.tickets.Waiting.{Waiting}
 use Rattle.shared_rounds.specs.declared.round.Emission.{Emission}
 use Rattle.shared_rounds.specs.declared.round.Round.{Round}
@@ -21,9 +21,9 @@ use Rattle.shared_rounds.specs.Entering.{IsLeftBy}
 use Rattle.shared_rounds.specs.Names.{SharedSeen}
 use Rattle.shared_rounds.specs.Reach.{Rounds}
 use Rattle.flow_terms.specs.declared.ids.Ticket.{Ticket}
-use Rattle.shared_flow.specs.Queue.{Progress, progress_of, let_in, with_ticket, waits_in, IsAcceptedNow, AreAcceptedNow, Goes, Proceeds, ComesTo}
+use Rattle.shared_flow.specs.Queue.{Progress, progress_of, with_accepted, with_ticket, waits_in, IsAcceptedNow, AreAcceptedNow, Goes, Proceeds, ComesTo}
 use Rattle.shared_flow.specs.Queue.ComesTo.{begins, goes_on}
-use Rattle.shared_rounds.specs.Rounds.{Makes, Rests, Scanned, Does, entry}
+use Rattle.shared_rounds.specs.Rounds.{Makes, Finishes, Scanned, Does, entry}
 use Rattle.shared_rounds.proofs.Trying.{tried_waiting, tried_first}
 
 abbrev progress : List Waiting → List Entry → ℕ → Progress
@@ -32,10 +32,10 @@ progress ws es k = record { waiting = ws; accepted = es; ticket = k }
 same : (q t : SequencerSeen) → t.waiting ≡ q.waiting → seen t ≡ seen q → t.ticket ≡ q.ticket → progress_of t ≡ progress_of q
 same q t ws es k = λ i. progress (ws i) (es i) (k i)
 
-let_in_none : (p : Progress) → let_in 0 p ≡ p
-let_in_none p = λ i. progress p.waiting (append-nil p.accepted i) p.ticket
+with_accepted_none : (p : Progress) → with_accepted 0 p ≡ p
+with_accepted_none p = λ i. progress p.waiting (append-nil p.accepted i) p.ticket
 
-settled_is : (k : ℕ) (q m : SequencerSeen) → Settled k q m → progress_of m ≡ let_in k (progress_of q)
+settled_is : (k : ℕ) (q m : SequencerSeen) → AcceptedWaiting k q m → progress_of m ≡ with_accepted k (progress_of q)
 settled_is k q m settled = λ i. progress (settled.waiting_is i) (settled.accepted i) (settled.ticket i)
 
 loaded_is : (q t : SequencerSeen) → OnlyLoaded q t → progress_of t ≡ progress_of q
@@ -47,13 +47,13 @@ moved_is q t only = same q t (ap (λ (z : SequencerSeen). z.waiting) only.0) onl
 state_is : (q t : SequencerSeen) → t ≡ q → progress_of t ≡ progress_of q
 state_is q t is = ap progress_of is
 
-rests_is : (q t : SequencerSeen) → Rests q t → (l : ℕ) × (progress_of t ≡ let_in l (progress_of q))
+rests_is : (q t : SequencerSeen) → Finishes q t → (l : ℕ) × (progress_of t ≡ with_accepted l (progress_of q))
 rests_is q t rests = ⊎_elim
-    (λ is. (0, loaded_is rests.0 t rests.2 ∙ state_is q rests.0 is ∙ sym (let_in_none (progress_of q))))
+    (λ is. (0, loaded_is rests.0 t rests.2 ∙ state_is q rests.0 is ∙ sym (with_accepted_none (progress_of q))))
     (λ (scan : Scanned q rests.0). (scan.1, loaded_is rests.0 t rests.2 ∙ ap progress_of scan.5 ∙ settled_is scan.1 q scan.0 scan.3))
     rests.1
 
-full_is : (q t : SequencerSeen) → ((q.waiting ≢ []) × (t ≡ q)) ⊎ (LoadedOrMoved q t × Rounded q.capacity q false t) → progress_of t ≡ progress_of q
+full_is : (q t : SequencerSeen) → ((q.waiting ≢ []) × (t ≡ q)) ⊎ (LoadedOrMoved q t × Passed q.capacity q false t) → progress_of t ≡ progress_of q
 full_is q t on = ⊎_elim (λ stays. state_is q t stays.1) (λ moved. moved_is q t moved.0) on
 
 refused_is : (q : SequencerSeen) (refusal : Refusal) (t : SequencerSeen) → RefusedStart q refusal t → progress_of t ≡ progress_of q
@@ -61,7 +61,7 @@ refused_is q refusals.Spent t on = state_is q t on.1
 refused_is q refusals.EmitsFull t on = full_is q t on.3
 refused_is q _ t on = absurd on
 
-shut_is : (q : SequencerSeen) (refusal : Refusal) (t : SequencerSeen) → NotLetIn q refusal t → progress_of t ≡ progress_of q
+shut_is : (q : SequencerSeen) (refusal : Refusal) (t : SequencerSeen) → NotAdmitted q refusal t → progress_of t ≡ progress_of q
 shut_is q refusals.Spent t on = state_is q t on.1
 shut_is q refusals.SubscribersFull t on = loaded_is q t on.2
 shut_is q _ t on = absurd on

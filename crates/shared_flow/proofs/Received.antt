@@ -12,7 +12,7 @@ use Rattle.shared_core.specs.Preludes.{RestSeen}
 use Rattle.shared_core.specs.Story.{Interleaves, none as neither, left as from_left, right as from_right}
 use Rattle.shared_core.proofs.Lists.{values_at-range}
 use Rattle.shared_lane.specs.Caches.{word_of}
-use Rattle.shared_lane.specs.Headline.{Went, Lived, given, WasLetIn, words_seen, pending}
+use Rattle.shared_lane.specs.Headline.{Went, Lived, given, StartsAtCache, words_seen, pending}
 use Rattle.shared_lane.specs.Readers.{at, story_to, IsKept, WentTo, IsReaderOf, IsSameReader}
 use Rattle.shared_lane.specs.declared.reader.Taken.{Taken}
 use Rattle.shared_lane.specs.declared.reader.Taken.TheVariants.{Value, Nothing, Overtaken}
@@ -213,20 +213,20 @@ told_on r t knows same story =
     let both = still_knows r t [] knows same (ap (received_at 0) story ∙ sym (append-nil (received_at 0 r.story))) tt (λ drops. ap (lost 0) story ∙ knows.keeps drops) in
     (both.0, both.1 ∙ append-nil (words_received r))
 
--- a reader that was let in has received nothing
-pub knows_at_start : (cache : List ℕ) (r : ReaderSeen) → WasLetIn cache r → KnowsReceived r × (words_received r ≡ [])
-knows_at_start cache r let_in =
+-- a reader that was admitted has received nothing
+pub knows_at_start : (cache : List ℕ) (r : ReaderSeen) → StartsAtCache cache r → KnowsReceived r × (words_received r ≡ [])
+knows_at_start cache r starts =
     let words_count : length (words_seen r) ≡ length r.seen = length-map r.seen word_of in
-    let cached : length cache ≡ length (words_seen r) - (length (words_seen r) - length cache) = sym (ap length let_in.caches_the_latest) ∙ length-drop (length (words_seen r) - length cache) (words_seen r) in
-    let at_start : r.start + length r.story + length cache ≡ r.shape.first + length r.seen = let_in.starts_at_the_cache in
-    let nothing = ap length let_in.nothing_yet in (
+    let cached : length cache ≡ length (words_seen r) - (length (words_seen r) - length cache) = sym (ap length starts.caches_the_latest) ∙ length-drop (length (words_seen r) - length cache) (words_seen r) in
+    let at_start : r.start + length r.story + length cache ≡ r.shape.first + length r.seen = starts.starts_at_the_cache in
+    let nothing = ap length starts.nothing_yet in (
       record {
         begins = omega (arith, words_count, cached, at_start, nothing);
         began = omega (arith, at_start, nothing);
-        sees = subst (λ bs. Below (length (since_start r)) (received_at 0 bs)) (sym let_in.nothing_yet) tt;
-        keeps = λ drops. ap (lost 0) let_in.nothing_yet;
+        sees = subst (λ bs. Below (length (since_start r)) (received_at 0 bs)) (sym starts.nothing_yet) tt;
+        keeps = λ drops. ap (lost 0) starts.nothing_yet;
       },
-      ap (λ bs. values_at (since_start r) (received_at 0 bs)) let_in.nothing_yet,
+      ap (λ bs. values_at (since_start r) (received_at 0 bs)) starts.nothing_yet,
     )
 
 -- ---- what a subscription received

@@ -5,18 +5,18 @@ use Rattle.shared_lane.specs.Headline.{Lived, given}
 use Rattle.shared_lane.specs.Views.{ReaderSeen}
 use Rattle.shared_lane.proofs.Lives.{took_all_lived}
 use Rattle.shared_flow.specs.Laws.{TakingAllIsTakingEach}
-use Rattle.shared_flow.specs.Lives.{Turn, greeted, looked, IsInTurn, LivesOn, received_in}
+use Rattle.shared_flow.specs.Lives.{LifeStep, greeted, looked, IsInTurn, LivesOn, received_in}
 
 module _ {T : Type 0} where
   in_turn : (rest : List T) (x : Option ℕ) → rest ≡ [] → IsInTurn rest x
   in_turn rest None empty = tt
   in_turn rest (Some w) empty = empty
 
-  greets : List T → List (Turn T)
+  greets : List T → List (LifeStep T)
   greets [] = []
   greets (v ∷ values) = greeted v ∷ greets values
 
-  looks_on : List (Option ℕ) → List (Turn T)
+  looks_on : List (Option ℕ) → List (LifeStep T)
   looks_on [] = []
   looks_on (x ∷ xs) = looked x ∷ looks_on xs
 

@@ -7,7 +7,7 @@ use Rattle.round_lock.specs.declared.log.Log.{Log}
 use Rattle.round_lock.specs.History.{OneHistory, Parts, own_of, spent}
 use Rattle.round_lock.specs.Law.{Lies, OneLock}
 use Rattle.atomic_table.specs.Table.{State}
-use Rattle.lane_steps.specs.Law.{Begins}
+use Rattle.flow_terms.specs.Lists.{IsPrefix}
 use Rattle.shared_lane.specs.Sequencers.{seen}
 use Rattle.shared_lane.specs.Views.{ReaderSeen}
 use Rattle.shared_lane.specs.declared.reader.Taken.{Taken}
@@ -16,12 +16,12 @@ use Rattle.shared_rounds.specs.Names.{SharedSeen, IsNew}
 use Rattle.shared_flow.specs.Blocks.{TookAllFirst}
 use Rattle.shared_rounds.specs.Entering.{IsLeftBy}
 use Rattle.shared_rounds.specs.Reach.{Rounds, rounds_in}
-use Rattle.shared_flow.specs.Lives.{Turn, LivesOn, Life, IsSubscriptionOf, ReceivesPreludeCacheThenLater, received_in}
+use Rattle.shared_flow.specs.Lives.{LifeStep, LivesOn, Life, IsSubscriptionOf, ReceivesPreludeCacheThenLater, received_in}
 use Rattle.shared_flow.specs.Queue.{progress_of, ComesTo, EachInItsOwnOrder}
 use Rattle.shared_flow.specs.Parties.{Subscribed}
 use Rattle.shared_rounds.specs.Rounds.{Does}
 
--- Where a list of rounds left this of a new flow: it is that flow; the emissions that it accepted are those of the list, let in by
+-- Where a list of rounds left this of a new flow: it is that flow; the emissions that it accepted are those of the list, accepted by
 -- the order in which they came; and each emitter's are accepted in its own order.
 pub record IsOneFlow (made : SharedSeen) (log : Rounds) (now : SharedSeen) : Type 0 where
   pub same_flow : now.name ≡ made.name
@@ -39,7 +39,7 @@ module _ {S : Type 0} (value : S → SharedSeen) where
     pub log : Rounds
     pub parts : (pass : ℕ) (v : Log S Round) → get_elem? views pass ≡ some v → v ≢ spent → v.own ≡ own_of pass log
     pub parts_taken : (pass : ℕ) (v : Log S Round) → get_elem? views pass ≡ some v → Parts log v.taken
-    pub seen_by : (pass : ℕ) (v : Log S Round) → get_elem? views pass ≡ some v → Begins log (rounds_in value v.seen)
+    pub seen_by : (pass : ℕ) (v : Log S Round) → get_elem? views pass ≡ some v → IsPrefix (rounds_in value v.seen) log
     pub under : (now : S) → items ≡ now ∷ [] → (made : SharedSeen) × IsLeftBy made log (value now)
     pub taken : (pass : ℕ) (v : Log S Round) (now : S) → get_elem? views pass ≡ some v → v.held ≡ Some now → (made : SharedSeen) × IsLeftBy made log (value now)
 
@@ -75,4 +75,4 @@ EachSubscriptionLaw {T} read_as = (made now : SharedSeen) (log : Rounds) (life :
 -- what a subscription takes at once it takes by so many turns
 abbrev pub TakingAllIsTakingEach : {T : Type 0} → (ℕ → T) → Type 0
 TakingAllIsTakingEach {T} read_as = (s t : Subscribed T) (room : ℕ) (taken : Taken ℕ) (values : List T) → TookAllFirst read_as s room taken values t
-    → (turns : List (Turn T)) × LivesOn s.rest s.reader turns t.rest t.reader × (received_in read_as turns ≡ values)
+    → (life_steps : List (LifeStep T)) × LivesOn s.rest s.reader life_steps t.rest t.reader × (received_in read_as life_steps ≡ values)

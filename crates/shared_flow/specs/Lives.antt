@@ -1,7 +1,8 @@
 -- What a subscription receives over its life: its prelude, and then what its reader takes.
 use Rattle.std.specs.Prelude.{◌≡◌, ◌⊎◌, ⊤, ℕ, ◌+◌, ◌≤◌, false, List, [], ◌∷◌, ◌++◌, length, map, Option, None, Some, Ok}
 use Rattle.std.specs.List.{range_with_len}
-use Rattle.lane_steps.specs.Law.{Begins, lost}
+use Rattle.flow_terms.specs.Lists.{IsPrefix}
+use Rattle.lane_steps.specs.Law.{lost}
 use Rattle.shared_core.specs.Flow.{values_at}
 use Rattle.shared_core.specs.Story.{Interleaves}
 use Rattle.shared_core.specs.Headline.{EndsWith}
@@ -16,9 +17,9 @@ use Rattle.shared_rounds.specs.Rounds.{WasAdmitted}
 use Rattle.shared_rounds.specs.Entering.{IsLeftBy}
 
 -- A call of the subscription, or one of its looks: it was given the next value of its prelude, or its reader gave a word or none.
-pub data Turn (T : Type 0) : Type 0 where
-  greeted : T → Turn T
-  looked : Option ℕ → Turn T
+pub data LifeStep (T : Type 0) : Type 0 where
+  greeted : T → LifeStep T
+  looked : Option ℕ → LifeStep T
 
 -- the reader gives a word only where nothing is left of the prelude
 abbrev pub IsInTurn : {T : Type 0} → List T → Option ℕ → Type 0
@@ -26,17 +27,17 @@ IsInTurn rest None = ⊤
 IsInTurn rest (Some w) = rest ≡ []
 
 -- One turn after another, from what was left of the prelude and a reader on.
-abbrev pub LivesOn : {T : Type 0} → List T → ReaderSeen → List (Turn T) → List T → ReaderSeen → Type 0
+abbrev pub LivesOn : {T : Type 0} → List T → ReaderSeen → List (LifeStep T) → List T → ReaderSeen → Type 0
 LivesOn rest r [] left t = (left ≡ rest) × (t ≡ r)
-LivesOn {T} rest r (greeted v ∷ turns) left t = (more : List T) × (rest ≡ v ∷ more) × LivesOn more r turns left t
-LivesOn rest r (looked x ∷ turns) left t = (m : ReaderSeen) × IsInTurn rest x × Went r x m × IsSameReader r m × LivesOn rest m turns left t
+LivesOn {T} rest r (greeted v ∷ life_steps) left t = (more : List T) × (rest ≡ v ∷ more) × LivesOn more r life_steps left t
+LivesOn rest r (looked x ∷ life_steps) left t = (m : ReaderSeen) × IsInTurn rest x × Went r x m × IsSameReader r m × LivesOn rest m life_steps left t
 
 -- The values that they gave.
-abbrev pub received_in : {T : Type 0} → (ℕ → T) → List (Turn T) → List T
+abbrev pub received_in : {T : Type 0} → (ℕ → T) → List (LifeStep T) → List T
 received_in read_as [] = []
-received_in read_as (greeted v ∷ turns) = v ∷ received_in read_as turns
-received_in read_as (looked (Some w) ∷ turns) = read_as w ∷ received_in read_as turns
-received_in read_as (looked None ∷ turns) = received_in read_as turns
+received_in read_as (greeted v ∷ life_steps) = v ∷ received_in read_as life_steps
+received_in read_as (looked (Some w) ∷ life_steps) = read_as w ∷ received_in read_as life_steps
+received_in read_as (looked None ∷ life_steps) = received_in read_as life_steps
 
 -- The life of a subscription so far: its prelude; the replay cache at its start, and the reader that it began with; its turns; and what
 -- they have left of the prelude, and made of the reader.
@@ -44,33 +45,33 @@ pub record Life (T : Type 0) : Type 0 where
   pub prelude : List T
   pub cache : List ℕ
   pub start : ReaderSeen
-  pub turns : List (Turn T)
+  pub life_steps : List (LifeStep T)
   pub left : List T
   pub reader : ReaderSeen
 
--- Some round of this list let the reader in. The rounds before it had left what was found then, and the replay cache is the one that it
+-- Some round of this list admitted the reader. The rounds before it had left what was found then, and the replay cache is the one that it
 -- left.
 pub record BeganIn (log : Rounds) (cache : List ℕ) (start : ReaderSeen) : Type 0 where
   pub before : Rounds
   pub later : Rounds
   pub pass : ℕ
   pub number : ℕ
-  pub let_in : SharedSeen
-  pub log_is : log ≡ (before ++ (pass, round.Subscribe (Ok number), let_in) ∷ []) ++ later
+  pub left_after : SharedSeen
+  pub log_is : log ≡ (before ++ (pass, round.Subscribe (Ok number), left_after) ∷ []) ++ later
   pub made : SharedSeen
   pub found : SharedSeen
   pub found_is : IsLeftBy made before found
-  pub admitted : WasAdmitted found start let_in
-  pub cache_is : cache ≡ let_in.sequencer.cache
+  pub admitted : WasAdmitted found start left_after
+  pub cache_is : cache ≡ left_after.sequencer.cache
 
 -- The list of rounds has left the flow as it is now, and the subscription is one of this flow: it began in one of the rounds, and its turns
 -- made of it what it is. It knows where it stands: it has seen as far as its position, and that is the beginning of what was accepted.
 pub record IsSubscriptionOf {T : Type 0} (made : SharedSeen) (log : Rounds) (now : SharedSeen) (life : Life T) : Type 0 where
   pub left_by : IsLeftBy made log now
   pub began : BeganIn log life.cache life.start
-  pub lived : LivesOn life.prelude life.start life.turns life.left life.reader
+  pub lived : LivesOn life.prelude life.start life.life_steps life.left life.reader
   pub has_seen_so_far : at life.reader ≤ life.reader.shape.first + length life.reader.seen
-  pub has_seen_this : Begins (seen now.sequencer) life.reader.seen
+  pub has_seen_this : IsPrefix life.reader.seen (seen now.sequencer)
 
 -- What a subscription received, then what is left of its prelude and what is pending for it, is its prelude, the replay cache at its
 -- start and all later accepted words, less those that it lost. `kept` and `dropped` are indexes of the list of the latter two; of the
@@ -78,10 +79,10 @@ pub record IsSubscriptionOf {T : Type 0} (made : SharedSeen) (log : Rounds) (now
 pub record ReceivesPreludeCacheThenLater {T : Type 0} (read_as : ℕ → T) (life : Life T) (now : ReaderSeen) : Type 0 where
   pub kept : List ℕ
   pub dropped : List ℕ
-  pub received_then_pending_is_prelude_cache_then_later : received_in read_as life.turns ++ (life.left ++ map read_as (pending now))
+  pub received_then_pending_is_prelude_cache_then_later : received_in read_as life.life_steps ++ (life.left ++ map read_as (pending now))
       ≡ life.prelude ++ map read_as (values_at (cache_then_later life.cache life.start now) kept)
   -- while some of the prelude is left, nothing else was received
-  pub prelude_comes_first : (life.left ≡ []) ⊎ (received_in read_as life.turns ++ life.left ≡ life.prelude)
+  pub prelude_comes_first : (life.left ≡ []) ⊎ (received_in read_as life.life_steps ++ life.left ≡ life.prelude)
   -- both rise, and together they are all indexes, each once
   pub in_order_and_once : Interleaves kept dropped (range_with_len 0 (length (cache_then_later life.cache life.start now)))
   pub in_order_of_acceptance : EndsWith (cache_then_later life.cache life.start now) (words_seen now)

@@ -1,4 +1,4 @@
--- What a subscription was let in by, and what its looks at the lane came to.
+-- What a subscription was admitted by, and what its looks at the lane came to.
 use Rattle.std.specs.Prelude.{◌≡◌, ◌⊎◌, ◌≤◌, ◌++◌, ℕ, false, length, replicate, Some, Ok}
 use Rattle.shared_lane.specs.declared.meeting.Met.{Met}
 use Rattle.shared_lane.specs.declared.reader.Taken.{Taken}
@@ -14,15 +14,15 @@ use Rattle.shared_rounds.specs.Reach.{Party}
 use Rattle.shared_rounds.specs.Entering.{Made}
 use Rattle.shared_rounds.specs.Rounds.{HasClosed, HasFreed, WasAdmitted}
 
--- The reader was let in by a round of this party, which answered with this number: by what that round found, which the list of rounds
+-- The reader was admitted by a round of this party, which answered with this number: by what that round found, which the list of rounds
 -- before it had left, and what it left of that.
-pub record WasLetInBy (number : ℕ) (r : ReaderSeen) (p q : Party) : Type 0 where
+pub record WasAdmittedBy (number : ℕ) (r : ReaderSeen) (p q : Party) : Type 0 where
   pub made : Made (round.Subscribe (Ok number)) p q
   pub flow_is : p.flow ≡ Some made.found.name
   pub admitted : WasAdmitted made.found r made.left
 
 -- The reader was closed by a round of this party: sequencer and reader compared what they know before that, and counted this, and after
--- it what waits was let in.
+-- it what waits was accepted.
 pub record WasEnded (number : ℕ) (r : ReaderSeen) (met : Met) (p q : Party) : Type 0 where
   pub made : Made (round.Cancel number) p q
   pub flow_is : p.flow ≡ Some made.found.name
@@ -40,7 +40,7 @@ IsEndOf s met last = (ended : WasEnded s.number s.reader met s.party last.party)
 abbrev pub EndedInto : {T : Type 0} → Subscribed T → Met → Party → Party → Type 0
 EndedInto s met p q = (left : Party) × WasEnded s.number s.reader met s.party left × (q ≡ taking_of left p)
 
--- A receipt was made within a round of this party: what waits was let in before it, and once more after it.
+-- A receipt was made within a round of this party: what waits was accepted before it, and once more after it.
 pub record WasMadeWithin (number : ℕ) (p q : Party) : Type 0 where
   pub made : Made (round.Next number) p q
   pub freed : HasFreed made.found made.left
@@ -93,12 +93,12 @@ Waited read_as r v t = (m : ReaderSeen) × MissedOn r m × Gave read_as m v t
 abbrev pub Skips : {T : Type 0} → Subscribed T → Subscribed T → Type 0
 Skips s t = (t.party ≡ s.party) × FoundDown s.party.flow (at t.reader) (length s.party.rounds) s.looks t.looks
 
--- A receipt let in what waits, by a round that came after it: one more look found the flag up, made as the reader stood past what it had
+-- A receipt accepted what waits, by a round that came after it: one more look found the flag up, made as the reader stood past what it had
 -- received, when its party had not made that round yet.
 abbrev pub Helped : {T : Type 0} → Subscribed T → Subscribed T → Type 0
 Helped s t = Made (round.Next s.number) s.party t.party × FoundUp (at t.reader) (length s.party.rounds) s.looks t.looks
 
--- a receipt without the lock let in what waits, by a round, or no emission could wait for it
+-- a receipt without the lock accepted what waits, by a round, or no emission could wait for it
 abbrev pub MadeRoom : {T : Type 0} → Subscribed T → Subscribed T → Type 0
 MadeRoom s t = Skips s t ⊎ Helped s t
 
@@ -121,7 +121,7 @@ OnlyLooked s t = t ≡ record s { reader = t.reader }
 abbrev pub TookNone : ReaderSeen → ReaderSeen → Type 0
 TookNone r t = (t.start ≡ r.start) × ((k : ℕ) × (t.story ≡ r.story ++ replicate k false))
 
--- The last receipt of a call let in what waits, by a round, or no emission could wait for it. Before it came rounds of the same call, and after
+-- The last receipt of a call accepted what waits, by a round, or no emission could wait for it. Before it came rounds of the same call, and after
 -- it looks that took nothing.
 pub record HasMadeRoom {T : Type 0} (s t : Subscribed T) : Type 0 where
   pub before : Subscribed T

@@ -42,7 +42,7 @@ KeepsLock o k = (o.party.flow ≡ Some k.shared.name)
 abbrev pub IsKept : Keeping → Keeping → Type 0
 IsKept k l = (l.count ≡ k.count) × (l.before ≡ k.before) × OnlyMet k.shared l.shared
 
--- nobody was let in: without memory the owner made no call, else its round was refused, which it made while who was to be let in had
+-- nobody was admitted: without memory the owner made no call, else its round was refused, which it made while who was to be admitted had
 -- half its share
 abbrev pub IsLeftOut : Owning → Refusal → Owning → Type 0
 IsLeftOut o refusal p = ((refusal ≡ NoMemory) × (p ≡ o))

@@ -59,10 +59,6 @@ abbrev pub IsSamePrelude : {T : Type 0} → Subscribed T → Subscribed T → Ty
 IsSamePrelude old new = new.given ++ new.rest ≡ old.given ++ old.rest
 
 -- the value in an answer, if there is one, as a list
-abbrev pub some_of : {T : Type 0} → Option T → List T
-some_of (Some v) = v ∷ []
-some_of None = []
-
 abbrev pub ok_of : {T : Type 0} → Result T Refusal → List T
 ok_of (Ok v) = v ∷ []
 ok_of (Err refusal) = []

@@ -1,4 +1,4 @@
--- Which emissions a history of rounds accepted, and in which order: those that wait stand in a queue, whose first ones are let in.
+-- Which emissions a history of rounds accepted, and in which order: those that wait stand in a queue, whose first ones are accepted.
 use Rattle.std.specs.Prelude.{◌≡◌, ◌⊎◌, ℕ, ◌+◌, Bool, false, ◌||◌, List, [], ◌∷◌, ◌++◌, ◌==◌, cond, map, take, drop, slice_get, Some, Ok}
 use Rattle.std.specs.List.{remove}
 use Rattle.shared_core.specs.Story.{Interleaves}
@@ -27,8 +27,8 @@ abbrev pub progress_of : SequencerSeen → Progress
 progress_of q = record { waiting = q.waiting; accepted = seen q; ticket = q.ticket }
 
 -- the first k of those that wait are accepted
-abbrev pub let_in : ℕ → Progress → Progress
-let_in k p = record { waiting = drop k p.waiting; accepted = p.accepted ++ map entry_of (take k p.waiting); ticket = p.ticket }
+abbrev pub with_accepted : ℕ → Progress → Progress
+with_accepted k p = record { waiting = drop k p.waiting; accepted = p.accepted ++ map entry_of (take k p.waiting); ticket = p.ticket }
 
 -- an emission is accepted at once, where none waits
 abbrev pub IsAcceptedNow : Emission → Progress → Progress → Type 0
@@ -60,9 +60,9 @@ Goes (round.Start e (Ok (begun.Waiting ticket))) p p' = (ticket.0 ≡ p.ticket) 
 Goes (round.Withdraw ticket withdrawn.Removed) p p' = IsWithdrawn ticket.0 p p'
 Goes _ p p' = p' ≡ p
 
--- a round: some are let in, the call is made, and some more may be let in
+-- a round: some are accepted, the call is made, and some more may be
 abbrev pub Proceeds : Round → Progress → Progress → Type 0
-Proceeds r p p' = (k : ℕ) × (m : Progress) × (l : ℕ) × Goes r (let_in k p) m × (p' ≡ let_in l m)
+Proceeds r p p' = (k : ℕ) × (m : Progress) × (l : ℕ) × Goes r (with_accepted k p) m × (p' ≡ with_accepted l m)
 
 -- what a history of rounds comes to, from a first ticket on
 pub data ComesTo : Rounds → Progress → Type 0 where

@@ -23,7 +23,7 @@ use flow_terms::{Refusal, Word};
 use futures::task::{Context, Poll};
 use shared_core::{Begun, Emit, Ticket, Tried, Withdrawn};
 use shared_lane::Receipt;
-use shared_rounds::{Access, Bed, Emission, Polled, Released, Round, begun_ticket, pause};
+use shared_rounds::{Access, Emission, Polled, Released, Round, WaitKey, begun_ticket, pause};
 use std::marker::{Model, PhantomData};
 use std::sync::Wait;
 
@@ -45,7 +45,7 @@ pub struct Emitter<T: Word> {
     // The number of its last receipt.
     last: Option<u64>,
     // Where the emission in flight slept last.
-    bed: Bed,
+    wait_key: WaitKey,
     marker: PhantomData<T>,
 }
 
@@ -73,7 +73,7 @@ impl<T: Word> Emitter<T> {
             id,
             ticket: None,
             last: None,
-            bed: Bed::new(),
+            wait_key: WaitKey::new(),
             marker: PhantomData,
         }
     }
@@ -159,7 +159,7 @@ impl<T: Word> Emitter<T> {
             inside
                 .guarded
                 .state
-                .sleep_emission(ticket, emit, &mut self.bed, cx);
+                .sleep_emission(ticket, emit, &mut self.wait_key, cx);
             let round = polled_without_receipt(ticket, self.id, self.last, emit);
             self.access.leave(rt, inside, round);
             return Poll::Pending;
@@ -320,7 +320,7 @@ impl<T: Word> Emitter<T> {
             id: _,
             ticket: _,
             last: _,
-            bed: _,
+            wait_key: _,
             marker: _,
         } = emitter;
         drop(access);
@@ -336,7 +336,7 @@ impl<T: Word> Emitter<T> {
             id: _,
             ticket: _,
             last: _,
-            bed: _,
+            wait_key: _,
             marker: _,
         } = self;
         access

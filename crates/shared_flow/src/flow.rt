@@ -10,7 +10,7 @@ ghost use Rattle.shared_flow.specs.Parties.{Emitting, newcomer_of, sharing_of, w
 ghost use Rattle.shared_flow.specs.Emitted.{emitted, after_cancel, IsLeftOf};
 ghost use Rattle.shared_flow.specs.Owners.{at_rest, IsLeftOut, AddsCache, Meets};
 ghost use Rattle.shared_flow.specs.Received.{IsComplete};
-ghost use Rattle.shared_flow.specs.Looks.{IsEndOf, WasLetInBy, EndedInto as SubscriptionEndedInto};
+ghost use Rattle.shared_flow.specs.Looks.{IsEndOf, WasAdmittedBy, EndedInto as SubscriptionEndedInto};
 ghost use Rattle.shared_flow.specs.Emitters.{EndedInto as EmitterEndedInto};
 ghost use Rattle.flow_terms.specs.declared.answers.Withdrawn.TheVariants as withdrawn;
 ghost use Rattle.shared_rounds.specs.Rounds.{IsAfter, IsAtLimit};
@@ -21,7 +21,7 @@ use crate::subscription::{Ended, Subscription};
 use flow_terms::{Refusal, Word};
 use shared_core::{Config, Prelude, Withdrawn};
 use shared_lane::{Met, Receipt};
-use shared_rounds::{Access, Admitted, Round, Shared};
+use shared_rounds::{Access, NewReader, Round, Shared};
 use std::alloc::Global;
 use std::marker::{Model, PhantomData};
 use std::sync::Wait;
@@ -175,7 +175,7 @@ impl<T: Word> SharedFlow<T> {
         ensures round { IfOk result (λ subscription. self.new ≡ at_rest (with_round (round.Subscribe (Ok subscription.number)) self.new.party.seen (sharing_of self.old.party))) }
         ensures prelude { IfOk result (λ subscription. subscription.rest ≡ []) }
         ensures looks { IfOk result (λ subscription. subscription.looks ≡ []) }
-        ensures begins { IfOk result (λ subscription. WasLetInBy subscription.number subscription.reader (sharing_of self.old.party) self.new.party) }
+        ensures begins { IfOk result (λ subscription. WasAdmittedBy subscription.number subscription.reader (sharing_of self.old.party) self.new.party) }
         ensures refused { IfErr result (λ refusal. (refusal ≡ NoMemory) ⊎ IsAtLimit refusal) }
         ensures kept { IfErr result (λ refusal. IsLeftOut self.old refusal self.new) }
     {
@@ -195,13 +195,13 @@ impl<T: Word> SharedFlow<T> {
         ensures looks { IfOk result (λ subscription. subscription.looks ≡ []) }
         ensures flow { IfOk result (λ subscription. subscription.party ≡ newcomer_of subscription.party.pass self.old.party) }
         ensures round { IfOk result (λ subscription. self.new ≡ at_rest (with_round (round.Subscribe (Ok subscription.number)) self.new.party.seen (sharing_of self.old.party))) }
-        ensures begins { IfOk result (λ subscription. WasLetInBy subscription.number subscription.reader (sharing_of self.old.party) self.new.party) }
+        ensures begins { IfOk result (λ subscription. WasAdmittedBy subscription.number subscription.reader (sharing_of self.old.party) self.new.party) }
         ensures refused { IfErr result (λ refusal. (refusal ≡ NoMemory) ⊎ IsAtLimit refusal) }
         ensures kept { IfErr result (λ refusal. IsLeftOut self.old refusal self.new) }
     {
         let access = self.access.another(rt)?;
         let mut inside = self.access.enter(rt);
-        let Admitted {
+        let NewReader {
             number,
             looker,
             reader,

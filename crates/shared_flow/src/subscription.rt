@@ -2,19 +2,19 @@
 ghost use Rattle.std.specs.Prelude.{◌≡◌, ◌≢◌, ◌⊎◌, ◌+◌, ◌++◌, List, ℕ, [], None, Some, IfOk, IfErr, IfSome, IfNone};
 ghost use Rattle.futures.specs.Poll.{IfReady, OnPending};
 ghost use Rattle.futures.specs.Task.{IsArmed, Keeps};
-ghost use Rattle.lane_steps.specs.Law.{Begins};
+ghost use Rattle.flow_terms.specs.Lists.{IsPrefix, some_of};
 ghost use Rattle.shared_lane.specs.Readers.{IsReaderOf, IsReceiptOf, IsSameReader, at, received_count, lost_count};
 ghost use Rattle.shared_lane.specs.Places.{IsOfSubscription};
 ghost use Rattle.shared_rounds.specs.declared.round.Round.TheVariants as round;
 ghost use Rattle.shared_rounds.specs.Reach.{Party, party_of};
 ghost use Rattle.shared_rounds.specs.Entering.{Made};
-ghost use Rattle.shared_flow.specs.Parties.{Subscribed, OfFlow, IsSamePrelude, received, some_of, ok_of, ready_of, taken_of};
+ghost use Rattle.shared_flow.specs.Parties.{Subscribed, OfFlow, IsSamePrelude, received, ok_of, ready_of, taken_of};
 ghost use Rattle.shared_flow.specs.Looks.{Took, Gave, GaveIn, Missed, MissedTwice, MissedSome, MissedBoth, MissedUnder, OnlyLooked, OnlyNext, Waited, WasEnded, IsEndOf};
 ghost use Rattle.shared_flow.specs.Looks.{MadeRoom, MadeRoomIn, HasMadeRoom, WasMadeWithin};
 ghost use Rattle.shared_core.specs.Preludes.{prelude_values};
 ghost use Rattle.shared_flow.specs.Preludes.{IsGreeted, IsPast, GreetedOr, TookFirst};
 ghost use Rattle.shared_flow.specs.Received.{IsComplete, KnowsReceived, PreludeFirst, ReceivesAllButDropped};
-ghost use Rattle.shared_lane.specs.Headline.{WasLetIn};
+ghost use Rattle.shared_lane.specs.Headline.{StartsAtCache};
 ghost use Rattle.flow_terms.specs.declared.refusal.Refusal.TheVariants.{NoMemory};
 ghost use Rattle.shared_rounds.specs.Meeting.{HasMet, OnlyMet};
 ghost use Rattle.shared_rounds.specs.Names.{IsFlagOf};
@@ -25,7 +25,7 @@ use flow_terms::{Refusal, Word};
 use futures::task::{Context, Poll};
 use shared_core::{Prelude, Rest};
 use shared_lane::{Met, Reader, Receipt, Taken};
-use shared_rounds::{Access, Bed, LOOKS, Looker, Round, Shared, pause};
+use shared_rounds::{Access, LOOKS, Looker, Round, Shared, WaitKey, pause};
 use std::marker::{Model, PhantomData};
 use std::sync::Wait;
 
@@ -47,7 +47,7 @@ pub struct Subscription<T: Word> {
     // Under which it sleeps.
     number: u64,
     // Where it slept last.
-    bed: Bed,
+    wait_key: WaitKey,
     marker: PhantomData<T>,
 }
 
@@ -81,7 +81,7 @@ impl<T: Word> Subscription<T> {
         reader: Reader,
         looker: Looker,
     ) -> Subscription<T>
-        requires { (access.held ≡ None) × OfFlow (party_of access) (λ name. IsReaderOf name.lane reader) × IsFlagOf (party_of access).flow looker.table × IsOfSubscription number reader × ((cache : List ℕ) × WasLetIn cache reader) }
+        requires { (access.held ≡ None) × OfFlow (party_of access) (λ name. IsReaderOf name.lane reader) × IsFlagOf (party_of access).flow looker.table × IsOfSubscription number reader × ((cache : List ℕ) × StartsAtCache cache reader) }
         ensures { result ≡ record { party = party_of access; number = number; given = []; rest = prelude_values prelude; reader = reader; looks = looker.looks } }
     {
         Subscription {
@@ -90,7 +90,7 @@ impl<T: Word> Subscription<T> {
             reader,
             looker,
             number,
-            bed: Bed::new(),
+            wait_key: WaitKey::new(),
             marker: PhantomData,
         }
     }
@@ -101,7 +101,7 @@ impl<T: Word> Subscription<T> {
     /// `Nothing` where no accepted emission that it has seen, or was [told](Subscription::told), lies at or past its position;
     /// `Overtaken` where the value was dropped just then, so that its position rose, on a flow that drops the oldest values alone.
     ///
-    /// It wakes nobody. An emission that waits for room is let in by the next call that takes the lock, whoever makes it: where all
+    /// It wakes nobody. An emission that waits for room is accepted by the next call that takes the lock, whoever makes it: where all
     /// subscriptions take their values by this call alone, who emits has to poll its emitter again by itself.
     pub fn try_next(&mut self) -> Taken<T>
         ensures has { received T.read_as self.new ≡ received T.read_as self.old ++ taken_of result }
@@ -285,7 +285,7 @@ impl<T: Word> Subscription<T> {
         };
         let waits = access.has_unfinished(track, &mut self.looker, &self.reader);
         if waits {
-            self.make_room(rt);
+            self.accept_waiting(rt);
         }
         Some(T::from_word(word))
     }
@@ -293,12 +293,12 @@ impl<T: Word> Subscription<T> {
     // Lets in what waits, after a value was received without the lock. Not inlined, nor is the second look: a
     // receipt that takes no lock then saves no registers for them.
     #[inline(never)]
-    fn make_room(&mut self, rt: &impl Wait)
+    fn accept_waiting(&mut self, rt: &impl Wait)
         ensures made { Made (round.Next self.old.number) self.old.party self.new.party }
         ensures same { self.new ≡ record self.old { party = self.new.party } }
     {
         let mut inside = self.access.enter(rt);
-        inside.guarded.state.make_room(self.number);
+        inside.guarded.state.accept_waiting(self.number);
         self.access.leave(rt, inside, Round::Next(self.number));
     }
 
@@ -327,7 +327,7 @@ impl<T: Word> Subscription<T> {
                 inside
                     .guarded
                     .state
-                    .sleep_subscription(self.number, &mut self.bed, cx);
+                    .sleep_subscription(self.number, &mut self.wait_key, cx);
                 self.access.leave(rt, inside, Round::Pending(self.number));
                 Poll::Pending
             }
@@ -349,7 +349,7 @@ impl<T: Word> Subscription<T> {
         ensures rest { self.new.rest ≡ self.old.rest }
         ensures reader { IsSameReader self.old.reader self.new.reader × (self.new.reader.story ≡ self.old.reader.story) }
         ensures receipt { receipt.new ≡ receipt.old }
-        ensures told { Begins self.new.reader.seen receipt.old.seen }
+        ensures told { IsPrefix receipt.old.seen self.new.reader.seen }
     {
         self.reader.told(self.access.lane(), receipt);
     }
@@ -440,7 +440,7 @@ impl<T: Word> Subscription<T> {
             reader,
             looker: _,
             number,
-            bed: _,
+            wait_key: _,
             marker: _,
         } = self;
         let mut inside = access.enter(rt);

@@ -22,7 +22,7 @@ stood_after q u t e only is = (
   ap (λ (z : SequencerSeen). z.subscription) is ∙ ap (λ (z : SequencerSeen). z.subscription) only.0,
 )
 
--- its value is in its cell, and it stands, as two rounds over the cursors have it
+-- its value is in its cell, and it stands, as two passes over the cursors have it
 pub stands_by : {Y : Type 0} (q m u t : SequencerSeen) (e : Entry) (ticket : ℕ) → m.policy ≡ Suspend → ticket ≡ u.ticket → HasFreeTicket m → q.waiting ≡ [] → q.capacity ≡ 0
     → ByCursors q.capacity q false m → ByCursors 1 m true u → t ≡ accepted_with_ticket e u
     → (q.policy ≡ Suspend) × (ticket ≡ q.ticket) × HasFreeTicket q

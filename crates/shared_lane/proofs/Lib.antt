@@ -9,10 +9,10 @@ pub mod Outstanding
 pub mod Policies
 pub mod Readings
 pub mod Rooms
-pub mod Rounds
+pub mod Passes
 pub mod Settling
 pub mod Sameness
 pub mod Soundness
 pub mod Stories
 pub mod Together
-pub mod WholeRounds
+pub mod WholePasses

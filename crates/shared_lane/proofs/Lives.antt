@@ -11,7 +11,8 @@ use Rattle.circular_buffer.proofs.Places.{slice_get-drop, slice_get-append_left}
 use Rattle.shared_core.specs.Flow.{values_at}
 use Rattle.shared_core.specs.Story.{Interleaves, none as neither, left as from_left, right as from_right}
 use Rattle.shared_core.proofs.Lists.{values_at-range}
-use Rattle.lane_steps.specs.Law.{Entry, Begins, HasWord, HasWords, received, lost}
+use Rattle.flow_terms.specs.Lists.{IsPrefix}
+use Rattle.lane_steps.specs.Law.{Entry, HasWord, HasWords, received, lost}
 use Rattle.lane_steps.proofs.Lists.{within}
 use Rattle.shared_lane.specs.Views.{ReaderSeen}
 use Rattle.shared_lane.specs.Caches.{word_of, IsLastOf}
@@ -19,7 +20,7 @@ use Rattle.shared_lane.specs.declared.reader.Taken.{Taken}
 use Rattle.shared_lane.specs.declared.reader.Taken.TheVariants.{Value, Nothing, Overtaken}
 use Rattle.shared_lane.specs.Readers.{at, story_to, WentTo, IsSameReader, TookNext}
 use Rattle.shared_lane.specs.Picks.{TookAll}
-use Rattle.shared_lane.specs.Headline.{words_seen, Went, Lived, gave, given, WasLetIn, cache_then_later, pending, ReceivesCacheThenLater}
+use Rattle.shared_lane.specs.Headline.{words_seen, Went, Lived, gave, given, StartsAtCache, cache_then_later, pending, ReceivesCacheThenLater}
 
 -- ---- a story and a list of words, by index
 
@@ -171,7 +172,7 @@ module _ (f k : ℕ) (drops : Bool) where
   all_calls r t (x ∷ xs) ws good lived =
       subst (λ l. Good f k drops t l) (given_more x xs ws) (all_calls lived.0 t xs (ws ++ given (x ∷ [])) (one_call r lived.0 x ws good lived.1 lived.2) lived.3)
 
-grows : (r t : ReaderSeen) (calls : List (Option ℕ)) → Lived r calls t → Begins t.seen r.seen
+grows : (r t : ReaderSeen) (calls : List (Option ℕ)) → Lived r calls t → IsPrefix r.seen t.seen
 grows r t [] lived = ([], ap (λ (z : ReaderSeen). z.seen) lived ∙ sym (append-nil r.seen))
 grows r t (x ∷ xs) lived =
     let m = lived.0 in let rest = grows m t xs lived.3 in let now = lived.2.3 in
@@ -189,11 +190,11 @@ one_list cache log more k latest count =
     let later : drop (length log) (xs ++ ys) ≡ ys = ap (λ c. drop c (xs ++ ys)) (sym as_long) ∙ drop-append_seam xs ys in
     rw all (ap (λ l. l ++ drop (length log) (xs ++ ys)) cached ∙ ap (λ l. drop k xs ++ l) later ∙ sym (drop-append-le k xs ys (omega (arith, as_long, count))))
 
-pub receives : (cache : List ℕ) (start now : ReaderSeen) (calls : List (Option ℕ)) → WasLetIn cache start → Lived start calls now
+pub receives : (cache : List ℕ) (start now : ReaderSeen) (calls : List (Option ℕ)) → StartsAtCache cache start → Lived start calls now
     → at now ≤ now.shape.first + length now.seen → ReceivesCacheThenLater cache start now (given calls)
-receives cache start now calls let_in lived near =
+receives cache start now calls starts lived near =
     let f = start.shape.first in
-    let begun = let_in.starts_at_the_cache in let latest = let_in.caches_the_latest in let nothing = let_in.nothing_yet in
+    let begun = starts.starts_at_the_cache in let latest = starts.caches_the_latest in let nothing = starts.nothing_yet in
     let words_count : length (words_seen start) ≡ length start.seen = length-map _ _ in
     let cached : length cache ≡ length (words_seen start) - (length (words_seen start) - length cache) = sym (ap length latest) ∙ length-drop (length (words_seen start) - length cache) (words_seen start) in
     let long : length cache ≤ length start.seen = omega (arith, cached, words_count) in

@@ -6,9 +6,9 @@ use Rattle.lane_steps.specs.declared.view.View.{View}
 use Rattle.lane_steps.specs.Law.{closed}
 use Rattle.lane_steps.specs.Steps.{IsRoomyAt}
 use Rattle.lane_steps.proofs.Lists.{not_both}
-use Rattle.shared_lane.specs.Surveys.{WholeRound, FoundAt, Cleared, Behind}
+use Rattle.shared_lane.specs.Surveys.{WholePass, FoundAt, Cleared, Behind}
 use Rattle.shared_lane.specs.Blocks.{HasRoom, LeavesRoom}
-use Rattle.shared_lane.proofs.Rounds.{at_back, behind_none, behind_more, room_at, room_cleared, roomy_at}
+use Rattle.shared_lane.proofs.Passes.{at_back, behind_none, behind_more, room_at, room_cleared, roomy_at}
 
 pub room_before : (tail lag most : ℕ) → HasRoom tail lag [] most most
 room_before tail lag most = record { few = omega arith; near = λ n _ _. behind_none n lag; no_more = λ h. absurd (omega arith) }
@@ -25,13 +25,13 @@ room_after tail lag most room room' ns n was one = let fewer = one.few in let fe
       });
 }
 
--- after a round there is room for the number k
-pub room_found : (tail lag cells k : ℕ) (v w : View) (ns : List ℕ) → lag ≤ cells → length ns ≡ length v.sequencing.places → WholeRound FoundAt v ns w → Behind k lag ns false → IsRoomyAt cells k w
-room_found tail lag cells k v w ns le long round behind = roomy_at FoundAt cells k v w ns long round
+-- after a pass there is room for the number k
+pub room_found : (tail lag cells k : ℕ) (v w : View) (ns : List ℕ) → lag ≤ cells → length ns ≡ length v.sequencing.places → WholePass FoundAt v ns w → Behind k lag ns false → IsRoomyAt cells k w
+room_found tail lag cells k v w ns le long pass behind = roomy_at FoundAt cells k v w ns long pass
     (λ p c c' h e live. room_at k cells (get_or ns p 0) 0 c c' e (λ ne. let b = behind.none refl p h ne in omega arith) live)
 
-pub room_kept : (tail cells k : ℕ) (v w : View) (ns : List ℕ) → 0 < cells → tail ≤ k → length ns ≡ length v.sequencing.places → WholeRound (Cleared tail cells) v ns w → (tail < k → Behind k cells ns false) → IsRoomyAt cells k w
-room_kept tail cells k v w ns some_cell le long round behind = roomy_at (Cleared tail cells) cells k v w ns long round
+pub room_kept : (tail cells k : ℕ) (v w : View) (ns : List ℕ) → 0 < cells → tail ≤ k → length ns ≡ length v.sequencing.places → WholePass (Cleared tail cells) v ns w → (tail < k → Behind k cells ns false) → IsRoomyAt cells k w
+room_kept tail cells k v w ns some_cell le long pass behind = roomy_at (Cleared tail cells) cells k v w ns long pass
     (λ p c c' h cleared live. dite (ℕ_discrete k tail)
     (λ same. let r = room_cleared tail cells (get_or ns p 0) c c' some_cell cleared live in omega arith)
     (λ other. let b = behind (omega arith) in dite (ℕ_discrete (get_or ns p 0) closed)

@@ -5,36 +5,36 @@ use lib.ListN.{length-map}
 use Rattle.std.proofs.lemmas.Option.{none-some}
 use Rattle.std.proofs.lemmas.List.{append-nil, nil_from_length}
 use Rattle.shared_lane.proofs.Outstanding.{inside_some}
-use Rattle.shared_lane.proofs.WholeRounds.{found_loses_none}
+use Rattle.shared_lane.proofs.WholePasses.{found_loses_none}
 use Rattle.circular_buffer.specs.Buffer.{keep_last}
 use Rattle.lane_steps.specs.declared.view.Shape.{Shape}
 use Rattle.lane_steps.specs.declared.view.View.{View}
-use Rattle.lane_steps.specs.Law.{Begins}
+use Rattle.flow_terms.specs.Lists.{IsPrefix}
 use Rattle.flow_terms.specs.declared.policy.Policy.{Policy}
 use Rattle.flow_terms.specs.declared.policy.Policy.TheVariants.{Suspend, DropOldest, DropLatest}
 use Rattle.shared_lane.specs.Views.{SequencerSeen}
 use Rattle.shared_lane.specs.Surveys.{cursor_loads, OpensNone, LosesNone}
 use Rattle.shared_lane.specs.declared.tickets.Waiting.{Waiting}
-use Rattle.shared_lane.specs.Sequencers.{entry_of, stood, cached, seen, next, IsSameTickets, LoadedOrMoved, RoundedBy, Settled, IsStuck, accepted_on, stood_on}
+use Rattle.shared_lane.specs.Sequencers.{entry_of, stood, cached, seen, next, IsSameTickets, LoadedOrMoved, PassedBy, AcceptedWaiting, IsStuck, accepted_on, stood_on}
 
 -- what begins with that begins with its beginning
-pub begins_twice : {A : Type 0} (xs ys zs : List A) → Begins xs ys → Begins ys zs → Begins xs zs
-begins_twice xs ys zs a b = (b.0 ++ a.0, a.1 ∙ (ap (λ l. l ++ a.0) b.1 ∙ append_assoc zs b.0 a.0))
+pub prefix_then : {A : Type 0} (xs ys zs : List A) → IsPrefix ys xs → IsPrefix zs ys → IsPrefix zs xs
+prefix_then xs ys zs a b = (b.0 ++ a.0, a.1 ∙ (ap (λ l. l ++ a.0) b.1 ∙ append_assoc zs b.0 a.0))
 
--- a round adds loads
-pub rounded_later : (p : Policy) (lag : ℕ) (q : SequencerSeen) (room : Bool) (v : View) → RoundedBy p lag q room v → Begins v.loads q.view.loads
-rounded_later Suspend lag q room v r = let l = r.2.loads in (cursor_loads 0 (take l.0 r.0), l.1)
-rounded_later DropOldest lag q room v r = let x = r.1 in let l = x.2.loads in (cursor_loads 0 (take l.0 x.0), l.1)
-rounded_later DropLatest lag q room v r = let l = r.2.loads in (cursor_loads 0 (take l.0 r.0), l.1)
+-- a pass adds loads
+pub passed_later : (p : Policy) (lag : ℕ) (q : SequencerSeen) (room : Bool) (v : View) → PassedBy p lag q room v → IsPrefix q.view.loads v.loads
+passed_later Suspend lag q room v r = let l = r.2.loads in (cursor_loads 0 (take l.0 r.0), l.1)
+passed_later DropOldest lag q room v r = let x = r.1 in let l = x.2.loads in (cursor_loads 0 (take l.0 x.0), l.1)
+passed_later DropLatest lag q room v r = let l = r.2.loads in (cursor_loads 0 (take l.0 r.0), l.1)
 
--- where the oldest values aren't dropped, a round loses none
-pub rounded_loses_none : (p : Policy) (lag : ℕ) (q : SequencerSeen) (room : Bool) (v : View) → p ≡ Suspend → RoundedBy p lag q room v → LosesNone q.view v
-rounded_loses_none Suspend lag q room v is r = found_loses_none q.view v r.0 r.2
-rounded_loses_none DropOldest lag q room v is r = let no : ⊥ = cc (is) in absurd no
-rounded_loses_none DropLatest lag q room v is r = found_loses_none q.view v r.0 r.2
+-- where the oldest values aren't dropped, a pass loses none
+pub passed_loses_none : (p : Policy) (lag : ℕ) (q : SequencerSeen) (room : Bool) (v : View) → p ≡ Suspend → PassedBy p lag q room v → LosesNone q.view v
+passed_loses_none Suspend lag q room v is r = found_loses_none q.view v r.0 r.2
+passed_loses_none DropOldest lag q room v is r = let no : ⊥ = cc (is) in absurd no
+passed_loses_none DropLatest lag q room v is r = found_loses_none q.view v r.0 r.2
 
 -- before any was accepted
-pub settled_none : (q : SequencerSeen) → Settled 0 q q
+pub settled_none : (q : SequencerSeen) → AcceptedWaiting 0 q q
 settled_none q = record {
   few = omega arith;
   accepted = sym (append-nil (seen q));
@@ -72,8 +72,8 @@ cached_more : (r : ℕ) (ws : List ℕ) (xs ys : List Waiting) → cached r ws (
 cached_more r ws [] ys = refl
 cached_more r ws (x ∷ xs) ys = cached_more r (keep_last r (ws ++ x.word ∷ [])) xs ys
 
-pub settled_more : (k : ℕ) (q t t' u : SequencerSeen) → Settled k q t → seen t' ≡ seen t → t'.cache ≡ t.cache → IsSameTickets t t' → t'.subscription ≡ t.subscription → t'.view.shape ≡ q.view.shape → t'.replay ≡ q.replay
-    → Begins t'.view.loads t.view.loads → OpensNone t.view t'.view → LosesNone t.view t'.view → Settled 1 t' u → Settled (k + 1) q u
+pub settled_more : (k : ℕ) (q t t' u : SequencerSeen) → AcceptedWaiting k q t → seen t' ≡ seen t → t'.cache ≡ t.cache → IsSameTickets t t' → t'.subscription ≡ t.subscription → t'.view.shape ≡ q.view.shape → t'.replay ≡ q.replay
+    → IsPrefix t.view.loads t'.view.loads → OpensNone t.view t'.view → LosesNone t.view t'.view → AcceptedWaiting 1 t' u → AcceptedWaiting (k + 1) q u
 settled_more k q t t' u was same_seen same_cache same subs shape r since none_opened none_lost one = let W : List Waiting = q.waiting in let next_k : k + 1 ≡ suc k = omega arith in
     let here : t'.waiting ≡ drop k W = same.0 ∙ was.waiting_is in let cut : take k W ++ take 1 (t'.waiting) ≡ take (k + 1) W = ap (λ l. take k W ++ take 1 l) here ∙ (sym (take_more k W) ∙ ap (λ (z : ℕ). take z W) (sym next_k)) in
     let left : length (t'.waiting) ≡ length (drop k W) = ap length here in let left' = length-drop k W in let few = was.few in let more = one.few in
@@ -88,20 +88,20 @@ settled_more k q t t' u was same_seen same_cache same subs shape r since none_op
       ticket = one.ticket ∙ (same.2 ∙ was.ticket);
       subscription = one.subscription ∙ (subs ∙ was.subscription);
       cache_is = one.cache_is ∙ ((λ i. cached (r i) ((same_cache ∙ was.cache_is) i) (take 1 (t'.waiting))) ∙ (sym (cached_more q.replay (q.cache) (take k W) (take 1 (t'.waiting))) ∙ ap (cached q.replay (q.cache)) cut));
-      later = begins_twice u.view.loads t'.view.loads q.view.loads one.later (begins_twice t'.view.loads t.view.loads q.view.loads since was.later);
+      later = prefix_then u.view.loads t'.view.loads q.view.loads one.later (prefix_then t'.view.loads t.view.loads q.view.loads since was.later);
       none_opened = λ p. one.none_opened p ∙ (none_opened p ∙ was.none_opened p);
       none_lost = λ p. one.none_lost p ∙ (none_lost p ∙ was.none_lost p);
       quiet = λ none. let few : k + 1 ≤ length q.waiting = omega arith in let zero_long : length q.waiting ≡ 0 = ap length none in absurd (omega arith);
     }
 
-pub stuck : (q t t' : SequencerSeen) (lag : ℕ) → Begins t.view.loads q.view.loads → LoadedOrMoved t t' → RoundedBy t.policy lag t false t'.view → lag ≡ t.view.shape.cells → IsStuck q t'
-stuck q t t' lag since only round cells =
-    (t, since, (only, subst (λ (z : ℕ). RoundedBy t.policy z t false t'.view) (cells ∙ ap (λ (z : Shape). z.cells) (sym only.1)) round))
+pub stuck : (q t t' : SequencerSeen) (lag : ℕ) → IsPrefix q.view.loads t.view.loads → LoadedOrMoved t t' → PassedBy t.policy lag t false t'.view → lag ≡ t.view.shape.cells → IsStuck q t'
+stuck q t t' lag since only pass cells =
+    (t, since, (only, subst (λ (z : ℕ). PassedBy t.policy z t false t'.view) (cells ∙ ap (λ (z : Shape). z.cells) (sym only.1)) pass))
 
 -- the first that waits is accepted, and its ticket stands
-pub settles : (q : SequencerSeen) (w : Waiting) → slice_get q.waiting 0 ≡ Some w → Settled 1 q (stood_on w.ticket w.emitter (next q) (accepted_on (entry_of w) (record q { waiting = drop 1 q.waiting })))
+pub settles : (q : SequencerSeen) (w : Waiting) → slice_get q.waiting 0 ≡ Some w → AcceptedWaiting 1 q (stood_on w.ticket w.emitter (next q) (accepted_on (entry_of w) (record q { waiting = drop 1 q.waiting })))
 settles q w is = go q.waiting refl is where
-  go : (ws : List Waiting) → q.waiting ≡ ws → slice_get ws 0 ≡ Some w → Settled 1 q (stood_on w.ticket w.emitter (next q) (accepted_on (entry_of w) (record q { waiting = drop 1 q.waiting })))
+  go : (ws : List Waiting) → q.waiting ≡ ws → slice_get ws 0 ≡ Some w → AcceptedWaiting 1 q (stood_on w.ticket w.emitter (next q) (accepted_on (entry_of w) (record q { waiting = drop 1 q.waiting })))
   go [] e first = absurd (none-some w first)
   go (x ∷ ws) e first = let one : take 1 q.waiting ≡ w ∷ [] = ap (take 1) e ∙ ap (λ (z : Waiting). z ∷ []) (inside_some x x w first) in let long : length q.waiting ≡ suc (length ws) = ap length e in record {
     few = omega arith;
@@ -117,8 +117,8 @@ settles q w is = go q.waiting refl is where
     quiet = λ none. let zero_long : length q.waiting ≡ 0 = ap length none in absurd (omega arith);
   }
 
-pub still_waits : (k : ℕ) (q t t' : SequencerSeen) → Settled k q t → LoadedOrMoved t t' → k < length q.waiting → t'.waiting ≢ []
+pub still_waits : (k : ℕ) (q t t' : SequencerSeen) → AcceptedWaiting k q t → LoadedOrMoved t t' → k < length q.waiting → t'.waiting ≢ []
 still_waits k q t t' was only more none = let left = length-drop k q.waiting in let is : length t'.waiting ≡ length (drop k q.waiting) = ap length (ap (λ (z : SequencerSeen). z.waiting) only.0 ∙ was.waiting_is) in let nothing : length t'.waiting ≡ 0 = ap length none in absurd (omega arith)
 
-pub all_settled : (k : ℕ) (q t : SequencerSeen) → Settled k q t → k ≡ length q.waiting → t.waiting ≡ []
+pub all_settled : (k : ℕ) (q t : SequencerSeen) → AcceptedWaiting k q t → k ≡ length q.waiting → t.waiting ≡ []
 all_settled k q t was is = nil_from_length t.waiting (let left = length-drop k q.waiting in let e = ap length was.waiting_is in omega arith)

@@ -14,9 +14,9 @@ use Rattle.lane_steps.specs.Steps.{known_of, known_at}
 use Rattle.lane_steps.proofs.Lists.{front}
 use Rattle.shared_lane.specs.Caches.{word_of}
 use Rattle.shared_lane.specs.Views.{SequencerSeen}
-use Rattle.shared_lane.specs.Surveys.{cursor_loads, may_be_open, WholeRound, FoundAt, Cleared, Behind}
-use Rattle.shared_lane.specs.Sequencers.{next, LoadedOrMoved, RoundedBy, ByCursors, AcceptedOn, accepted_on}
-use Rattle.shared_lane.specs.Blocks.{FindRoom, RoundedFor, AcceptedTogether, AcceptedEach}
+use Rattle.shared_lane.specs.Surveys.{cursor_loads, may_be_open, WholePass, FoundAt, Cleared, Behind}
+use Rattle.shared_lane.specs.Sequencers.{next, LoadedOrMoved, PassedBy, ByCursors, AcceptedOn, accepted_on}
+use Rattle.shared_lane.specs.Blocks.{FindRoom, PassedFor, AcceptedTogether, AcceptedEach}
 
 -- ---- the cache
 
@@ -39,7 +39,7 @@ kept_is r ws x (y ∷ ys) = kept_is r (keep_last r (ws ++ x ∷ [])) y ys ∙ (k
 
 -- ---- the cursors
 
--- what is known of the places is what a round found that found the cursors at ns
+-- what is known of the places is what a pass found that found the cursors at ns
 record Stands (ns : List ℕ) (q : SequencerSeen) : Type 0 where
   pub long : length ns ≡ q.view.shape.places
   pub known : (p : ℕ) → p < length ns → known_of q.view.sequencing p ≡ known_at (get_or ns p 0) (known_of q.view.sequencing p)
@@ -50,8 +50,8 @@ record Stands (ns : List ℕ) (q : SequencerSeen) : Type 0 where
 abbrev looked : List ℕ → SequencerSeen → SequencerSeen
 looked ns q = record q { view = record q.view { loads = q.view.loads ++ cursor_loads 0 ns } }
 
-round_again : (ns : List ℕ) (q : SequencerSeen) → Stands ns q → WholeRound FoundAt q.view ns (looked ns q).view
-round_again ns q st = record {
+pass_again : (ns : List ℕ) (q : SequencerSeen) → Stands ns q → WholePass FoundAt q.view ns (looked ns q).view
+pass_again ns q st = record {
   only = record { shape = refl; seen = refl; reading = refl; active = refl; flight = refl; count = refl; none_opened = λ p. refl };
   loads = (length ns, ap (λ (l : List ℕ). q.view.loads ++ cursor_loads 0 l) (sym (take-length ns)), λ p far near. absurd (omega arith));
   below = st.below;
@@ -66,21 +66,21 @@ lag_for Suspend capacity cells = capacity
 lag_for DropOldest capacity cells = cells
 lag_for DropLatest capacity cells = capacity
 
-rounded_again : (p : Policy) (ns : List ℕ) (q : SequencerSeen) → Stands ns q → Behind (next q) (lag_for p q.capacity q.view.shape.cells) ns false → RoundedBy p q.capacity q true (looked ns q).view
-rounded_again Suspend ns q st near = (ns, st.long, round_again ns q st, near)
-rounded_again DropLatest ns q st near = (ns, st.long, round_again ns q st, near)
-rounded_again DropOldest ns q st near = let round = round_again ns q st in (
+passed_again : (p : Policy) (ns : List ℕ) (q : SequencerSeen) → Stands ns q → Behind (next q) (lag_for p q.capacity q.view.shape.cells) ns false → PassedBy p q.capacity q true (looked ns q).view
+passed_again Suspend ns q st near = (ns, st.long, pass_again ns q st, near)
+passed_again DropLatest ns q st near = (ns, st.long, pass_again ns q st, near)
+passed_again DropOldest ns q st near = let pass = pass_again ns q st in (
   refl,
   (
     ns,
     st.long,
     record {
-      only = round.only;
-      loads = round.loads;
-      below = round.below;
-      shut = round.shut;
-      each = λ p h. record { kept = λ _. round.each p h; pushed = λ ne far. let close = near.none refl p h ne in absurd (omega arith) };
-      rest = round.rest;
+      only = pass.only;
+      loads = pass.loads;
+      below = pass.below;
+      shut = pass.shut;
+      each = λ p h. record { kept = λ _. pass.each p h; pushed = λ ne far. let close = near.none refl p h ne in absurd (omega arith) };
+      rest = pass.rest;
     },
   ),
 )
@@ -89,7 +89,7 @@ each_again : (ns : List ℕ) (es : List Entry) (q : SequencerSeen) → Stands ns
     → (u : SequencerSeen) × AcceptedEach q es u × (u ≡ record q { view = record q.view { seen = q.view.seen ++ es; loads = u.view.loads }; cache = kept_each q.replay q.cache (map word_of es) })
 each_again ns [] q st none room = (q, refl, λ i. record q { view = record q.view { seen = sym (append-nil q.view.seen) i } })
 each_again ns (e ∷ es) q st none room = let m : SequencerSeen = looked ns q in let t : SequencerSeen = accepted_on e m in let longer = length-append q.view.seen (e ∷ []) in
-    let by : ByCursors q.capacity q true m = ((refl, refl, refl, λ p. refl), rounded_again q.policy ns q st (room (next q) (omega arith) (omega arith))) in
+    let by : ByCursors q.capacity q true m = ((refl, refl, refl, λ p. refl), passed_again q.policy ns q st (room (next q) (omega arith) (omega arith))) in
     let after : Stands ns t = record { long = st.long; known = st.known; below = λ p h ne. let b = st.below p h ne in omega arith; shut = st.shut } in
     let more = each_again ns es t after none (λ n low high. room n (omega arith) (omega arith)) in let u : SequencerSeen = more.0 in (
       u,
@@ -97,7 +97,7 @@ each_again ns (e ∷ es) q st none room = let m : SequencerSeen = looked ns q in
       more.2 ∙ ap (λ (l : List Entry). let w : SequencerSeen = record q { view = record q.view { seen = l; loads = u.view.loads }; cache = kept_each q.replay q.cache (map word_of (e ∷ es)) } in w) (append_assoc q.view.seen (e ∷ []) es),
     )
 
--- ---- the block's own round
+-- ---- the block's own pass
 
 again : (n : ℕ) (k : Known) → known_at n k ≡ known_at n (known_at n k)
 again n k = go (eqb n closed)
@@ -110,24 +110,24 @@ again n k = go (eqb n closed)
 found_shut : (n : ℕ) (k : Known) → (known_at n k).is_open ≡ false → n ≢ closed → k.is_open ≡ false
 found_shut n k e ne = sym (ap (λ (b : Bool). (cond b (record k { is_open = false }) (record k { floor = n })).is_open) (Rattle.std.proofs.Common.ne_eqb n closed ne)) ∙ e
 
-stands_after : (ns : List ℕ) (q m : SequencerSeen) (e : Entry) (E : ℕ → Known → Known → Type 0) → LoadedOrMoved q m → length ns ≡ q.view.shape.places → WholeRound E q.view ns m.view
+stands_after : (ns : List ℕ) (q m : SequencerSeen) (e : Entry) (E : ℕ → Known → Known → Type 0) → LoadedOrMoved q m → length ns ≡ q.view.shape.places → WholePass E q.view ns m.view
     → ((p : ℕ) → p < length ns → FoundAt (get_or ns p 0) (known_of q.view.sequencing p) (known_of m.view.sequencing p)) → Stands ns (accepted_on e m)
-stands_after ns q m e E only long round found = let longer = length-append m.view.seen (e ∷ []) in let same : next m ≡ next q = (λ i. (only.1 i).first + length (only.2 i)) in record {
+stands_after ns q m e E only long pass found = let longer = length-append m.view.seen (e ∷ []) in let same : next m ≡ next q = (λ i. (only.1 i).first + length (only.2 i)) in record {
   long = long ∙ (λ i. (sym only.1 i).places);
   known = λ p h. found p h ∙ (again (get_or ns p 0) (known_of q.view.sequencing p) ∙ ap (known_at (get_or ns p 0)) (sym (found p h)));
-  below = λ p h ne. let b = round.below p h ne in omega arith;
+  below = λ p h ne. let b = pass.below p h ne in omega arith;
   shut = λ p h e. dite (ℕ_discrete (get_or ns p 0) closed) (λ is. is)
-      (λ ne. round.shut p h (found_shut (get_or ns p 0) (known_of q.view.sequencing p) (ap (λ (k : Known). k.is_open) (sym (found p h)) ∙ e) ne));
+      (λ ne. pass.shut p h (found_shut (get_or ns p 0) (known_of q.view.sequencing p) (ap (λ (k : Known). k.is_open) (sym (found p h)) ∙ e) ne));
 }
 
--- the first of a block is accepted by the block's round
-first_by : (p : Policy) (k : ℕ) (q : SequencerSeen) (v : View) → 0 < k → RoundedFor p k q v → RoundedBy p q.capacity q true v
+-- the first of a block is accepted by the block's pass
+first_by : (p : Policy) (k : ℕ) (q : SequencerSeen) (v : View) → 0 < k → PassedFor p k q v → PassedBy p q.capacity q true v
 first_by Suspend k q v some r = (r.0, r.1, r.2, r.3 (next q) (omega arith) (omega arith))
 first_by DropLatest k q v some r = (r.0, r.1, r.2, r.3 (next q) (omega arith) (omega arith))
 first_by DropOldest k q v some r = (refl, (r.0, r.1, r.2))
 
 -- and the others find the cursors where it found them
-others_by : (p : Policy) (k : ℕ) (q m : SequencerSeen) (e : Entry) → 1 < k → LoadedOrMoved q m → RoundedFor p k q m.view → (ns : List ℕ) × Stands ns (accepted_on e m) × FindRoom (lag_for p m.capacity m.view.shape.cells) (next q + 1) (next q + k) ns
+others_by : (p : Policy) (k : ℕ) (q m : SequencerSeen) (e : Entry) → 1 < k → LoadedOrMoved q m → PassedFor p k q m.view → (ns : List ℕ) × Stands ns (accepted_on e m) × FindRoom (lag_for p m.capacity m.view.shape.cells) (next q + 1) (next q + k) ns
 others_by Suspend k q m e some only r = (r.0, stands_after r.0 q m e FoundAt only r.1 r.2 r.2.each, λ n low high. subst (λ (z : SequencerSeen). Behind n z.capacity r.0 false) (sym only.0) (r.3 n (omega arith) high))
 others_by DropLatest k q m e some only r = (r.0, stands_after r.0 q m e FoundAt only r.1 r.2 r.2.each, λ n low high. subst (λ (z : SequencerSeen). Behind n z.capacity r.0 false) (sym only.0) (r.3 n (omega arith) high))
 others_by DropOldest k q m e some only r = let ns : List ℕ = r.0 in let near = r.3 (next q + 1) (omega arith) (omega arith) in (
@@ -137,15 +137,15 @@ others_by DropOldest k q m e some only r = let ns : List ℕ = r.0 in let near =
   λ n low high. subst (λ (z : ℕ). Behind n z ns false) (λ i. (sym only.1 i).cells) (r.3 n low high),
 )
 
-first_accepted : (q m : SequencerSeen) (e : Entry) → q.waiting ≡ [] → LoadedOrMoved q m → RoundedBy q.policy q.capacity q true m.view → AcceptedOn q e (next q) (accepted_on e m)
-first_accepted q m e none only round = let is = only.0 in (
+first_accepted : (q m : SequencerSeen) (e : Entry) → q.waiting ≡ [] → LoadedOrMoved q m → PassedBy q.policy q.capacity q true m.view → AcceptedOn q e (next q) (accepted_on e m)
+first_accepted q m e none only pass = let is = only.0 in (
   none,
   refl,
   ap (λ (l : List Entry). l ++ e ∷ []) only.2,
   ap (λ (z : SequencerSeen). keep_last z.replay (z.cache ++ e.1 ∷ [])) is,
   (ap (λ (z : SequencerSeen). z.waiting) is, ap (λ (z : SequencerSeen). z.standing) is, ap (λ (z : SequencerSeen). z.ticket) is),
   ap (λ (z : SequencerSeen). z.subscription) is,
-  (m, (only, round), refl),
+  (m, (only, pass), refl),
 )
 
 pub together_is_each : (q t : SequencerSeen) (e : Entry) (es : List Entry) → AcceptedTogether q (e ∷ es) t

@@ -9,7 +9,7 @@ use Rattle.lane_steps.specs.declared.view.View.{View}
 use Rattle.lane_steps.specs.Law.{Entry, closed}
 use Rattle.shared_lane.specs.Caches.{word_of}
 use Rattle.shared_lane.specs.Views.{SequencerSeen}
-use Rattle.shared_lane.specs.Surveys.{WholeRound, FoundAt, Cleared, Behind}
+use Rattle.shared_lane.specs.Surveys.{WholePass, FoundAt, Cleared, Behind}
 use Rattle.shared_lane.specs.Sequencers.{next, seen, LoadedOrMoved, AcceptedOn, TriedOn, RefusedTry}
 
 -- the emissions of these words, for one emitter
@@ -40,24 +40,24 @@ pub record LeavesRoom (tail lag n most room : ℕ) : Type 0 where
 abbrev pub with_flight : List Entry → View → View
 with_flight es v = record v { sequencing = record v.sequencing { flight = es } }
 
--- One round over the cursors found room for k emissions: a try of each of them finds it by what this round found. Under DropOldest the
--- round is the one that a try of the first of them makes, and tries of the others move no cursor.
-abbrev pub RoundedFor : Policy → ℕ → SequencerSeen → View → Type 0
-RoundedFor DropOldest k q v = (ns : List ℕ) × (length ns ≡ q.view.shape.places) × WholeRound (Cleared (next q) q.view.shape.cells) q.view ns v
+-- One pass over the cursors found room for k emissions: a try of each of them finds it by what this pass found. Under DropOldest the
+-- pass is the one that a try of the first of them makes, and tries of the others move no cursor.
+abbrev pub PassedFor : Policy → ℕ → SequencerSeen → View → Type 0
+PassedFor DropOldest k q v = (ns : List ℕ) × (length ns ≡ q.view.shape.places) × WholePass (Cleared (next q) q.view.shape.cells) q.view ns v
     × FindRoom q.view.shape.cells (next q + 1) (next q + k) ns
-RoundedFor Suspend k q v = (ns : List ℕ) × (length ns ≡ q.view.shape.places) × WholeRound FoundAt q.view ns v × FindRoom q.capacity (next q) (next q + k) ns
-RoundedFor DropLatest k q v = (ns : List ℕ) × (length ns ≡ q.view.shape.places) × WholeRound FoundAt q.view ns v × FindRoom q.capacity (next q) (next q + k) ns
+PassedFor Suspend k q v = (ns : List ℕ) × (length ns ≡ q.view.shape.places) × WholePass FoundAt q.view ns v × FindRoom q.capacity (next q) (next q + k) ns
+PassedFor DropLatest k q v = (ns : List ℕ) × (length ns ≡ q.view.shape.places) × WholePass FoundAt q.view ns v × FindRoom q.capacity (next q) (next q + k) ns
 
--- the emissions were accepted together, after one round over the cursors that found room for each of them
+-- the emissions were accepted together, after one pass over the cursors that found room for each of them
 abbrev pub AcceptedTogether : SequencerSeen → List Entry → SequencerSeen → Type 0
-AcceptedTogether q es t = (q.waiting ≡ []) × ((m : SequencerSeen) × LoadedOrMoved q m × RoundedFor q.policy (length es) q m.view × (t ≡ accepted_all es m))
+AcceptedTogether q es t = (q.waiting ≡ []) × ((m : SequencerSeen) × LoadedOrMoved q m × PassedFor q.policy (length es) q m.view × (t ≡ accepted_all es m))
 
 -- the emissions were accepted one after another, each by a try of its own
 abbrev pub AcceptedEach : SequencerSeen → List Entry → SequencerSeen → Type 0
 AcceptedEach q [] t = t ≡ q
 AcceptedEach q (e ∷ es) t = (m : SequencerSeen) × AcceptedOn q e (next q) m × AcceptedEach m es t
 
--- Accepting some together is accepting each of them by a try of its own, where the tries find the cursors as the one round did. But for
+-- Accepting some together is accepting each of them by a try of its own, where the tries find the cursors as the one pass did. But for
 -- the loads, of which there are more then, what is left is the same.
 abbrev pub TogetherIsEach : Type 0
 TogetherIsEach = (q t : SequencerSeen) (e : Entry) (es : List Entry) → AcceptedTogether q (e ∷ es) t

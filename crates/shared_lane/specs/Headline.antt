@@ -38,8 +38,8 @@ given [] = []
 given (Some w ∷ xs) = w ∷ given xs
 given (None ∷ xs) = given xs
 
--- It was let in with this replay cache, and has received nothing.
-pub record WasLetIn (cache : List ℕ) (r : ReaderSeen) : Type 0 where
+-- It was admitted with this replay cache, and has received nothing.
+pub record StartsAtCache (cache : List ℕ) (r : ReaderSeen) : Type 0 where
   pub starts_at_the_cache : at r + length cache ≡ r.shape.first + length r.seen
   pub caches_the_latest : IsLastOf r.seen cache
   pub nothing_yet : r.story ≡ []
@@ -74,5 +74,5 @@ TakingAllIsTakingEach = (r t : ReaderSeen) (room : ℕ) (taken : Taken ℕ) (wor
 -- and after a meeting.
 abbrev pub EachReaderReceivesCacheThenLater : Type 0
 EachReaderReceivesCacheThenLater =
-    (cache : List ℕ) (start now : ReaderSeen) (calls : List (Option ℕ)) → WasLetIn cache start → Lived start calls now
+    (cache : List ℕ) (start now : ReaderSeen) (calls : List (Option ℕ)) → StartsAtCache cache start → Lived start calls now
     → at now ≤ now.shape.first + length now.seen → ReceivesCacheThenLater cache start now (given calls)

@@ -6,15 +6,15 @@ use Rattle.flow_terms.specs.declared.refusal.Refusal.{Refusal}
 use Rattle.flow_terms.specs.declared.refusal.Refusal.TheVariants.{SubscribersFull, Spent}
 use Rattle.lane_steps.specs.Law.{closed}
 use Rattle.lane_steps.specs.Steps.{place_over}
-use Rattle.shared_lane.specs.Headline.{WasLetIn}
+use Rattle.shared_lane.specs.Headline.{StartsAtCache}
 use Rattle.shared_lane.specs.Views.{LaneSeen, ReaderSeen, SequencerSeen}
-use Rattle.shared_lane.specs.Surveys.{WholeRound, FoundAt, FoundAllOpen, LosesNone, cursor_loads, open_count, opening_at, lost_at, may_be_open}
+use Rattle.shared_lane.specs.Surveys.{WholePass, FoundAt, FoundAllOpen, LosesNone, cursor_loads, open_count, opening_at, lost_at, may_be_open}
 use Rattle.shared_lane.specs.Readers.{IsReaderOf}
 use Rattle.shared_lane.specs.Sequencers.{seen, OnlyLoaded}
 
 -- every cursor was found, and this many were open
 abbrev pub Counted : SequencerSeen → ℕ → SequencerSeen → Type 0
-Counted q count t = (ns : List ℕ) × (length ns ≡ q.view.shape.places) × WholeRound FoundAt q.view ns t.view × (count ≡ open_count ns)
+Counted q count t = (ns : List ℕ) × (length ns ≡ q.view.shape.places) × WholePass FoundAt q.view ns t.view × (count ≡ open_count ns)
 
 -- what the sequencer moved past at a place, since it was opened last
 abbrev pub lost_by : SequencerSeen → ℕ → List ℕ
@@ -24,7 +24,7 @@ lost_by q p = lost_at q.view p
 abbrev pub opening_of : SequencerSeen → ℕ → ℕ
 opening_of q p = opening_at q.view p
 
--- the reader was let in as the subscription with this number: its place was opened for that, and the opening's number is one more
+-- the reader was admitted as the subscription with this number: its place was opened for that, and the opening's number is one more
 abbrev pub IsOfSubscription : ℕ → ReaderSeen → Type 0
 IsOfSubscription number r = r.opening ≡ number + 1
 
@@ -36,12 +36,12 @@ told_of_end r q = record q { view = record q.view { sequencing = place_over r.pl
 abbrev pub KnowsEndOf : SequencerSeen → ReaderSeen → Type 0
 KnowsEndOf q r = (r.place < q.view.shape.places) × (opening_of q r.place ≡ r.opening → may_be_open q.view r.place ≡ false)
 
--- A reader was let in: it has seen all that was accepted, its position is the oldest value of the cache, and it has received
+-- A reader was admitted: it has seen all that was accepted, its position is the oldest value of the cache, and it has received
 -- nothing. Its place is the first whose cursor was found closed, by loads of this call, and none before it was known to be closed.
-pub record LetIn (lane : LaneSeen) (q : SequencerSeen) (r : ReaderSeen) (t : SequencerSeen) : Type 0 where
+pub record Admitted (lane : LaneSeen) (q : SequencerSeen) (r : ReaderSeen) (t : SequencerSeen) : Type 0 where
   pub of_lane : IsReaderOf lane r
   pub has_seen_all : r.seen ≡ seen q
-  pub begins : WasLetIn q.cache r
+  pub begins : StartsAtCache q.cache r
   pub found_closed : (ns : List ℕ) × (r.place ≡ length ns) × (t.view.loads ≡ q.view.loads ++ cursor_loads 0 (ns ++ closed ∷ []))
       × ((p : ℕ) → p < length ns → slice_index ns p ≢ closed)
   pub none_before : (p : ℕ) → p < r.place → may_be_open q.view p ≡ true
@@ -56,19 +56,19 @@ pub record LetIn (lane : LaneSeen) (q : SequencerSeen) (r : ReaderSeen) (t : Seq
   pub same_shape : t.view.shape ≡ q.view.shape
   pub same_log : seen t ≡ seen q
 
-abbrev pub NotLetIn : SequencerSeen → Refusal → SequencerSeen → Type 0
-NotLetIn q Spent t = (q.subscription ≡ 4611686018427387904) × (t ≡ q)
-NotLetIn q SubscribersFull t = (q.subscription ≢ 4611686018427387904) × FoundAllOpen q.view.shape.places q.view t.view × OnlyLoaded q t
-NotLetIn _ _ _ = ⊥
+abbrev pub NotAdmitted : SequencerSeen → Refusal → SequencerSeen → Type 0
+NotAdmitted q Spent t = (q.subscription ≡ 4611686018427387904) × (t ≡ q)
+NotAdmitted q SubscribersFull t = (q.subscription ≢ 4611686018427387904) × FoundAllOpen q.view.shape.places q.view t.view × OnlyLoaded q t
+NotAdmitted _ _ _ = ⊥
 
 -- A reader whose end the sequencer knows, and whose place wasn't opened again since: `live` counts it no more, and `admit` finds its
--- place closed, so that it lets the next reader in there, or at a place before it.
+-- place closed, so that it admits the next reader there, or at a place before it.
 abbrev pub EndedReaderIsCountedNoMore : Type 0
 EndedReaderIsCountedNoMore =
     (lane : LaneSeen) (q : SequencerSeen) (r : ReaderSeen) → KnowsEndOf q r → opening_of q r.place ≡ r.opening
     → ((count : ℕ) (t : SequencerSeen) → Counted q count t → count < q.view.shape.places)
-    × ((s : ReaderSeen) (t : SequencerSeen) → LetIn lane q s t → s.place ≤ r.place)
-    × ((t : SequencerSeen) → NotLetIn q SubscribersFull t → ⊥)
+    × ((s : ReaderSeen) (t : SequencerSeen) → Admitted lane q s t → s.place ≤ r.place)
+    × ((t : SequencerSeen) → NotAdmitted q SubscribersFull t → ⊥)
 
 -- the emission with this number was accepted, and was this emitter's
 abbrev pub IsAccepted : SequencerSeen → ℕ → ℕ → Type 0

@@ -8,7 +8,7 @@ use Rattle.flow_terms.specs.declared.answers.Withdrawn.TheVariants as withdrawn
 use Rattle.shared_lane.specs.Views.{SequencerSeen}
 use Rattle.shared_lane.specs.declared.tickets.Waiting.{Waiting}
 use Rattle.shared_lane.specs.declared.tickets.Standing.{Standing}
-use Rattle.shared_lane.specs.Surveys.{WholeRound, FoundAt, Behind}
+use Rattle.shared_lane.specs.Surveys.{WholePass, FoundAt, Behind}
 use Rattle.shared_lane.specs.Sequencers.{OnlyLoaded, next, seen}
 use Rattle.shared_lane.specs.Places.{IsAccepted}
 
@@ -47,7 +47,7 @@ abbrev pub withdrawn_from : ℕ → SequencerSeen → SequencerSeen
 withdrawn_from i q = record q { waiting = remove q.waiting i }
 
 abbrev pub Loaded : SequencerSeen → List ℕ → SequencerSeen → Type 0
-Loaded q ns t = (length ns ≡ q.view.shape.places) × WholeRound FoundAt q.view ns t.view
+Loaded q ns t = (length ns ≡ q.view.shape.places) × WholePass FoundAt q.view ns t.view
 
 abbrev pub PolledOn : SequencerSeen → ℕ → Emit → SequencerSeen → Type 0
 -- every cursor was closed or above the number, where there is no buffer

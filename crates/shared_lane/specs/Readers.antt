@@ -1,7 +1,8 @@
 -- What a reader has seen, and what it takes.
 use Rattle.std.specs.Prelude.{◌≡◌, ℕ, ◌+◌, ◌-◌, ◌<◌, ◌≤◌, List, [], ◌∷◌, ◌++◌, length, replicate, Bool, true, false}
 use Rattle.lane_steps.specs.Layout.{tail_word, cursor_word, cell_word}
-use Rattle.lane_steps.specs.Law.{Begins, HasWord, received, lost}
+use Rattle.flow_terms.specs.Lists.{IsPrefix}
+use Rattle.lane_steps.specs.Law.{HasWord, received, lost}
 use Rattle.shared_lane.specs.Views.{LaneSeen, ReaderSeen, ClosedSeen, ReceiptSeen}
 use Rattle.shared_lane.specs.declared.reader.Taken.{Taken}
 use Rattle.shared_lane.specs.declared.reader.Taken.TheVariants.{Value, Nothing, Overtaken}
@@ -25,7 +26,7 @@ lost_count r = length (lost r.start r.story)
 
 -- it is the same reader, which has seen no less
 abbrev pub IsSameReader : ReaderSeen → ReaderSeen → Type 0
-IsSameReader r t = (t.start ≡ r.start) × (t.place ≡ r.place) × (t.shape ≡ r.shape) × Begins t.seen r.seen × (t.table ≡ r.table) × (t.opening ≡ r.opening)
+IsSameReader r t = (t.start ≡ r.start) × (t.place ≡ r.place) × (t.shape ≡ r.shape) × IsPrefix r.seen t.seen × (t.table ≡ r.table) × (t.opening ≡ r.opening)
 
 -- the story, as far as the number n, which lost what came since
 abbrev pub story_to : ℕ → ReaderSeen → List Bool

@@ -3,7 +3,8 @@ use Rattle.std.specs.Prelude.{◌≡◌, ◌≢◌, ◌⊎◌, ℕ, suc, map, ta
 use Rattle.circular_buffer.specs.Buffer.{keep_last}
 use Rattle.lane_steps.specs.declared.view.Shape.{Shape}
 use Rattle.lane_steps.specs.declared.view.View.{View}
-use Rattle.lane_steps.specs.Law.{Begins, Entry}
+use Rattle.flow_terms.specs.Lists.{IsPrefix}
+use Rattle.lane_steps.specs.Law.{Entry}
 use Rattle.lane_steps.specs.Steps.{next_number}
 use Rattle.flow_terms.specs.declared.policy.Policy.{Policy}
 use Rattle.flow_terms.specs.declared.policy.Policy.TheVariants.{Suspend, DropOldest, DropLatest}
@@ -19,7 +20,7 @@ use Rattle.shared_lane.specs.Caches.{drops_values}
 use Rattle.shared_lane.specs.Views.{LaneSeen, SequencerSeen}
 use Rattle.shared_lane.specs.declared.tickets.Waiting.{Waiting}
 use Rattle.shared_lane.specs.declared.tickets.Standing.{Standing}
-use Rattle.shared_lane.specs.Surveys.{WholeRound, FoundAt, Cleared, Behind, OpensNone, LosesNone}
+use Rattle.shared_lane.specs.Surveys.{WholePass, FoundAt, Cleared, Behind, OpensNone, LosesNone}
 
 -- what the lane of a flow with this config is made with
 abbrev pub shape_of : Config → Shape
@@ -63,27 +64,27 @@ IsSameSequencer q t = (t.table ≡ q.table) × (t.view.shape ≡ q.view.shape)
 abbrev pub OnlyLoaded : SequencerSeen → SequencerSeen → Type 0
 OnlyLoaded q t = (t ≡ record q { view = t.view }) × (t.view.shape ≡ q.view.shape) × (t.view.seen ≡ q.view.seen) × OpensNone q.view t.view × LosesNone q.view t.view
 
--- the same of a round for an acceptance, which may move cursors on, past values that are lost by that
+-- the same of a pass for an acceptance, which may move cursors on, past values that are lost by that
 abbrev pub LoadedOrMoved : SequencerSeen → SequencerSeen → Type 0
 LoadedOrMoved q t = (t ≡ record q { view = t.view }) × (t.view.shape ≡ q.view.shape) × (t.view.seen ≡ q.view.seen) × OpensNone q.view t.view
 
--- one round over the cursors, which found room or not
-abbrev pub RoundedBy : Policy → ℕ → SequencerSeen → Bool → View → Type 0
-RoundedBy DropOldest lag q room v = (room ≡ true)
-    × ((ns : List ℕ) × (length ns ≡ q.view.shape.places) × WholeRound (Cleared (next q) q.view.shape.cells) q.view ns v)
-RoundedBy Suspend lag q room v = (ns : List ℕ) × (length ns ≡ q.view.shape.places) × WholeRound FoundAt q.view ns v × Behind (next q) lag ns (not room)
-RoundedBy DropLatest lag q room v = (ns : List ℕ) × (length ns ≡ q.view.shape.places) × WholeRound FoundAt q.view ns v × Behind (next q) lag ns (not room)
+-- one pass over the cursors, which found room or not
+abbrev pub PassedBy : Policy → ℕ → SequencerSeen → Bool → View → Type 0
+PassedBy DropOldest lag q room v = (room ≡ true)
+    × ((ns : List ℕ) × (length ns ≡ q.view.shape.places) × WholePass (Cleared (next q) q.view.shape.cells) q.view ns v)
+PassedBy Suspend lag q room v = (ns : List ℕ) × (length ns ≡ q.view.shape.places) × WholePass FoundAt q.view ns v × Behind (next q) lag ns (not room)
+PassedBy DropLatest lag q room v = (ns : List ℕ) × (length ns ≡ q.view.shape.places) × WholePass FoundAt q.view ns v × Behind (next q) lag ns (not room)
 
-abbrev pub Rounded : ℕ → SequencerSeen → Bool → SequencerSeen → Type 0
-Rounded lag q room t = RoundedBy q.policy lag q room t.view
+abbrev pub Passed : ℕ → SequencerSeen → Bool → SequencerSeen → Type 0
+Passed lag q room t = PassedBy q.policy lag q room t.view
 
--- From q to t every cursor was found, by one round and no other, and by what it found there was room or not. Each answer that tells of
--- room says so by this: the loads that t has and q hasn't are those of the round.
+-- From q to t every cursor was found, by one pass and no other, and by what it found there was room or not. Each answer that tells of
+-- room says so by this: the loads that t has and q hasn't are those of the pass.
 abbrev pub ByCursors : ℕ → SequencerSeen → Bool → SequencerSeen → Type 0
-ByCursors lag q room t = LoadedOrMoved q t × Rounded lag q room t
+ByCursors lag q room t = LoadedOrMoved q t × Passed lag q room t
 
 -- the first k waiting emissions were accepted, in their order
-pub record Settled (k : ℕ) (q t : SequencerSeen) : Type 0 where
+pub record AcceptedWaiting (k : ℕ) (q t : SequencerSeen) : Type 0 where
   pub few : k ≤ length q.waiting
   pub accepted : seen t ≡ seen q ++ map entry_of (take k q.waiting)
   pub waiting_is : t.waiting ≡ drop k q.waiting
@@ -91,19 +92,19 @@ pub record Settled (k : ℕ) (q t : SequencerSeen) : Type 0 where
   pub ticket : t.ticket ≡ q.ticket
   pub subscription : t.subscription ≡ q.subscription
   pub cache_is : t.cache ≡ cached q.replay q.cache (take k q.waiting)
-  pub later : Begins t.view.loads q.view.loads
+  pub later : IsPrefix q.view.loads t.view.loads
   pub none_opened : OpensNone q.view t.view
   pub none_lost : LosesNone q.view t.view
   -- where nothing waited nothing was done
   pub quiet : q.waiting ≡ [] → t ≡ q
 
--- since q, and last, a round over the cursors found one that stood as far behind as there are cells
+-- since q, and last, a pass over the cursors found one that stood as far behind as there are cells
 abbrev pub IsStuck : SequencerSeen → SequencerSeen → Type 0
-IsStuck q t = (m : SequencerSeen) × Begins m.view.loads q.view.loads × ByCursors t.view.shape.cells m false t
+IsStuck q t = (m : SequencerSeen) × IsPrefix q.view.loads m.view.loads × ByCursors t.view.shape.cells m false t
 
 -- the call first accepted waiting emissions, as many as it could, and `then` says what it did after that
 abbrev pub AfterScan : SequencerSeen → (SequencerSeen → Type 0) → Type 0
-AfterScan q then = (m : SequencerSeen) × (k : ℕ) × IsSameSequencer q m × Settled k q m × (m.waiting ≢ [] → IsStuck q m) × then m
+AfterScan q then = (m : SequencerSeen) × (k : ℕ) × IsSameSequencer q m × AcceptedWaiting k q m × (m.waiting ≢ [] → IsStuck q m) × then m
 
 -- the emission is the last of those accepted, and in the cache
 abbrev pub accepted_on : Entry → SequencerSeen → SequencerSeen
@@ -112,7 +113,7 @@ accepted_on e q = record q {
   cache = keep_last q.replay (q.cache ++ e.1 ∷ []);
 }
 
--- the emission was accepted, after a round over the cursors that found room
+-- the emission was accepted, after a pass over the cursors that found room
 abbrev pub AcceptedOn : SequencerSeen → Entry → ℕ → SequencerSeen → Type 0
 AcceptedOn q e n t = (q.waiting ≡ []) × (n ≡ next q) × (seen t ≡ seen q ++ e ∷ [])
     × (t.cache ≡ keep_last q.replay (q.cache ++ e.1 ∷ [])) × IsSameTickets q t × (t.subscription ≡ q.subscription)
@@ -126,7 +127,7 @@ stood_on ticket emitter number q = record q { standing = q.standing ++ record { 
 abbrev pub accepted_with_ticket : Entry → SequencerSeen → SequencerSeen
 accepted_with_ticket e q = stood_on q.ticket e.0 (next q) (record (accepted_on e q) { ticket = q.ticket + 1 })
 
--- there was no room: an emission waits, or a round over the cursors found none
+-- there was no room: an emission waits, or a pass over the cursors found none
 abbrev pub FoundNoRoom : SequencerSeen → SequencerSeen → Type 0
 FoundNoRoom q t = ((q.waiting ≢ []) × (t ≡ q)) ⊎ ByCursors q.capacity q false t
 
@@ -160,7 +161,7 @@ HasStood q e t = (t.ticket ≡ q.ticket + 1) × (t.waiting ≡ q.waiting)
     × (t.standing ≡ q.standing ++ record { ticket = q.ticket; emitter = e.0; number = next q } ∷ [])
     × (seen t ≡ seen q ++ e ∷ []) × (t.cache ≡ keep_last q.replay (q.cache ++ e.1 ∷ [])) × (t.subscription ≡ q.subscription)
 
--- Where there is no buffer: a first round found an open cursor, and a second one, right after it, found the one cell free or not.
+-- Where there is no buffer: a first pass found an open cursor, and a second one, right after it, found the one cell free or not.
 abbrev pub LookedTwice : Bool → SequencerSeen → SequencerSeen → Type 0
 LookedTwice free q t = (q.capacity ≡ 0) × ((m : SequencerSeen) × ByCursors q.capacity q false m × ByCursors 1 m free t)
 

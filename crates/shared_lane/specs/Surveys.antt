@@ -1,4 +1,4 @@
--- One round over the cursors.
+-- One pass over the cursors.
 use Rattle.std.specs.Prelude.{◌≡◌, ◌≢◌, ◌⊎◌, ℕ, suc, ◌+◌, ◌<◌, ◌≤◌, List, [], ◌∷◌, ◌++◌, length, take, cond, eqb, slice_index, Bool, true, false}
 use Rattle.lane_steps.specs.declared.view.Shape.{Shape}
 use Rattle.lane_steps.specs.declared.view.Known.{Known}
@@ -74,7 +74,7 @@ pub record Visit (E : ℕ → Known → Known → Type 0) (v : View) (p n : ℕ)
   pub rest : (x : ℕ) → x ≢ p → known_of v'.sequencing x ≡ known_of v.sequencing x
 
 -- the cursors were loaded in order, each once, and found at ns
-pub record Round (E : ℕ → Known → Known → Type 0) (v : View) (ns : List ℕ) (v' : View) : Type 0 where
+pub record Pass (E : ℕ → Known → Known → Type 0) (v : View) (ns : List ℕ) (v' : View) : Type 0 where
   pub only : OnlyPlaces v v'
   pub loads : v'.loads ≡ v.loads ++ cursor_loads 0 ns
   pub below : (p : ℕ) → p < length ns → slice_index ns p ≢ closed → slice_index ns p ≤ next_number v
@@ -85,7 +85,7 @@ pub record Round (E : ℕ → Known → Known → Type 0) (v : View) (ns : List 
 
 -- The cursors of all places, found at ns: those before some place were loaded in order, each once, and those from there on are known to be
 -- closed, which is how they count as found.
-pub record WholeRound (E : ℕ → Known → Known → Type 0) (v : View) (ns : List ℕ) (v' : View) : Type 0 where
+pub record WholePass (E : ℕ → Known → Known → Type 0) (v : View) (ns : List ℕ) (v' : View) : Type 0 where
   pub only : OnlyPlaces v v'
   pub loads : (end : ℕ) × (v'.loads ≡ v.loads ++ cursor_loads 0 (take end ns)) × ((p : ℕ) → end ≤ p → p < length ns → may_be_open v p ≡ false)
   pub below : (p : ℕ) → p < length ns → slice_index ns p ≢ closed → slice_index ns p ≤ next_number v
@@ -114,14 +114,14 @@ pub record Behind (tail lag : ℕ) (ns : List ℕ) (flag : Bool) : Type 0 where
 
 -- every cursor was found, and the survey says how many were open, and whether one of them stood `lag` or more behind the tail
 abbrev pub IsSurvey : ℕ → ℕ → ℕ → View → Survey → View → Type 0
-IsSurvey places tail lag v survey v' = (ns : List ℕ) × (length ns ≡ places) × WholeRound FoundAt v ns v'
+IsSurvey places tail lag v survey v' = (ns : List ℕ) × (length ns ≡ places) × WholePass FoundAt v ns v'
     × Behind tail lag ns survey.behind × (survey.open ≡ open_count ns)
 
 -- every cursor was loaded, and found open
 abbrev pub FoundAllOpen : ℕ → View → View → Type 0
-FoundAllOpen places v v' = (ns : List ℕ) × (length ns ≡ places) × Round FoundAt v ns v' × ((p : ℕ) → p < length ns → slice_index ns p ≢ closed)
+FoundAllOpen places v v' = (ns : List ℕ) × (length ns ≡ places) × Pass FoundAt v ns v' × ((p : ℕ) → p < length ns → slice_index ns p ≢ closed)
 
 -- the cursor of the place p was the first that was found closed, and none before it was known to be
 abbrev pub FoundClosed : ℕ → View → View → Type 0
-FoundClosed p v v' = (ns : List ℕ) × (length ns ≡ p) × Round FoundAt v (ns ++ closed ∷ []) v'
+FoundClosed p v v' = (ns : List ℕ) × (length ns ≡ p) × Pass FoundAt v (ns ++ closed ∷ []) v'
     × ((x : ℕ) → x < length ns → slice_index ns x ≢ closed) × (may_be_open v' p ≡ false) × ((x : ℕ) → x < p → may_be_open v x ≡ true)

@@ -4,11 +4,11 @@ ghost use Rattle.lane_steps.specs.Law.{closed};
 ghost use Rattle.lane_steps.specs.Layout.{cell_index};
 ghost use Rattle.lane_steps.specs.Seats.{IsSeatOf, IsSameSeat};
 ghost use Rattle.lane_steps.specs.Steps.{next_number, IsRoomyAt};
-ghost use Rattle.shared_lane.specs.Surveys.{KnowsPlaces, MayDrop, WholeRound, FoundAt, Cleared, ShutFrom};
+ghost use Rattle.shared_lane.specs.Surveys.{KnowsPlaces, MayDrop, WholePass, FoundAt, Cleared, ShutFrom};
 ghost use Rattle.shared_lane.specs.Blocks.{HasRoom, LeavesRoom, entries, with_flight};
 
 use crate::sequencer::{clear_one, end_at, end_with};
-use lane_steps::{CLOSED, Place, Words};
+use lane_steps::{CLOSED, LaneSeat, Words};
 use std::alloc::Allocator;
 
 // For how many of `most` emissions a cursor leaves room: it doesn't stand `lag` or more behind any of them.
@@ -26,7 +26,7 @@ fn room_left(at: u64, tail: u64, lag: u64, most: u64) -> u64
 /// was found open. It says for how many of `most` emissions they leave room.
 pub(crate) fn load_room<A: Allocator>(
     words: &Words<A>,
-    seat: &mut Place,
+    seat: &mut LaneSeat,
     open_end: &mut usize,
     tail: u64,
     lag: u64,
@@ -36,7 +36,7 @@ pub(crate) fn load_room<A: Allocator>(
     requires sized { KnowsPlaces words.now.shape seat.old.me.0 }
     requires beyond { (open_end.old ≤ words.now.shape.places) × ShutFrom seat.old.me.0 open_end.old }
     ensures seat { IsSameSeat seat.old seat.new }
-    ensures found { (ns : List ℕ) × (length ns ≡ words.now.shape.places) × WholeRound FoundAt seat.old.me.0 ns seat.new.me.0 × HasRoom tail lag ns most result }
+    ensures found { (ns : List ℕ) × (length ns ≡ words.now.shape.places) × WholePass FoundAt seat.old.me.0 ns seat.new.me.0 × HasRoom tail lag ns most result }
     ensures beyond { (open_end.new ≤ open_end.old) × ShutFrom seat.new.me.0 open_end.new }
 {
     let mut room = most;
@@ -53,7 +53,7 @@ pub(crate) fn load_room<A: Allocator>(
 /// The same, where those that stand too far behind the tail are moved by one.
 pub(crate) fn clear_room<A: Allocator>(
     words: &Words<A>,
-    seat: &mut Place,
+    seat: &mut LaneSeat,
     open_end: &mut usize,
     tail: u64,
     most: u64,
@@ -62,7 +62,7 @@ pub(crate) fn clear_room<A: Allocator>(
     requires sized { MayDrop words.now.shape seat.old.me.0 }
     requires beyond { (open_end.old ≤ words.now.shape.places) × ShutFrom seat.old.me.0 open_end.old }
     ensures seat { IsSameSeat seat.old seat.new }
-    ensures found { (ns : List ℕ) × (length ns ≡ words.now.shape.places) × WholeRound (Cleared tail words.now.shape.cells) seat.old.me.0 ns seat.new.me.0
+    ensures found { (ns : List ℕ) × (length ns ≡ words.now.shape.places) × WholePass (Cleared tail words.now.shape.cells) seat.old.me.0 ns seat.new.me.0
         × HasRoom tail words.now.shape.cells ns most result }
     ensures beyond { (open_end.new ≤ open_end.old) × ShutFrom seat.new.me.0 open_end.new }
 {
@@ -80,7 +80,7 @@ pub(crate) fn clear_room<A: Allocator>(
 /// Stores the cells of a block, which begin at the index `cell`, and returns the index of the cell after them.
 pub(crate) fn store_cells<A: Allocator>(
     words: &Words<A>,
-    seat: &mut Place,
+    seat: &mut LaneSeat,
     cell: usize,
     emitter: u32,
     block: &[u64],

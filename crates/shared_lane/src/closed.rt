@@ -5,7 +5,7 @@ ghost use Rattle.shared_lane.specs.Kept.{IsEnded};
 ghost use Rattle.shared_lane.specs.Readers.{IsReaderOf, received_count, lost_count};
 
 use crate::lane::Lane;
-use lane_steps::Place;
+use lane_steps::LaneSeat;
 use std::alloc::Allocator;
 use std::marker::Model;
 
@@ -15,7 +15,7 @@ use std::marker::Model;
 #[derive(Drop)]
 pub struct Closed {
     // A token of no bytes, with what the proofs know of the seat.
-    seat: Place,
+    seat: LaneSeat,
     start: u64,
     received: u64,
     dropped: u64,
@@ -33,7 +33,7 @@ impl Model for Closed {
 }
 
 impl Closed {
-    pub(crate) fn of(seat: Place, start: u64, received: u64, dropped: u64) -> Closed
+    pub(crate) fn of(seat: LaneSeat, start: u64, received: u64, dropped: u64) -> Closed
         requires { IsEnded seat start received dropped }
         ensures { result ≡ closed_of seat }
     {
@@ -46,7 +46,7 @@ impl Closed {
     }
 
     /// A seat that knows of this end.
-    pub(crate) fn note<A: Allocator>(&mut self, lane: &Lane<A>) -> Place
+    pub(crate) fn note<A: Allocator>(&mut self, lane: &Lane<A>) -> LaneSeat
         requires { IsReaderOf lane.now self.old.reader }
         ensures closed { self.new ≡ self.old }
         ensures note { (result.table_id ≡ lane.now.table) × (result.me.1 ≡ []) × (result.me.0.reading.quit ≡ true) }

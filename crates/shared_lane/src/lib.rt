@@ -4,7 +4,7 @@
 //! # A lane
 //! [`Lane::new`] gives the lane and its [`Sequencer`]. The lane is shared by reference; the sequencer is the one party that
 //! accepts emissions, keeps the replay cache, and lets readers in. A [`Reader`] takes every accepted value from its start on,
-//! once, in order. Its start is the oldest value of the replay cache, as it was when it was let in
+//! once, in order. Its start is the oldest value of the replay cache, as it was when it was admitted
 //! ([`admit`](Sequencer::admit)).
 //!
 //! # The picture
@@ -54,7 +54,7 @@
 //! ```
 //!
 //! # What is not claimed
-//! That an emission which waits is ever let in, that a reader ever finds what another thread emitted, an order between
+//! That an emission which waits is ever accepted, that a reader ever finds what another thread emitted, an order between
 //! parties that never met, fairness, wakes: nobody sleeps here.
 #![tactic(auto)]
 

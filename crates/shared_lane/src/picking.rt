@@ -6,14 +6,14 @@ ghost use Rattle.lane_steps.specs.Steps.{position, next_number};
 ghost use Rattle.shared_lane.specs.Picks.{with_picked};
 
 use flow_terms::Word;
-use lane_steps::{Place, Words};
+use lane_steps::{LaneSeat, Words};
 use std::alloc::Allocator;
 
 /// Loads the cells of so many numbers from the reader's position on, which begin at the index `cell`, appends the values of
 /// their words to `out`, which has room for them, and returns the index of the cell after them.
 pub(crate) fn pick_words<T: Word, A: Allocator, B: Allocator>(
     words: &Words<A>,
-    seat: &mut Place,
+    seat: &mut LaneSeat,
     cell: usize,
     count: u64,
     out: &mut Vec<T, B>,

@@ -1,6 +1,6 @@
 //! A reader: one subscriber's end of the lane.
 ghost use Rattle.std.specs.Prelude.{◌≡◌, ◌+◌, ◌<◌};
-ghost use Rattle.lane_steps.specs.Law.{Begins};
+ghost use Rattle.flow_terms.specs.Lists.{IsPrefix};
 ghost use Rattle.shared_lane.specs.Views.{reader_of};
 ghost use Rattle.shared_lane.specs.declared.reader.Taken.TheVariants.{Nothing};
 ghost use Rattle.shared_lane.specs.Kept.{IsReading};
@@ -9,7 +9,7 @@ ghost use Rattle.shared_lane.specs.Readers.{IsReaderOf, IsReceiptOf, IsSameReade
 use crate::closed::Closed;
 use crate::lane::Lane;
 use crate::receipt::Receipt;
-use lane_steps::Place;
+use lane_steps::LaneSeat;
 use std::alloc::Allocator;
 use std::marker::Model;
 
@@ -32,7 +32,7 @@ pub enum Taken<T> {
 /// it has seen.
 pub struct Reader {
     // A token of no bytes, with what the proofs know of the seat.
-    pub(crate) seat: Place,
+    pub(crate) seat: LaneSeat,
     // The place whose cursor it moves.
     pub(crate) place: usize,
     // The number at which its cursor was opened.
@@ -70,7 +70,7 @@ fn stand_at(position: &mut u64, cell: &mut usize, found: u64, index: usize)
 }
 
 impl Reader {
-    pub(crate) fn at_start(seat: Place, place: usize, start: u64, cell: usize) -> Reader
+    pub(crate) fn at_start(seat: LaneSeat, place: usize, start: u64, cell: usize) -> Reader
         requires { IsReading seat place start start cell 0 }
         ensures { result ≡ reader_of seat }
     {
@@ -93,7 +93,7 @@ impl Reader {
         requires { IsReaderOf lane.now self.old }
         ensures has { TookNext self.old result self.new }
         ensures same { IsReaderOf lane.now self.new × IsSameReader self.old self.new }
-        ensures told { result ≡ Nothing → Begins self.new.seen self.old.told }
+        ensures told { result ≡ Nothing → IsPrefix self.old.told self.new.seen }
     {
         let words = lane.words();
         let at = words.load_own(&mut self.seat, self.place);
@@ -122,7 +122,7 @@ impl Reader {
         requires { IsReaderOf lane.now self.old × IsReceiptOf lane.now receipt.old }
         ensures same { IsReaderOf lane.now self.new × IsSameReader self.old self.new × (self.new.story ≡ self.old.story) }
         ensures receipt { receipt.new ≡ receipt.old }
-        ensures told { Begins self.new.seen receipt.old.seen }
+        ensures told { IsPrefix receipt.old.seen self.new.seen }
     {
         let words = lane.words();
         let copy = receipt.copied(lane);

@@ -4,7 +4,7 @@ ghost use Rattle.shared_lane.specs.Views.{receipt_of};
 ghost use Rattle.shared_lane.specs.Readers.{IsReceiptOf};
 
 use crate::lane::Lane;
-use lane_steps::Place;
+use lane_steps::LaneSeat;
 use std::alloc::Allocator;
 use std::marker::Model;
 
@@ -14,7 +14,7 @@ use std::marker::Model;
 /// Contracts see its emitter, its number, and the accepted emissions up to it.
 pub struct Receipt {
     // A token of no bytes, with what the proofs know of the seat.
-    seat: Place,
+    seat: LaneSeat,
     emitter: u32,
     number: u64,
 }
@@ -43,7 +43,7 @@ impl Drop for Receipt {
 }
 
 impl Receipt {
-    pub(crate) fn of(seat: Place, emitter: u32, number: u64) -> Receipt
+    pub(crate) fn of(seat: LaneSeat, emitter: u32, number: u64) -> Receipt
         requires { seat.me.1 ≡ [] }
         ensures { result ≡ receipt_of seat emitter number }
     {
@@ -55,7 +55,7 @@ impl Receipt {
     }
 
     /// A seat that has seen what the receipt holds.
-    pub(crate) fn copied<A: Allocator>(&mut self, lane: &Lane<A>) -> Place
+    pub(crate) fn copied<A: Allocator>(&mut self, lane: &Lane<A>) -> LaneSeat
         requires { IsReceiptOf lane.now self.old }
         ensures receipt { self.new ≡ self.old }
         ensures copy { (result.table_id ≡ lane.now.table) × (result.me.0.seen ≡ self.old.seen) × (result.me.1 ≡ []) }

@@ -3,8 +3,8 @@ ghost use Rattle.std.specs.Prelude.{◌≡◌, ◌≢◌, ◌+◌, ◌<◌, ◌�
 ghost use Rattle.std.specs.Prelude.{eqb, IfSome, IfNone, ◌-◌, take};
 ghost use Rattle.flow_terms.specs.declared.policy.Policy.TheVariants.{Suspend, DropOldest, DropLatest};
 ghost use Rattle.shared_lane.specs.Sequencers.{next, HasNumber, HasTicketNumber, HasFreeTicket, IsSequencerOf, IsSameSequencer, TriedOn, RefusedTry};
-ghost use Rattle.shared_lane.specs.Sequencers.{BegunOn, RefusedStart, AfterScan, LoadedOrMoved, Rounded, seen, accepted_on, stood_on};
-ghost use Rattle.shared_lane.specs.Sequencers.{BegunAfterScan, accepted_with_ticket, waited, Settled, IsStuck};
+ghost use Rattle.shared_lane.specs.Sequencers.{BegunOn, RefusedStart, AfterScan, LoadedOrMoved, Passed, seen, accepted_on, stood_on};
+ghost use Rattle.shared_lane.specs.Sequencers.{BegunAfterScan, accepted_with_ticket, waited, AcceptedWaiting, IsStuck};
 ghost use Rattle.lane_steps.specs.Steps.{IsRoomy, next_number};
 ghost use Rattle.shared_lane.specs.Ordering.{StandsLast};
 ghost use Rattle.shared_lane.specs.Caches.{emitter_at};
@@ -12,14 +12,14 @@ ghost use Rattle.shared_lane.specs.Places.{IsAccepted};
 ghost use Rattle.shared_lane.specs.Readers.{IsReceiptOf};
 ghost use Rattle.lane_steps.specs.Law.{closed};
 ghost use Rattle.lane_steps.specs.Seats.{IsSeatOf, IsSameSeat};
-ghost use Rattle.shared_lane.specs.Surveys.{KnowsPlaces, MayDrop, MayDropAt, IsSurvey, WholeRound, FoundAllOpen, FoundClosed, Cleared, Visit, ShutFrom, LosesNone};
+ghost use Rattle.shared_lane.specs.Surveys.{KnowsPlaces, MayDrop, MayDropAt, IsSurvey, WholePass, FoundAllOpen, FoundClosed, Cleared, Visit, ShutFrom, LosesNone};
 
 use crate::lane::Lane;
 use crate::receipt::Receipt;
 use crate::tickets::{Standing, Waiting};
 use circular_buffer::HeapCircularBuffer;
 use flow_terms::{Policy, Refusal};
-use lane_steps::{CLOSED, Place, Words};
+use lane_steps::{CLOSED, LaneSeat, Words};
 use shared_core::{Begun, Ticket, Tried};
 use std::alloc::Allocator;
 use std::marker::Model;
@@ -37,7 +37,7 @@ mod replay;
 /// whose tickets are out, and the numbers that come next.
 pub struct Sequencer<A: Allocator> {
     // A token of no bytes, with what the proofs know of the seat.
-    pub(crate) seat: Place,
+    pub(crate) seat: LaneSeat,
     // The number of the next emission, as in the word that it alone stores.
     pub(crate) tail: u64,
     // The index of that emission's cell: counted up, so that an emission needs no division.
@@ -199,7 +199,7 @@ impl<A: Allocator> Sequencer<A> {
 impl<A: Allocator> Sequencer<A> {
     /// Emits where there is room, after the emissions that wait: Kotlin's `tryEmit`, with three answers.
     ///
-    /// It first lets waiting emissions in, and what it let in stands whatever it answers. `Full` (under `Suspend` alone)
+    /// It first accepts waiting emissions, and what it accepted stands whatever it answers. `Full` (under `Suspend` alone)
     /// where an emission waits still or some reader is too far behind, `Dropped` under `DropLatest` alone. Refused:
     /// `Spent` where the numbers are used up.
     pub fn try_emit<B: Allocator>(
@@ -217,7 +217,7 @@ impl<A: Allocator> Sequencer<A> {
         self.try_after_scan(lane, emitter, word)
     }
 
-    // The same, after waiting emissions were let in.
+    // The same, after waiting emissions were accepted.
     fn try_after_scan<B: Allocator>(
         &mut self,
         lane: &Lane<B>,
@@ -246,7 +246,7 @@ impl<A: Allocator> Sequencer<A> {
 
     /// Begins an emission, which gets a ticket where it isn't done at once: Kotlin's `emit`.
     ///
-    /// It first lets waiting emissions in, and what it let in stands whatever it answers. `Waiting` (under `Suspend` alone)
+    /// It first accepts waiting emissions, and what it accepted stands whatever it answers. `Waiting` (under `Suspend` alone)
     /// where it waits for room, or, on a lane without places, until every reader has received it. Refused: `Spent` where
     /// the numbers of emissions or of tickets are used up, then `EmitsFull` where it would need a ticket and all are out.
     pub fn start_emit<B: Allocator>(
@@ -264,7 +264,7 @@ impl<A: Allocator> Sequencer<A> {
         self.start_after_scan(lane, emitter, word)
     }
 
-    // The same, after waiting emissions were let in.
+    // The same, after waiting emissions were accepted.
     fn start_after_scan<B: Allocator>(
         &mut self,
         lane: &Lane<B>,
@@ -336,7 +336,7 @@ impl<A: Allocator> Sequencer<A> {
     }
 }
 
-// How an emission is accepted: a round over the cursors that finds room, a store of the cell, a store of the tail.
+// How an emission is accepted: a pass over the cursors that finds room, a store of the cell, a store of the tail.
 impl<A: Allocator> Sequencer<A> {
     // Loads every cursor that may be open, under DropOldest moves those that stand as far behind as there are places, and says
     // whether there is room then: no open cursor stands `lag` or more behind the tail.
@@ -344,13 +344,13 @@ impl<A: Allocator> Sequencer<A> {
         requires lane { IsSequencerOf lane.now self.old }
         requires lag { lag ≤ self.old.view.shape.cells }
         ensures only { LoadedOrMoved self.old self.new }
-        ensures round { Rounded lag self.old result self.new }
+        ensures pass { Passed lag self.old result self.new }
         ensures room { result ≡ true → IsRoomy self.new.view.shape.cells self.new.view }
         ensures calm { result ≡ false → self.new.policy ≢ DropOldest }
     {
         let words = lane.words();
         if let Policy::DropOldest = self.policy {
-            make_room(words, &mut self.seat, &mut self.open_end, self.tail);
+            drop_oldest(words, &mut self.seat, &mut self.open_end, self.tail);
             return true;
         }
         !load_cursors(words, &mut self.seat, &mut self.open_end, self.tail, lag).behind
@@ -433,12 +433,12 @@ impl<A: Allocator> Sequencer<A> {
     }
 
     // Accepts the emission that has waited longest.
-    fn settle_one<B: Allocator>(&mut self, lane: &Lane<B>)
+    fn accept_first<B: Allocator>(&mut self, lane: &Lane<B>)
         requires lane { IsSequencerOf lane.now self.old }
         requires room { IsRoomy self.old.view.shape.cells self.old.view }
         requires waits { self.old.waiting ≢ [] }
         ensures same { IsSameSequencer self.old self.new × (self.new.view.loads ≡ self.old.view.loads) }
-        ensures settled { Settled 1 self.old self.new }
+        ensures settled { AcceptedWaiting 1 self.old self.new }
     {
         let first = self.take_first();
         let number = self.accept(lane, first.emitter, first.word);
@@ -468,23 +468,23 @@ impl<A: Allocator> Sequencer<A> {
     pub fn scan<B: Allocator>(&mut self, lane: &Lane<B>) -> u32
         requires { IsSequencerOf lane.now self.old }
         ensures same { IsSequencerOf lane.now self.new × IsSameSequencer self.old self.new }
-        ensures settled { Settled result self.old self.new }
+        ensures settled { AcceptedWaiting result self.old self.new }
         ensures stuck { self.new.waiting ≢ [] → IsStuck self.old self.new }
     {
         if !self.is_waiting() {
             return 0;
         }
-        self.let_in(lane)
+        self.accept_waiting(lane)
     }
 
     // Not inlined, so that a call beside which none waits keeps its registers.
     /// Accepts waiting emissions, the oldest first, while there is room, and returns how many.
     #[inline(never)]
-    fn let_in<B: Allocator>(&mut self, lane: &Lane<B>) -> u32
+    fn accept_waiting<B: Allocator>(&mut self, lane: &Lane<B>) -> u32
         requires lane { IsSequencerOf lane.now self.old }
         requires policy { self.old.policy ≡ Suspend }
         ensures same { IsSequencerOf lane.now self.new × IsSameSequencer self.old self.new }
-        ensures settled { Settled result self.old self.new }
+        ensures settled { AcceptedWaiting result self.old self.new }
         ensures stuck { self.new.waiting ≢ [] → IsStuck self.old self.new }
     {
         let most = self.waiting_count();
@@ -493,7 +493,7 @@ impl<A: Allocator> Sequencer<A> {
             if !self.find_room(lane, lag) {
                 return settled;
             }
-            self.settle_one(lane);
+            self.accept_first(lane);
         }
         most
     }
@@ -512,7 +512,7 @@ impl<A: Allocator> Sequencer<A> {
     }
 }
 
-// One round over the cursors.
+// One pass over the cursors.
 
 /// What the cursors showed.
 #[derive(Clone, Copy, Drop)]
@@ -540,7 +540,7 @@ impl Survey {
     }
 }
 
-/// The place after the last open one of those that a round has come past, where it has found the cursor of one more.
+/// The place after the last open one of those that a pass has come past, where it has found the cursor of one more.
 pub(crate) fn end_with(end: usize, place: usize, at: u64) -> usize
     requires { place < 1024 }
     ensures { result ≡ cond (eqb at closed) end (place + 1) }
@@ -563,7 +563,7 @@ pub(crate) fn end_at(open_end: &mut usize, end: usize)
 /// was found open.
 pub(crate) fn load_cursors<A: Allocator>(
     words: &Words<A>,
-    seat: &mut Place,
+    seat: &mut LaneSeat,
     open_end: &mut usize,
     tail: u64,
     lag: u64,
@@ -591,7 +591,7 @@ pub(crate) fn load_cursors<A: Allocator>(
 }
 
 /// Loads the cursors from the first place on, until one is closed, and returns its place.
-pub(crate) fn find_closed<A: Allocator>(words: &Words<A>, seat: &mut Place) -> Option<usize>
+pub(crate) fn find_closed<A: Allocator>(words: &Words<A>, seat: &mut LaneSeat) -> Option<usize>
     requires seat { IsSeatOf words.now seat.old × (seat.old.me.0.sequencing.active ≡ true) }
     requires sized { KnowsPlaces words.now.shape seat.old.me.0 }
     ensures seat { IsSameSeat seat.old seat.new }
@@ -610,7 +610,7 @@ pub(crate) fn find_closed<A: Allocator>(words: &Words<A>, seat: &mut Place) -> O
 /// Loads a cursor, moves it by one if it stands too far behind the tail, and returns what it found.
 pub(crate) fn clear_one<A: Allocator>(
     words: &Words<A>,
-    seat: &mut Place,
+    seat: &mut LaneSeat,
     place: usize,
     tail: u64,
 ) -> u64
@@ -627,9 +627,9 @@ pub(crate) fn clear_one<A: Allocator>(
 }
 
 /// Loads every cursor that may be open, as above, and moves those that stand too far behind the tail.
-pub(crate) fn make_room<A: Allocator>(
+pub(crate) fn drop_oldest<A: Allocator>(
     words: &Words<A>,
-    seat: &mut Place,
+    seat: &mut LaneSeat,
     open_end: &mut usize,
     tail: u64,
 )
@@ -637,7 +637,7 @@ pub(crate) fn make_room<A: Allocator>(
     requires sized { MayDrop words.now.shape seat.old.me.0 }
     requires beyond { (open_end.old ≤ words.now.shape.places) × ShutFrom seat.old.me.0 open_end.old }
     ensures seat { IsSameSeat seat.old seat.new }
-    ensures found { (ns : List ℕ) × (length ns ≡ words.now.shape.places) × WholeRound (Cleared tail words.now.shape.cells) seat.old.me.0 ns seat.new.me.0 }
+    ensures found { (ns : List ℕ) × (length ns ≡ words.now.shape.places) × WholePass (Cleared tail words.now.shape.cells) seat.old.me.0 ns seat.new.me.0 }
     ensures beyond { (open_end.new ≤ open_end.old) × ShutFrom seat.new.me.0 open_end.new }
 {
     let mut end = 0;

@@ -2,8 +2,9 @@
 use Rattle.std.proofs.Common.{◌≡◌, ◌⊎◌, ◌==◌, ℕ, zero, suc, cond, Some, None, List, [], ◌∷◌, ◌++◌, length, refl, sym, ap, ◌∙◌, subst}
 use mathlib.Core.Option.{some, some-injective, some-ne-none}
 use lib.ListN.{get_elem?}
-use Rattle.round_lock.specs.declared.log.Part.{Part}
-use Rattle.round_lock.specs.History.{Begins, HasAll, KnowsTaken, MadeEach, Parts, Saw, TakenIn, called, own_of}
+use Rattle.round_lock.specs.declared.log.TakenOwner.{TakenOwner}
+use Rattle.flow_terms.specs.Lists.{IsPrefix}
+use Rattle.round_lock.specs.History.{HasAll, KnowsTaken, MadeEach, Parts, Saw, TakenIn, called, own_of}
 use Rattle.round_lock.specs.History.After.{new, more}
 use Rattle.round_lock.specs.Locking.{Locking}
 use Rattle.shared_rounds.specs.declared.round.Round.{Round}
@@ -22,8 +23,8 @@ module _ {S : Type 0} (value : S → SharedSeen) where
   pub in_more : (log : List (ℕ × Round × S)) (pass : ℕ) (r : Round) (left : S) → rounds_in value (log ++ (pass, r, left) ∷ []) ≡ rounds_in value log ++ (pass, r, value left) ∷ []
   in_more log pass r left = in_append log ((pass, r, left) ∷ [])
 
-  pub in_begins : (log start : List (ℕ × Round × S)) → Begins log start → Begins (rounds_in value log) (rounds_in value start)
-  in_begins log start b = (rounds_in value b.0, ap (rounds_in value) b.1 ∙ in_append start b.0)
+  pub in_prefix : (log start : List (ℕ × Round × S)) → IsPrefix start log → IsPrefix (rounds_in value start) (rounds_in value log)
+  in_prefix log start b = (rounds_in value b.0, ap (rounds_in value) b.1 ∙ in_append start b.0)
 
   -- an owner's rounds say nothing of what they left
   pub same_own : (pass : ℕ) (log : List (ℕ × Round × S)) → own_of pass log ≡ own_of pass (rounds_in value log)
@@ -31,7 +32,7 @@ module _ {S : Type 0} (value : S → SharedSeen) where
   same_own pass (t ∷ log) = ap (λ (l : List Round). cond (t.0 == pass) (t.1 ∷ l) l) (same_own pass log)
 
   -- nor do those of the owners that one took in
-  pub same_parts : (log : List (ℕ × Round × S)) (parts : List (Part Round)) → Parts log parts → Parts (rounds_in value log) parts
+  pub same_parts : (log : List (ℕ × Round × S)) (parts : List (TakenOwner Round)) → Parts log parts → Parts (rounds_in value log) parts
   same_parts log [] are = tt
   same_parts log (p ∷ parts) are = (are.0 ∙ same_own p.pass log, same_parts log parts are.1)
 
@@ -44,7 +45,7 @@ module _ {S : Type 0} (value : S → SharedSeen) where
   as_long [] = refl
   as_long (x ∷ log) = ap suc (as_long log)
 
-  pub same_taken : (pass : ℕ) (own : List Round) (halved : ℕ) (parts : List (Part Round)) (log : List (ℕ × Round × S)) → KnowsTaken pass own halved parts log → KnowsTaken pass own halved parts (rounds_in value log)
+  pub same_taken : (pass : ℕ) (own : List Round) (halved : ℕ) (parts : List (TakenOwner Round)) (log : List (ℕ × Round × S)) → KnowsTaken pass own halved parts log → KnowsTaken pass own halved parts (rounds_in value log)
   same_taken pass own halved parts log knows = record {
     parts_are = same_parts log parts knows.parts_are;
     apart = knows.apart;
@@ -68,7 +69,7 @@ module _ {S : Type 0} (value : S → SharedSeen) where
     flow_is = ap (name_in value) saw.made_is;
     after = unboxed saw.made m.log.seen state saw.after;
     rounds_are = saw.own_is ∙ same_own l.pass m.log.seen;
-    seen_on = in_begins m.log.seen l.log.seen saw.seen_on;
+    seen_on = in_prefix m.log.seen l.log.seen saw.seen_on;
     taken_in = same_taken l.pass l.log.own l.log.halved l.log.taken m.log.seen saw.taken_in;
   }
 

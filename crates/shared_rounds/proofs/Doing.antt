@@ -15,7 +15,7 @@ use Rattle.shared_lane.specs.declared.reader.Taken.TheVariants.{Value, Nothing, 
 use Rattle.shared_lane.specs.Polls.{IsOutFor, IsNotOut, PolledOn, WithdrawnFrom}
 use Rattle.shared_lane.specs.Views.{LaneSeen, ReceiptSeen, SequencerSeen}
 use Rattle.shared_lane.specs.Sequencers.{IsSameSequencer, OnlyLoaded, AfterScan, next}
-use Rattle.shared_lane.specs.Places.{NotLetIn}
+use Rattle.shared_lane.specs.Places.{NotAdmitted}
 use Rattle.shared_lane.proofs.Sameness.{loaded_twice}
 use Rattle.shared_rounds.specs.declared.round.Emission.{Emission}
 use Rattle.shared_rounds.specs.declared.round.Round.{Round}
@@ -25,8 +25,8 @@ use Rattle.shared_rounds.specs.Names.{SharedSeen}
 use Rattle.shared_rounds.specs.Tries.{ticket_of}
 use Rattle.shared_rounds.proofs.Numbers.{same_log}
 use Rattle.shared_rounds.specs.Reach.{Reach}
-use Rattle.shared_rounds.specs.Rounds.{Makes, Scanned, Comes, Does, Frees, FreesAfter, HasFreed, RaisedFor, Watched, IsStray, IsNotAfter, IsReceiptAfter, look_round, number_done, number_left, poll_round, withdraw_round}
-use Rattle.shared_rounds.specs.Sleeping.{LiesDown, NobodySleeps, OnlyThese}
+use Rattle.shared_rounds.specs.Rounds.{Makes, Scanned, Comes, Does, Frees, FreesAfter, HasFreed, RaisedFor, AcceptsFor, IsStray, IsNotAfter, IsReceiptAfter, look_round, number_done, number_left, poll_round, withdraw_round}
+use Rattle.shared_rounds.specs.Sleeping.{Parks, NobodySleeps, OnlyThese}
 use Rattle.shared_rounds.specs.Waking.{Helps, Lies, SleepOn, IsTied, IsUnfinished, WakesEmissions, ended_by}
 
 module _ {A E : Type 0} where
@@ -50,11 +50,11 @@ module _ {A E : Type 0} where
 pub same_through : (q m t : SequencerSeen) → IsSameSequencer q m → IsSameSequencer m t → IsSameSequencer q t
 same_through q m t a b = (b.0 ∙ a.0, b.1 ∙ a.1, b.2 ∙ a.2, b.3 ∙ a.3, b.4 ∙ a.4, b.5 ∙ a.5)
 
--- a call that was made after what waited was let in
+-- a call that was made after what waited was accepted
 pub comes : (s t : SharedSeen) (r : Round) → t.name ≡ s.name → IsSameSequencer s.sequencer t.sequencer → AfterScan s.sequencer (λ x. Makes s.name.lane x r t.sequencer) → Frees r t.sequencer t → Comes s r t
 comes s t r named same made frees = (named, same, (made.0, made.1, made.2, made.3, made.4, (t.sequencer, made.5, (t.sequencer, inl refl, (refl, refl, refl, λ _. refl, λ _. refl)), frees)))
 
--- the same, where what waits may have been let in once more
+-- the same, where what waits may have been accept once more
 pub comes_again : (s m t : SharedSeen) (r : Round) → m.name ≡ s.name → IsSameSequencer s.sequencer m.sequencer → AfterScan s.sequencer (λ x. Makes s.name.lane x r m.sequencer)
     → t.name ≡ m.name → IsSameSequencer m.sequencer t.sequencer → (t.sequencer ≡ m.sequencer) ⊎ Scanned m.sequencer t.sequencer → Frees r m.sequencer t → Comes s r t
 comes_again s m t r named same made still kept again frees = (
@@ -63,20 +63,20 @@ comes_again s m t r named same made still kept again frees = (
   (made.0, made.1, made.2, made.3, made.4, (m.sequencer, made.5, (t.sequencer, again, (refl, refl, refl, λ _. refl, λ _. refl)), frees)),
 )
 
--- looks at the cursors after what was let in once more
+-- looks at the cursors after what was accept once more
 frees_on : (r : Round) (q : SequencerSeen) (m t : SharedSeen) → Frees r q m → OnlyLoaded m.sequencer t.sequencer → t.raised ≡ m.raised → Frees r q t
 frees_on (round.Cancel number) q m t frees only raised = (frees.0, frees.1, loaded_twice frees.0 m.sequencer t.sequencer frees.2 only)
 frees_on (round.Start e (Ok (begun.Waiting ticket))) q m t frees only raised = (frees.0, frees.1, loaded_twice frees.0 m.sequencer t.sequencer frees.2 only, raised ∙ frees.3)
 frees_on _ q m t frees only raised = tt
 
--- where an emission has to wait the flag was raised, and then what waits was let in once more
-pub watched_frees : (e : Emission) (b : Result (Begun ℕ Ticket) Refusal) (q : SequencerSeen) (t : SharedSeen) → Watched (ticket_of b) q t.sequencer → RaisedFor (ticket_of b) q t.raised → Frees (round.Start e b) q t
+-- where an emission has to wait the flag was raised, and then what waits was accepted once more
+pub watched_frees : (e : Emission) (b : Result (Begun ℕ Ticket) Refusal) (q : SequencerSeen) (t : SharedSeen) → AcceptsFor (ticket_of b) q t.sequencer → RaisedFor (ticket_of b) q t.raised → Frees (round.Start e b) q t
 watched_frees e (Ok (begun.Waiting ticket)) q t watched raised = (t.sequencer, watched, (refl, refl, refl, λ _. refl, λ _. refl), raised)
 watched_frees e (Ok (begun.Accepted n)) q t watched raised = tt
 watched_frees e (Ok begun.Dropped) q t watched raised = tt
 watched_frees e (Err refusal) q t watched raised = tt
 
-pub watched_rests : (b : Result (Begun ℕ Ticket) Refusal) (q t : SequencerSeen) → Watched (ticket_of b) q t → (t ≡ q) ⊎ Scanned q t
+pub watched_rests : (b : Result (Begun ℕ Ticket) Refusal) (q t : SequencerSeen) → AcceptsFor (ticket_of b) q t → (t ≡ q) ⊎ Scanned q t
 watched_rests (Ok (begun.Waiting ticket)) q t watched = inr watched
 watched_rests (Ok (begun.Accepted n)) q t watched = inl watched
 watched_rests (Ok begun.Dropped) q t watched = inl watched
@@ -191,7 +191,7 @@ look_frees q t number (Value word) = tt
 look_frees q t number Nothing = tt
 look_frees q t number Overtaken = tt
 
--- what waits was let in before a look and after it, which is asked where that gave a value
+-- what waits was accepted before a look and after it, which is asked where that gave a value
 pub look_freed : (found : Taken ℕ) (s t : SharedSeen) → HasFreed s t → FreesAfter found s t
 look_freed (Value word) s t freed = freed
 look_freed Nothing s t freed = tt
@@ -204,19 +204,19 @@ none_freed Overtaken s t none = tt
 
 -- a poll of a subscription without a value, where nobody lay down
 pub none_lies : (s t : SharedSeen) (number : ℕ) → SleepOn s t → Lies s (round.Pending number) t
-none_lies s t number same = (subst (LiesDown number s.subscriptions) (sym same.0) (λ key. inl refl), same.1)
+none_lies s t number same = (subst (Parks number s.subscriptions) (sym same.0) (λ key. inl refl), same.1)
 
 -- a subscription that took nothing lay down
 pub lay_down : (s x t : SharedSeen) (number : ℕ) → Comes s (round.Pending number) x → SleepOn s x → t ≡ record x { subscriptions = t.subscriptions }
-    → LiesDown number x.subscriptions t.subscriptions → Comes s (round.Pending number) t × Lies s (round.Pending number) t
+    → Parks number x.subscriptions t.subscriptions → Comes s (round.Pending number) t × Lies s (round.Pending number) t
 lay_down s x t number came asleep same lies = (
   subst (Comes s (round.Pending number)) (sym same) came,
-  (subst (λ l. LiesDown number l t.subscriptions) asleep.0 lies, ap (λ (z : SharedSeen). z.emissions) same ∙ asleep.1),
+  (subst (λ l. Parks number l t.subscriptions) asleep.0 lies, ap (λ (z : SharedSeen). z.emissions) same ∙ asleep.1),
 )
 
 -- an emission lay down that waits, and no other
 pub lay_down_for : (s x t : SharedSeen) (ticket : Ticket) (id : ℕ) (last : Option ℕ) (answer : Emit) → Comes s (poll_round ticket id last answer None) x → SleepOn s x
-    → t ≡ record x { emissions = t.emissions } → (answer ≡ emit.Waiting → LiesDown ticket.0 x.emissions t.emissions) → (answer ≢ emit.Waiting → t ≡ x)
+    → t ≡ record x { emissions = t.emissions } → (answer ≡ emit.Waiting → Parks ticket.0 x.emissions t.emissions) → (answer ≢ emit.Waiting → t ≡ x)
     → Comes s (poll_round ticket id last answer None) t × Lies s (poll_round ticket id last answer None) t
 lay_down_for s x t ticket id last (emit.Done n) came asleep same lies others =
     let is = sym (others (λ e. cc)) in (subst (Comes s (round.StrayPoll ticket id last n)) is came, subst (SleepOn s) is asleep)
@@ -224,7 +224,7 @@ lay_down_for s x t ticket id last emit.Gone came asleep same lies others =
     let is = sym (others (λ e. cc)) in (subst (Comes s (round.Poll ticket emit.Gone)) is came, subst (SleepOn s) is asleep)
 lay_down_for s x t ticket id last emit.Waiting came asleep same lies others = (
   subst (Comes s (round.Poll ticket emit.Waiting)) (sym same) came,
-  (ap (λ (z : SharedSeen). z.subscriptions) same ∙ asleep.0, subst (λ l. LiesDown ticket.0 l t.emissions) asleep.1 (lies refl)),
+  (ap (λ (z : SharedSeen). z.subscriptions) same ∙ asleep.0, subst (λ l. Parks ticket.0 l t.emissions) asleep.1 (lies refl)),
 )
 
 -- a withdrawal, where nobody lay down
@@ -245,6 +245,6 @@ is_called q found s called before r held number same came lies = (
   number,
 )
 
--- why a reader is not let in
-pub only_refusals : (q : SequencerSeen) (e : Refusal) (t : SequencerSeen) → NotLetIn q e t → (e ≡ Spent) ⊎ (e ≡ SubscribersFull)
+-- why a reader is not admitted
+pub only_refusals : (q : SequencerSeen) (e : Refusal) (t : SequencerSeen) → NotAdmitted q e t → (e ≡ Spent) ⊎ (e ≡ SubscribersFull)
 only_refusals q e t not = search rules

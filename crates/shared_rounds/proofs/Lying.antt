@@ -1,4 +1,4 @@
--- Which tickets are listed, where emissions lie down and are woken.
+-- Which tickets are listed, where emissions are parked and are woken.
 use Rattle.std.proofs.Common.{◌≡◌, ◌≢◌, ◌⊎◌, ◌≤◌, ℕ, zero, suc, Bool, true, false, List, [], ◌∷◌, map, Option, Some, None, refl, sym, ◌∙◌, ap, subst, inl, inr, ⊎_elim, cond, arith, IsPermutation, Contains, Ordering, Less, Equal, Greater}
 use Rattle.std.specs.BinaryHeap.{IsUpperBound}
 use Rattle.std.specs.List.{filter}
@@ -10,9 +10,9 @@ use Rattle.std.proofs.lemmas.Option.{none-some, same_Some}
 use Rattle.slab.specs.Slab.{Slab, get}
 use Rattle.flow_terms.specs.declared.ids.Ticket.{Ticket}
 use Rattle.shared_lane.specs.Ordering.{IsBefore}
-use Rattle.shared_rounds.specs.declared.sleepers.Sleeper.{Sleeper}
+use Rattle.shared_rounds.specs.declared.wait_list.Sleeper.{Sleeper}
 use Rattle.shared_rounds.specs.Sleeping.{SleepsAt, OnlyThese, StayBut, AllBut, SleepsOn, AreListed, NoneBefore}
-use Rattle.shared_rounds.proofs.Rises.{same_bed}
+use Rattle.shared_rounds.proofs.Rises.{same_key}
 
 -- ---- a list with one more, or without one
 
@@ -29,18 +29,18 @@ alone x y (suc k, inside, is) = absurd (omega (arith, inside))
 other : {X : Type 0} (x y : X) (xs : List X) → Contains (x ∷ xs) y → (x ≡ y → ⊥) → Contains xs y
 other x y xs found differs = ⊎_elim (λ one. absurd (differs (alone x y one))) (λ rest. rest) (Contains-append_cases (x ∷ []) xs y found)
 
--- ---- one lies down
+-- ---- one is parked
 
-pub lain_down : (lain listed : List (ℕ × ℕ)) (old new : Slab Sleeper) (bed : Option ℕ) (number key : ℕ) → AreListed lain old → SleepsAt new bed number → StayBut bed old new
-    → bed ≡ Some key → IsPermutation ((number, key) ∷ lain) listed → AreListed listed new
-lain_down lain listed old new bed number key were lies others is moved at sleeper gets =
+pub parked : (lain listed : List (ℕ × ℕ)) (old new : Slab Sleeper) (wait_key : Option ℕ) (number key : ℕ) → AreListed lain old → SleepsAt new wait_key number → StayBut wait_key old new
+    → wait_key ≡ Some key → IsPermutation ((number, key) ∷ lain) listed → AreListed listed new
+parked lain listed old new wait_key number key were lies others is moved at sleeper gets =
     Contains-permutation ((number, key) ∷ lain) listed (sleeper.number, at) moved (
     ⊎_elim
     (λ own. let same = same_Some _ _ (sym is ∙ own) in let still = same_Some _ _ (sym lies.2 ∙ own) in
     let number_is : sleeper.number ≡ number = ap (λ s. s.number) (same_Some sleeper lies.1 (sym gets ∙ ap (get new) (sym still) ∙ lies.3)) ∙ lies.4 in
     subst (λ n. Contains ((number, key) ∷ lain) (n, at)) (sym number_is) (subst (λ k. Contains ((number, key) ∷ lain) (number, k)) same (here (number, key) lain)))
     (λ differs. more (number, key) (sleeper.number, at) lain (were at sleeper (sym (others at differs) ∙ gets)))
-    (same_bed bed at))
+    (same_key wait_key at))
 
 -- ---- some are woken
 
@@ -71,10 +71,10 @@ none_before None top lain low not ticket key found before = not tt
 none_before (Some first) top lain low not ticket key found before = not (omega (arith, low ticket key found, before))
 
 -- who was woken is listed no more
-pub woken_out : (lain rest : List (ℕ × ℕ)) (number bed : ℕ) (old new : Slab Sleeper) → AreListed lain old → IsPermutation lain ((number, bed) ∷ rest) → AllBut number bed old new → AreListed rest new
-woken_out lain rest number bed old new were moved all key sleeper gets =
+pub woken_out : (lain rest : List (ℕ × ℕ)) (number wait_key : ℕ) (old new : Slab Sleeper) → AreListed lain old → IsPermutation lain ((number, wait_key) ∷ rest) → AllBut number wait_key old new → AreListed rest new
+woken_out lain rest number wait_key old new were moved all key sleeper gets =
     let was = (all key sleeper).0 gets in
-    other (number, bed) (sleeper.number, key) rest (Contains-permutation lain ((number, bed) ∷ rest) (sleeper.number, key) moved (were key sleeper was.0))
+    other (number, wait_key) (sleeper.number, key) rest (Contains-permutation lain ((number, wait_key) ∷ rest) (sleeper.number, key) moved (were key sleeper was.0))
     (λ same. was.1 (sym (ap (λ (x : ℕ × ℕ). x.1) same)) (sym (ap (λ (x : ℕ × ℕ). x.0) same)))
 
 -- those that aren't before a ticket sleep on
@@ -82,8 +82,8 @@ pub record AfterWaking (first : Option Ticket) (old new : Slab Sleeper) : Type 0
   pub slept : (key : ℕ) (sleeper : Sleeper) → get new key ≡ Some sleeper → get old key ≡ Some sleeper
   pub sleeps : (key : ℕ) (sleeper : Sleeper) → get old key ≡ Some sleeper → (IsBefore sleeper.number first → ⊥) → get new key ≡ Some sleeper
 
-pub one_woken : (first : Option Ticket) (number bed : ℕ) (old mid new : Slab Sleeper) → AfterWaking first old mid → IsBefore number first → AllBut number bed mid new → AfterWaking first old new
-one_woken first number bed old mid new were before all = record {
+pub one_woken : (first : Option Ticket) (number wait_key : ℕ) (old mid new : Slab Sleeper) → AfterWaking first old mid → IsBefore number first → AllBut number wait_key mid new → AfterWaking first old new
+one_woken first number wait_key old mid new were before all = record {
   slept = λ key sleeper gets. were.slept key sleeper ((all key sleeper).0 gets).0;
   sleeps = λ key sleeper gets after. (all key sleeper).1 (were.sleeps key sleeper gets after, λ here_lies is. after (subst (λ n. IsBefore n first) (sym is) before));
 }

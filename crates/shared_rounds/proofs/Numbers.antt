@@ -15,13 +15,13 @@ use Rattle.shared_lane.specs.Views.{LaneSeen, SequencerSeen}
 use Rattle.flow_terms.specs.declared.ids.Ticket.{Ticket}
 use Rattle.flow_terms.specs.declared.refusal.Refusal.{Refusal}
 use Rattle.flow_terms.specs.declared.refusal.Refusal.TheVariants as refusals
-use Rattle.shared_lane.specs.Sequencers.{IsSameSequencer, OnlyLoaded, LoadedOrMoved, Rounded, Settled, BegunOn, RefusedStart, seen, next}
-use Rattle.shared_lane.specs.Places.{IsAccepted, NotLetIn}
+use Rattle.shared_lane.specs.Sequencers.{IsSameSequencer, OnlyLoaded, LoadedOrMoved, Passed, AcceptedWaiting, BegunOn, RefusedStart, seen, next}
+use Rattle.shared_lane.specs.Places.{IsAccepted, NotAdmitted}
 use Rattle.shared_lane.specs.Polls.{given_back}
 use Rattle.shared_rounds.specs.declared.round.Round.{Round}
 use Rattle.shared_rounds.specs.declared.round.Round.TheVariants as round
 use Rattle.shared_rounds.specs.Names.{SharedSeen, IsNew}
-use Rattle.shared_rounds.specs.Rounds.{Makes, Rests, Scanned, Does, after_number, Below}
+use Rattle.shared_rounds.specs.Rounds.{Makes, Finishes, Scanned, Does, after_number, Below}
 
 pub below_more : (n m : ℕ) (rs : List Round) → n ≤ m → Below n rs → Below m rs
 below_more n m [] le all = all
@@ -33,7 +33,7 @@ below_snoc n (x ∷ rs) r all last = (all.0, below_snoc n rs r all.1 last)
 
 -- ---- the next number never falls
 
-pub settled_next : (k : ℕ) (q m : SequencerSeen) → IsSameSequencer q m → Settled k q m → next q ≤ next m
+pub settled_next : (k : ℕ) (q m : SequencerSeen) → IsSameSequencer q m → AcceptedWaiting k q m → next q ≤ next m
 settled_next k q m same settled =
     let first : m.view.shape.first ≡ q.view.shape.first = ap (λ z. z.first) same.1 in
     let count = ap length settled.accepted ∙ length-append (seen q) _ in
@@ -55,7 +55,7 @@ moved_next q t only =
 scanned_next : (q t : SequencerSeen) → Scanned q t → next q ≤ next t
 scanned_next q t scan = subst (λ z. next q ≤ next z) (sym scan.5) (settled_next scan.1 q scan.0 scan.2 scan.3)
 
-pub rests_next : (q t : SequencerSeen) → Rests q t → next q ≤ next t
+pub rests_next : (q t : SequencerSeen) → Finishes q t → next q ≤ next t
 rests_next q t rests =
     let to : next q ≤ next rests.0 = ⊎_elim (λ is. subst (λ z. next q ≤ next z) (sym is) (omega arith)) (scanned_next q rests.0) rests.1 in
     let on = loaded_next rests.0 t rests.2 in
@@ -92,7 +92,7 @@ same_log q t same is =
 same_state : (q t : SequencerSeen) → t ≡ q → next q ≤ next t
 same_state q t is = subst (λ z. next q ≤ next z) (sym is) (omega arith)
 
-full_next : (q t : SequencerSeen) → ((q.waiting ≢ []) × (t ≡ q)) ⊎ (LoadedOrMoved q t × Rounded q.capacity q false t) → next q ≤ next t
+full_next : (q t : SequencerSeen) → ((q.waiting ≢ []) × (t ≡ q)) ⊎ (LoadedOrMoved q t × Passed q.capacity q false t) → next q ≤ next t
 full_next q t on = ⊎_elim (λ stays. same_state q t stays.1) (λ moved. moved_next q t moved.0) on
 
 refused_next : (q : SequencerSeen) (refusal : Refusal) (t : SequencerSeen) → RefusedStart q refusal t → next q ≤ next t
@@ -100,7 +100,7 @@ refused_next q refusals.Spent t on = same_state q t on.1
 refused_next q refusals.EmitsFull t on = full_next q t on.3
 refused_next q _ t on = absurd on
 
-shut_next : (q : SequencerSeen) (refusal : Refusal) (t : SequencerSeen) → NotLetIn q refusal t → next q ≤ next t
+shut_next : (q : SequencerSeen) (refusal : Refusal) (t : SequencerSeen) → NotAdmitted q refusal t → next q ≤ next t
 shut_next q refusals.Spent t on = same_state q t on.1
 shut_next q refusals.SubscribersFull t on = loaded_next q t on.2
 shut_next q _ t on = absurd on
@@ -146,7 +146,7 @@ makes_next lane q (round.Cache (Err refusal)) t same on = unnumbered q t (same_s
 makes_next lane q (round.Count count) t same on = unnumbered q t (loaded_next q t on.0)
 makes_next lane q (round.Hold count) t same on = unnumbered q t (loaded_next q t on.0)
 
-pub rests_shape : (q t : SequencerSeen) → Rests q t → t.view.shape ≡ q.view.shape
+pub rests_shape : (q t : SequencerSeen) → Finishes q t → t.view.shape ≡ q.view.shape
 rests_shape q t rests = rests.2.1 ∙ ⊎_elim (λ is. ap (λ (z : SequencerSeen). z.view.shape) is) (λ (scan : Scanned q rests.0). ap (λ (z : SequencerSeen). z.view.shape) scan.5 ∙ scan.2.1) rests.1
 
 pub does_next : (s : SharedSeen) (r : Round) (t : SharedSeen) → Does s r t → (next s.sequencer ≤ next t.sequencer) × (after_number r ≤ next t.sequencer)

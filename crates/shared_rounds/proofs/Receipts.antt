@@ -23,7 +23,7 @@ use Rattle.shared_lane.proofs.Outstanding.{one_with}
 use Rattle.shared_rounds.specs.declared.round.Emission.{Emission}
 use Rattle.shared_rounds.specs.declared.round.Round.TheVariants as round
 use Rattle.shared_rounds.specs.Tries.{IfBegun, IfTried, ticket_of}
-use Rattle.shared_rounds.specs.Rounds.{IsLastAccepted, IsReceiptOfOne, IsReceiptFor, HasSeenUpTo, Makes, Watched, entry, number_done, number_left}
+use Rattle.shared_rounds.specs.Rounds.{IsLastAccepted, IsReceiptOfOne, IsReceiptFor, HasSeenUpTo, Makes, AcceptsFor, entry, number_done, number_left}
 
 at_last : {X : Type 0} (xs : List X) (x : X) → get_elem? (xs ++ x ∷ []) (length xs) ≡ some x
 at_last [] x = refl
@@ -113,7 +113,7 @@ module _ (lane : LaneSeen) (q s : SequencerSeen) (e : Emission) where
 
   -- and of what a start accepted, after which the cursors aren't looked at once more
   pub begun_last : (t : SequencerSeen) (answer : Result (Begun ℕ Ticket) Refusal) → s.view.shape ≡ q.view.shape → AfterScan q (λ m. Makes lane m (round.Start e answer) s)
-      → Watched (ticket_of answer) s t → IfBegun answer (IsLastAccepted t e)
+      → AcceptsFor (ticket_of answer) s t → IfBegun answer (IsLastAccepted t e)
   begun_last t (Ok (begun.Accepted n)) same after watched = subst (λ (z : SequencerSeen). IsLastAccepted z e n) (sym watched) (last_accepted after.0 s e n (same ∙ sym after.2.1) after.5)
   begun_last t (Ok begun.Dropped) same after watched = tt
   begun_last t (Ok (begun.Waiting ticket)) same after watched = tt

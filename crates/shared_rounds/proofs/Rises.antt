@@ -1,4 +1,4 @@
--- Who sleeps, where one lies down and where some are woken.
+-- Who sleeps, where one is parked and where some are woken.
 use Rattle.std.proofs.Common.{◌≡◌, ◌≢◌, ◌⊎◌, ◌+◌, ◌↔◌, ℕ, zero, suc, Bool, true, false, List, [], ◌∷◌, Option, Some, None, refl, sym, ◌∙◌, ap, subst, inl, inr, if◌then◌else◌, slice_index_or, IsSome, ⊎_elim}
 use Rattle.std.specs.Borrow.{MutBor}
 use Rattle.std.proofs.lemmas.Bool.{cases_eq}
@@ -8,34 +8,34 @@ use Rattle.slab.specs.Slab.{Slab, RetainsFrom, CalledAt, get, with_value}
 use Rattle.slab.proofs.SlabLemmas.{Updates-with_value}
 use Rattle.shared_lane.specs.Polls.{IsNotOut, IsOutFor}
 use Rattle.shared_lane.specs.Views.{SequencerSeen}
-use Rattle.shared_rounds.specs.declared.sleepers.Sleeper.{Sleeper}
-use Rattle.shared_rounds.specs.Sleeping.{SleepsAt, HasNumber, OnlyThese, LiesDown, StayBut}
+use Rattle.shared_rounds.specs.declared.wait_list.Sleeper.{Sleeper}
+use Rattle.shared_rounds.specs.Sleeping.{SleepsAt, HasNumber, OnlyThese, Parks, StayBut}
 
--- who sleeps in a bed sleeps there still with another waker
-pub sleeps_still : (sleeping : Slab Sleeper) (bed : Option ℕ) (number key : ℕ) (sleeper : Sleeper) (waker : Option Waker)
-    → SleepsAt sleeping bed number → bed ≡ Some key → get sleeping key ≡ Some sleeper
-    → SleepsAt (with_value sleeping key (record { number = sleeper.number; waker = waker })) bed number
-sleeps_still sleeping bed number key sleeper waker at is read =
+-- who sleeps under a key sleeps there still with another waker
+pub sleeps_still : (sleeping : Slab Sleeper) (wait_key : Option ℕ) (number key : ℕ) (sleeper : Sleeper) (waker : Option Waker)
+    → SleepsAt sleeping wait_key number → wait_key ≡ Some key → get sleeping key ≡ Some sleeper
+    → SleepsAt (with_value sleeping key (record { number = sleeper.number; waker = waker })) wait_key number
+sleeps_still sleeping wait_key number key sleeper waker at is read =
     let same : at.0 ≡ key = same_Some _ _ (sym at.2 ∙ is) in
     let found : at.1 ≡ sleeper = same_Some _ _ (sym at.3 ∙ ap (get sleeping) same ∙ read) in
     let after : Sleeper = record { number = sleeper.number; waker = waker } in
     (key, after, is, (Updates-with_value sleeping key after (subst IsSome (sym read) refl)).changed, ap (λ s. s.number) (sym found) ∙ at.4)
 
--- the bed with this key, or another
-pub same_bed : (bed : Option ℕ) (key : ℕ) → (bed ≡ Some key) ⊎ (bed ≢ Some key)
-same_bed None key = inr (λ is. none-some key is)
-same_bed (Some own) key = ⊎_elim (λ is. inl (ap Some is)) (λ other. inr (λ is. other (same_Some own key is))) (cases_eq own key)
+-- this key, or another
+pub same_key : (wait_key : Option ℕ) (key : ℕ) → (wait_key ≡ Some key) ⊎ (wait_key ≢ Some key)
+same_key None key = inr (λ is. none-some key is)
+same_key (Some own) key = ⊎_elim (λ is. inl (ap Some is)) (λ other. inr (λ is. other (same_Some own key is))) (cases_eq own key)
 
 -- and stays there
-pub lies_still : (old mid new : Slab Sleeper) (number : ℕ) (bed : Option ℕ) → LiesDown number old mid → SleepsAt mid bed number → SleepsAt new bed number → StayBut bed mid new → LiesDown number old new
-lies_still old mid new number bed lies was is others key =
+pub lies_still : (old mid new : Slab Sleeper) (number : ℕ) (wait_key : Option ℕ) → Parks number old mid → SleepsAt mid wait_key number → SleepsAt new wait_key number → StayBut wait_key mid new → Parks number old new
+lies_still old mid new number wait_key lies was is others key =
     ⊎_elim
     (λ own. let same = same_Some _ _ (sym was.2 ∙ own) in let still = same_Some _ _ (sym is.2 ∙ own) in
     let before : HasNumber (get mid key) number = (was.1, ap (get mid) (sym same) ∙ was.3, was.4) in
     let after : HasNumber (get new key) number = (is.1, ap (get new) (sym still) ∙ is.3, is.4) in
     inr (after, ⊎_elim (λ there. inr (before.0, sym there ∙ before.1, before.2)) (λ lay. lay.1) (lies key)))
     (λ other. let stays = others key other in ⊎_elim (λ same. inl (stays ∙ same)) (λ lay. inr ((lay.0.0, stays ∙ lay.0.1, lay.0.2), lay.1)) (lies key))
-    (same_bed bed key)
+    (same_key wait_key key)
 
 -- all sleep on but the one that was ended
 pub ended_only : (ended : Option ℕ) (number : ℕ) (old new : Slab Sleeper) → ended ≡ Some number → OnlyThese (λ n. n ≢ number) old new → OnlyThese (λ n. ended ≢ Some n) old new

@@ -2,14 +2,14 @@
 use Rattle.std.proofs.Common.{◌≡◌, ◌≤◌, ◌+◌, ℕ, Option, Some, vec_capacity, sym, ap, subst, ◌∙◌}
 use Rattle.shared_core.specs.declared.config.Config.{Config}
 use Rattle.shared_rounds.specs.declared.round.Round.{Round}
-use Rattle.shared_rounds.specs.declared.sleepers.Wakes.{Wakes}
+use Rattle.shared_rounds.specs.declared.wait_list.WakeList.{WakeList}
 use Rattle.shared_rounds.specs.Names.{FlowName, SharedSeen, KnowsConfig}
 use Rattle.shared_rounds.specs.Rounds.{Comes}
 use Rattle.shared_rounds.specs.Sleeping.{HasAsMuchRoom, HasRoomFor}
 use Rattle.shared_rounds.specs.Waking.{HoldsItsFlow}
 
 -- as much room is enough
-pub as_roomy : (config : Config) (before after : Wakes) → HasAsMuchRoom before after → HasRoomFor config before → HasRoomFor config after
+pub as_roomy : (config : Config) (before after : WakeList) → HasAsMuchRoom before after → HasRoomFor config before → HasRoomFor config after
 as_roomy config before after same had =
     (subst (λ (n : ℕ). config.subscribers ≤ n) (sym same.0) had.0, subst (λ (n : ℕ). config.emits + 1 ≤ n) (sym same.1) had.1)
 

@@ -21,15 +21,15 @@ use Rattle.shared_lane.specs.declared.tickets.Standing.{Standing}
 use Rattle.shared_lane.specs.Views.{LaneSeen, SequencerSeen}
 use Rattle.shared_lane.specs.Blocks.{AcceptedInTurn, IsTurnedAway}
 use Rattle.shared_lane.specs.Ordering.{IsOut, FirstUnfinished}
-use Rattle.shared_lane.specs.Places.{NotLetIn}
+use Rattle.shared_lane.specs.Places.{NotAdmitted}
 use Rattle.shared_lane.specs.Polls.{IsNotOut, IsOutFor, PolledOn, given_back, withdrawn_from}
-use Rattle.shared_lane.specs.Sequencers.{OnlyLoaded, LoadedOrMoved, Settled, BegunOn, RefusedStart, FoundNoRoom, stood}
+use Rattle.shared_lane.specs.Sequencers.{OnlyLoaded, LoadedOrMoved, AcceptedWaiting, BegunOn, RefusedStart, FoundNoRoom, stood}
 use Rattle.shared_rounds.specs.declared.round.Round.{Round}
 use Rattle.shared_rounds.specs.declared.round.Round.TheVariants as round
-use Rattle.shared_rounds.specs.declared.sleepers.Sleeper.{Sleeper}
+use Rattle.shared_rounds.specs.declared.wait_list.Sleeper.{Sleeper}
 use Rattle.shared_rounds.specs.Names.{SharedSeen}
-use Rattle.shared_rounds.specs.Rounds.{Makes, Rests, Scanned, Comes}
-use Rattle.shared_rounds.specs.Sleeping.{OnlyThese, LiesDown, SleepsOn}
+use Rattle.shared_rounds.specs.Rounds.{Makes, Finishes, Scanned, Comes}
+use Rattle.shared_rounds.specs.Sleeping.{OnlyThese, Parks, SleepsOn}
 use Rattle.shared_rounds.specs.Waking.{AreOutBut, HasToWait, Lies, taken_by}
 use Rattle.shared_rounds.proofs.Numbers.{Left}
 use Rattle.shared_rounds.proofs.Rises.{not_out}
@@ -51,7 +51,7 @@ moved_out q t b only out = same_out q t b (ap (λ (z : SequencerSeen). z.standin
 equal_out : (q t : SequencerSeen) (b : ℕ) → t ≡ q → IsOut q b → IsOut t b
 equal_out q t b is out = subst (λ (z : SequencerSeen). IsOut z b) (sym is) out
 
--- who is let in stands with its ticket
+-- who is accepted stands with its ticket
 now_stands : (n k i b : ℕ) (l : List Waiting) (w : Waiting) → i < k → slice_get l i ≡ Some w → w.ticket ≡ b
     → (s : Standing) × (slice_get (stood n (take k l)) i ≡ Some s) × (s.ticket ≡ b)
 now_stands n k i b [] w low gets is = absurd (none-some w gets)
@@ -64,7 +64,7 @@ past zero i le = (i, omega arith)
 past (suc k) zero le = absurd (omega (arith, le))
 past (suc k) (suc i) le = let on = past k i (omega (arith, le)) in let is = on.1 in (on.0, omega (arith, is))
 
-settled_out : (k : ℕ) (q m : SequencerSeen) (b : ℕ) → Settled k q m → IsOut q b → IsOut m b
+settled_out : (k : ℕ) (q m : SequencerSeen) (b : ℕ) → AcceptedWaiting k q m → IsOut q b → IsOut m b
 settled_out k q m b settled out = ⊎_elim
     (λ s. let inside = slice_get_within q.standing s.0 s.1 s.2 in
     inl (s.0, s.1, ap (λ l. slice_get l s.0) settled.standing_is ∙ slice_get-append q.standing _ s.0 inside ∙ s.2, s.3))
@@ -79,7 +79,7 @@ settled_out k q m b settled out = ⊎_elim
 scanned_out : (q t : SequencerSeen) (b : ℕ) → Scanned q t → IsOut q b → IsOut t b
 scanned_out q t b scan out = equal_out scan.0 t b scan.5 (settled_out scan.1 q scan.0 b scan.3 out)
 
-rests_out : (q t : SequencerSeen) (b : ℕ) → Rests q t → IsOut q b → IsOut t b
+rests_out : (q t : SequencerSeen) (b : ℕ) → Finishes q t → IsOut q b → IsOut t b
 rests_out q t b rests out = loaded_out rests.0 t b rests.2 (⊎_elim (λ is. equal_out q rests.0 b is out) (λ scan. scanned_out q rests.0 b scan out) rests.1)
 
 -- the others stand on where one is taken out
@@ -123,7 +123,7 @@ refused_out q refusals.Spent t b on out = equal_out q t b on.1 out
 refused_out q refusals.EmitsFull t b on out = full_out q t b on.3 out
 refused_out q _ t b on out = absurd on
 
-shut_out : (q : SequencerSeen) (refusal : Refusal) (t : SequencerSeen) (b : ℕ) → NotLetIn q refusal t → IsOut q b → IsOut t b
+shut_out : (q : SequencerSeen) (refusal : Refusal) (t : SequencerSeen) (b : ℕ) → NotAdmitted q refusal t → IsOut q b → IsOut t b
 shut_out q refusals.Spent t b on out = equal_out q t b on.1 out
 shut_out q refusals.SubscribersFull t b on out = loaded_out q t b on.2 out
 shut_out q _ t b on out = absurd on
@@ -203,7 +203,7 @@ comes_out s t r b came kept out =
 -- ---- who sleeps
 
 -- nobody lay down, or one whose poll waits
-lay_down : (s t : SharedSeen) (r : Round) → Lies s r t → (t.emissions ≡ s.emissions) ⊎ ((ticket : Ticket) × (r ≡ round.Poll ticket emit.Waiting) × LiesDown ticket.0 s.emissions t.emissions)
+lay_down : (s t : SharedSeen) (r : Round) → Lies s r t → (t.emissions ≡ s.emissions) ⊎ ((ticket : Ticket) × (r ≡ round.Poll ticket emit.Waiting) × Parks ticket.0 s.emissions t.emissions)
 lay_down s t (round.Pending number) lies = inl lies.1
 lay_down s t (round.Poll ticket emit.Waiting) lies = inr (ticket, refl, lies.1)
 lay_down s t (round.Poll ticket (emit.Done n)) lies = inl lies.1

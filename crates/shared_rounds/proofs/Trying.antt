@@ -107,7 +107,7 @@ tried_front q t e k words n less on = let long = length-take k words in let few 
   );
 }
 
--- ---- after what waited was let in
+-- ---- after what waited was accepted
 
 -- where nothing waited, that did nothing
 pub no_scan : (q : SequencerSeen) (then : SequencerSeen → Type 0) → q.waiting ≡ [] → AfterScan q then → then q

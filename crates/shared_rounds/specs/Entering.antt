@@ -1,6 +1,7 @@
 -- What an owner finds as it takes the lock, and the round that it makes of that.
 use Rattle.std.specs.Prelude.{◌≡◌, ℕ, ◌++◌, [], ◌∷◌, Option, Some, None}
-use Rattle.round_lock.specs.History.{After, Begins, KnowsTaken, own_of}
+use Rattle.flow_terms.specs.Lists.{IsPrefix}
+use Rattle.round_lock.specs.History.{After, KnowsTaken, own_of}
 use Rattle.shared_lane.specs.Sequencers.{OnlyLoaded, next}
 use Rattle.shared_rounds.specs.declared.round.Round.{Round}
 use Rattle.shared_rounds.specs.Names.{SharedSeen, IsNew}
@@ -20,7 +21,7 @@ pub record Found (p : Party) (found : SharedSeen) (seen : Rounds) : Type 0 where
   pub flow_is : p.flow ≡ Some made.name
   pub after : IsLeftBy made seen found
   pub rounds_are : p.rounds ≡ own_of p.pass seen
-  pub seen_on : Begins seen p.seen
+  pub seen_on : IsPrefix p.seen seen
   pub taken_in : KnowsTaken p.pass p.rounds p.halved p.taken seen
 
 -- the owner has the lock, and a call that it made of what it found has come to this; the next number was `before` as it was found

@@ -7,7 +7,7 @@ use Rattle.shared_lane.specs.Views.{LaneSeen, SequencerSeen}
 use Rattle.shared_lane.specs.Sequencers.{IsSequencerOf, IsFresh, shape_of}
 use Rattle.slab.specs.Slab.{Slab}
 use Rattle.shared_rounds.specs.declared.flag.view.FlagLook.{FlagLook}
-use Rattle.shared_rounds.specs.declared.sleepers.Sleeper.{Sleeper}
+use Rattle.shared_rounds.specs.declared.wait_list.Sleeper.{Sleeper}
 use Rattle.shared_rounds.specs.Flags.{flag_look}
 use Rattle.shared_rounds.specs.Sleeping.{NobodySleeps}
 
@@ -47,12 +47,12 @@ abbrev pub IsNew : SharedSeen → Type 0
 IsNew s = IsGuarded s.name.config s.name.lane s.sequencer × IsFresh s.name.config s.sequencer × NobodySleeps s.subscriptions × NobodySleeps s.emissions
 
 -- all subscriptions and emissions of a flow with this config have room to sleep
-abbrev pub HaveBeds : Config → Slab Sleeper → Slab Sleeper → Type 0
-HaveBeds config subscriptions emissions = (config.subscribers ≤ subscriptions.capacity) × (config.emits ≤ emissions.capacity)
+abbrev pub HaveRoomForAll : Config → Slab Sleeper → Slab Sleeper → Type 0
+HaveRoomForAll config subscriptions emissions = (config.subscribers ≤ subscriptions.capacity) × (config.emits ≤ emissions.capacity)
 
 -- all of the flow have
 abbrev pub HasRoom : SharedSeen → Type 0
-HasRoom s = HaveBeds s.name.config s.subscriptions s.emissions
+HasRoom s = HaveRoomForAll s.name.config s.subscriptions s.emissions
 
 -- an owner knows its flow, and the lane is that flow's
 abbrev pub KnowsLane : Option FlowName → LaneSeen → Type 0

@@ -2,7 +2,7 @@
 use Rattle.std.specs.Prelude.{ℕ, Option, Some, None, List, [], ◌∷◌, ◌++◌}
 use Rattle.atomic_table.specs.Seated.{TableId}
 use Rattle.round_lock.specs.Locking.{Locking}
-use Rattle.round_lock.specs.declared.log.Part.{Part}
+use Rattle.round_lock.specs.declared.log.TakenOwner.{TakenOwner}
 use Rattle.shared_rounds.specs.declared.round.Round.{Round}
 use Rattle.shared_rounds.specs.Names.{FlowName, SharedSeen}
 
@@ -18,7 +18,7 @@ pub record Reach : Type 0 where
   pub held : Option SharedSeen
   pub pass : ℕ
   pub halved : ℕ
-  pub taken : List (Part Round)
+  pub taken : List (TakenOwner Round)
   pub rounds : List Round
   pub seen : Rounds
 
@@ -28,7 +28,7 @@ pub record Party : Type 0 where
   pub flow : Option FlowName
   pub pass : ℕ
   pub halved : ℕ
-  pub taken : List (Part Round)
+  pub taken : List (TakenOwner Round)
   pub rounds : List Round
   pub seen : Rounds
 
@@ -40,7 +40,7 @@ abbrev pub with_round : Round → Rounds → Party → Party
 with_round r seen p = record p { rounds = p.rounds ++ r ∷ []; seen = seen }
 
 -- those that an owner took in, and now this one, with its rounds and its share, and those that it had taken in
-abbrev pub with_taken : Party → List (Part Round) → List (Part Round)
+abbrev pub with_taken : Party → List (TakenOwner Round) → List (TakenOwner Round)
 with_taken other parts = parts ++ record { pass = other.pass; halved = other.halved; own = other.rounds } ∷ other.taken
 
 module _ {S : Type 0} (value : S → SharedSeen) where

@@ -19,7 +19,7 @@ use Rattle.shared_lane.specs.Views.{LaneSeen, ReaderSeen, ReceiptSeen, Sequencer
 use Rattle.shared_lane.specs.Sequencers.{IsSameSequencer, OnlyLoaded, AfterScan, TriedOn, RefusedTry, BegunOn, RefusedStart, seen}
 use Rattle.shared_lane.specs.Blocks.{TriedAllOn}
 use Rattle.shared_lane.specs.Polls.{PolledOn, WithdrawnFrom, IsOutFor, IsNotOut}
-use Rattle.shared_lane.specs.Places.{LetIn, NotLetIn, Counted, IsOfSubscription, told_of_end}
+use Rattle.shared_lane.specs.Places.{Admitted, NotAdmitted, Counted, IsOfSubscription, told_of_end}
 use Rattle.shared_lane.specs.Readers.{IsReaderOf}
 use Rattle.shared_rounds.specs.declared.round.Emission.{Emission}
 use Rattle.shared_rounds.specs.declared.round.Round.{Round}
@@ -27,7 +27,7 @@ use Rattle.shared_rounds.specs.declared.round.Round.TheVariants as round
 use Rattle.shared_rounds.specs.Meeting.{HasMet}
 use Rattle.shared_rounds.specs.Names.{SharedSeen}
 use Rattle.shared_rounds.specs.Tries.{IfBegun, without_ticket}
-use Rattle.shared_rounds.specs.Waking.{Wakes}
+use Rattle.shared_rounds.specs.Waking.{WakesWhomItHelps}
 
 -- an emission, as the lane keeps it
 abbrev pub entry : Emission → Entry
@@ -67,8 +67,8 @@ Makes lane q (round.Poll ticket answer) t = PolledOn q ticket.0 answer t
 Makes lane q (round.StrayPoll ticket emitter last n) t = PolledOn q ticket.0 (emit.Done n) t × IsStray q ticket.0 emitter last n
 Makes lane q (round.Withdraw ticket answer) t = WithdrawnFrom q ticket.0 answer t
 Makes lane q (round.StrayWithdraw ticket emitter last n) t = WithdrawnFrom q ticket.0 (withdrawn.Left n) t × IsStray q ticket.0 emitter last n
-Makes lane q (round.Subscribe (Ok number)) t = (number ≡ q.subscription) × ((r : ReaderSeen) × LetIn lane q r t)
-Makes lane q (round.Subscribe (Err refusal)) t = NotLetIn q refusal t
+Makes lane q (round.Subscribe (Ok number)) t = (number ≡ q.subscription) × ((r : ReaderSeen) × Admitted lane q r t)
+Makes lane q (round.Subscribe (Err refusal)) t = NotAdmitted q refusal t
 Makes lane q (round.Next number) t = t ≡ q
 Makes lane q (round.Pending number) t = t ≡ q
 -- the sequencer has loaded the cursor of this subscription's reader, and then knows that it was closed
@@ -85,32 +85,32 @@ look_round number (Value word) = round.Next number
 look_round number Nothing = round.Pending number
 look_round number Overtaken = round.Pending number
 
--- what waited was let in, as far as there was room
+-- what waited was accepted, as far as there was room
 abbrev pub Scanned : SequencerSeen → SequencerSeen → Type 0
 Scanned q t = AfterScan q (λ m. t ≡ m)
 
--- at its end a call may let in once more what waits, and it may look at the cursors, to see who is to be woken
-abbrev pub Rests : SequencerSeen → SequencerSeen → Type 0
-Rests q t = (m : SequencerSeen) × ((m ≡ q) ⊎ Scanned q m) × OnlyLoaded m t
+-- at its end a call may accept once more what waits, and it may look at the cursors, to see who is to be woken
+abbrev pub Finishes : SequencerSeen → SequencerSeen → Type 0
+Finishes q t = (m : SequencerSeen) × ((m ≡ q) ⊎ Scanned q m) × OnlyLoaded m t
 
--- What waits is let in once more at the end of a subscription, as far as that has made room; and where an emission begins to wait, which a
+-- What waits is accept once more at the end of a subscription, as far as that has made room; and where an emission begins to wait, which a
 -- receipt before that may have made room for. The flag was raised for it before the first load of that.
 abbrev pub Frees : Round → SequencerSeen → SharedSeen → Type 0
 Frees (round.Cancel number) q t = (m : SequencerSeen) × Scanned q m × OnlyLoaded m t.sequencer
 Frees (round.Start e (Ok (begun.Waiting ticket))) q t = (m : SequencerSeen) × Scanned q m × OnlyLoaded m t.sequencer × (t.raised ≡ length q.view.loads)
 Frees _ q t = ⊤
 
--- What a call comes to, before it helps others: it lets in what waits, is made, and rests. The flow stays the same one.
+-- What a call comes to, before it helps others: it accepts what waits, is made, and rests. The flow stays the same one.
 abbrev pub Comes : SharedSeen → Round → SharedSeen → Type 0
 Comes s r t = (t.name ≡ s.name) × IsSameSequencer s.sequencer t.sequencer
-    × AfterScan s.sequencer (λ m. (n : SequencerSeen) × Makes s.name.lane m r n × Rests n t.sequencer × Frees r n t)
+    × AfterScan s.sequencer (λ m. (n : SequencerSeen) × Makes s.name.lane m r n × Finishes n t.sequencer × Frees r n t)
 
 -- A round: the call, and those were woken whom it has helped.
 abbrev pub Does : SharedSeen → Round → SharedSeen → Type 0
 Does s r t = (t.name ≡ s.name) × IsSameSequencer s.sequencer t.sequencer
-    × AfterScan s.sequencer (λ m. (n : SequencerSeen) × Makes s.name.lane m r n × Rests n t.sequencer × Frees r n t) × Wakes s r t
+    × AfterScan s.sequencer (λ m. (n : SequencerSeen) × Makes s.name.lane m r n × Finishes n t.sequencer × Frees r n t) × WakesWhomItHelps s r t
 
--- what waited was let in, and the call was made
+-- what waited was accepted, and the call was made
 abbrev pub MakesAfterScan : SharedSeen → Round → SharedSeen → Type 0
 MakesAfterScan s r t = AfterScan s.sequencer (λ m. Makes s.name.lane m r t.sequencer)
 
@@ -169,10 +169,10 @@ number_left (withdrawn.Left n) = Some n
 number_left withdrawn.Removed = None
 number_left withdrawn.Gone = None
 
--- where an emission has a ticket, which has to wait, what waits was let in once more; else nothing was done
-abbrev pub Watched : Option Ticket → SequencerSeen → SequencerSeen → Type 0
-Watched (Some ticket) q t = Scanned q t
-Watched None q t = t ≡ q
+-- where an emission has a ticket, which has to wait, what waits was accepted once more; else nothing was done
+abbrev pub AcceptsFor : Option Ticket → SequencerSeen → SequencerSeen → Type 0
+AcceptsFor (Some ticket) q t = Scanned q t
+AcceptsFor None q t = t ≡ q
 
 -- where it has one, the flag was raised before that: the sequencer had loaded so many words then, and no more
 abbrev pub RaisedFor : Option Ticket → SequencerSeen → ℕ → Type 0
@@ -183,13 +183,13 @@ RaisedFor None q loads = ⊤
 abbrev pub IsAtLimit : Refusal → Type 0
 IsAtLimit refusal = (refusal ≡ Spent) ⊎ (refusal ≡ SubscribersFull)
 
--- what waited was let in, and then the reader, with this number
-abbrev pub IsLetIn : SharedSeen → ℕ → ReaderSeen → SharedSeen → Type 0
-IsLetIn s number r t = AfterScan s.sequencer (λ m. (number ≡ m.subscription) × LetIn s.name.lane m r t.sequencer)
+-- what waited was accepted, and then the reader, with this number
+abbrev pub IsAdmitted : SharedSeen → ℕ → ReaderSeen → SharedSeen → Type 0
+IsAdmitted s number r t = AfterScan s.sequencer (λ m. (number ≡ m.subscription) × Admitted s.name.lane m r t.sequencer)
 
 -- the reader was let in to this flow, by what the sequencer knew when what waited had been let in
 abbrev pub WasAdmitted : SharedSeen → ReaderSeen → SharedSeen → Type 0
-WasAdmitted s r t = AfterScan s.sequencer (λ m. (n : SequencerSeen) × LetIn s.name.lane m r n × OnlyLoaded n t.sequencer)
+WasAdmitted s r t = AfterScan s.sequencer (λ m. (n : SequencerSeen) × Admitted s.name.lane m r n × OnlyLoaded n t.sequencer)
 
 -- Sequencer and reader compared what they know, and counted; then the sequencer heard that the reader has closed its cursor, and let in
 -- what waits
@@ -197,11 +197,11 @@ abbrev pub HasClosedAt : ReaderSeen → Met → SequencerSeen → SequencerSeen 
 HasClosedAt r met q t = (k : SequencerSeen) × (last : ReaderSeen) × (n : SequencerSeen)
     × OnlyLoaded q k × HasMet k r last met × Scanned (told_of_end last k) n × OnlyLoaded n t
 
--- so it did after what waits was let in
+-- so it did after what waits was accepted
 abbrev pub HasClosed : SharedSeen → ReaderSeen → Met → SharedSeen → Type 0
 HasClosed s r met t = AfterScan s.sequencer (λ m. HasClosedAt r met m t.sequencer)
 
--- what waits was let in before a look, and once more after it
+-- what waits was accepted before a look, and once more after it
 abbrev pub HasFreed : SharedSeen → SharedSeen → Type 0
 HasFreed s t = AfterScan s.sequencer (λ m. (n : SequencerSeen) × Scanned m n × OnlyLoaded n t.sequencer)
 

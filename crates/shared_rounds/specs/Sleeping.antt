@@ -6,10 +6,10 @@ use Rattle.slab.specs.Slab.{Slab, get, slab_len}
 use Rattle.flow_terms.specs.declared.ids.Ticket.{Ticket}
 use Rattle.shared_core.specs.declared.config.Config.{Config}
 use Rattle.shared_lane.specs.Ordering.{IsBefore}
-use Rattle.shared_rounds.specs.declared.sleepers.Sleeper.{Sleeper}
-use Rattle.shared_rounds.specs.declared.sleepers.Wakes.{Wakes}
+use Rattle.shared_rounds.specs.declared.wait_list.Sleeper.{Sleeper}
+use Rattle.shared_rounds.specs.declared.wait_list.WakeList.{WakeList}
 
--- the one with this number sleeps in the bed with this key
+-- the one with this number sleeps under this key
 abbrev pub SleepsAt : Slab Sleeper → Option ℕ → ℕ → Type 0
 SleepsAt sleeping key number =
     (k : ℕ) × (sleeper : Sleeper) × (key ≡ Some k) × (get sleeping k ≡ Some sleeper) × (sleeper.number ≡ number)
@@ -25,23 +25,23 @@ NobodySleeps sleeping = slab_len sleeping ≡ 0
 abbrev pub OnlyThese : (ℕ → Type 0) → Slab Sleeper → Slab Sleeper → Type 0
 OnlyThese Stays old new = (key : ℕ) (sleeper : Sleeper) → (get new key ≡ Some sleeper) ↔ ((get old key ≡ Some sleeper) × Stays sleeper.number)
 
--- each bed but this one is as it was
+-- each entry but the one with this key is as it was
 abbrev pub StayBut : Option ℕ → Slab Sleeper → Slab Sleeper → Type 0
-StayBut bed old new = (key : ℕ) → bed ≢ Some key → get new key ≡ get old key
+StayBut wait_key old new = (key : ℕ) → wait_key ≢ Some key → get new key ≡ get old key
 
--- all sleep on but the one with this number in the bed with this key
+-- all sleep on but the one with this number under this key
 abbrev pub AllBut : ℕ → ℕ → Slab Sleeper → Slab Sleeper → Type 0
-AllBut number bed old new = (key : ℕ) (sleeper : Sleeper) → (get new key ≡ Some sleeper) ↔ ((get old key ≡ Some sleeper) × (key ≡ bed → sleeper.number ≢ number))
+AllBut number wait_key old new = (key : ℕ) (sleeper : Sleeper) → (get new key ≡ Some sleeper) ↔ ((get old key ≡ Some sleeper) × (key ≡ wait_key → sleeper.number ≢ number))
 
--- in the bed lies the one with this number
+-- the entry is of the one with this number
 abbrev pub HasNumber : Option Sleeper → ℕ → Type 0
-HasNumber bed number = (sleeper : Sleeper) × (bed ≡ Some sleeper) × (sleeper.number ≡ number)
+HasNumber entry number = (sleeper : Sleeper) × (entry ≡ Some sleeper) × (sleeper.number ≡ number)
 
--- each bed is as it was, or the one with this number lies in it now, and it was free or its own
-abbrev pub LiesDown : ℕ → Slab Sleeper → Slab Sleeper → Type 0
-LiesDown lies old new = (key : ℕ) → (get new key ≡ get old key) ⊎ (HasNumber (get new key) lies × ((get old key ≡ None) ⊎ HasNumber (get old key) lies))
+-- each entry is as it was, or is of the one with this number now, and was free or its own
+abbrev pub Parks : ℕ → Slab Sleeper → Slab Sleeper → Type 0
+Parks number old new = (key : ℕ) → (get new key ≡ get old key) ⊎ (HasNumber (get new key) number × ((get old key ≡ None) ⊎ HasNumber (get old key) number))
 
--- the ticket of each that sleeps stands in a list with the key of its bed
+-- the ticket of each that sleeps stands in a list with its key
 abbrev pub AreListed : List (ℕ × ℕ) → Slab Sleeper → Type 0
 AreListed lain sleeping = (key : ℕ) (sleeper : Sleeper) → get sleeping key ≡ Some sleeper → Contains lain (sleeper.number, key)
 
@@ -54,9 +54,9 @@ abbrev pub NoneBefore : Option Ticket → List (ℕ × ℕ) → Type 0
 NoneBefore first lain = (ticket key : ℕ) → Contains lain (ticket, key) → IsBefore ticket first → ⊥
 
 -- there is room for all whom one call of a flow with this config may have to wake: all subscriptions, all emissions, and one that it ends
-abbrev pub HasRoomFor : Config → Wakes → Type 0
+abbrev pub HasRoomFor : Config → WakeList → Type 0
 HasRoomFor config wakes = (config.subscribers ≤ wakes.subscriptions.capacity) × (config.emits + 1 ≤ vec_capacity wakes.wakers)
 
 -- there is as much room as before
-abbrev pub HasAsMuchRoom : Wakes → Wakes → Type 0
+abbrev pub HasAsMuchRoom : WakeList → WakeList → Type 0
 HasAsMuchRoom before after = (after.subscriptions.capacity ≡ before.subscriptions.capacity) × (vec_capacity after.wakers ≡ vec_capacity before.wakers)

@@ -16,8 +16,8 @@ use crate::flag::Stands;
 use crate::looking::{LOOKS, pause};
 use crate::round::Round;
 use crate::shared::Shared;
-use crate::sleepers::Wakes;
 use crate::track::{Looker, Track};
+use crate::wait_list::WakeList;
 use flow_terms::{Refusal, Word};
 use round_lock::{Guarded, Lock, Made};
 use shared_core::{Config, Emit};
@@ -32,7 +32,7 @@ use std::sync::{Arc, Wait};
 pub struct Access {
     lock: Lock<Box<Shared>, Round>,
     track: Arc<Track, Global>,
-    wakes: Wakes,
+    wakes: WakeList,
     alloc: Global,
     // What the flow was made with.
     config: Config,
@@ -86,7 +86,7 @@ impl Access {
     {
         let state = Box::new(alloc, shared)?;
         let track = state.track()?;
-        let wakes = Wakes::new(alloc, &config)?;
+        let wakes = WakeList::new(alloc, &config)?;
         let lock = locked(alloc, state)?;
         Ok(Access {
             lock,
@@ -104,7 +104,7 @@ impl Access {
         ensures memory { IsOkUnless result Refusal.NoMemory }
         ensures same { IfErr result (λ _. self.new ≡ self.old) }
     {
-        let wakes = Wakes::new(self.alloc, &self.config)?;
+        let wakes = WakeList::new(self.alloc, &self.config)?;
         let track = Arc::try_clone(&self.track)?;
         let lock = self.lock.dup(rt)?;
         Ok(Access {
@@ -296,7 +296,7 @@ fn looked<M: Stands>(
 // Takes those whom a round has helped, or ended, out from under the lock.
 #[inline(always)]
 fn helped(
-    wakes: &mut Wakes,
+    wakes: &mut WakeList,
     inside: Inside,
     ended: Option<u64>,
     taken: Option<u64>,

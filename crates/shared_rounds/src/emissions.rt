@@ -3,9 +3,9 @@ ghost use Rattle.std.specs.Prelude.{◌≡◌, ◌≢◌, ◌≤◌, ◌+◌, �
 ghost use Rattle.std.specs.BinaryHeap.{heap_items, heap_len};
 ghost use Rattle.futures.specs.Task.{IsArmed, Keeps};
 ghost use Rattle.shared_lane.specs.Ordering.{IsBefore};
-ghost use Rattle.shared_rounds.specs.Sleeping.{SleepsAt, NobodySleeps, OnlyThese, LiesDown, SleepsOn, IsTicketHeap, NoneBefore, HasAsMuchRoom};
+ghost use Rattle.shared_rounds.specs.Sleeping.{SleepsAt, NobodySleeps, OnlyThese, Parks, SleepsOn, IsTicketHeap, NoneBefore, HasAsMuchRoom};
 
-use crate::sleepers::{Bed, Sleepers, Wakes};
+use crate::wait_list::{WaitKey, WaitList, WakeList};
 use futures::task::{Context, Poll};
 use shared_core::Ticket;
 use std::alloc::{AllocError, Global};
@@ -13,13 +13,13 @@ use std::cmp::Reverse;
 use std::collections::BinaryHeap;
 use std::marker::Model;
 
-/// The ticket of an emission that sleeps, and the key of its bed. The lowest ticket is on top of a heap.
+/// The ticket of an emission that sleeps, and its key. The lowest ticket is on top of a heap.
 type Lain = Reverse<(u64, usize)>;
 
-/// The emissions that sleep. Room for each of them is reserved. Contracts see who sleeps in which bed.
+/// The emissions that sleep. Room for each of them is reserved. Contracts see who sleeps under which key.
 #[derive(Drop)]
 pub(crate) struct SleepingEmissions {
-    sleepers: Sleepers,
+    sleepers: WaitList,
     /// The tickets of those that sleep, so that a call looks at those alone which it wakes.
     tickets: BinaryHeap<Lain>,
 }
@@ -28,7 +28,7 @@ impl Model for SleepingEmissions {
     ghost use Rattle.std.specs.Prelude.{map};
     ghost use Rattle.std.specs.BinaryHeap.{heap_items};
     ghost use Rattle.slab.specs.Slab.{Slab};
-    ghost use Rattle.shared_rounds.specs.declared.sleepers.Sleeper.{Sleeper};
+    ghost use Rattle.shared_rounds.specs.declared.wait_list.Sleeper.{Sleeper};
     ghost use Rattle.shared_rounds.specs.Sleeping.{AreListed, IsTicketHeap};
 
     ghost Value = { Slab Sleeper };
@@ -44,7 +44,7 @@ impl SleepingEmissions {
         ensures nobody { IfOk result (λ made. NobodySleeps made) }
         ensures room { IfOk result (λ made. count ≤ made.capacity) }
     {
-        let sleepers = Sleepers::new(alloc, count)?;
+        let sleepers = WaitList::new(alloc, count)?;
         let tickets = BinaryHeap::with_capacity(alloc, count)?;
         Ok(SleepingEmissions { sleepers, tickets })
     }
@@ -58,29 +58,33 @@ impl SleepingEmissions {
 
     /// The task of this poll sleeps until the emission with this ticket is woken. Without a place for it, which no flow comes to,
     /// the task yields.
-    pub fn sleep(&mut self, ticket: Ticket, bed: &mut Bed, cx: &mut Context<'_>)
-        ensures lies { LiesDown ticket.0 self.old self.new }
+    pub fn sleep(&mut self, ticket: Ticket, wait_key: &mut WaitKey, cx: &mut Context<'_>)
+        ensures lies { Parks ticket.0 self.old self.new }
         ensures room { self.new.capacity ≡ self.old.capacity }
         ensures armed { IsArmed cx.new }
         ensures kept { Keeps cx.old cx.new }
     {
-        if !self.sleepers.is_in(ticket.0, bed) && !self.lie_down(ticket, bed) {
+        if !self.sleepers.is_in(ticket.0, wait_key) && !self.park(ticket, wait_key) {
             let _again: Poll<()> = cx.yield_now();
             return;
         }
-        self.sleepers.register(ticket.0, bed, cx);
+        self.sleepers.register(ticket.0, wait_key, cx);
     }
 
     // Takes a place, where one is left, and says whether it did.
-    fn lie_down(&mut self, ticket: Ticket, bed: &mut Bed) -> bool
-        ensures lies { result ≡ true → SleepsAt self.new bed.new.key ticket.0 }
-        ensures others { LiesDown ticket.0 self.old self.new }
+    fn park(&mut self, ticket: Ticket, wait_key: &mut WaitKey) -> bool
+        ensures lies { result ≡ true → SleepsAt self.new wait_key.new.key ticket.0 }
+        ensures others { Parks ticket.0 self.old self.new }
         ensures room { self.new.capacity ≡ self.old.capacity }
     {
-        if self.tickets.len() >= self.tickets.capacity() || !self.sleepers.lie_down(ticket.0, bed) {
+        if self.tickets.len() >= self.tickets.capacity()
+            || !self.sleepers.park(ticket.0, wait_key)
+        {
             return false;
         }
-        let Some(key) = bed.key else { unreachable!() };
+        let Some(key) = wait_key.key else {
+            unreachable!()
+        };
         self.tickets.push(Reverse((ticket.0, key))).is_ok()
     }
 
@@ -88,7 +92,7 @@ impl SleepingEmissions {
     /// Wakes those before the first ticket of an emission that has to wait, or all where none has to, and the one whose ticket is
     /// gone.
     #[inline(never)]
-    pub fn wake_done(&mut self, first: Option<Ticket>, gone: Option<u64>, wakes: &mut Wakes)
+    pub fn wake_done(&mut self, first: Option<Ticket>, gone: Option<u64>, wakes: &mut WakeList)
         ensures done { OnlyThese (SleepsOn first gone) self.old self.new }
         ensures room { self.new.capacity ≡ self.old.capacity }
         ensures wakes { HasAsMuchRoom wakes.old wakes.new }
@@ -102,7 +106,7 @@ impl SleepingEmissions {
     }
 
     // Wakes those before this ticket, or all.
-    fn wake_before(&mut self, first: Option<Ticket>, wakes: &mut Wakes)
+    fn wake_before(&mut self, first: Option<Ticket>, wakes: &mut WakeList)
         ensures others { OnlyThese (λ ticket. IsBefore ticket first → ⊥) self.old self.new }
         ensures room { self.new.capacity ≡ self.old.capacity }
         ensures wakes { HasAsMuchRoom wakes.old wakes.new }
@@ -113,7 +117,7 @@ impl SleepingEmissions {
     }
 
     // Wakes the one with this ticket, which was given up. Who gives up an emission waits for none, so this may go through all.
-    fn wake(&mut self, ticket: u64, wakes: &mut Wakes)
+    fn wake(&mut self, ticket: u64, wakes: &mut WakeList)
         ensures others { OnlyThese (λ other. other ≢ ticket) self.old self.new }
         ensures room { self.new.capacity ≡ self.old.capacity }
         ensures wakes { HasAsMuchRoom wakes.old wakes.new }
@@ -123,7 +127,7 @@ impl SleepingEmissions {
     }
 }
 
-// Takes out the lowest ticket with its bed, if it is before this one, or where there is no such bound.
+// Takes out the lowest ticket with its key, if it is before this one, or where there is no such bound.
 fn take_before(tickets: &mut BinaryHeap<Lain>, first: Option<Ticket>) -> Option<(u64, usize)>
     requires { IsTicketHeap (λ lain. lain.0) (heap_items tickets.old) }
     ensures heap { IsTicketHeap (λ lain. lain.0) (heap_items tickets.new) }

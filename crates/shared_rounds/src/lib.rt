@@ -5,7 +5,7 @@
 //! with the [`Round`] that says what was asked and answered. So all rounds of a flow form one list, in the order in which the lock was
 //! taken; each party's are its part of that list, and the list left the flow as it is (`Does`, `Found`, `Left`).
 //!
-//! Who leaves wakes those whom the round has helped, and no others (`Wakes`), and leaves the flag up where an emission may have to
+//! Who leaves wakes those whom the round has helped, and no others (`WakesWhomItHelps`), and leaves the flag up where an emission may have to
 //! wait for a receipt (`IsTied`): one word beside the lane, which a subscription looks at, without the lock, after it received.
 //!
 //! This crate has no flow that one could emit into: that is `shared_flow`, whose parties are written over it.
@@ -17,12 +17,12 @@ mod flag;
 mod looking;
 mod round;
 mod shared;
-mod sleepers;
 mod track;
+mod wait_list;
 
 pub use access::{Access, Inside};
 pub use looking::{LOOKS, pause};
 pub use round::{Emission, Round, begun_ticket};
-pub use shared::{Admitted, Polled, Released, Shared};
-pub use sleepers::Bed;
+pub use shared::{NewReader, Polled, Released, Shared};
 pub use track::{Looker, Track};
+pub use wait_list::WaitKey;

@@ -3,10 +3,10 @@ ghost use Rattle.std.specs.Prelude.{◌≡◌, ◌≤◌, ◌<◌, ◌≢◌, So
 ghost use Rattle.shared_core.specs.Kept.{making_refusal};
 ghost use Rattle.shared_lane.specs.Sequencers.{IsFresh, IsSameSequencer, IsSequencerOf, OnlyLoaded, next};
 ghost use Rattle.shared_rounds.specs.Names.{HasRoom, IsNew};
-ghost use Rattle.shared_rounds.specs.Rounds.{Does, Comes, MakesAfterScan, RaisedFor, Watched, IsAfter, IsNotAfter, IsReceiptAfter, HasSeenUpTo};
+ghost use Rattle.shared_rounds.specs.Rounds.{Does, Comes, MakesAfterScan, RaisedFor, AcceptsFor, IsAfter, IsNotAfter, IsReceiptAfter, HasSeenUpTo};
 ghost use Rattle.shared_rounds.specs.Rounds.{HasReceipt, IsLastAccepted, IsReceiptFor, IsReceiptOfOne, numbers_tried, poll_round, withdraw_round};
 ghost use Rattle.shared_rounds.specs.Rounds.{number_done as the_number_done, number_left as the_number_left};
-ghost use Rattle.shared_rounds.specs.Sleeping.{NobodySleeps, OnlyThese, LiesDown, HasAsMuchRoom, HasRoomFor};
+ghost use Rattle.shared_rounds.specs.Sleeping.{NobodySleeps, OnlyThese, Parks, HasAsMuchRoom, HasRoomFor};
 ghost use Rattle.shared_lane.specs.Ordering.{IsOut};
 ghost use Rattle.shared_rounds.specs.Waking.{AreOutBut, Helps, IsTied, WakesEmissions, SleepOn};
 ghost use Rattle.flow_terms.specs.declared.refusal.Refusal.TheVariants.{Spent, EmitsFull};
@@ -20,8 +20,8 @@ ghost use Rattle.shared_rounds.specs.declared.round.Round.TheVariants as round;
 
 use crate::emissions::SleepingEmissions;
 use crate::round::{Emission, Round, begun_ticket};
-use crate::sleepers::{Bed, Sleepers, Wakes};
 use crate::track::{Flag, Keeper, Track};
+use crate::wait_list::{WaitKey, WaitList, WakeList};
 use flow_terms::{Policy, Refusal};
 use futures::task::{Context, Poll};
 use round_lock::Called;
@@ -34,7 +34,7 @@ use std::sync::Arc;
 mod blocks;
 mod subscriptions;
 
-pub use subscriptions::Admitted;
+pub use subscriptions::NewReader;
 
 /// The sequencer of a flow, an owner of its lane, and those that sleep until something changes. Contracts see which flow it is, the
 /// sequencer, the flag, and who sleeps.
@@ -46,7 +46,7 @@ pub struct Shared {
     /// Of the flag that says whether an emission may have to wait.
     keeper: Keeper,
     /// The subscriptions that sleep.
-    subscriptions: Sleepers,
+    subscriptions: WaitList,
     /// The emissions that sleep.
     emissions: SleepingEmissions,
 }
@@ -54,13 +54,13 @@ pub struct Shared {
 impl Model for Shared {
     ghost use Rattle.std.specs.Arc.{arc_value};
     ghost use Rattle.std.specs.Prelude.{◌≡◌};
-    ghost use Rattle.shared_rounds.specs.Names.{SharedSeen, HaveBeds, IsGuarded, MayWait};
+    ghost use Rattle.shared_rounds.specs.Names.{SharedSeen, HaveRoomForAll, IsGuarded, MayWait};
 
     ghost Value = { SharedSeen };
 
     ghost view = { λ s. record { name = record { config = s.config; lane = (arc_value s.track).lane; flag = (arc_value s.track).flag }; sequencer = s.sequencer; flag = s.keeper.flag; raised = s.keeper.raised; subscriptions = s.subscriptions.sleeping; emissions = s.emissions } };
 
-    ghost invariant = { λ s. IsGuarded s.config (arc_value s.track).lane s.sequencer × (s.keeper.table ≡ (arc_value s.track).flag) × MayWait s.config (arc_value s.track) × HaveBeds s.config s.subscriptions.sleeping s.emissions };
+    ghost invariant = { λ s. IsGuarded s.config (arc_value s.track).lane s.sequencer × (s.keeper.table ≡ (arc_value s.track).flag) × MayWait s.config (arc_value s.track) × HaveRoomForAll s.config s.subscriptions.sleeping s.emissions };
 }
 
 // It lies under the lock in a box, so that a call moves no more than a pointer.
@@ -94,7 +94,7 @@ impl Shared {
         let may_wait = matches!(config.policy, Policy::Suspend);
         let (flag, keeper) = Flag::new(alloc)?;
         let track = Arc::new(alloc, Track::new(lane, may_wait, flag))?;
-        let subscriptions = Sleepers::new(alloc, config.subscribers as usize)?;
+        let subscriptions = WaitList::new(alloc, config.subscribers as usize)?;
         let emissions = SleepingEmissions::new(alloc, config.emits as usize)?;
         Ok(Shared {
             config,
@@ -122,7 +122,7 @@ impl Shared {
         before: u64,
         ended: Option<u64>,
         taken: Option<u64>,
-        wakes: &mut Wakes,
+        wakes: &mut WakeList,
     )
         requires nobody { NobodySleeps wakes.old.subscriptions }
         requires room { HasRoomFor self.old.name.config wakes.old }
@@ -138,7 +138,7 @@ impl Shared {
     // Wakes the subscriptions that sleep, where something was accepted since the number `before` was the next one, or else the one
     // that was ended.
     #[inline(always)]
-    fn wake_subscriptions(&mut self, before: u64, ended: Option<u64>, wakes: &mut Wakes)
+    fn wake_subscriptions(&mut self, before: u64, ended: Option<u64>, wakes: &mut WakeList)
         requires nobody { NobodySleeps wakes.old.subscriptions }
         requires room { HasRoomFor self.old.name.config wakes.old }
         ensures room { HasRoomFor self.old.name.config wakes.new }
@@ -157,7 +157,7 @@ impl Shared {
     }
 
     // Wakes the subscription that was ended: its waker can't be thrown away.
-    fn wake_ended(&mut self, ended: Option<u64>, wakes: &mut Wakes)
+    fn wake_ended(&mut self, ended: Option<u64>, wakes: &mut WakeList)
         ensures wakes { HasAsMuchRoom wakes.old wakes.new }
         ensures same { self.new ≡ record self.old { subscriptions = self.new.subscriptions } }
         ensures others { OnlyThese (λ number. ended ≢ Some number) self.old.subscriptions self.new.subscriptions }
@@ -180,7 +180,7 @@ impl Shared {
     // Wakes the emissions that sleep and have to wait no more: those whose tickets are out still have to wait from one ticket on, and
     // but for the ticket that a round took back all are.
     #[inline(always)]
-    fn wake_emissions(&mut self, taken: Option<u64>, wakes: &mut Wakes)
+    fn wake_emissions(&mut self, taken: Option<u64>, wakes: &mut WakeList)
         requires { AreOutBut taken self.old }
         ensures same { (self.new.name ≡ self.old.name) × IsSameSequencer self.old.sequencer self.new.sequencer }
         ensures only { OnlyLoaded self.old.sequencer self.new.sequencer }
@@ -299,7 +299,7 @@ impl Shared {
     fn watch(&mut self, ticket: Option<Ticket>)
         ensures same { (self.new.name ≡ self.old.name) × IsSameSequencer self.old.sequencer self.new.sequencer × SleepOn self.old self.new }
         ensures raised { RaisedFor ticket self.old.sequencer self.new.raised }
-        ensures watched { Watched ticket self.old.sequencer self.new.sequencer }
+        ensures watched { AcceptsFor ticket self.old.sequencer self.new.sequencer }
     {
         let Some(_) = ticket else {
             return;
@@ -410,17 +410,17 @@ impl Shared {
         &mut self,
         ticket: Ticket,
         answer: Emit,
-        bed: &mut Bed,
+        wait_key: &mut WaitKey,
         cx: &mut Context<'_>,
     )
         ensures same { self.new ≡ record self.old { emissions = self.new.emissions } }
-        ensures waits { answer ≡ emit.Waiting → LiesDown ticket.0 self.old.emissions self.new.emissions }
+        ensures waits { answer ≡ emit.Waiting → Parks ticket.0 self.old.emissions self.new.emissions }
         ensures others { answer ≢ emit.Waiting → self.new ≡ self.old }
         ensures armed { IsArmed cx.new }
         ensures kept { Keeps cx.old cx.new }
     {
         if let Emit::Waiting = answer {
-            self.emissions.sleep(ticket, bed, cx);
+            self.emissions.sleep(ticket, wait_key, cx);
             return;
         }
         let _again: Poll<()> = cx.yield_now();

@@ -22,7 +22,7 @@ struct Row<'a> {
 }
 
 /// One emission may be in flight, so one may sleep.
-const ONE_BED: Config = Config {
+const ONE_SLEEPER: Config = Config {
     extra: 1,
     emits: 1,
     ..PLAIN
@@ -269,11 +269,11 @@ const ROWS: &[Row<'_>] = &[
             ((First, Ask, Done(0)), [0, 0, 1, 0, 0]),
         ],
     },
-    // It is let in by its own poll, since the receipt has woken nobody. One that finds the only bed taken doesn't sleep: its task is
+    // It is let in by its own poll, since the receipt has woken nobody. One that finds the only place taken doesn't sleep: its task is
     // woken at once.
     Row {
-        name: "a poll that ends its emission leaves the bed",
-        config: ONE_BED,
+        name: "a poll that ends its emission leaves the wait list",
+        config: ONE_SLEEPER,
         lines: &[
             ((A, Subscribe, Subscribed), [0, 0, 0, 0, 0]),
             ((First, Try(0), Accepted(0)), [0, 0, 0, 0, 0]),
@@ -292,10 +292,10 @@ const ROWS: &[Row<'_>] = &[
         ],
     },
     Row {
-        name: "a poll that ends a hand over leaves the bed",
+        name: "a poll that ends a hand over leaves the wait list",
         config: Config {
             extra: 0,
-            ..ONE_BED
+            ..ONE_SLEEPER
         },
         lines: &[
             ((A, Subscribe, Subscribed), [0, 0, 0, 0, 0]),
@@ -310,8 +310,8 @@ const ROWS: &[Row<'_>] = &[
         ],
     },
     Row {
-        name: "a withdrawal leaves the bed, whether it came too late or not",
-        config: ONE_BED,
+        name: "a withdrawal leaves the wait list, whether it came too late or not",
+        config: ONE_SLEEPER,
         lines: &[
             ((A, Subscribe, Subscribed), [0, 0, 0, 0, 0]),
             ((First, Try(0), Accepted(0)), [0, 0, 0, 0, 0]),
@@ -329,10 +329,10 @@ const ROWS: &[Row<'_>] = &[
         ],
     },
     Row {
-        name: "a cancelled subscription leaves the bed",
+        name: "a cancelled subscription leaves the wait list",
         config: Config {
             subscribers: 1,
-            ..ONE_BED
+            ..ONE_SLEEPER
         },
         lines: &[
             ((A, Subscribe, Subscribed), [0, 0, 0, 0, 0]),
@@ -348,8 +348,8 @@ const ROWS: &[Row<'_>] = &[
     },
     // Its own look lets the value in, which wakes all that sleep; the next value wakes it no more.
     Row {
-        name: "a poll that receives leaves the bed",
-        config: ONE_BED,
+        name: "a poll that receives leaves the wait list",
+        config: ONE_SLEEPER,
         lines: &[
             ((A, Subscribe, Subscribed), [0, 0, 0, 0, 0]),
             ((B, Subscribe, Subscribed), [0, 0, 0, 0, 0]),
@@ -366,10 +366,10 @@ const ROWS: &[Row<'_>] = &[
             ((A, Next, Pending), [1, 0, 0, 0, 0]),
         ],
     },
-    // The next emission that waits finds the bed.
+    // The next emission that waits finds the place.
     Row {
-        name: "who is closed while it waits leaves the bed",
-        config: ONE_BED,
+        name: "who is closed while it waits leaves the wait list",
+        config: ONE_SLEEPER,
         lines: &[
             ((A, Subscribe, Subscribed), [0, 0, 0, 0, 0]),
             ((First, Try(0), Accepted(0)), [0, 0, 0, 0, 0]),
@@ -381,8 +381,8 @@ const ROWS: &[Row<'_>] = &[
         ],
     },
     Row {
-        name: "who is closed after it was let in leaves the bed",
-        config: ONE_BED,
+        name: "who is closed after it was let in leaves the wait list",
+        config: ONE_SLEEPER,
         lines: &[
             ((A, Subscribe, Subscribed), [0, 0, 0, 0, 0]),
             ((First, Try(0), Accepted(0)), [0, 0, 0, 0, 0]),

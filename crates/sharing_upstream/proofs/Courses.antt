@@ -10,7 +10,7 @@ use Rattle.cold_flow.specs.Gather.{Gathered}
 use Rattle.cold_flow.specs.GatherLaws.{gathers_value, gathers_end, gathers_so_far, gathers_within}
 use Rattle.sharing_upstream.specs.declared.course.Course.{Course}
 use Rattle.sharing_upstream.specs.declared.course.Course.TheVariants.{Idle, Running, Broken}
-use Rattle.sharing_upstream.specs.Courses.{Asked, AnsweredPending, GoesOn, Ends, GaveAll, Gave, Waited}
+use Rattle.sharing_upstream.specs.Courses.{Asked, AnsweredPending, GoesOn, Ends, GaveAll, Gave, GaveNothing}
 
 module _ {U T E : Type 0} (may : U → Traces T E) (ended : U → Option (Cause E)) where
   -- no event yet
@@ -27,7 +27,7 @@ module _ {U T E : Type 0} (may : U → Traces T E) (ended : U → Option (Cause 
       (to, refl, λ t h. within t (gathers_value values (values ++ x ∷ []) (may between) (may to) x gave.0 refl t h))
 
   waited_run : (from : U) (values : List T) (between : U) (to : Course U E)
-      → Within (may from) (Gathered values (may between)) → Waited may ended between to → GoesOn may ended (Running from) values to
+      → Within (may from) (Gathered values (may between)) → GaveNothing may ended between to → GoesOn may ended (Running from) values to
   waited_run from values between Idle within waited = absurd waited
   waited_run from values between (Broken cause) within waited = absurd waited
   waited_run from values between (Running to) within waited =
@@ -87,7 +87,7 @@ module _ {U T E : Type 0} (may : U → Traces T E) (ended : U → Option (Cause 
   pub asked_pending : (from to : Course U E) (was is : U) → from ≡ Running was → to ≡ Running is
       → Within (may was) (may is) → ended is ≡ None → Asked may ended from Pending to
   asked_pending from to was is was_from is_to within going =
-      let waited : Waited may ended was to = subst (λ (c : Course U E). Waited may ended was c) (sym is_to) (within, going) in
+      let waited : GaveNothing may ended was to = subst (λ (c : Course U E). GaveNothing may ended was c) (sym is_to) (within, going) in
       subst (λ (c : Course U E). Asked may ended c Pending to) (sym was_from) waited
 
 -- the runs that a pending answer tells of

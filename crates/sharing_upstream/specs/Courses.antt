@@ -49,10 +49,10 @@ module _ {U T E : Type 0} (may : U → Traces T E) (ended : U → Option (Cause 
   Gave from x (Broken cause) = ⊥
 
   -- the run gave nothing yet, and goes on
-  abbrev pub Waited : U → Course U E → Type 0
-  Waited from Idle = ⊥
-  Waited from (Running to) = Within (may from) (may to) × (ended to ≡ None)
-  Waited from (Broken cause) = ⊥
+  abbrev pub GaveNothing : U → Course U E → Type 0
+  GaveNothing from Idle = ⊥
+  GaveNothing from (Running to) = Within (may from) (may to) × (ended to ≡ None)
+  GaveNothing from (Broken cause) = ⊥
 
   -- what the run answered that was asked for one event, and how the upstream stands then; where no run is going, nothing happens
   abbrev pub Asked : Course U E → Poll (Option T) → Course U E → Type 0
@@ -60,7 +60,7 @@ module _ {U T E : Type 0} (may : U → Traces T E) (ended : U → Option (Cause 
   Asked (Broken cause) result to = (result ≡ Ready None) × (to ≡ Broken cause)
   Asked (Running from) (Ready (Some x)) to = Gave from x to
   Asked (Running from) (Ready None) to = (cause : Cause E) × may from (ended_by [] cause) × (to ≡ after_end cause)
-  Asked (Running from) Pending to = Waited from to
+  Asked (Running from) Pending to = GaveNothing from to
 
   -- ---- after several events
 

@@ -40,6 +40,7 @@
 mod audience;
 mod command;
 mod course;
+mod decision;
 mod destination;
 mod feeding;
 mod kept;
@@ -50,7 +51,6 @@ mod polling;
 pub mod polls;
 mod progress;
 mod strategy;
-mod turn;
 mod upstream;
 
 pub use destination::Destination;

@@ -8,10 +8,10 @@ ghost use Rattle.sharing_upstream.specs.Polls.{ShowsMore, Answers};
 ghost use Rattle.sharing_upstream.specs.Sharings.{IsRefusedAt};
 ghost use Rattle.sharing_upstream.specs.Upstreams.{flow_of, course_of, has_run, cause_kept, PollsAt};
 
+use crate::decision::Decision;
 use crate::destination::Destination;
 use crate::polled::Polled;
 use crate::strategy::Strategy;
-use crate::turn::Turn;
 use crate::upstream::Upstream;
 use cold_flow::{Flow, Refusal, Word};
 use futures::task::Context;
@@ -41,15 +41,15 @@ pub fn poll_sharing<T: Word, F: Flow<Item = T>, D: Destination<T>>(
     ensures wakes { Keeps cx.old cx.new }
 {
     let count = destination.count();
-    let turn = Turn::of(strategy, now, count);
+    let decision = Decision::of(strategy, now, count);
     if upstream.fault().is_some() {
-        strategy.kept = turn.kept;
-        return Ok(turn.polled.over());
+        strategy.kept = decision.kept;
+        return Ok(decision.polled.over());
     }
-    upstream.obey(destination, turn.command)?;
-    strategy.kept = turn.kept;
-    if turn.polled.on {
+    upstream.obey(destination, decision.command)?;
+    strategy.kept = decision.kept;
+    if decision.polled.on {
         upstream.share(destination, cx);
     }
-    Ok(turn.polled)
+    Ok(decision.polled)
 }

@@ -1,7 +1,7 @@
 -- What joins the log of a subscription, and what leaves it.
 use Rattle.std.proofs.Common.{◌≡◌, ◌+◌, ℕ, zero, suc, Some, List, [], ◌∷◌, ◌++◌, slice_get, refl, sym, ap, ◌∙◌, subst, append_assoc, append-nil}
 use Rattle.round_lock.specs.Locking.{Locking}
-use Rattle.round_lock.specs.History.{Begins}
+use Rattle.flow_terms.specs.Lists.{IsPrefix}
 use Rattle.value_flows.specs.declared.round.Round.{Round}
 use Rattle.value_flows.specs.declared.round.Round.TheVariants as round
 use Rattle.value_flows.specs.declared.ring.Ring.{Ring}
@@ -44,13 +44,13 @@ module _ {T : Type 0} (is_clone : T → T → Type 0) where
   clones_push values (n ∷ numbers) (e ∷ log) number value entry got clone are = (are.0, clones_push values numbers log number value entry got clone are.1)
 
   -- what the flow accepted meanwhile changes nothing in the log
-  seen_on : (owner : Locking (Ring T) Round) (calls : List (ℕ × Round × Ring T)) (log : List T) → Begins calls owner.log.seen → IsLogOf is_clone owner log → AreClones is_clone (accepted_in calls) (all_by given_by owner.log.own) log
+  seen_on : (owner : Locking (Ring T) Round) (calls : List (ℕ × Round × Ring T)) (log : List T) → IsPrefix owner.log.seen calls → IsLogOf is_clone owner log → AreClones is_clone (accepted_in calls) (all_by given_by owner.log.own) log
   seen_on owner calls log begins is =
       subst (λ (l : List T). AreClones is_clone l (all_by given_by owner.log.own) log) (sym (ap accepted_in begins.1 ∙ accepted_on owner.log.seen begins.0))
       (clones_on (accepted owner) (accepted_in begins.0) (all_by given_by owner.log.own) log is)
 
   -- nor does a call that gave nothing
-  stays : (before after : Locking (Ring T) Round) (calls : List (ℕ × Round × Ring T)) (r : Round) (left : Ring T) (log : List T) → given_by r ≡ [] → Begins calls before.log.seen → after ≡ after_call calls r left before → accepted after ≡ accepted_in calls
+  stays : (before after : Locking (Ring T) Round) (calls : List (ℕ × Round × Ring T)) (r : Round) (left : Ring T) (log : List T) → given_by r ≡ [] → IsPrefix before.log.seen calls → after ≡ after_call calls r left before → accepted after ≡ accepted_in calls
       → IsLogOf is_clone before log → IsLogOf is_clone after log
   stays before after calls r left log none begins only same is =
       subst (λ (l : List T). AreClones is_clone l (all_by given_by after.log.own) log) (sym same)

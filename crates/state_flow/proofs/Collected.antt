@@ -2,7 +2,7 @@
 use Rattle.std.proofs.Common.{◌≡◌, ◌++◌, Option, Some, None, append-nil, sym, ◌∙◌}
 use Rattle.state_flow.specs.declared.view.View.{View}
 use Rattle.state_flow.specs.Calls.{Collects}
-use Rattle.state_flow.specs.Collected.{some_of}
+use Rattle.flow_terms.specs.Lists.{some_of}
 
 module _ {T : Type 0} where
   -- a collector was given what it had been given, and then what this ask gave

@@ -2,7 +2,8 @@
 use Rattle.std.proofs.Common.{◌≡◌, ◌≢◌, ℕ, List, [], ◌∷◌, ◌++◌, Option, Some, None, sym, refl, ap, ◌∙◌}
 use Rattle.std.specs.Option.{option_map}
 use Rattle.state_flow.specs.declared.view.View.{View}
-use Rattle.state_flow.specs.History.{last_of, Continues}
+use Rattle.flow_terms.specs.Lists.{IsPrefix}
+use Rattle.state_flow.specs.History.{last_of}
 use Rattle.state_flow.specs.Calls.{Asks, IsGiven, with_given}
 use Rattle.state_flow.proofs.Lists.{last_snoc, picks_none, picks_on, picks_last}
 
@@ -13,7 +14,7 @@ module _ {T : Type 0} (word : T → ℕ) where
   pub given_none : (v : V) → IsGiven word [] None v
   given_none v = record { picks = picks_none v.seen; last_is = refl }
 
-  pub given_still : (given : List T) (last : Option ℕ) (v w : V) → IsGiven word given last v → Continues w.seen v.seen → IsGiven word given last w
+  pub given_still : (given : List T) (last : Option ℕ) (v w : V) → IsGiven word given last v → IsPrefix v.seen w.seen → IsGiven word given last w
   given_still given last v w was more = record { picks = picks_on given v.seen w.seen more was.picks; last_is = was.last_is }
 
   pub given_more : (given : List T) (last now : Option ℕ) (one : Option T) (v w : V) → IsGiven word given last v → Asks word v last one now w → IsGiven word (with_given given one) now w

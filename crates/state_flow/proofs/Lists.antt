@@ -6,7 +6,8 @@ use mathlib.Core.Option.{some, some-injective, some-ne-none}
 use native.Mathlib.Decide.{ℕ_discrete}
 use lib.ListN.{get_elem?}
 use Rattle.atomic_table.proofs.Lists.{at_longer}
-use Rattle.state_flow.specs.History.{last_of, Continues, Writes, Picks}
+use Rattle.flow_terms.specs.Lists.{IsPrefix}
+use Rattle.state_flow.specs.History.{last_of, Writes, Picks}
 
 module _ {X : Type 0} where
   abbrev pick : {P : Type 0} → Dec P → X → X → X
@@ -81,21 +82,21 @@ module _ {A : Type 0} where
   at_last_is (y ∷ (z ∷ zs)) zero x e l = absurd (omega arith)
   at_last_is (y ∷ (z ∷ zs)) (suc i) x e l = at_last_is (z ∷ zs) i x e (omega arith)
 
-  pub continues_itself : (xs : List A) → Continues xs xs
-  continues_itself xs = ([], sym (append_none xs))
+  pub prefix_self : (xs : List A) → IsPrefix xs xs
+  prefix_self xs = ([], sym (append_none xs))
 
-  pub continues_none : (xs : List A) → Continues xs []
-  continues_none xs = (xs, refl)
+  pub prefix_none : (xs : List A) → IsPrefix [] xs
+  prefix_none xs = (xs, refl)
 
-  pub continues_on : (xs ys zs : List A) → Continues xs ys → Continues ys zs → Continues xs zs
-  continues_on xs ys zs a b = (b.0 ++ a.0, a.1 ∙ (ap (λ (l : List A). l ++ a.0) b.1 ∙ append_assoc zs b.0 a.0))
+  pub prefix_then : (xs ys zs : List A) → IsPrefix ys xs → IsPrefix zs ys → IsPrefix zs xs
+  prefix_then xs ys zs a b = (b.0 ++ a.0, a.1 ∙ (ap (λ (l : List A). l ++ a.0) b.1 ∙ append_assoc zs b.0 a.0))
 
-  pub continues_at : (xs ys : List A) → Continues xs ys → (i : ℕ) (y : A) → get_elem? ys i ≡ some y → get_elem? xs i ≡ some y
-  continues_at xs ys c i y e = ap (λ (l : List A). get_elem? l i) c.1 ∙ at_longer ys c.0 i y e
+  pub prefix_at : (xs ys : List A) → IsPrefix ys xs → (i : ℕ) (y : A) → get_elem? ys i ≡ some y → get_elem? xs i ≡ some y
+  prefix_at xs ys c i y e = ap (λ (l : List A). get_elem? l i) c.1 ∙ at_longer ys c.0 i y e
 
-  pub comparable : (xs ys a b : List A) → xs ++ a ≡ ys ++ b → Continues xs ys ⊎ Continues ys xs
-  comparable [] ys a b e = inr (continues_none ys)
-  comparable (x ∷ xs) [] a b e = inl (continues_none (x ∷ xs))
+  pub comparable : (xs ys a b : List A) → xs ++ a ≡ ys ++ b → IsPrefix ys xs ⊎ IsPrefix xs ys
+  comparable [] ys a b e = inr (prefix_none ys)
+  comparable (x ∷ xs) [] a b e = inl (prefix_none (x ∷ xs))
   comparable (x ∷ xs) (y ∷ ys) a b e =
       let head : x ≡ y = cc in
       let tail : xs ++ a ≡ ys ++ b = cc in
@@ -109,7 +110,7 @@ module _ {A : Type 0} where
   writes_last xs x ys (yes e) w = ap last_of (w.0 e) ∙ e
   writes_last xs x ys (no n) w = ap last_of (w.1 n) ∙ last_snoc xs x
 
-  pub writes_on : (xs : List A) (x : A) (ys : List A) → Dec (last_of xs ≡ Some x) → Writes xs x ys → Continues ys xs
+  pub writes_on : (xs : List A) (x : A) (ys : List A) → Dec (last_of xs ≡ Some x) → Writes xs x ys → IsPrefix xs ys
   writes_on xs x ys (yes e) w = ([], w.0 e ∙ sym (append_none xs))
   writes_on xs x ys (no n) w = (x ∷ [], w.1 n)
 
@@ -126,11 +127,11 @@ module _ {A : Type 0} where
     no_equal_neighbours = λ i x y e _. absurd (some-ne-none x (sym e));
   }
 
-  pub picks_on : (xs history longer : List A) → Continues longer history → Picks xs history → Picks xs longer
+  pub picks_on : (xs history longer : List A) → IsPrefix history longer → Picks xs history → Picks xs longer
   picks_on xs history longer c p = record {
     index_of = p.index_of;
     rising = p.rising;
-    stands = λ i x e. continues_at longer history c (p.index_of i) x (p.stands i x e);
+    stands = λ i x e. prefix_at longer history c (p.index_of i) x (p.stands i x e);
     no_equal_neighbours = p.no_equal_neighbours;
   }
 

@@ -9,11 +9,12 @@ use lib.ListN.{get_elem?}
 use Rattle.atomic_table.specs.Table.{Splits, Joins, opening as table_opening}
 use Rattle.atomic_table.proofs.Lists.{at_set, set_here, set_else, at_snoc, at_longer}
 use Rattle.state_flow.specs.declared.view.View.{View}
-use Rattle.state_flow.specs.History.{Continues, IsHistory}
+use Rattle.flow_terms.specs.Lists.{IsPrefix}
+use Rattle.state_flow.specs.History.{IsHistory}
 use Rattle.state_flow.specs.History.IsHistory.{made}
 use Rattle.state_flow.specs.Views.{opening, spent, running, giver, taker, keeper}
 use Rattle.state_flow.specs.Law.{Fits, Rule, collectors_in}
-use Rattle.state_flow.proofs.Lists.{at_inside, continues_itself, continues_none, picks_none}
+use Rattle.state_flow.proofs.Lists.{at_inside, prefix_self, prefix_none, picks_none}
 use Rattle.state_flow.proofs.Sums.{sum_by-changed}
 
 -- a seat that neither collects nor runs a collector
@@ -201,11 +202,11 @@ module _ {T : Type 0} (word : T → ℕ) (fits : T → Type 0) (key : T × ℕ) 
   since x zero = []
   since x (suc _) = x ∷ []
 
-  since_grows : (x : T) (m n : ℕ) → m ≤ n → Continues (since x n) (since x m)
+  since_grows : (x : T) (m n : ℕ) → m ≤ n → IsPrefix (since x m) (since x n)
   unfolding since
-  since_grows x zero n le = continues_none (since x n)
+  since_grows x zero n le = prefix_none (since x n)
   since_grows x (suc m) zero le = absurd (omega arith)
-  since_grows x (suc m) (suc n) le = continues_itself (x ∷ [])
+  since_grows x (suc m) (suc n) le = prefix_self (x ∷ [])
 
   since_history : (x : T) (n : ℕ) → 0 < n → IsHistory (since x n)
   unfolding since

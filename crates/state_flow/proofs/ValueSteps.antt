@@ -8,13 +8,14 @@ use prog.Atomic.{either}
 use Rattle.atomic_table.specs.Table.{Me, step, keeps, stepped, Allows}
 use Rattle.atomic_table.proofs.Lists.{at_set, set_here}
 use Rattle.state_flow.specs.declared.view.View.{View}
-use Rattle.state_flow.specs.History.{last_of, Continues, Writes, IsHistory, Picks}
+use Rattle.flow_terms.specs.Lists.{IsPrefix}
+use Rattle.state_flow.specs.History.{last_of, Writes, IsHistory, Picks}
 use Rattle.state_flow.specs.History.IsHistory.{written}
 use Rattle.state_flow.specs.Views.{stepped_to, writing, running}
 use Rattle.state_flow.specs.Calls.{Extends}
 use Rattle.state_flow.specs.Law.{Fits, StateLaw, Rule}
 use Rattle.state_flow.specs.Steps.{Moment, looked, gathered, put as was_put, compared}
-use Rattle.state_flow.proofs.Lists.{put, put_here, put_else, at_inside, last_at, continues_itself, continues_on, continues_at, write, writes_last, writes_on, writes_all, picks_on, picks_last}
+use Rattle.state_flow.proofs.Lists.{put, put_here, put_else, at_inside, last_at, prefix_self, prefix_then, prefix_at, write, writes_last, writes_on, writes_all, picks_on, picks_last}
 use Rattle.state_flow.proofs.Sums.{sum_by-changed, le-sum_by}
 use Rattle.state_flow.proofs.Shares.{knew_all}
 
@@ -50,13 +51,13 @@ module _ {T : Type 0} (word : T → ℕ) (fits : T → Type 0) (apart : (x y : T
 
     knows : (id : ℕ) (v : V) → get_elem? vs id ≡ some v → Extends v history
     knows id v at = let mine = r.each id v at in record {
-      seen = subst (λ (l : List T). Continues history l) (sym mine.seen_is) (r.grows v.turn r.turns mine.turn_by (omega arith));
-      told = subst (λ (l : List T). Continues history l) (sym mine.told_is) (r.grows v.told_turn r.turns mine.told_by (omega arith));
+      seen = subst (λ (l : List T). IsPrefix l history) (sym mine.seen_is) (r.grows v.turn r.turns mine.turn_by (omega arith));
+      told = subst (λ (l : List T). IsPrefix l history) (sym mine.told_is) (r.grows v.told_turn r.turns mine.told_by (omega arith));
     }
 
     fits_collected : (id : ℕ) (v : V) → get_elem? vs id ≡ some v → (y : T) → last_of v.collected ≡ Some y → fits y
     fits_collected id v at y e = let picks = (r.each id v at).picks in let t = last_at v.collected y e in
-        r.proper (picks.index_of t.0) y (continues_at history v.seen (knows id v at).seen (picks.index_of t.0) y (picks.stands t.0 y t.1.1))
+        r.proper (picks.index_of t.0) y (prefix_at history v.seen (knows id v at).seen (picks.index_of t.0) y (picks.stands t.0 y t.1.1))
 
     dec_collected : (id : ℕ) (v : V) → get_elem? vs id ≡ some v → (x : T) → fits x → Dec (last_of v.collected ≡ Some x)
     dec_collected id v at x f = dec_some (last_of v.collected) x (fits_collected id v at) f
@@ -84,7 +85,7 @@ module _ {T : Type 0} (word : T → ℕ) (fits : T → Type 0) (apart : (x y : T
     grown h = put r.history_at (r.turns + 1) h
 
     -- a step on the value, which leaves the history h with the last value x, and the seat with xs collected and k values written
-    value_step : (id n : ℕ) (v : V) (h : List T) (x : T) (xs : List T) (k : ℕ) → k + length history ≡ v.writes + length h → get_elem? vs id ≡ some v → 0 < v.share → Picks xs h → Continues h history → IsHistory h → last_of h ≡ Some x
+    value_step : (id n : ℕ) (v : V) (h : List T) (x : T) (xs : List T) (k : ℕ) → k + length history ≡ v.writes + length h → get_elem? vs id ≡ some v → 0 < v.share → Picks xs h → IsPrefix history h → IsHistory h → last_of h ≡ Some x
         → ((i : ℕ) (y : T) → get_elem? h i ≡ some y → fits y) → n ≡ word x → K (set ws 0 n) (set vs id (after_value v h xs k))
     value_step id n v h x xs k wrote at more picks on is_history last proper is =
         let t : ℕ = r.turns + 1 in
@@ -154,17 +155,17 @@ module _ {T : Type 0} (word : T → ℕ) (fits : T → Type 0) (apart : (x y : T
         still : (k : ℕ) → k < r.turns + 1 → grown h k ≡ r.history_at k
         still k less = put_else r.history_at (r.turns + 1) h k (λ e. omega arith)
 
-        grows_at : (j k : ℕ) → j ≤ k → k ≤ r.turns + 1 → Dec (k ≡ r.turns + 1) → Dec (j ≡ r.turns + 1) → Continues (grown h k) (grown h j)
-        grows_at j k le by (yes e) (yes f) = subst (λ (l : List T). Continues l (grown h j)) (put_here r.history_at (r.turns + 1) h j f ∙ sym (put_here r.history_at (r.turns + 1) h k e)) (continues_itself (grown h j))
-        grows_at j k le by (yes e) (no f) = subst (λ (l : List T). Continues l (grown h j)) (sym (put_here r.history_at (r.turns + 1) h k e))
-            (subst (λ (l : List T). Continues h l) (sym (put_else r.history_at (r.turns + 1) h j f)) (continues_on h history (r.history_at j) on (r.grows j r.turns (omega arith) (omega arith))))
+        grows_at : (j k : ℕ) → j ≤ k → k ≤ r.turns + 1 → Dec (k ≡ r.turns + 1) → Dec (j ≡ r.turns + 1) → IsPrefix (grown h j) (grown h k)
+        grows_at j k le by (yes e) (yes f) = subst (λ (l : List T). IsPrefix (grown h j) l) (put_here r.history_at (r.turns + 1) h j f ∙ sym (put_here r.history_at (r.turns + 1) h k e)) (prefix_self (grown h j))
+        grows_at j k le by (yes e) (no f) = subst (λ (l : List T). IsPrefix (grown h j) l) (sym (put_here r.history_at (r.turns + 1) h k e))
+            (subst (λ (l : List T). IsPrefix l h) (sym (put_else r.history_at (r.turns + 1) h j f)) (prefix_then h history (r.history_at j) on (r.grows j r.turns (omega arith) (omega arith))))
         grows_at j k le by (no e) (yes f) = absurd (omega arith)
-        grows_at j k le by (no e) (no f) = subst (λ (l : List T). Continues l (grown h j)) (sym (put_else r.history_at (r.turns + 1) h k e))
-            (subst (λ (l : List T). Continues (r.history_at k) l) (sym (put_else r.history_at (r.turns + 1) h j f)) (r.grows j k le (omega arith)))
+        grows_at j k le by (no e) (no f) = subst (λ (l : List T). IsPrefix (grown h j) l) (sym (put_else r.history_at (r.turns + 1) h k e))
+            (subst (λ (l : List T). IsPrefix l (r.history_at k)) (sym (put_else r.history_at (r.turns + 1) h j f)) (r.grows j k le (omega arith)))
 
     -- a step that leaves the value as it is
     same_value : (id : ℕ) (v : V) (xs : List T) → get_elem? vs id ≡ some v → 0 < v.share → Picks xs history → K (set ws 0 (get_or ws 0 0)) (set vs id (after_value v history xs v.writes))
-    same_value id v xs at more picks = value_step id (get_or ws 0 0) v history r.value xs v.writes refl at more picks (continues_itself history) (moment id v at more).is_history r.last r.proper r.value_word
+    same_value id v xs at more picks = value_step id (get_or ws 0 0) v history r.value xs v.writes refl at more picks (prefix_self history) (moment id v at more).is_history r.last r.proper r.value_word
 
     -- what the seat collected is picked from the whole history too
     picks_now : (id : ℕ) (v : V) → get_elem? vs id ≡ some v → Picks v.collected history

@@ -5,7 +5,8 @@ use Rattle.std.specs.Option.{option_map}
 use Rattle.futures.specs.declared.task.Poll.{Poll}
 use Rattle.futures.specs.declared.task.Poll.TheVariants.{Ready, Pending}
 use Rattle.state_flow.specs.declared.view.View.{View}
-use Rattle.state_flow.specs.History.{last_of, Continues, Writes, IsHistory, Picks}
+use Rattle.flow_terms.specs.Lists.{IsPrefix}
+use Rattle.state_flow.specs.History.{last_of, Writes, IsHistory, Picks}
 use Rattle.state_flow.specs.Views.{HasAll, stepped_to, writing, keeper, counting, starting, stopping, hosting}
 
 -- what a poll gave
@@ -16,8 +17,8 @@ taken Pending = None
 module _ {T : Type 0} where
   -- the history begins with all that the seat had seen and was told
   pub record Extends (before : View T) (history : List T) : Type 0 where
-    pub seen : Continues history before.seen
-    pub told : Continues history before.told
+    pub seen : IsPrefix before.seen history
+    pub told : IsPrefix before.told history
 
   -- one step on the value, later in the order of all steps on it than those that the seat knew of
   pub record StepsOnce (before after : View T) : Type 0 where
@@ -75,8 +76,8 @@ module _ {T : Type 0} where
   -- a seat took another back, and made one load
   pub record TakesBack (before other after : View T) : Type 0 where
     pub one_step : StepsOnce (keeper before other) after
-    pub extends : Continues after.seen before.seen
-    pub extends_other : Continues after.seen other.seen
+    pub extends : IsPrefix before.seen after.seen
+    pub extends_other : IsPrefix other.seen after.seen
     pub is_history : IsHistory after.seen
 
   -- one load of the number of collectors

@@ -1,5 +1,5 @@
 -- What a caller has of a collector: the values that it was given since it began, in order, and what these have to do with the state.
-use Rattle.std.specs.Prelude.{List, [], ◌∷◌, Option, Some, None}
+use Rattle.std.specs.Prelude.{List, [], ◌∷◌}
 use Rattle.futures.specs.declared.task.Poll.{Poll}
 use Rattle.futures.specs.declared.task.Poll.TheVariants.{Ready, Pending}
 use Rattle.state_flow.specs.History.{IsHistory, Picks}
@@ -10,10 +10,6 @@ abbrev pub collected : {T : Type 0} → SeatSeen T → List T
 collected c = c.view.collected
 
 -- the value in an answer, if there is one, as a list
-abbrev pub some_of : {T : Type 0} → Option T → List T
-some_of (Some x) = x ∷ []
-some_of None = []
-
 abbrev pub ready_of : {T : Type 0} → Poll T → List T
 ready_of (Ready x) = x ∷ []
 ready_of Pending = []

@@ -8,10 +8,6 @@ module _ {T : Type 0} where
   abbrev pub last_of : List T → Option T
   last_of = last_or None
 
-  -- the longer list begins with the other
-  abbrev pub Continues : List T → List T → Type 0
-  Continues longer xs = (more : List T) × (longer ≡ xs ++ more)
-
   -- the history after x was written: x joins it where it differs from the value at that moment
   abbrev pub Writes : List T → T → List T → Type 0
   Writes before x after = (last_of before ≡ Some x → after ≡ before) × (last_of before ≢ Some x → after ≡ before ++ x ∷ [])

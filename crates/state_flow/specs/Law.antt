@@ -6,7 +6,8 @@ use mathlib.Core.Option.{some}
 use lib.ListN.{get_elem?}
 use Rattle.atomic_table.specs.Table.{State}
 use Rattle.state_flow.specs.declared.view.View.{View}
-use Rattle.state_flow.specs.History.{last_of, Continues, IsHistory, Picks}
+use Rattle.flow_terms.specs.Lists.{IsPrefix}
+use Rattle.state_flow.specs.History.{last_of, IsHistory, Picks}
 use Rattle.state_flow.specs.Views.{spent, running}
 
 module _ {T : Type 0} where
@@ -51,7 +52,7 @@ module _ {T : Type 0} where
     pub history_at : ℕ → List T
     pub before_making : history_at 0 ≡ []
     pub at_making : history_at 1 ≡ first ∷ []
-    pub grows : (m n : ℕ) → m ≤ n → n ≤ turns → Continues (history_at n) (history_at m)
+    pub grows : (m n : ℕ) → m ≤ n → n ≤ turns → IsPrefix (history_at m) (history_at n)
     pub is_history : (n : ℕ) → 0 < n → n ≤ turns → IsHistory (history_at n)
     -- beside the first value it has just those that the seats wrote
     pub written : length (history_at turns) ≡ writes_in views + 1
@@ -80,7 +81,7 @@ module _ {T : Type 0} where
   -- of two seats the one with the later step has seen all that the other has
   abbrev pub LaterHasSeenAll : State (Unit {0}) (View T) → Type 0
   LaterHasSeenAll s = (i j : ℕ) (v w : View T) → get_elem? s.views i ≡ some v → get_elem? s.views j ≡ some w
-      → v.turn ≤ w.turn → Continues w.seen v.seen
+      → v.turn ≤ w.turn → IsPrefix v.seen w.seen
 
   -- the seat with this number is one of these
   abbrev pub Among : List (ℕ × View T) → ℕ → Type 0
@@ -115,7 +116,7 @@ module _ {T : Type 0} where
     pub history_at : ℕ → List T
     pub begins : history_at 1 ≡ first ∷ []
     pub turns : ℕ
-    pub grows : (m n : ℕ) → m ≤ n → n ≤ turns → Continues (history_at n) (history_at m)
+    pub grows : (m n : ℕ) → m ≤ n → n ≤ turns → IsPrefix (history_at m) (history_at n)
     pub is_history : IsHistory (history_at turns)
     pub seen : (i : ℕ) (v : View T) → get_elem? s.views i ≡ some v → (v.turn ≤ turns) × (v.seen ≡ history_at v.turn)
     pub collected : (i : ℕ) (v : View T) → get_elem? s.views i ≡ some v → Picks v.collected (history_at turns)

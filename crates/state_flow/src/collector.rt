@@ -5,7 +5,8 @@ ghost use Rattle.futures.specs.Poll.{OnPending};
 ghost use Rattle.futures.specs.Task.{IsArmed, Keeps};
 ghost use Rattle.state_flow.specs.Views.{seen_by, IsSeated, HasAll};
 ghost use Rattle.state_flow.specs.Calls.{Collects, CollectsAlone, Ends, taken};
-ghost use Rattle.state_flow.specs.Collected.{collected, some_of, ready_of, IsPickedFromHistory};
+ghost use Rattle.flow_terms.specs.Lists.{some_of};
+ghost use Rattle.state_flow.specs.Collected.{collected, ready_of, IsPickedFromHistory};
 
 use crate::flow::StateFlow;
 use crate::seat::StateSeat;

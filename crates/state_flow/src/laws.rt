@@ -2,7 +2,7 @@
 ghost use Rattle.std.specs.Prelude.{ℕ, List, [], Option, None};
 ghost use Rattle.atomic_table.specs.Table.{State};
 ghost use Rattle.state_flow.specs.declared.view.View.{View};
-ghost use Rattle.state_flow.specs.History.{Continues};
+ghost use Rattle.flow_terms.specs.Lists.{IsPrefix};
 ghost use Rattle.state_flow.specs.Calls.{Asks, IsGiven, with_given};
 ghost use Rattle.state_flow.specs.Law.{Rule, LaterHasSeenAll, HasOneHistory};
 
@@ -21,6 +21,6 @@ pub fn one_history<T: Word>()
 /// the history that the seat has seen, without equal neighbours; and it stays so while the seat sees more.
 pub fn given_is_picked<T: Word>()
     ensures begins { (v : View T) → IsGiven T.word [] None v }
-    ensures stays { (given : List T) (last : Option ℕ) (v w : View T) → IsGiven T.word given last v → Continues w.seen v.seen → IsGiven T.word given last w }
+    ensures stays { (given : List T) (last : Option ℕ) (v w : View T) → IsGiven T.word given last v → IsPrefix v.seen w.seen → IsGiven T.word given last w }
     ensures asks { (given : List T) (last now : Option ℕ) (one : Option T) (v w : View T) → IsGiven T.word given last v → Asks T.word v last one now w → IsGiven T.word (with_given given one) now w }
 {}

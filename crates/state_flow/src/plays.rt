@@ -98,13 +98,13 @@ impl<T> Play<(), View<T>> for Tally {
 }
 
 /// How much of a seat's share a new seat gets: each call picks it, since a split has no operand that carries it.
-pub(crate) trait Part {
+pub(crate) trait GivenShare {
     ghost use Rattle.std.specs.Prelude.{ℕ};
 
     ghost part: { ℕ };
 }
 
-impl Part for Brand {
+impl GivenShare for Brand {
     ghost part = { 0 };
 }
 
@@ -113,7 +113,7 @@ pub(crate) struct Cut<J> {
     of: PhantomData<J>,
 }
 
-impl<T, J: Part> Split<View<T>> for Cut<J> {
+impl<T, J: GivenShare> Split<View<T>> for Cut<J> {
     ghost use Rattle.state_flow.specs.Views.{giver, taker};
 
     ghost left = { giver J.part };

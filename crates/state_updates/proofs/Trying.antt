@@ -1,19 +1,19 @@
 -- Tries of an update, one after another.
 use Rattle.std.proofs.Common.{◌≡◌, ℕ, ◌+◌, ◌*◌, List, [], ◌++◌, length, true, false, sym, ◌∙◌, ap, subst, append_assoc, add-zero, arith}
 use Rattle.state_flow.specs.declared.view.View.{View}
-use Rattle.state_flow.specs.History.{Continues}
+use Rattle.flow_terms.specs.Lists.{IsPrefix}
 use Rattle.state_flow.specs.Views.{stepped_to, writing}
 use Rattle.state_flow.specs.Calls.{Extends, Reads, Compares}
 use Rattle.state_updates.specs.Updating.{Updates, Missed}
 
 module _ {T : Type 0} where
-  continues_on : (a b c : List T) → Continues b a → Continues c b → Continues c a
-  continues_on a b c p q = (p.0 ++ q.0, q.1 ∙ ap (λ (l : List T). l ++ q.0) p.1 ∙ append_assoc a p.0 q.0)
+  prefix_then : (a b c : List T) → IsPrefix a b → IsPrefix b c → IsPrefix a c
+  prefix_then a b c p q = (p.0 ++ q.0, q.1 ∙ ap (λ (l : List T). l ++ q.0) p.1 ∙ append_assoc a p.0 q.0)
 
-  extends_on : (before : View T) (b c : List T) → Extends before b → Continues c b → Extends before c
+  extends_on : (before : View T) (b c : List T) → Extends before b → IsPrefix b c → Extends before c
   extends_on before b c e more = record {
-    seen = continues_on before.seen b c e.seen more;
-    told = continues_on before.told b c e.told more;
+    seen = prefix_then before.seen b c e.seen more;
+    told = prefix_then before.told b c e.told more;
   }
 
   -- a seat that made n steps on the value since
@@ -67,7 +67,7 @@ module _ {T : Type 0} where
         later = let first = read.one_step.later in let second = compared.one_step.later in omega arith;
         extends = λ h e.
             let found = extends_on before mid.seen compared.found read.extends compared.extends.seen in
-            extends_on before compared.found h found (subst (λ (l : List T). Continues h l) compared.answers.1 e.seen);
+            extends_on before compared.found h found (subst (λ (l : List T). IsPrefix l h) compared.answers.1 e.seen);
       }
 
   pub missed_none : (v : View T) → Missed 0 v v

@@ -1,11 +1,11 @@
 -- Asks of a wait, one after another.
 use Rattle.std.proofs.Common.{◌≡◌, List, ◌++◌, Option, Some, None, refl, ap, ◌∙◌}
 use Rattle.state_flow.specs.declared.view.View.{View}
-use Rattle.state_flow.specs.Collected.{some_of}
+use Rattle.flow_terms.specs.Lists.{some_of}
 use Rattle.state_flow.proofs.Collected.{collected_on}
 use Rattle.state_waiting.specs.declared.collected.Collected.{Collected}
 use Rattle.state_waiting.specs.declared.collected.Collected.TheVariants as collected
-use Rattle.state_waiting.specs.declared.collected.Turn.TheVariants as turn
+use Rattle.state_waiting.specs.declared.collected.Attempt.TheVariants as attempt
 use Rattle.state_waiting.specs.Waits.{AskedOn, Awaits, AwaitsWithin, Comes, MissedOn, not_once, once_more, value_of, value_within}
 
 module _ {T : Type 0} where
@@ -27,7 +27,7 @@ module _ {T : Type 0} where
   awaits_within v m w None before waited = asked_on v m w None before waited
 
   -- asks that gave nothing, and the turn that ends the wait
-  pub is_over : (v m w : View T) (c : Collected T) → MissedOn v m → Comes m (turn.Over c) w → Awaits v c w
+  pub is_over : (v m w : View T) (c : Collected T) → MissedOn v m → Comes m (attempt.Over c) w → Awaits v c w
   is_over v m w (collected.Value x) before came = (m, before, came)
   is_over v m w collected.Stopped before came = (m, before, came)
 

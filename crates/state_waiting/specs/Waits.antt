@@ -4,8 +4,8 @@ use Rattle.state_flow.specs.declared.view.View.{View}
 use Rattle.state_flow.specs.Calls.{Collects}
 use Rattle.state_waiting.specs.declared.collected.Collected.{Collected}
 use Rattle.state_waiting.specs.declared.collected.Collected.TheVariants as collected
-use Rattle.state_waiting.specs.declared.collected.Turn.{Turn}
-use Rattle.state_waiting.specs.declared.collected.Turn.TheVariants as turn
+use Rattle.state_waiting.specs.declared.collected.Attempt.{Attempt}
+use Rattle.state_waiting.specs.declared.collected.Attempt.TheVariants as attempt
 
 module _ {T : Type 0} where
   -- by asks, one after another, the collector was given nothing
@@ -37,7 +37,7 @@ module _ {T : Type 0} where
   value_within None = []
 
   -- what one turn of a wait comes to: one ask
-  abbrev pub Comes : View T → Turn T → View T → Type 0
-  Comes v (turn.Over (collected.Value x)) w = Collects v (Some x) w
-  Comes v (turn.Over collected.Stopped) w = Collects v None w
-  Comes v (turn.Asleep n) w = Collects v None w
+  abbrev pub Comes : View T → Attempt T → View T → Type 0
+  Comes v (attempt.Over (collected.Value x)) w = Collects v (Some x) w
+  Comes v (attempt.Over collected.Stopped) w = Collects v None w
+  Comes v (attempt.Asleep n) w = Collects v None w

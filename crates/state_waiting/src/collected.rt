@@ -10,7 +10,7 @@ pub enum Collected<T> {
 }
 
 /// What one turn of a wait came to.
-pub(crate) enum Turn<T> {
+pub(crate) enum Attempt<T> {
     /// The wait is over.
     Over(Collected<T>),
     /// There was nothing: the thread sleeps on this turn of the bell.

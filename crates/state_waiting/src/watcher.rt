@@ -1,10 +1,11 @@
 //! A collector of a state that sleeps until the state changes.
 ghost use Rattle.std.specs.Prelude.{◌≡◌, ◌++◌, Some, IfSome, IfNone};
 ghost use Rattle.state_flow.specs.Calls.{Collects, Ends};
-ghost use Rattle.state_flow.specs.Collected.{collected, some_of, IsPickedFromHistory};
+ghost use Rattle.flow_terms.specs.Lists.{some_of};
+ghost use Rattle.state_flow.specs.Collected.{collected, IsPickedFromHistory};
 ghost use Rattle.state_waiting.specs.Waits.{AskedOn, Awaits, AwaitsWithin, Comes, MissedOn, value_of, value_within};
 
-use crate::collected::{Collected, Turn};
+use crate::collected::{Attempt, Collected};
 use crate::seat::WatchedSeat;
 use flow_terms::Word;
 use state_bell::{Bell, Limit, Stopper, pause};
@@ -120,9 +121,9 @@ impl<T: Word> Watcher<T> {
         ensures same_flow { self.new.flow ≡ self.old.flow }
     {
         for _ in rt.forever() {
-            match self.turn() {
-                Turn::Over(collected) => return collected,
-                Turn::Asleep(turn) => self.bell.sleep(rt, turn),
+            match self.attempt() {
+                Attempt::Over(collected) => return collected,
+                Attempt::Asleep(turn) => self.bell.sleep(rt, turn),
             }
         }
         unreachable!()
@@ -135,17 +136,17 @@ impl<T: Word> Watcher<T> {
     {
         for _ in rt.forever() {
             let left = limit.left(rt);
-            match self.turn() {
-                Turn::Over(collected) => return Some(collected),
-                Turn::Asleep(_) if left.is_zero() => return None,
-                Turn::Asleep(turn) => self.bell.sleep_for(rt, turn, left),
+            match self.attempt() {
+                Attempt::Over(collected) => return Some(collected),
+                Attempt::Asleep(_) if left.is_zero() => return None,
+                Attempt::Asleep(turn) => self.bell.sleep_for(rt, turn, left),
             }
         }
         unreachable!()
     }
 
     // One turn of a wait: asks, and says on which turn to sleep where there is nothing.
-    fn turn(&mut self) -> Turn<T>
+    fn attempt(&mut self) -> Attempt<T>
         ensures same_flow { self.new.flow ≡ self.old.flow }
         ensures came { Comes self.old.view result self.new.view }
     {
@@ -153,12 +154,12 @@ impl<T: Word> Watcher<T> {
         let turn = self.bell.turn();
         let is_stopped = self.is_stopped();
         if let Some(value) = self.collector.try_next() {
-            return Turn::Over(Collected::Value(value));
+            return Attempt::Over(Collected::Value(value));
         }
         if is_stopped {
-            return Turn::Over(Collected::Stopped);
+            return Attempt::Over(Collected::Stopped);
         }
-        Turn::Asleep(turn)
+        Attempt::Asleep(turn)
     }
 
     /// Whether this watcher is let go: by a stop of all, or alone.

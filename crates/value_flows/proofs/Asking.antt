@@ -5,7 +5,7 @@ use Rattle.value_flows.specs.declared.round.Round.{Round}
 use Rattle.value_flows.specs.declared.ring.Ring.{Ring}
 use Rattle.value_flows.specs.declared.received.Awaited.{Awaited}
 use Rattle.value_flows.specs.declared.received.Awaited.TheVariants as awaited
-use Rattle.value_flows.specs.declared.received.Turn.TheVariants as turn
+use Rattle.value_flows.specs.declared.received.Attempt.TheVariants as attempt
 use Rattle.value_flows.specs.declared.received.Received.{Received}
 use Rattle.value_flows.specs.declared.received.Received.TheVariants as received
 use Rattle.value_flows.specs.Receiving.{AfterNone, FindsNone, Comes, ComesTo, FoundNoneOn, not_once, once_more}
@@ -31,7 +31,7 @@ module _ {T : Type 0} where
   comes_within v m w (Some a) before came = comes_on v m w a before came
 
   -- asks that found nothing, and the turn that ends the wait
-  pub is_over : (v m w : Locking (Ring T) Round) (a : Awaited T) → FoundNoneOn v m → Comes m (turn.Over a) w → ComesTo v a w
+  pub is_over : (v m w : Locking (Ring T) Round) (a : Awaited T) → FoundNoneOn v m → Comes m (attempt.Over a) w → ComesTo v a w
   is_over v m w (awaited.There guarded) before came = (came.0, (m, before, came.1))
   is_over v m w (awaited.Missed count) before came = (m, before, came)
   is_over v m w awaited.Stopped before came = (m, before, came)

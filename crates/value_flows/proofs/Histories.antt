@@ -2,7 +2,8 @@
 use Rattle.std.proofs.Common.{◌≡◌, ◌≢◌, ℕ, Option, Some, None, set, ◌+◌, ◌-◌, ◌<◌, ◌≤◌, min, max, List, [], ◌∷◌, ◌++◌, length, drop, slice_get, refl, sym, ap, ◌∙◌, subst, append_assoc, append-nil, length-append, arith}
 use Rattle.std.specs.List.{All}
 use Rattle.std.proofs.lemmas.List.Elements.{All-set, All-weaker}
-use Rattle.round_lock.specs.History.{After, Begins}
+use Rattle.flow_terms.specs.Lists.{IsPrefix}
+use Rattle.round_lock.specs.History.{After}
 use Rattle.round_lock.specs.History.After.{new, more}
 use Rattle.circular_buffer.specs.Buffer.{keep_last}
 use Rattle.flow_terms.specs.declared.policy.Policy.TheVariants as policy
@@ -33,8 +34,8 @@ module _ {T : Type 0} where
   accepted_on (u ∷ calls) later = ap (λ (l : List T). accepted_by u.1 u.2 ++ l) (accepted_on calls later) ∙ sym (append_assoc (accepted_by u.1 u.2) (accepted_in calls) (accepted_in later))
 
   -- the list of values only grows
-  pub accepted_begins : (calls start : List (ℕ × Round × Ring T)) → Begins calls start → length (accepted_in start) ≤ length (accepted_in calls)
-  accepted_begins calls start begins =
+  pub accepted_prefix : (calls start : List (ℕ × Round × Ring T)) → IsPrefix start calls → length (accepted_in start) ≤ length (accepted_in calls)
+  accepted_prefix calls start begins =
       let grown = ap accepted_in begins.1 ∙ accepted_on start begins.0 in
       let count = ap length grown ∙ length-append (accepted_in start) (accepted_in begins.0) in
       omega arith
@@ -85,8 +86,8 @@ module _ {T : Type 0} where
   stays : (calls : List (ℕ × Round × Ring T)) (pass : ℕ) (r : Round) (left t : Ring T) → IsLatest (accepted_in calls) left → t ≡ left → accepted_by r t ≡ [] → IsLatest (accepted_in (calls ++ (pass, r, t) ∷ [])) t
   stays calls pass r left t is same none = subst (λ l. IsLatest l t) (sym (accepted_stays calls (pass, r, t) none)) (subst (IsLatest (accepted_in calls)) (sym same) is)
 
-  begins_within : (accepted : List T) (s : Ring T) (start : ℕ) → IsLatest accepted s → start ≡ cache_start s → Reaches s.next s.values.capacity (Some start)
-  begins_within accepted s start is at = let few = is.replays in omega (arith, few, at)
+  prefix_within : (accepted : List T) (s : Ring T) (start : ℕ) → IsLatest accepted s → start ≡ cache_start s → Reaches s.next s.values.capacity (Some start)
+  prefix_within accepted s start is at = let few = is.replays in omega (arith, few, at)
 
   goes_within : (accepted : List T) (s : Ring T) (next : ℕ) → IsLatest accepted s → oldest_of s ≤ next → Reaches s.next s.values.capacity (Some next)
   goes_within accepted s next is low = let oldest = oldest_is accepted s is in let number = is.number in omega (arith, oldest, number, low)
@@ -98,7 +99,7 @@ module _ {T : Type 0} where
       let joins = accepted_more calls (pass, round.Emit, t) ∙ ap (λ (u : Ring T). accepted_in calls ++ accepted_by round.Emit u) does.1 ∙ ap (λ (l : List T). accepted_in calls ++ l) (newest_is (accepted_in calls) s value is) in
       subst (λ l. IsLatest l t) (sym joins) (subst (IsLatest (accepted_in calls ++ value ∷ [])) (sym does.1) (latest_with (accepted_in calls) s value does.2 is))
   latest_more calls s pass (round.Begin place start) t is does =
-      stays calls pass (round.Begin place start) (moved place (Some start) s) t (latest_moved (accepted_in calls) s place (Some start) (begins_within (accepted_in calls) s start is does.1) is) does.0 refl
+      stays calls pass (round.Begin place start) (moved place (Some start) s) t (latest_moved (accepted_in calls) s place (Some start) (prefix_within (accepted_in calls) s start is does.1) is) does.0 refl
   latest_more calls s pass (round.Give place number) t is does =
       let low = does.1.0 in
       stays calls pass (round.Give place number) (moved place (Some (number + 1)) s) t (latest_moved (accepted_in calls) s place (Some (number + 1)) (goes_within (accepted_in calls) s (number + 1) is (omega (arith, low))) is) does.0 refl

@@ -13,7 +13,7 @@ use Rattle.value_flows.specs.Calls.{accepted, Holds, holding, giving, Opens, aft
 use Rattle.value_flows.specs.Keeping.{Fits, KeepsTo, standing, stands}
 use Rattle.value_flows.specs.Receiving.{all_by, begun_by, passed_by, Ends, HasPassed, Keeps, Gives, Tells, FindsNone, LeavesIt, Takes}
 use Rattle.value_flows.proofs.Lists.{holds_at, is_there, length-range, range-append}
-use Rattle.value_flows.proofs.Histories.{accepted_begins, accepted_stays, counted, oldest_is, start_within, value_at}
+use Rattle.value_flows.proofs.Histories.{accepted_prefix, accepted_stays, counted, oldest_is, start_within, value_at}
 use Rattle.value_flows.proofs.Calling.{gave, same_values}
 
 all_more : (did : Round → List ℕ) (calls : List Round) (r : Round) → all_by did (calls ++ r ∷ []) ≡ all_by did calls ++ did r
@@ -78,7 +78,7 @@ module _ {T : Type 0} where
   -- who takes the lock keeps what it knew
   pub keeps_taken : (before taken : Locking (Ring T) Round) (ring : Ring T) (place next : ℕ) → Keeps before place next → Holds before ring taken → Keeps taken place next
   keeps_taken before taken ring place next keeps has =
-      let le = accepted_begins taken.log.seen before.log.seen has.finds.seen in
+      let le = accepted_prefix taken.log.seen before.log.seen has.finds.seen in
       let low = keeps.within in
       let held : Keeps (holding ring taken.log.seen before) place next = record { passed = keeps.passed; within = omega (arith, le, low) } in
       subst (λ (o : Locking (Ring T) Round). Keeps o place next) (sym has.only) held
@@ -207,7 +207,7 @@ module _ {T : Type 0} where
 
   pub finds_none : (before taken after : Locking (Ring T) Round) (ring : Ring T) (place next : ℕ) → Keeps before place next → Holds before ring taken → ring.next ≤ next → after ≡ giving round.Look ring taken → FindsNone before after
   finds_none before taken after ring place next keeps has none given =
-      let le = accepted_begins taken.log.seen before.log.seen has.finds.seen in
+      let le = accepted_prefix taken.log.seen before.log.seen has.finds.seen in
       let low = keeps.within in
       let number = has.finds.latest.number in
       let all : next ≡ length (accepted_in taken.log.seen) = omega (arith, le, low, number, none) in record {

@@ -2,7 +2,8 @@
 use Rattle.std.specs.Prelude.{◌≡◌, ◌≢◌, ℕ, ◌+◌, List, [], ◌∷◌, ◌++◌, length, slice_get, is_none, Some, None}
 use Rattle.std.specs.List.{position}
 use Rattle.round_lock.specs.Locking.{Locking}
-use Rattle.round_lock.specs.History.{Begins, KnowsTaken, another, own_of, called}
+use Rattle.flow_terms.specs.Lists.{IsPrefix}
+use Rattle.round_lock.specs.History.{KnowsTaken, another, own_of, called}
 use Rattle.flow_terms.specs.declared.policy.Policy.{Policy}
 use Rattle.flow_terms.specs.declared.policy.Policy.TheVariants as policy
 use Rattle.value_flows.specs.declared.round.Round.{Round}
@@ -19,7 +20,7 @@ module _ {T : Type 0} where
   -- what an owner finds: these calls were made before its own, by all owners; they begin with those that it had seen, have its own as
   -- its part, and left this ring
   pub record Finds (owner : Locking (Ring T) Round) (calls : List (ℕ × Round × Ring T)) (ring : Ring T) : Type 0 where
-    pub seen : Begins calls owner.log.seen
+    pub seen : IsPrefix owner.log.seen calls
     pub own : owner.log.own ≡ own_of owner.pass calls
     pub latest : IsLatest (accepted_in calls) ring
     pub taken_in : KnowsTaken owner.pass owner.log.own owner.log.halved owner.log.taken calls

@@ -4,7 +4,8 @@ use Rattle.std.specs.List.{All}
 use mathlib.Core.Option.{some}
 use lib.ListN.{get_elem?}
 use Rattle.round_lock.specs.declared.log.Log.{Log}
-use Rattle.round_lock.specs.History.{Begins, own_of, spent}
+use Rattle.flow_terms.specs.Lists.{IsPrefix}
+use Rattle.round_lock.specs.History.{own_of, spent}
 use Rattle.flow_terms.specs.declared.policy.Policy.TheVariants as policy
 use Rattle.value_flows.specs.declared.round.Round.{Round}
 use Rattle.value_flows.specs.declared.round.Round.TheVariants as round
@@ -29,7 +30,7 @@ module _ {T : Type 0} where
     -- each owner's calls are its part of the list, in its order
     pub parts : (pass : ℕ) (v : Log (Ring T) Round) → get_elem? views pass ≡ some v → v ≢ spent → v.own ≡ own_of pass calls
     -- and the list begins with what each has seen
-    pub seen_by : (pass : ℕ) (v : Log (Ring T) Round) → get_elem? views pass ≡ some v → Begins calls v.seen
+    pub seen_by : (pass : ℕ) (v : Log (Ring T) Round) → get_elem? views pass ≡ some v → IsPrefix v.seen calls
     -- the latest values are kept, whether they lie under the lock or an owner has them
     pub under : (ring : Ring T) → items ≡ ring ∷ [] → IsLatest (accepted_in calls) ring
     pub taken : (pass : ℕ) (v : Log (Ring T) Round) (ring : Ring T) → get_elem? views pass ≡ some v → v.held ≡ Some ring → IsLatest (accepted_in calls) ring

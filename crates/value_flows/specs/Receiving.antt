@@ -10,8 +10,8 @@ use Rattle.value_flows.specs.declared.received.Looked.{Looked}
 use Rattle.value_flows.specs.declared.received.Looked.TheVariants as looked
 use Rattle.value_flows.specs.declared.received.Awaited.{Awaited}
 use Rattle.value_flows.specs.declared.received.Awaited.TheVariants as awaited
-use Rattle.value_flows.specs.declared.received.Turn.{Turn}
-use Rattle.value_flows.specs.declared.received.Turn.TheVariants as turn
+use Rattle.value_flows.specs.declared.received.Attempt.{Attempt}
+use Rattle.value_flows.specs.declared.received.Attempt.TheVariants as attempt
 use Rattle.value_flows.specs.Accepted.{accepted_in}
 use Rattle.value_flows.specs.Keeping.{KeepsTo, stands}
 use Rattle.value_flows.specs.Does.{IsKept, moved, oldest_of}
@@ -136,11 +136,11 @@ module _ {T : Type 0} where
   ComesTo v awaited.Stopped w = AfterNone FindsNone v w
 
   -- what one turn of a wait comes to: one ask
-  abbrev pub Comes : Locking (Ring T) Round → Turn T → Locking (Ring T) Round → Type 0
-  Comes v (turn.Over (awaited.There guarded)) w = (value : T) × Takes v guarded.state value w
-  Comes v (turn.Over (awaited.Missed count)) w = Tells v count w
-  Comes v (turn.Over awaited.Stopped) w = FindsNone v w
-  Comes v (turn.Asleep n) w = FindsNone v w
+  abbrev pub Comes : Locking (Ring T) Round → Attempt T → Locking (Ring T) Round → Type 0
+  Comes v (attempt.Over (awaited.There guarded)) w = (value : T) × Takes v guarded.state value w
+  Comes v (attempt.Over (awaited.Missed count)) w = Tells v count w
+  Comes v (attempt.Over awaited.Stopped) w = FindsNone v w
+  Comes v (attempt.Asleep n) w = FindsNone v w
 
   -- one call by which a subscription ended: its place is free
   pub record Ends (before after : Locking (Ring T) Round) : Type 0 where

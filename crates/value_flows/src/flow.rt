@@ -150,7 +150,7 @@ impl<T: Drop> ValueFlow<T> {
     {
         let mut waiting = value;
         for _ in rt.forever() {
-            match self.turn(rt, waiting) {
+            match self.attempt(rt, waiting) {
                 Tried::Over(emitted) => return emitted,
                 Tried::Asleep(turn, back) => {
                     waiting = back;
@@ -162,7 +162,7 @@ impl<T: Drop> ValueFlow<T> {
     }
 
     // One turn of a wait: tries, and says on which turn to sleep where there is no room.
-    fn turn(&mut self, rt: &impl Wait, value: T) -> Tried<T>
+    fn attempt(&mut self, rt: &impl Wait, value: T) -> Tried<T>
         ensures { TriesOnce value self.old result self.new }
     {
         // Both are loaded before the ring: a ring of the bell after that is seen by the turn.

@@ -5,7 +5,7 @@ ghost use Rattle.value_flows.specs.Waits.{Asks, Awaits, AwaitsWithin, Fails, Fai
 
 use crate::bells::Bells;
 use crate::flow::ValueFlow;
-use crate::received::{Awaited, Looked, Received, Turn};
+use crate::received::{Attempt, Awaited, Looked, Received};
 use crate::ring::{Ring, Standing};
 use crate::round::Round;
 use crate::rounds::{enter, leave};
@@ -227,9 +227,9 @@ impl<T: Drop> Subscription<T> {
         ensures { ComesTo self.old result self.new }
     {
         for _ in rt.forever() {
-            match self.turn(rt) {
-                Turn::Over(awaited) => return awaited,
-                Turn::Asleep(turn) => self.bells.news.sleep(rt, turn),
+            match self.attempt(rt) {
+                Attempt::Over(awaited) => return awaited,
+                Attempt::Asleep(turn) => self.bells.news.sleep(rt, turn),
             }
         }
         unreachable!()
@@ -241,17 +241,17 @@ impl<T: Drop> Subscription<T> {
     {
         for _ in rt.forever() {
             let left = limit.left(rt);
-            match self.turn(rt) {
-                Turn::Over(awaited) => return Some(awaited),
-                Turn::Asleep(_) if left.is_zero() => return None,
-                Turn::Asleep(turn) => self.bells.news.sleep_for(rt, turn, left),
+            match self.attempt(rt) {
+                Attempt::Over(awaited) => return Some(awaited),
+                Attempt::Asleep(_) if left.is_zero() => return None,
+                Attempt::Asleep(turn) => self.bells.news.sleep_for(rt, turn, left),
             }
         }
         unreachable!()
     }
 
     // One turn of a wait: asks, and says on which turn to sleep where there is nothing.
-    fn turn(&mut self, rt: &impl Wait) -> Turn<T>
+    fn attempt(&mut self, rt: &impl Wait) -> Attempt<T>
         ensures { Comes self.old result self.new }
     {
         // Both are loaded before the ring: a ring of the bell after that is seen by the turn, and what was emitted before the stop is
@@ -259,13 +259,13 @@ impl<T: Drop> Subscription<T> {
         let turn = self.bells.news.turn();
         let is_stopped = self.is_stopped();
         match self.look(rt) {
-            Looked::There(guarded) => Turn::Over(Awaited::There(guarded)),
-            Looked::Missed(count) => Turn::Over(Awaited::Missed(count)),
+            Looked::There(guarded) => Attempt::Over(Awaited::There(guarded)),
+            Looked::Missed(count) => Attempt::Over(Awaited::Missed(count)),
             Looked::Nothing => {
                 if is_stopped {
-                    return Turn::Over(Awaited::Stopped);
+                    return Attempt::Over(Awaited::Stopped);
                 }
-                Turn::Asleep(turn)
+                Attempt::Asleep(turn)
             }
         }
     }

@@ -5,7 +5,7 @@ use Rattle.value_states.specs.declared.round.Round.{Round}
 use Rattle.value_states.specs.declared.versioned.Versioned.{Versioned}
 use Rattle.value_states.specs.declared.collected.Awaited.{Awaited}
 use Rattle.value_states.specs.declared.collected.Awaited.TheVariants as awaited
-use Rattle.value_states.specs.declared.collected.Turn.TheVariants as turn
+use Rattle.value_states.specs.declared.collected.Attempt.TheVariants as attempt
 use Rattle.value_states.specs.Watching.{AwaitsNothing, Comes, ComesTo, MissedOn, not_once, once_more}
 
 module _ {T : Type 0} where
@@ -27,6 +27,6 @@ module _ {T : Type 0} where
   comes_within v m w (Some a) before came = comes_on v m w a before came
 
   -- asks that gave nothing, and the turn that ends the wait
-  pub is_over : (v m w : Locking (Versioned T) Round) (a : Awaited T) → MissedOn v m → Comes m (turn.Over a) w → ComesTo v a w
+  pub is_over : (v m w : Locking (Versioned T) Round) (a : Awaited T) → MissedOn v m → Comes m (attempt.Over a) w → ComesTo v a w
   is_over v m w (awaited.News guarded) before came = (m, before, came)
   is_over v m w awaited.Stopped before came = (m, before, came)

@@ -12,7 +12,7 @@ use Rattle.value_states.specs.History.{history_after, IsLast}
 use Rattle.value_states.specs.Calls.{history, Holds, holding, giving}
 use Rattle.value_states.specs.Watching.{given_in, version_by, IsLatest, IsNewer, IsPicked, Keeps, LatestIs, Gives, Misses, Takes}
 use Rattle.value_states.proofs.Calling.{gave}
-use Rattle.value_states.proofs.Histories.{history_begins, history_stays}
+use Rattle.value_states.proofs.Histories.{history_prefix, history_stays}
 
 -- a version that isn't above the one that was given last
 abbrev pub IsKnown : Option ℕ → ℕ → Type 0
@@ -87,7 +87,7 @@ module _ {T : Type 0} where
   -- who takes the lock keeps what it knew
   pub keeps_taken : (before taken : Locking (Versioned T) Round) (state : Versioned T) (latest : Option ℕ) → Keeps before latest → Holds before state taken → Keeps taken latest
   keeps_taken before taken state latest keeps has =
-      let le : length (history before) ≤ length (history_after before.log.made taken.log.seen) = history_begins before.log.made taken.log.seen before.log.seen has.finds.seen in
+      let le : length (history before) ≤ length (history_after before.log.made taken.log.seen) = history_prefix before.log.made taken.log.seen before.log.seen has.finds.seen in
       let held : Keeps (holding state taken.log.seen before) latest = record {
         picked = picked_on (given_in before.log.own) (history before) (history_after before.log.made taken.log.seen) keeps.picked le;
         latest_is = latest_on latest (given_in before.log.own) (length (history before)) (length (history_after before.log.made taken.log.seen)) keeps.latest_is le;
@@ -156,7 +156,7 @@ module _ {T : Type 0} where
   pub misses : (before : Locking (Versioned T) Round) (state : Versioned T) (taken after : Locking (Versioned T) Round) (latest : Option ℕ) → Keeps before latest → Holds before state taken → IsKnown latest state.version → after ≡ giving round.Read state taken → Misses before after
   misses before state taken after latest keeps has known given =
       let only = gave before state taken after state round.Read has given in
-      let le : length (history before) ≤ length (history_after before.log.made taken.log.seen) = history_begins before.log.made taken.log.seen before.log.seen has.finds.seen in
+      let le : length (history before) ≤ length (history_after before.log.made taken.log.seen) = history_prefix before.log.made taken.log.seen before.log.seen has.finds.seen in
       let count = last_counts (history_after before.log.made taken.log.seen) state has.finds.last in record {
         calls = taken.log.seen;
         state = state;

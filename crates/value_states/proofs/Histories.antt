@@ -1,6 +1,6 @@
 -- What a list of calls leaves: the last value of the history, with the number of those before it as its version.
 use Rattle.std.proofs.Common.{◌≡◌, ℕ, ◌+◌, ◌≤◌, Option, Some, List, [], ◌∷◌, ◌++◌, length, refl, sym, ap, ◌∙◌, subst, append_assoc, append-nil, length-append, arith}
-use Rattle.round_lock.specs.History.{After, Begins}
+use Rattle.round_lock.specs.History.{After, IsPrefix}
 use Rattle.round_lock.specs.History.After.{new, more}
 use Rattle.value_states.specs.declared.round.Round.{Round}
 use Rattle.value_states.specs.declared.round.Round.TheVariants as round
@@ -23,8 +23,8 @@ module _ {T : Type 0} where
   written_on (u ∷ calls) later = ap (λ (l : List T). written_by u.1 u.2.value ++ l) (written_on calls later) ∙ sym (append_assoc (written_by u.1 u.2.value) (written calls) (written later))
 
   -- the history only grows
-  pub history_begins : (made : Option (Versioned T)) (calls start : List (ℕ × Round × Versioned T)) → Begins calls start → length (history_after made start) ≤ length (history_after made calls)
-  history_begins made calls start begins =
+  pub history_prefix : (made : Option (Versioned T)) (calls start : List (ℕ × Round × Versioned T)) → IsPrefix start calls → length (history_after made start) ≤ length (history_after made calls)
+  history_prefix made calls start begins =
       let grown = ap (history_after made) begins.1 ∙ ap (λ (l : List T). first_of made ++ l) (written_on start begins.0) ∙ sym (append_assoc (first_of made) (written start) (written begins.0)) in
       let count = ap length grown ∙ length-append (history_after made start) (written begins.0) in
       omega arith

@@ -1,7 +1,7 @@
 -- What the calls of an owner say of it, before the call and after it.
 use Rattle.std.specs.Prelude.{◌≡◌, ℕ, ◌+◌, List, [], ◌∷◌, ◌++◌, Some}
 use Rattle.round_lock.specs.Locking.{Locking}
-use Rattle.round_lock.specs.History.{Begins, KnowsTaken, own_of, called}
+use Rattle.round_lock.specs.History.{IsPrefix, KnowsTaken, own_of, called}
 use Rattle.value_states.specs.declared.round.Round.{Round}
 use Rattle.value_states.specs.declared.round.Round.TheVariants as round
 use Rattle.value_states.specs.declared.versioned.Versioned.{Versioned}
@@ -15,7 +15,7 @@ module _ {T : Type 0} where
   -- what an owner finds: these calls were made before its own, by all owners; they begin with those that it had seen, have its own as
   -- its part, and left this value
   pub record Finds (owner : Locking (Versioned T) Round) (calls : List (ℕ × Round × Versioned T)) (state : Versioned T) : Type 0 where
-    pub seen : Begins calls owner.log.seen
+    pub seen : IsPrefix owner.log.seen calls
     pub own : owner.log.own ≡ own_of owner.pass calls
     pub last : IsLast (history_after owner.log.made calls) state
     pub taken_in : KnowsTaken owner.pass owner.log.own owner.log.halved owner.log.taken calls

@@ -7,8 +7,8 @@ use Rattle.value_states.specs.declared.round.Round.TheVariants as round
 use Rattle.value_states.specs.declared.versioned.Versioned.{Versioned}
 use Rattle.value_states.specs.declared.collected.Awaited.{Awaited}
 use Rattle.value_states.specs.declared.collected.Awaited.TheVariants as awaited
-use Rattle.value_states.specs.declared.collected.Turn.{Turn}
-use Rattle.value_states.specs.declared.collected.Turn.TheVariants as turn
+use Rattle.value_states.specs.declared.collected.Attempt.{Attempt}
+use Rattle.value_states.specs.declared.collected.Attempt.TheVariants as attempt
 use Rattle.value_states.specs.History.{history_after}
 use Rattle.value_states.specs.Calls.{history, Finds, Holds, after_call}
 
@@ -86,10 +86,10 @@ module _ {T : Type 0} where
   ComesTo v awaited.Stopped w = AwaitsNothing v w
 
   -- what one turn of a wait comes to: one ask
-  abbrev pub Comes : Locking (Versioned T) Round → Turn T → Locking (Versioned T) Round → Type 0
-  Comes v (turn.Over (awaited.News guarded)) w = Takes v guarded.state w
-  Comes v (turn.Over awaited.Stopped) w = Misses v w
-  Comes v (turn.Asleep n) w = Misses v w
+  abbrev pub Comes : Locking (Versioned T) Round → Attempt T → Locking (Versioned T) Round → Type 0
+  Comes v (attempt.Over (awaited.News guarded)) w = Takes v guarded.state w
+  Comes v (attempt.Over awaited.Stopped) w = Misses v w
+  Comes v (attempt.Asleep n) w = Misses v w
 
   -- what a watcher keeps of what it was given
   pub record Keeps (owner : Locking (Versioned T) Round) (latest : Option ℕ) : Type 0 where

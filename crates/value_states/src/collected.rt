@@ -21,7 +21,7 @@ pub(crate) enum Awaited<T> {
 }
 
 /// What one turn of a wait came to.
-pub(crate) enum Turn<T> {
+pub(crate) enum Attempt<T> {
     /// The wait is over.
     Over(Awaited<T>),
     /// There was nothing: the thread sleeps on this turn of the bell.

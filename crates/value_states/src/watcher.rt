@@ -6,7 +6,7 @@ ghost use Rattle.value_states.specs.Calls.{Holds, Reads};
 ghost use Rattle.value_states.specs.Watching.{AwaitsNothing, AwaitsValue, Comes, Gives, IsNewer, Keeps, Misses, MissedOn, Takes, ComesTo};
 ghost use Rattle.value_states.specs.Waits.{Awaits, AwaitsWithin, FailsLate};
 
-use crate::collected::{Awaited, Collected, Turn};
+use crate::collected::{Attempt, Awaited, Collected};
 use crate::round::Round;
 use crate::rounds::{enter, leave, shown};
 use crate::state::ValueState;
@@ -253,9 +253,9 @@ impl<T: Drop> Watcher<T> {
         ensures { ComesTo self.old result self.new }
     {
         for _ in rt.forever() {
-            match self.turn(rt) {
-                Turn::Over(awaited) => return awaited,
-                Turn::Asleep(turn) => self.bell.sleep(rt, turn),
+            match self.attempt(rt) {
+                Attempt::Over(awaited) => return awaited,
+                Attempt::Asleep(turn) => self.bell.sleep(rt, turn),
             }
         }
         unreachable!()
@@ -267,29 +267,29 @@ impl<T: Drop> Watcher<T> {
     {
         for _ in rt.forever() {
             let left = limit.left(rt);
-            match self.turn(rt) {
-                Turn::Over(awaited) => return Some(awaited),
-                Turn::Asleep(_) if left.is_zero() => return None,
-                Turn::Asleep(turn) => self.bell.sleep_for(rt, turn, left),
+            match self.attempt(rt) {
+                Attempt::Over(awaited) => return Some(awaited),
+                Attempt::Asleep(_) if left.is_zero() => return None,
+                Attempt::Asleep(turn) => self.bell.sleep_for(rt, turn, left),
             }
         }
         unreachable!()
     }
 
     // One turn of a wait: asks, and says on which turn to sleep where there is nothing.
-    fn turn(&mut self, rt: &impl Wait) -> Turn<T>
+    fn attempt(&mut self, rt: &impl Wait) -> Attempt<T>
         ensures { Comes self.old result self.new }
     {
         // Both are loaded before the value: a ring after that is seen by the turn, and what was set before the stop is given first.
         let turn = self.bell.turn();
         let is_stopped = self.is_stopped();
         if let Some(guarded) = self.news(rt) {
-            return Turn::Over(Awaited::News(guarded));
+            return Attempt::Over(Awaited::News(guarded));
         }
         if is_stopped {
-            return Turn::Over(Awaited::Stopped);
+            return Attempt::Over(Awaited::Stopped);
         }
-        Turn::Asleep(turn)
+        Attempt::Asleep(turn)
     }
 
     // Gives a clone of the value that a wait came to.

@@ -11,7 +11,7 @@ ghost use Rattle.hillgauze_c.specs.SharedCalls.{OnShared, Answers, CountsAs, IsF
 use crate::config::FlowConfig;
 use crate::handle::Handle;
 use crate::object::Object;
-use crate::receipts::receive_into;
+use crate::receiving::receive_into;
 use crate::reply::{HANDLE_TAKEN, NO_SUCH_POLICY, NULL_HANDLE, OTHER_KIND, Reply};
 use flow_terms::{SubId, Ticket};
 use shared_core::{Prelude, SharedState};

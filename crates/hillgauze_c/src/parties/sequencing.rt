@@ -1,7 +1,7 @@
 //! A lane's sequencer, with the lane.
 ghost use Rattle.std.specs.Prelude.{◌≡◌, ◌<◌, ◌≢◌, [], None, length, slice_get, Some, IfOk, IfErr, IfSome, IfNone, IsOkUnless};
 ghost use Rattle.shared_core.specs.Kept.{making_refusal};
-ghost use Rattle.shared_lane.specs.Sequencers.{IsSameSequencer, HasNumber, HasTicketNumber, TriedOn, RefusedTry, BegunOn, RefusedStart, AfterScan, IsFresh, Settled, IsStuck, OnlyLoaded};
+ghost use Rattle.shared_lane.specs.Sequencers.{IsSameSequencer, HasNumber, HasTicketNumber, TriedOn, RefusedTry, BegunOn, RefusedStart, AfterScan, IsFresh, AcceptedWaiting, IsStuck, OnlyLoaded};
 ghost use Rattle.shared_lane.specs.Blocks.{TriedAllOn};
 ghost use Rattle.shared_lane.specs.Polls.{PolledOn, WithdrawnFrom};
 ghost use Rattle.shared_lane.specs.Places.{Counted};
@@ -95,7 +95,7 @@ impl Sequencing {
     /// Lets in emissions that wait.
     pub fn scan(&mut self) -> u32
         ensures same { IsSameSequencer self.old self.new }
-        ensures settled { Settled result self.old self.new }
+        ensures settled { AcceptedWaiting result self.old self.new }
         ensures stuck { self.new.waiting ≢ [] → IsStuck self.old self.new }
     {
         self.sequencer.scan(&self.lane)

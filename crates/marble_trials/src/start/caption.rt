@@ -9,7 +9,7 @@ const MOST_ANSWER_BYTES: usize = 14;
 
 /// What a mark's words are for.
 #[derive(Clone, Copy)]
-pub(crate) enum Part {
+pub(crate) enum Purpose {
     /// The name of a row.
     Name,
     /// The number beside an accepted value.
@@ -18,13 +18,13 @@ pub(crate) enum Part {
     Place,
 }
 
-impl Part {
+impl Purpose {
     /// What this mark's words are for.
-    pub(crate) fn of(mark: &Mark<'_>) -> Part {
+    pub(crate) fn of(mark: &Mark<'_>) -> Purpose {
         match mark.kind {
-            Kind::Named(_) => Part::Name,
-            Kind::Number(_, _) => Part::Number,
-            _ => Part::Place,
+            Kind::Named(_) => Purpose::Name,
+            Kind::Number(_, _) => Purpose::Number,
+            _ => Purpose::Place,
         }
     }
 }
@@ -64,7 +64,7 @@ pub(crate) fn sign(kind: Kind) -> &'static str {
         Kind::Full(_) => "!",
         Kind::Begun(Row::State(_)) | Kind::Set(_) => "=",
         Kind::Begun(Row::Ticket(_)) | Kind::Waiting => "?",
-        Kind::LetIn(_, _) => "<",
+        Kind::AcceptedLater(_, _) => "<",
         Kind::Begun(_) => "o",
         Kind::Nothing => ".",
         Kind::Cancelled => "|",
@@ -100,7 +100,7 @@ fn push_words(text: &mut String, mark: &Mark<'_>) -> Result<(), AllocError> {
         Kind::Line(value)
         | Kind::Bad(value, _)
         | Kind::Accepted(value)
-        | Kind::LetIn(value, _)
+        | Kind::AcceptedLater(value, _)
         | Kind::Lost(value)
         | Kind::Dropped(value)
         | Kind::Full(value)
@@ -129,10 +129,14 @@ pub(crate) fn caption(alloc: Global, mark: &Mark<'_>) -> Result<String, AllocErr
 }
 
 /// The most characters of this part of the marks.
-pub(crate) fn longest(alloc: Global, marks: &[Mark<'_>], part: Part) -> Result<usize, AllocError> {
+pub(crate) fn longest(
+    alloc: Global,
+    marks: &[Mark<'_>],
+    part: Purpose,
+) -> Result<usize, AllocError> {
     let mut most = 0;
     for mark in marks {
-        if Part::of(mark) == part {
+        if Purpose::of(mark) == part {
             let said = caption(alloc, mark)?;
             most = said.len().saturating_add(sign(mark.kind).len()).max(most);
         }
@@ -140,11 +144,11 @@ pub(crate) fn longest(alloc: Global, marks: &[Mark<'_>], part: Part) -> Result<u
     Ok(most)
 }
 
-/// The most characters of values that are let in, with their sign.
+/// The most characters of values that are accepted later, with their sign.
 pub(crate) fn longest_late(alloc: Global, marks: &[Mark<'_>]) -> Result<usize, AllocError> {
     let mut most = 0;
     for mark in marks {
-        if let Kind::LetIn(_, _) = mark.kind {
+        if let Kind::AcceptedLater(_, _) = mark.kind {
             let said = caption(alloc, mark)?;
             most = said.len().saturating_add(1).max(most);
         }
@@ -152,17 +156,17 @@ pub(crate) fn longest_late(alloc: Global, marks: &[Mark<'_>]) -> Result<usize, A
     Ok(most)
 }
 
-/// Where a mark stands among all that one line lets in.
+/// Where a mark stands among all that one line accepts.
 pub(crate) fn spot_of(kind: Kind) -> Spot {
     match kind {
-        Kind::LetIn(_, spot) => spot,
+        Kind::AcceptedLater(_, spot) => spot,
         Kind::Number(_, spot) => spot,
         _ => Spot { index: 0, count: 1 },
     }
 }
 
-/// The most values that one line lets in.
-pub(crate) fn most_let_in(marks: &[Mark<'_>]) -> usize {
+/// The most values that one line accepts.
+pub(crate) fn most_accepted_later(marks: &[Mark<'_>]) -> usize {
     marks
         .iter()
         .map(|mark| spot_of(mark.kind).count)

@@ -1,8 +1,8 @@
 //! What a line does to values, as far as more is told by it than by its own answer.
 
+use crate::start::answered::AnsweredLine;
 use crate::start::reply::Reply;
-use crate::start::turn::Turn;
-use script_commands::{Command, Making, Party, Request};
+use script_commands::{Command, Joiner, Making, Request};
 use std::alloc::{AllocError, Global};
 
 /// What a line does.
@@ -108,9 +108,9 @@ fn making<'a>(name: &'a [u8], made: Making<'a>, reply: Reply) -> Deed<'a> {
 }
 
 /// What it does to join something.
-fn joining<'a>(host: &'a [u8], name: &'a [u8], party: Party<'a>, reply: Reply) -> Deed<'a> {
-    match party {
-        Party::Subscription(prelude) => match reply {
+fn joining<'a>(host: &'a [u8], name: &'a [u8], joiner: Joiner<'a>, reply: Reply) -> Deed<'a> {
+    match joiner {
+        Joiner::Subscription(prelude) => match reply {
             Reply::Ok => Deed::Joins {
                 host,
                 guest: name,
@@ -118,7 +118,7 @@ fn joining<'a>(host: &'a [u8], name: &'a [u8], party: Party<'a>, reply: Reply) -
             },
             _ => Deed::Nothing,
         },
-        Party::Collector => match reply {
+        Joiner::Collector => match reply {
             Reply::Ok => Deed::Joins {
                 host,
                 guest: name,
@@ -126,7 +126,7 @@ fn joining<'a>(host: &'a [u8], name: &'a [u8], party: Party<'a>, reply: Reply) -
             },
             _ => Deed::Nothing,
         },
-        Party::Emission(value) => emitting(host, name, value, reply),
+        Joiner::Emission(value) => emitting(host, name, value, reply),
     }
 }
 
@@ -166,19 +166,22 @@ fn asking<'a>(name: &'a [u8], request: Request, reply: Reply) -> Deed<'a> {
 fn deed_of<'a>(command: Option<Command<'a>>, reply: Reply) -> Deed<'a> {
     match command {
         Some(Command::Make { name, making: made }) => making(name, made, reply),
-        Some(Command::Join { host, name, party }) => joining(host, name, party, reply),
+        Some(Command::Join { host, name, joiner }) => joining(host, name, joiner, reply),
         Some(Command::Ask { name, request }) => asking(name, request, reply),
         Some(Command::Cold { .. }) | None => Deed::Nothing,
     }
 }
 
 /// What these lines do.
-pub(crate) fn acts<'a>(alloc: Global, turns: &[Turn<'a>]) -> Result<Vec<Act<'a>>, AllocError> {
+pub(crate) fn acts<'a>(
+    alloc: Global,
+    answered_lines: &[AnsweredLine<'a>],
+) -> Result<Vec<Act<'a>>, AllocError> {
     let mut acts = Vec::new(alloc);
-    for turn in turns {
+    for answered in answered_lines {
         acts.push(Act {
-            column: turn.column,
-            deed: deed_of(turn.command, Reply::of(turn.answer)),
+            column: answered.column,
+            deed: deed_of(answered.command, Reply::of(answered.answer)),
         })?;
     }
     Ok(acts)

@@ -2,7 +2,7 @@
 
 use crate::start::reply::Reply;
 use marble_marks::{Kind, Row};
-use script_commands::{Command, Making, Party, Request};
+use script_commands::{Command, Joiner, Making, Request};
 
 /// What happened to what a name stands for.
 #[derive(Clone, Copy)]
@@ -24,25 +24,25 @@ fn row_made(making: Making<'_>) -> Row {
 fn joins<'a>(
     host: &'a [u8],
     name: &'a [u8],
-    party: Party<'a>,
+    joiner: Joiner<'a>,
     reply: Reply,
 ) -> Option<Happening<'a>> {
-    match party {
-        Party::Subscription(_) => match reply {
+    match joiner {
+        Joiner::Subscription(_) => match reply {
             Reply::Ok => Some(Happening {
                 name,
                 kind: Kind::Begun(Row::Subscription),
             }),
             _ => None,
         },
-        Party::Collector => match reply {
+        Joiner::Collector => match reply {
             Reply::Ok => Some(Happening {
                 name,
                 kind: Kind::Begun(Row::Collector),
             }),
             _ => None,
         },
-        Party::Emission(value) => match reply {
+        Joiner::Emission(value) => match reply {
             Reply::Accepted => Some(Happening {
                 name: host,
                 kind: Kind::Accepted(value),
@@ -149,7 +149,7 @@ pub(crate) fn happening_of<'a>(command: Command<'a>, reply: Reply) -> Option<Hap
             }),
             _ => None,
         },
-        Command::Join { host, name, party } => joins(host, name, party, reply),
+        Command::Join { host, name, joiner } => joins(host, name, joiner, reply),
         Command::Ask { name, request } => {
             let kind = asks(request, reply)?;
             Some(Happening { name, kind })

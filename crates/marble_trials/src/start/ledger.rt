@@ -3,11 +3,11 @@
 //! Where more values than a flow's capacity are pending for a subscription and the oldest makes way, the subscription loses
 //! the oldest. A state is such a flow with a capacity of one, a value that is set again being no new one.
 
+use crate::start::answered::AnsweredLine;
 use crate::start::loss::Loss;
 use crate::start::reply::Reply;
-use crate::start::turn::Turn;
 use flow_terms::Policy;
-use script_commands::{Command, Making, Party, Request};
+use script_commands::{Command, Joiner, Making, Request};
 use std::alloc::{AllocError, Global};
 
 /// A value that came to a host.
@@ -227,28 +227,35 @@ impl<'a> Ledger<'a> {
         line: usize,
         host: &[u8],
         name: &'a [u8],
-        party: Party<'a>,
+        joiner: Joiner<'a>,
         reply: Reply,
     ) -> Result<(), AllocError> {
-        match (party, reply) {
-            (Party::Emission(value), Reply::Accepted) => self.accept(line, host, value),
-            (Party::Subscription(prelude), Reply::Ok) => {
+        match (joiner, reply) {
+            (Joiner::Emission(value), Reply::Accepted) => self.accept(line, host, value),
+            (Joiner::Subscription(prelude), Reply::Ok) => {
                 self.begin(line, host, name, prelude.count())
             }
-            (Party::Collector, Reply::Ok) => self.begin(line, host, name, 0),
+            (Joiner::Collector, Reply::Ok) => self.begin(line, host, name, 0),
             _ => Ok(()),
         }
     }
 
     /// A line with its answer.
-    fn read(&mut self, alloc: Global, line: usize, turn: &Turn<'a>) -> Result<(), AllocError> {
-        let reply = Reply::of(turn.answer);
-        match turn.command {
+    fn read(
+        &mut self,
+        alloc: Global,
+        line: usize,
+        answered: &AnsweredLine<'a>,
+    ) -> Result<(), AllocError> {
+        let reply = Reply::of(answered.answer);
+        match answered.command {
             Some(Command::Make { name, making }) => match reply {
                 Reply::Ok => self.make(alloc, line, name, making),
                 _ => Ok(()),
             },
-            Some(Command::Join { host, name, party }) => self.join(line, host, name, party, reply),
+            Some(Command::Join { host, name, joiner }) => self.join(
+                line, host, name, joiner, reply,
+            ),
             Some(Command::Ask { name, request }) => self.ask(line, name, request, reply),
             Some(Command::Cold { .. }) | None => Ok(()),
         }
@@ -256,14 +263,17 @@ impl<'a> Ledger<'a> {
 }
 
 /// The values that made way in these lines.
-pub(crate) fn losses_in(alloc: Global, turns: &[Turn<'_>]) -> Result<Vec<Loss>, AllocError> {
+pub(crate) fn losses_in(
+    alloc: Global,
+    answered_lines: &[AnsweredLine<'_>],
+) -> Result<Vec<Loss>, AllocError> {
     let mut ledger = Ledger {
         hosts: Vec::new(alloc),
         guests: Vec::new(alloc),
         losses: Vec::new(alloc),
     };
-    for (line, turn) in turns.iter().enumerate() {
-        ledger.read(alloc, line, turn)?;
+    for (line, answered) in answered_lines.iter().enumerate() {
+        ledger.read(alloc, line, answered)?;
     }
     Ok(ledger.losses)
 }

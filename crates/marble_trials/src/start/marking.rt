@@ -2,6 +2,7 @@
 
 ghost use Rattle.std.specs.Prelude.{◌≤◌, length};
 
+use crate::start::answered::{AnsweredLine, answered_lines};
 use crate::start::deed::acts;
 use crate::start::happening::{Happening, happening_of};
 use crate::start::ledger::losses_in;
@@ -9,20 +10,19 @@ use crate::start::loss::add_losses;
 use crate::start::numbers::add_numbers;
 use crate::start::reply::Reply;
 use crate::start::said::Said;
-use crate::start::turn::{Turn, turns};
 use marble_marks::{Kind, Mark};
-use script_commands::{Command, Party, Request};
+use script_commands::{Command, Joiner, Request};
 use std::alloc::{AllocError, Global};
 
 /// What a line shows on a row.
-fn shown<'a>(turn: &Turn<'a>) -> Option<Happening<'a>> {
-    let command = turn.command?;
-    happening_of(command, Reply::of(turn.answer))
+fn shown<'a>(answered: &AnsweredLine<'a>) -> Option<Happening<'a>> {
+    let command = answered.command?;
+    happening_of(command, Reply::of(answered.answer))
 }
 
 /// The name that a line binds to a row of its own.
-fn name_of<'a>(turn: &Turn<'a>) -> Option<&'a [u8]> {
-    let Happening { name, kind } = shown(turn)?;
+fn name_of<'a>(answered: &AnsweredLine<'a>) -> Option<&'a [u8]> {
+    let Happening { name, kind } = shown(answered)?;
     match kind {
         Kind::Begun(_) => Some(name),
         _ => None,
@@ -30,10 +30,13 @@ fn name_of<'a>(turn: &Turn<'a>) -> Option<&'a [u8]> {
 }
 
 /// The names that have rows, in the order of these.
-fn names_in<'a>(alloc: Global, turns: &[Turn<'a>]) -> Result<Vec<&'a [u8]>, AllocError> {
+fn names_in<'a>(
+    alloc: Global,
+    answered_lines: &[AnsweredLine<'a>],
+) -> Result<Vec<&'a [u8]>, AllocError> {
     let mut names = Vec::new(alloc);
-    for turn in turns {
-        if let Some(name) = name_of(turn) {
+    for answered in answered_lines {
+        if let Some(name) = name_of(answered) {
             names.push(name)?;
         }
     }
@@ -53,28 +56,28 @@ pub(crate) fn row_of(names: &[&[u8]], name: &[u8]) -> usize {
 }
 
 /// The mark at the head of a line's column.
-fn line_mark<'a>(turn: &Turn<'a>) -> Mark<'a> {
-    let kind = match Reply::of(turn.answer) {
-        Reply::Bad(reason) => Kind::Bad(turn.number, reason),
-        _ => Kind::Line(turn.number),
+fn line_mark<'a>(answered: &AnsweredLine<'a>) -> Mark<'a> {
+    let kind = match Reply::of(answered.answer) {
+        Reply::Bad(reason) => Kind::Bad(answered.number, reason),
+        _ => Kind::Line(answered.number),
     };
     Mark {
-        column: turn.column,
+        column: answered.column,
         row: 0,
         kind,
-        text: turn.line,
+        text: answered.line,
     }
 }
 
 /// The flow on which this line finishes an emission of this name at once, if it does.
-fn home_in<'a>(turn: &Turn<'a>, ticket: &[u8]) -> Option<&'a [u8]> {
-    match (turn.command, Reply::of(turn.answer)) {
+fn home_in<'a>(answered: &AnsweredLine<'a>, ticket: &[u8]) -> Option<&'a [u8]> {
+    match (answered.command, Reply::of(answered.answer)) {
         (
             Some(
                 Command::Join {
                     host,
                     name,
-                    party: Party::Emission(_),
+                    joiner: Joiner::Emission(_),
                 },
             ),
             Reply::Accepted | Reply::Dropped,
@@ -84,24 +87,24 @@ fn home_in<'a>(turn: &Turn<'a>, ticket: &[u8]) -> Option<&'a [u8]> {
 }
 
 /// The name on whose row something of a name is shown, after these lines.
-fn name_shown<'a>(before: &[Turn<'a>], name: &'a [u8], kind: Kind) -> &'a [u8] {
+fn name_shown<'a>(before: &[AnsweredLine<'a>], name: &'a [u8], kind: Kind) -> &'a [u8] {
     let mut home = name;
     if let Kind::Gone = kind {
-        for turn in before {
-            home = home_in(turn, name).unwrap_or(home);
+        for answered in before {
+            home = home_in(answered, name).unwrap_or(home);
         }
     }
     home
 }
 
 /// How many values of its prelude a subscription of this name has still to take after this line, where it had so many before.
-fn left_after(turn: &Turn<'_>, name: &[u8], left: usize) -> usize {
-    match (turn.command, Reply::of(turn.answer)) {
+fn left_after(answered: &AnsweredLine<'_>, name: &[u8], left: usize) -> usize {
+    match (answered.command, Reply::of(answered.answer)) {
         (
             Some(
                 Command::Join {
                     name: guest,
-                    party: Party::Subscription(prelude),
+                    joiner: Joiner::Subscription(prelude),
                     ..
                 },
             ),
@@ -121,13 +124,13 @@ fn left_after(turn: &Turn<'_>, name: &[u8], left: usize) -> usize {
 }
 
 /// What is shown of a name that shows this by its answer alone, after these lines.
-fn kind_shown(before: &[Turn<'_>], name: &[u8], kind: Kind) -> Kind {
+fn kind_shown(before: &[AnsweredLine<'_>], name: &[u8], kind: Kind) -> Kind {
     let Kind::Received(value) = kind else {
         return kind;
     };
     let mut left = 0;
-    for turn in before {
-        left = left_after(turn, name, left);
+    for answered in before {
+        left = left_after(answered, name, left);
     }
     if left > 0 {
         Kind::FromPrelude(value)
@@ -140,19 +143,19 @@ fn kind_shown(before: &[Turn<'_>], name: &[u8], kind: Kind) -> Kind {
 fn add_marks<'a>(
     marks: &mut Vec<Mark<'a>>,
     names: &[&'a [u8]],
-    before: &[Turn<'a>],
-    turn: &Turn<'a>,
+    before: &[AnsweredLine<'a>],
+    answered: &AnsweredLine<'a>,
 ) -> Result<(), AllocError> {
-    marks.push(line_mark(turn))?;
-    let Some(Happening { name, kind }) = shown(turn) else {
+    marks.push(line_mark(answered))?;
+    let Some(Happening { name, kind }) = shown(answered) else {
         return Ok(());
     };
     let row = row_of(names, name_shown(before, name, kind));
     marks.push(Mark {
-        column: turn.column,
+        column: answered.column,
         row,
         kind: kind_shown(before, name, kind),
-        text: turn.text,
+        text: answered.text,
     })?;
     if let Kind::Begun(begun) = kind {
         marks.push(Mark {
@@ -169,12 +172,12 @@ fn add_marks<'a>(
 fn marks_in<'a>(
     alloc: Global,
     names: &[&'a [u8]],
-    turns: &[Turn<'a>],
+    answered_lines: &[AnsweredLine<'a>],
 ) -> Result<Vec<Mark<'a>>, AllocError> {
     let mut marks = Vec::new(alloc);
-    for (index, turn) in turns.iter().enumerate() {
-        let (before, _) = turns.split_at(index);
-        add_marks(&mut marks, names, before, turn)?;
+    for (index, answered) in answered_lines.iter().enumerate() {
+        let (before, _) = answered_lines.split_at(index);
+        add_marks(&mut marks, names, before, answered)?;
     }
     Ok(marks)
 }
@@ -189,11 +192,11 @@ pub(crate) fn marks<'a>(
 ) -> Result<Vec<Mark<'a>>, AllocError>
     requires { length script.now ≤ 1048576 }
 {
-    let turns = turns(alloc, script, answers)?;
-    let names = names_in(alloc, &turns)?;
-    let acts = acts(alloc, &turns)?;
-    let losses = losses_in(alloc, &turns)?;
-    let mut marks = marks_in(alloc, &names, &turns)?;
+    let answered_lines = answered_lines(alloc, script, answers)?;
+    let names = names_in(alloc, &answered_lines)?;
+    let acts = acts(alloc, &answered_lines)?;
+    let losses = losses_in(alloc, &answered_lines)?;
+    let mut marks = marks_in(alloc, &names, &answered_lines)?;
     add_numbers(alloc, &mut marks, &names, &acts)?;
     add_losses(&mut marks, &names, &acts, &losses)?;
     Ok(marks)

@@ -154,7 +154,7 @@ impl<'a> Flow<'a> {
     }
 
     /// How many of those that wait are accepted, one after another.
-    fn let_in(&self) -> usize {
+    fn accepted_later(&self) -> usize {
         for count in 0..self.waiting.len() {
             if !self.has_room(count) {
                 return count;
@@ -165,12 +165,12 @@ impl<'a> Flow<'a> {
 
     /// Accepts what waits, while there is room.
     fn settle(&mut self, marks: &mut Vec<Mark<'_>>, cell: Cell) -> Result<(), AllocError> {
-        let count = self.let_in();
+        let count = self.accepted_later();
         for index in 0..count {
             if !self.waiting.is_empty() {
                 let spot = Spot { index, count };
                 let value = self.waiting.remove(0);
-                add(marks, cell, Kind::LetIn(value, spot))?;
+                add(marks, cell, Kind::AcceptedLater(value, spot))?;
                 self.accept(marks, cell, spot)?;
             }
         }

@@ -1,10 +1,10 @@
 //! Where the parts of a picture stand.
 
 use crate::start::caption::{
-    Part, caption, last_column, longest, longest_late, most_let_in, spot_of,
+    Purpose, caption, last_column, longest, longest_late, most_accepted_later, spot_of,
 };
 use crate::start::line::state_value;
-use crate::start::steps::Place;
+use crate::start::steps::Position;
 use marble_marks::{Mark, Spot};
 use std::alloc::{AllocError, Global};
 
@@ -34,7 +34,7 @@ pub(crate) struct Sheet {
     names: usize,
     /// How wide a column is.
     column: usize,
-    /// How far those that one line lets in stand apart.
+    /// How far those that one line accepts stand apart.
     slot: usize,
     pub(crate) last_column: usize,
     last_row: usize,
@@ -43,9 +43,9 @@ pub(crate) struct Sheet {
 impl Sheet {
     /// The sheet for these marks, which stand in the order of their rows.
     pub(crate) fn of(alloc: Global, marks: &[Mark<'_>]) -> Result<Sheet, AllocError> {
-        let names = longest(alloc, marks, Part::Name)?;
-        let places = longest(alloc, marks, Part::Place)?.saturating_mul(CHARACTER);
-        let numbers = longest(alloc, marks, Part::Number)?.saturating_mul(SMALL_CHARACTER);
+        let names = longest(alloc, marks, Purpose::Name)?;
+        let places = longest(alloc, marks, Purpose::Place)?.saturating_mul(CHARACTER);
+        let numbers = longest(alloc, marks, Purpose::Number)?.saturating_mul(SMALL_CHARACTER);
         let values = longest_value(alloc, marks)?.saturating_mul(CHARACTER);
         // Half of a frame's words stand before the middle of the next column.
         let value_and_frame = values.saturating_add(places / 2);
@@ -54,7 +54,7 @@ impl Sheet {
         let slot = late.max(numbers).saturating_add(16);
         Ok(Sheet {
             names: names.saturating_mul(CHARACTER).saturating_add(16),
-            column: column.max(slot.saturating_mul(most_let_in(marks))),
+            column: column.max(slot.saturating_mul(most_accepted_later(marks))),
             slot,
             last_column: last_column(marks),
             last_row: marks.last().map_or(0, |mark| mark.row),
@@ -73,12 +73,12 @@ impl Sheet {
         row.saturating_mul(ROW).saturating_add(ROW / 2)
     }
 
-    /// The place of a mark: what one line lets in stands side by side, its middle at that of the column.
-    pub(crate) fn place(self, mark: &Mark<'_>) -> Place {
+    /// The place of a mark: what one line accepts stands side by side, its middle at that of the column.
+    pub(crate) fn place(self, mark: &Mark<'_>) -> Position {
         let Spot { index, count } = spot_of(mark.kind);
         let half = (self.slot / 2).saturating_mul(count.saturating_sub(1));
         let first = self.x(mark.column).saturating_sub(half);
-        Place {
+        Position {
             x: first.saturating_add(self.slot.saturating_mul(index)),
             y: self.y(mark.row),
         }

@@ -9,35 +9,35 @@ pub(crate) const LOWEST: usize = 13;
 
 /// A place of a picture.
 #[derive(Clone, Copy)]
-pub(crate) struct Place {
+pub(crate) struct Position {
     pub(crate) x: usize,
     pub(crate) y: usize,
 }
 
-impl Place {
-    pub(crate) fn left(self, by: usize) -> Place {
-        Place {
+impl Position {
+    pub(crate) fn left(self, by: usize) -> Position {
+        Position {
             x: self.x.saturating_sub(by),
             y: self.y,
         }
     }
 
-    pub(crate) fn right(self, by: usize) -> Place {
-        Place {
+    pub(crate) fn right(self, by: usize) -> Position {
+        Position {
             x: self.x.saturating_add(by),
             y: self.y,
         }
     }
 
-    pub(crate) fn up(self, by: usize) -> Place {
-        Place {
+    pub(crate) fn up(self, by: usize) -> Position {
+        Position {
             x: self.x,
             y: self.y.saturating_sub(by),
         }
     }
 
-    pub(crate) fn down(self, by: usize) -> Place {
-        Place {
+    pub(crate) fn down(self, by: usize) -> Position {
+        Position {
             x: self.x,
             y: self.y.saturating_add(by),
         }
@@ -49,7 +49,7 @@ impl Place {
 pub(crate) struct Pen {
     pub(crate) row: usize,
     /// Where the row's line goes on.
-    pub(crate) at: Place,
+    pub(crate) at: Position,
     pub(crate) line: Line,
     /// Whether the row is a state's.
     pub(crate) is_state: bool,
@@ -63,7 +63,7 @@ impl Pen {
         let y = sheet.y(row);
         Pen {
             row,
-            at: Place { x: 0, y },
+            at: Position { x: 0, y },
             line: Line::None,
             is_state: false,
             span: Span::of(marks, row),
@@ -79,11 +79,11 @@ impl Pen {
     }
 
     /// Where the row's line goes on at a mark of it.
-    pub(crate) fn place(self, sheet: Sheet, mark: &Mark<'_>) -> Place {
+    pub(crate) fn place(self, sheet: Sheet, mark: &Mark<'_>) -> Position {
         let place = sheet.place(mark);
         match state_value(mark.kind) {
             Some(_) => place.down(LOWEST).up(self.step(mark)),
-            None => Place {
+            None => Position {
                 x: place.x,
                 y: self.at.y,
             },

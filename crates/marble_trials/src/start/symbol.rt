@@ -2,7 +2,7 @@
 
 use crate::start::caption::{caption, plain_byte};
 use crate::start::sheet::{CHARACTER, Sheet};
-use crate::start::steps::{LOWEST, Place};
+use crate::start::steps::{LOWEST, Position};
 use marble_marks::{Kind, Mark, Row};
 use script_commands::Reason;
 use std::alloc::{AllocError, Global};
@@ -12,8 +12,8 @@ use std::fmt::Write;
 #[derive(Clone, Copy)]
 pub(crate) struct Segment {
     pub(crate) class: &'static str,
-    pub(crate) from: Place,
-    pub(crate) to: Place,
+    pub(crate) from: Position,
+    pub(crate) to: Position,
 }
 
 /// A mark, and how many steps above the lowest value of its row it stands, where it is a state's value.
@@ -70,9 +70,14 @@ pub(crate) fn push_escaped(picture: &mut String, bytes: &[u8]) -> Result<(), All
 }
 
 /// Adds a line.
-fn push_line(picture: &mut String, class: &str, from: Place, to: Place) -> Result<(), AllocError> {
-    let Place { x: x1, y: y1 } = from;
-    let Place { x: x2, y: y2 } = to;
+fn push_line(
+    picture: &mut String,
+    class: &str,
+    from: Position,
+    to: Position,
+) -> Result<(), AllocError> {
+    let Position { x: x1, y: y1 } = from;
+    let Position { x: x2, y: y2 } = to;
     write!(
         picture,
         "<line class=\"{class}\" x1=\"{x1}\" y1=\"{y1}\" x2=\"{x2}\" y2=\"{y2}\"/>\n"
@@ -87,13 +92,18 @@ impl Segment {
 }
 
 /// Adds the begin of a text at this place.
-fn push_opening(picture: &mut String, class: &str, at: Place) -> Result<(), AllocError> {
-    let Place { x, y } = at;
+fn push_opening(picture: &mut String, class: &str, at: Position) -> Result<(), AllocError> {
+    let Position { x, y } = at;
     write!(picture, "<text class=\"{class}\" x=\"{x}\" y=\"{y}\">")
 }
 
 /// Adds a text at this place.
-fn push_text(picture: &mut String, class: &str, said: &str, at: Place) -> Result<(), AllocError> {
+fn push_text(
+    picture: &mut String,
+    class: &str,
+    said: &str,
+    at: Position,
+) -> Result<(), AllocError> {
     push_opening(picture, class, at)?;
     push_escaped(picture, said.as_bytes())?;
     picture.push_str("</text>\n")
@@ -105,7 +115,7 @@ fn half_width(said: &str) -> usize {
 }
 
 /// Adds the line of a cross that falls.
-fn push_falling(picture: &mut String, at: Place, half: usize) -> Result<(), AllocError> {
+fn push_falling(picture: &mut String, at: Position, half: usize) -> Result<(), AllocError> {
     let reach = half.saturating_sub(2);
     push_line(
         picture,
@@ -116,7 +126,7 @@ fn push_falling(picture: &mut String, at: Place, half: usize) -> Result<(), Allo
 }
 
 /// Adds the line of a cross that rises.
-fn push_rising(picture: &mut String, at: Place, half: usize) -> Result<(), AllocError> {
+fn push_rising(picture: &mut String, at: Position, half: usize) -> Result<(), AllocError> {
     let reach = half.saturating_sub(2);
     push_line(
         picture,
@@ -127,7 +137,7 @@ fn push_rising(picture: &mut String, at: Place, half: usize) -> Result<(), Alloc
 }
 
 /// Adds a cross that reaches a little less to both sides than a frame.
-fn push_cross(picture: &mut String, at: Place, half: usize) -> Result<(), AllocError> {
+fn push_cross(picture: &mut String, at: Position, half: usize) -> Result<(), AllocError> {
     push_falling(picture, at, half)?;
     push_rising(picture, at, half)
 }
@@ -136,11 +146,11 @@ fn push_cross(picture: &mut String, at: Place, half: usize) -> Result<(), AllocE
 fn push_rect(
     picture: &mut String,
     class: &str,
-    corner: Place,
+    corner: Position,
     width: usize,
     round: usize,
 ) -> Result<(), AllocError> {
-    let Place { x, y } = corner;
+    let Position { x, y } = corner;
     write!(
         picture,
         "<rect class=\"{class}\" x=\"{x}\" y=\"{y}\" width=\"{width}\" height=\"22\" rx=\"{round}\"/>\n"
@@ -148,7 +158,7 @@ fn push_rect(
 }
 
 /// Adds a wall, which is higher than a frame.
-fn push_wall(picture: &mut String, at: Place) -> Result<(), AllocError> {
+fn push_wall(picture: &mut String, at: Position) -> Result<(), AllocError> {
     push_line(picture, "wall", at.up(14), at.down(14))
 }
 
@@ -156,7 +166,7 @@ fn push_wall(picture: &mut String, at: Place) -> Result<(), AllocError> {
 fn push_strike(
     picture: &mut String,
     strike: Strike,
-    at: Place,
+    at: Position,
     half: usize,
 ) -> Result<(), AllocError> {
     match strike {
@@ -171,7 +181,12 @@ fn push_strike(
 }
 
 /// Adds the edge of a frame that reaches so far to both sides.
-fn push_edge(picture: &mut String, frame: Frame, half: usize, at: Place) -> Result<(), AllocError> {
+fn push_edge(
+    picture: &mut String,
+    frame: Frame,
+    half: usize,
+    at: Position,
+) -> Result<(), AllocError> {
     let corner = at.up(11).left(half);
     push_rect(
         picture,
@@ -183,7 +198,7 @@ fn push_edge(picture: &mut String, frame: Frame, half: usize, at: Place) -> Resu
 }
 
 /// Adds a text that stands in a frame.
-fn push_framed(picture: &mut String, said: &str, at: Place) -> Result<(), AllocError> {
+fn push_framed(picture: &mut String, said: &str, at: Position) -> Result<(), AllocError> {
     push_text(picture, "framed", said, at.down(4))
 }
 
@@ -193,7 +208,7 @@ fn push_around(
     frame: Frame,
     half: usize,
     said: &str,
-    at: Place,
+    at: Position,
 ) -> Result<(), AllocError> {
     push_edge(picture, frame, half, at)?;
     push_strike(picture, frame.strike, at, half)?;
@@ -201,13 +216,18 @@ fn push_around(
 }
 
 /// Adds a text in a frame.
-fn push_frame(picture: &mut String, frame: Frame, said: &str, at: Place) -> Result<(), AllocError> {
+fn push_frame(
+    picture: &mut String,
+    frame: Frame,
+    said: &str,
+    at: Position,
+) -> Result<(), AllocError> {
     push_around(picture, frame, half_width(said), said, at)
 }
 
 /// Adds the begin of the head of a line's column.
-fn push_heading(picture: &mut String, said: &str, at: Place) -> Result<(), AllocError> {
-    let Place { x, y } = at;
+fn push_heading(picture: &mut String, said: &str, at: Position) -> Result<(), AllocError> {
+    let Position { x, y } = at;
     write!(
         picture,
         "<text class=\"head\" x=\"{x}\" y=\"{y}\">{said}<title>"
@@ -219,7 +239,7 @@ fn push_head_at(
     picture: &mut String,
     line: &[u8],
     said: &str,
-    at: Place,
+    at: Position,
 ) -> Result<(), AllocError> {
     push_heading(picture, said, at)?;
     push_escaped(picture, line)?;
@@ -227,7 +247,12 @@ fn push_head_at(
 }
 
 /// Adds the head of a line's column: its number, with the line's text to it.
-fn push_head(picture: &mut String, line: &[u8], said: &str, at: Place) -> Result<(), AllocError> {
+fn push_head(
+    picture: &mut String,
+    line: &[u8],
+    said: &str,
+    at: Position,
+) -> Result<(), AllocError> {
     push_head_at(picture, line, said, at.down(4))
 }
 
@@ -238,7 +263,7 @@ fn push_crossed_head(
     line: &[u8],
     half: usize,
     said: &str,
-    at: Place,
+    at: Position,
 ) -> Result<(), AllocError> {
     push_cross(picture, at, half)?;
     push_heading(picture, said, at.down(4))?;
@@ -281,7 +306,7 @@ fn square(class: &'static str, strike: Strike) -> Option<Frame> {
 fn frame_of(kind: Kind) -> Option<Frame> {
     match kind {
         Kind::Accepted(_) => round("accepted", Strike::None),
-        Kind::LetIn(_, _) => round("accepted before", Strike::None),
+        Kind::AcceptedLater(_, _) => round("accepted before", Strike::None),
         Kind::Received(_) => round("received", Strike::None),
         Kind::FromPrelude(_) => square("received prelude", Strike::None),
         Kind::Lost(_) => round("lost", Strike::Cross),
@@ -297,18 +322,23 @@ fn frame_of(kind: Kind) -> Option<Frame> {
 }
 
 /// Adds a bar across a row's line.
-fn push_bar(picture: &mut String, at: Place) -> Result<(), AllocError> {
+fn push_bar(picture: &mut String, at: Position) -> Result<(), AllocError> {
     push_line(picture, "bar", at.up(10), at.down(10))
 }
 
 /// Adds a small ring.
-fn push_ring(picture: &mut String, at: Place) -> Result<(), AllocError> {
-    let Place { x, y } = at;
+fn push_ring(picture: &mut String, at: Position) -> Result<(), AllocError> {
+    let Position { x, y } = at;
     write!(picture, "<circle cx=\"{x}\" cy=\"{y}\" r=\"4\"/>\n")
 }
 
 /// Adds a value of a state, so many steps above its lowest.
-fn push_value(picture: &mut String, step: usize, said: &str, at: Place) -> Result<(), AllocError> {
+fn push_value(
+    picture: &mut String,
+    step: usize,
+    said: &str,
+    at: Position,
+) -> Result<(), AllocError> {
     let place = at.down(LOWEST).up(step).right(4).up(5);
     push_text(picture, "value", said, place)
 }
@@ -319,7 +349,7 @@ fn push_begun(
     row: Row,
     step: usize,
     said: &str,
-    at: Place,
+    at: Position,
 ) -> Result<(), AllocError> {
     match row {
         Row::State(_) => push_value(picture, step, said, at),
@@ -328,14 +358,14 @@ fn push_begun(
 }
 
 /// Adds a tick: its answer in a frame, with what a tick is, and an arrowhead that points down at it.
-fn push_ticked(picture: &mut String, said: &str, at: Place) -> Result<(), AllocError> {
+fn push_ticked(picture: &mut String, said: &str, at: Position) -> Result<(), AllocError> {
     let frame = Frame {
         class: "said",
         round: 2,
         strike: Strike::None,
     };
     push_edge(picture, frame, half_width(said), at)?;
-    let Place { x, y } = at.up(12);
+    let Position { x, y } = at.up(12);
     write!(picture, "<path d=\"M{x} {y}l-5-8h10z\"/>\n")?;
     push_opening(picture, "framed", at.down(4))?;
     push_escaped(picture, said.as_bytes())?;
@@ -349,7 +379,7 @@ fn push_bare(
     picture: &mut String,
     placed: &Placed<'_>,
     said: &str,
-    at: Place,
+    at: Position,
 ) -> Result<(), AllocError> {
     match placed.mark.kind {
         Kind::Line(_) => push_head(picture, placed.mark.text, said, at),
@@ -358,8 +388,8 @@ fn push_bare(
             push_crossed_head(picture, reason, placed.mark.text, half, said, at)
         }
         Kind::Named(_) => {
-            let Place { y, .. } = at.down(4);
-            push_text(picture, "name", said, Place { x: 8, y })
+            let Position { y, .. } = at.down(4);
+            push_text(picture, "name", said, Position { x: 8, y })
         }
         Kind::Number(_, _) => push_text(picture, "number", said, at.up(14)),
         Kind::Set(_) | Kind::Holds(_) => push_value(picture, placed.step, said, at),
@@ -376,7 +406,7 @@ fn push_looking(
     frame: Option<Frame>,
     placed: &Placed<'_>,
     said: &str,
-    at: Place,
+    at: Position,
 ) -> Result<(), AllocError> {
     match frame {
         Some(frame) => push_frame(picture, frame, said, at),

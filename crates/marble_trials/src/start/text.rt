@@ -1,6 +1,8 @@
 //! A picture in characters, in strips of at most 120 columns.
 
-use crate::start::caption::{Part, caption, last_column, longest, longest_late, most_let_in, sign};
+use crate::start::caption::{
+    Purpose, caption, last_column, longest, longest_late, most_accepted_later, sign,
+};
 use crate::start::line::Line;
 use marble_marks::Mark;
 use std::alloc::{AllocError, Global};
@@ -74,7 +76,7 @@ impl Pen {
 
     /// Adds a mark of the row.
     fn mark(&mut self, alloc: Global, strip: Strip, mark: &Mark<'_>) -> Result<(), AllocError> {
-        if Part::of(mark) == Part::Name {
+        if Purpose::of(mark) == Purpose::Name {
             return self.text.push_str(caption(alloc, mark)?.as_str());
         }
         if mark.column >= strip.end {
@@ -126,12 +128,12 @@ fn push_strip(
 /// The picture of these marks in characters, at most 120 in a line, and then broken into strips.
 pub fn text_picture(alloc: Global, marks: &mut Vec<Mark<'_>>) -> Result<String, AllocError> {
     marks.sort_by_key(|mark| (mark.row, mark.column))?;
-    let names = longest(alloc, marks, Part::Name)?.saturating_add(2);
-    let number = longest(alloc, marks, Part::Number)?;
-    let one = longest(alloc, marks, Part::Place)?.saturating_add(number);
+    let names = longest(alloc, marks, Purpose::Name)?.saturating_add(2);
+    let number = longest(alloc, marks, Purpose::Number)?;
+    let one = longest(alloc, marks, Purpose::Place)?.saturating_add(number);
     let late = longest_late(alloc, marks)?.saturating_add(number);
     let width = one
-        .max(late.saturating_mul(most_let_in(marks)))
+        .max(late.saturating_mul(most_accepted_later(marks)))
         .saturating_add(1);
     let columns = (MOST_CHARACTERS.saturating_sub(names) / width).max(1);
     let last = last_column(marks);

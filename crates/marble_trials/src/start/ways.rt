@@ -1,9 +1,9 @@
 //! Where a picture's lines go, and its marks stand.
 
-use crate::start::caption::Part;
+use crate::start::caption::Purpose;
 use crate::start::line::{Line, state_value};
 use crate::start::sheet::Sheet;
-use crate::start::steps::{Pen, Place};
+use crate::start::steps::{Pen, Position};
 use crate::start::symbol::{Placed, Segment};
 use marble_marks::Mark;
 use std::alloc::{AllocError, Global};
@@ -16,8 +16,8 @@ fn add_guides(segments: &mut Vec<Segment>, sheet: Sheet) -> Result<(), AllocErro
         let x = sheet.x(column);
         segments.push(Segment {
             class: "guide",
-            from: Place { x, y: top },
-            to: Place { x, y: foot },
+            from: Position { x, y: top },
+            to: Position { x, y: foot },
         })?;
     }
     Ok(())
@@ -34,7 +34,7 @@ fn add_row_line(segments: &mut Vec<Segment>, pen: Pen, x: usize) -> Result<(), A
     segments.push(Segment {
         class,
         from: pen.at,
-        to: Place { x, y: pen.at.y },
+        to: Position { x, y: pen.at.y },
     })?;
     Ok(())
 }
@@ -47,12 +47,12 @@ fn add_way(
     mark: &Mark<'_>,
 ) -> Result<(), AllocError> {
     let place = pen.place(sheet, mark);
-    let Place { x, y } = place;
+    let Position { x, y } = place;
     add_row_line(segments, *pen, x)?;
     if pen.line.is_there() && y != pen.at.y {
         segments.push(Segment {
             class: "step",
-            from: Place { x, y: pen.at.y },
+            from: Position { x, y: pen.at.y },
             to: place,
         })?;
     }
@@ -76,7 +76,7 @@ pub(crate) fn ways(
             add_row_line(&mut segments, pen, sheet.end())?;
             pen = Pen::new(sheet, marks, mark.row);
         }
-        if Part::of(mark) == Part::Place {
+        if Purpose::of(mark) == Purpose::Place {
             add_way(&mut segments, sheet, &mut pen, mark)?;
         }
     }

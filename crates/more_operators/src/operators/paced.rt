@@ -30,7 +30,7 @@ pub trait Pace: Copy {
 
 /// The last value of a source, which another may still follow, and the moment at which it came.
 #[derive(Clone, Copy)]
-pub struct Held<T> {
+pub struct Timestamped<T> {
     value: T,
     since: u64,
 }
@@ -40,7 +40,7 @@ pub struct Held<T> {
 pub struct Paced<S, P, T> {
     source: S,
     pace: P,
-    held: Option<Held<T>>,
+    held: Option<Timestamped<T>>,
 }
 
 impl<T: Copy, P: Pace, S: Run<Item = T>> Paced<S, P, T> {
@@ -105,7 +105,7 @@ impl<T: Copy, P: Pace, S: Run<Item = T>> Paced<S, P, T> {
         }
         match self.source.poll_next(cx) {
             Poll::Ready(Event::Value(value)) => {
-                self.held = Some(Held {
+                self.held = Some(Timestamped {
                     value,
                     since: moment,
                 });

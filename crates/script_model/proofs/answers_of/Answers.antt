@@ -8,4 +8,4 @@ use Rattle.script_model.proofs.answers_of.Goals as goal
 pub returns : goal.returns
 returns g c = gives_as_model _ _ _ c.args.script.now c.answers_of.result c.answers_of.ensures (λ (it : OneThread). it.state) (λ it. it.object) _ _ _ _ _ _
     (λ made reply h. h) (λ part request old new answer h. asks_known (λ (it : OneThread). it.state) (receipts_of subscribing_of subscribing) _ _ part request old.object new.object answer h)
-    (λ part party old new joined h. joins_known (λ (it : OneThread). it.state) (receipts_of subscribing_of subscribing) part party old.object new.object joined h)
+    (λ part joiner old new joined h. joins_known (λ (it : OneThread). it.state) (receipts_of subscribing_of subscribing) part joiner old.object new.object joined h)

@@ -143,7 +143,7 @@ impl<T: Copy> SharedState<T> {
     }
 
     /// Accepts the emission that waits longest, where there is room. Answers whether it did.
-    fn accept_waiting(&mut self) -> bool
+    fn accept_first(&mut self) -> bool
         ensures { SettlesOnce self.old result self.new }
     {
         if self.waiting.len() == 0 {
@@ -180,15 +180,15 @@ impl<T: Copy> SharedState<T> {
         if self.waiting.len() == 0 {
             return;
         }
-        self.settle_waiting();
+        self.accept_all_waiting();
     }
 
     // Not inlined, so that a receipt beside which none waits keeps its registers.
     #[inline(never)]
-    fn settle_waiting(&mut self)
+    fn accept_all_waiting(&mut self)
         ensures { Settles self.old self.new }
     {
-        while self.accept_waiting() {}
+        while self.accept_first() {}
     }
 
     // Inlined wherever it is called, so that the answer needn't go through memory.

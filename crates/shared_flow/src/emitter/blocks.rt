@@ -24,7 +24,7 @@ pub struct CutShort {
 
 // How many values were emitted, and how many of them were accepted.
 #[derive(Clone, Copy, Drop)]
-struct Turn {
+struct BlockProgress {
     emitted: u64,
     accepted: u64,
 }
@@ -95,7 +95,7 @@ impl<T: Word> Emitter<T> {
         rt: &impl Wait,
         parker: &mut Parker,
         values: &[T],
-    ) -> Result<Turn, CutShort>
+    ) -> Result<BlockProgress, CutShort>
         requires idle { self.old.ticket ≡ None }
         requires some { 0 < length values.now }
         ensures ends { (self.new.ticket ≡ None) × IsSameEmitter self.old self.new }
@@ -108,17 +108,17 @@ impl<T: Word> Emitter<T> {
             Err(refusal) => return Err(cut_at(0, refusal)),
         };
         if count as usize == values.len() {
-            return Ok(Turn {
+            return Ok(BlockProgress {
                 emitted: count,
                 accepted: count,
             });
         }
         match self.emit(rt, parker, values[count as usize]) {
-            Ok(Some(_)) => Ok(Turn {
+            Ok(Some(_)) => Ok(BlockProgress {
                 emitted: count + 1,
                 accepted: count + 1,
             }),
-            Ok(None) => Ok(Turn {
+            Ok(None) => Ok(BlockProgress {
                 emitted: count + 1,
                 accepted: count,
             }),

@@ -3,7 +3,7 @@ ghost use Rattle.std.specs.Prelude.{◌≡◌, ◌<◌, ℕ, Some, length, slice
 ghost use Rattle.shared_lane.specs.Caches.{IsLastOf};
 ghost use Rattle.shared_lane.specs.Sequencers.{seen};
 ghost use Rattle.shared_rounds.specs.declared.round.Round.TheVariants as round;
-ghost use Rattle.lane_steps.specs.Law.{Begins};
+ghost use Rattle.flow_terms.specs.Lists.{IsPrefix};
 ghost use Rattle.shared_rounds.specs.Entering.{MadeOf};
 ghost use Rattle.shared_rounds.specs.Reach.{with_round};
 ghost use Rattle.shared_flow.specs.Owners.{HasHeard, KeepsLock, IsKept, at_rest};
@@ -33,7 +33,7 @@ impl Model for Kept {
     ghost view = { λ k. record { count = k.count; before = k.inside.before; shared = k.inside.guarded.state.value } };
 }
 
-/// A flow whose lock is kept: nothing is emitted into it, and nobody is let in, until it is released. Subscriptions receive on, by
+/// A flow whose lock is kept: nothing is emitted into it, and nobody is admitted, until it is released. Subscriptions receive on, by
 /// `try_next`. Kotlin has no such thing.
 ///
 /// It has no `Drop` and must be spent, by [`release`](Held::release): until then each other call that takes the lock waits.
@@ -44,11 +44,11 @@ pub struct Held<'a, T: Word, K = Kept> {
 }
 
 impl<T: Word> SharedFlow<T> {
-    /// Takes the lock and keeps it, with what waits let in and the live subscriptions counted.
+    /// Takes the lock and keeps it, with what waits accepted and the live subscriptions counted.
     pub fn hold(&mut self, rt: &impl Wait) -> Held<'_, T>
         ensures same_reference { result.flow.ghost_name ≡ self.entry.ghost_name }
         ensures party { result.flow.now.party ≡ record self.old.party { seen = result.flow.now.party.seen } }
-        ensures seen { Begins result.flow.now.party.seen self.old.party.seen }
+        ensures seen { IsPrefix self.old.party.seen result.flow.now.party.seen }
         ensures held { KeepsLock result.flow.now result.kept }
     {
         let mut inside = self.access.enter(rt);

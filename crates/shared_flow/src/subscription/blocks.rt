@@ -132,7 +132,7 @@ impl<T: Word> Subscription<T> {
         if let Taken::Value(_) = taken {
             let waits = access.has_unfinished(track, &mut self.looker, &self.reader);
             if waits {
-                self.make_room(rt);
+                self.accept_waiting(rt);
             }
         }
         taken

@@ -2,8 +2,8 @@
 ghost use Rattle.std.specs.Prelude.{◌≡◌, ◌≢◌, ℕ, ◌+◌, ◌<◌, ◌≤◌, [], length, false, IfOk, IfErr};
 ghost use Rattle.flow_terms.specs.declared.policy.Policy.TheVariants.{Suspend, DropOldest};
 ghost use Rattle.lane_steps.specs.Steps.{IsRoomyAt};
-ghost use Rattle.shared_lane.specs.Sequencers.{IsSequencerOf, IsSameSequencer, LoadedOrMoved, Rounded, HasNumber, RefusedTry, AfterScan, next};
-ghost use Rattle.shared_lane.specs.Blocks.{entries, accepted_all, RoundedFor, AcceptedSome, TriedAllOn};
+ghost use Rattle.shared_lane.specs.Sequencers.{IsSequencerOf, IsSameSequencer, LoadedOrMoved, Passed, HasNumber, RefusedTry, AfterScan, next};
+ghost use Rattle.shared_lane.specs.Blocks.{entries, accepted_all, PassedFor, AcceptedSome, TriedAllOn};
 
 use super::{LIMIT, Sequencer};
 use crate::blocks::{clear_room, load_room, store_cells};
@@ -19,8 +19,8 @@ impl<A: Allocator> Sequencer<A> {
         requires some { 0 < most }
         ensures only { LoadedOrMoved self.old self.new }
         ensures few { result ≤ most }
-        ensures none { result ≡ 0 → Rounded self.old.capacity self.old false self.new × (self.new.policy ≢ DropOldest) }
-        ensures some { 0 < result → RoundedFor self.old.policy result self.old self.new.view }
+        ensures none { result ≡ 0 → Passed self.old.capacity self.old false self.new × (self.new.policy ≢ DropOldest) }
+        ensures some { 0 < result → PassedFor self.old.policy result self.old self.new.view }
         ensures room { (n : ℕ) → next self.old ≤ n → n < next self.old + result → IsRoomyAt self.new.view.shape.cells n self.new.view }
     {
         let words = lane.words();
@@ -70,7 +70,7 @@ impl<A: Allocator> Sequencer<A> {
         self.cache.extend_from_slice(block);
     }
 
-    // Accepts some of the words, from the first on: those for which one round over the cursors finds room.
+    // Accepts some of the words, from the first on: those for which one pass over the cursors finds room.
     fn accept_some<B: Allocator>(&mut self, lane: &Lane<B>, emitter: u32, words: &[u64]) -> usize
         requires lane { IsSequencerOf lane.now self.old }
         requires first { self.old.waiting ≡ [] }
@@ -111,7 +111,7 @@ impl<A: Allocator> Sequencer<A> {
     /// [`try_emit`](Sequencer::try_emit) of one after another comes to, but one look at the cursors and one store of the tail
     /// serve for as many as there is room for. Kotlin has no such call.
     ///
-    /// It first lets waiting emissions in, and what it let in stands whatever it answers. Under `Suspend` it stops where a try
+    /// It first accepts waiting emissions, and what it accepted stands whatever it answers. Under `Suspend` it stops where a try
     /// would be `Full`, under `DropLatest` where one would be `Dropped`; under `DropOldest` all are accepted, and each reader
     /// loses what it would have lost. Refused: `Spent` where the numbers are used up, and none was accepted.
     pub fn try_emit_all<B: Allocator>(
@@ -129,7 +129,7 @@ impl<A: Allocator> Sequencer<A> {
         self.try_all_after_scan(lane, emitter, words)
     }
 
-    // The same, after waiting emissions were let in.
+    // The same, after waiting emissions were accepted.
     fn try_all_after_scan<B: Allocator>(
         &mut self,
         lane: &Lane<B>,

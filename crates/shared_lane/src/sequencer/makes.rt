@@ -12,7 +12,7 @@ use crate::lane::Lane;
 use crate::tickets::{Standing, Waiting};
 use circular_buffer::HeapCircularBuffer;
 use flow_terms::{Policy, Refusal};
-use lane_steps::{Place, Shape, Words};
+use lane_steps::{LaneSeat, Shape, Words};
 use shared_core::Config;
 use std::alloc::{AllocError, Allocator};
 
@@ -75,7 +75,7 @@ impl<A: Allocator + Clone> Tables<A> {
 
 impl<A: Allocator> Sequencer<A> {
     // One that has accepted nothing. `cell` is the index of the first number's cell.
-    fn fresh(config: &Config, seat: Place, cell: usize, tables: Tables<A>) -> Sequencer<A>
+    fn fresh(config: &Config, seat: LaneSeat, cell: usize, tables: Tables<A>) -> Sequencer<A>
         requires bounds { IsWithinBounds config.now }
         requires seat { seat.me ≡ (opening_view (shape_of config.now), []) }
         requires cell { cell ≡ cell_index (shape_of config.now) config.now.first }

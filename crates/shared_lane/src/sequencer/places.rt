@@ -1,10 +1,10 @@
 //! Subscriber places, and what the sequencer is told.
 ghost use Rattle.std.specs.Prelude.{◌≡◌, ◌+◌, ◌-◌, IfOk, IfErr};
-ghost use Rattle.lane_steps.specs.Law.{Begins};
+ghost use Rattle.flow_terms.specs.Lists.{IsPrefix};
 ghost use Rattle.shared_lane.specs.Readers.{IsReaderOf, IsReceiptOf};
 ghost use Rattle.shared_lane.specs.Sequencers.{IsSequencerOf, OnlyLoaded, seen};
 ghost use Rattle.shared_lane.specs.Surveys.{OpensNone};
-ghost use Rattle.shared_lane.specs.Places.{LetIn, NotLetIn, Counted, LosesNothing, KnowsEndOf, told_of_end};
+ghost use Rattle.shared_lane.specs.Places.{Admitted, NotAdmitted, Counted, LosesNothing, KnowsEndOf, told_of_end};
 
 use super::{LIMIT, Sequencer, find_closed, load_cursors};
 use crate::closed::Closed;
@@ -39,8 +39,8 @@ impl<A: Allocator> Sequencer<A> {
     /// and found open.
     pub fn admit<B: Allocator>(&mut self, lane: &Lane<B>) -> Result<Reader, Refusal>
         requires { IsSequencerOf lane.now self.old }
-        ensures ok { IfOk result (λ r. LetIn lane.now self.old r self.new) }
-        ensures err { IfErr result (λ e. NotLetIn self.old e self.new) }
+        ensures ok { IfOk result (λ r. Admitted lane.now self.old r self.new) }
+        ensures err { IfErr result (λ e. NotAdmitted self.old e self.new) }
     {
         if self.subscription == LIMIT {
             return Err(Refusal::Spent);
@@ -63,7 +63,7 @@ impl<A: Allocator> Sequencer<A> {
         ensures only { OnlyLoaded self.old self.new }
         ensures kept { LosesNothing self.old self.new }
         ensures receipt { receipt.new ≡ receipt.old }
-        ensures told { Begins (seen self.new) receipt.old.seen }
+        ensures told { IsPrefix receipt.old.seen (seen self.new) }
     {
         let words = lane.words();
         let copy = receipt.copied(lane);

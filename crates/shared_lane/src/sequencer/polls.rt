@@ -79,7 +79,7 @@ impl<A: Allocator> Sequencer<A> {
     fn is_unread<B: Allocator>(&mut self, lane: &Lane<B>, number: u64) -> bool
         requires { IsSequencerOf lane.now self.old }
         ensures only { OnlyLoaded self.old self.new }
-        ensures round { (ns : List ℕ) × Loaded self.old ns self.new × Behind number 0 ns result }
+        ensures pass { (ns : List ℕ) × Loaded self.old ns self.new × Behind number 0 ns result }
     {
         load_cursors(lane.words(), &mut self.seat, &mut self.open_end, number, 0).behind
     }

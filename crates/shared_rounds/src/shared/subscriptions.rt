@@ -11,21 +11,21 @@ ghost use Rattle.shared_lane.specs.Sequencers.{next, seen};
 ghost use Rattle.shared_rounds.specs.declared.round.Round.TheVariants as round;
 ghost use Rattle.shared_rounds.specs.Names.{IsTrackOf};
 ghost use Rattle.shared_rounds.specs.Meeting.{Looked, HasMet, OnlyMet};
-ghost use Rattle.shared_rounds.specs.Sleeping.{LiesDown, SleepsAt, StayBut};
+ghost use Rattle.shared_rounds.specs.Sleeping.{Parks, SleepsAt, StayBut};
 ghost use Rattle.shared_rounds.specs.Waking.{SleepOn};
-ghost use Rattle.shared_rounds.specs.Rounds.{Comes, FreesAfter, HasClosed, IsAtLimit, IsLetIn, look_round};
+ghost use Rattle.shared_rounds.specs.Rounds.{Comes, FreesAfter, HasClosed, IsAtLimit, IsAdmitted, look_round};
 
 use super::Shared;
-use crate::sleepers::Bed;
 use crate::track::{Looker, Track};
+use crate::wait_list::WaitKey;
 use flow_terms::{Refusal, Word};
 use futures::task::Context;
 use shared_lane::{Met, Reader, Taken, look, meet};
 use std::alloc::{AllocError, Global};
 use std::sync::Arc;
 
-/// A reader that was let in, or why none was, and who looks at the flag for it.
-pub struct Admitted {
+/// A reader that was admitted, or why none was, and who looks at the flag for it.
+pub struct NewReader {
     /// The number that the subscription has, or would have had.
     pub number: u64,
     /// It has not looked yet.
@@ -42,9 +42,9 @@ impl Shared {
         Arc::try_clone(&self.track)
     }
 
-    /// Lets a reader in, which starts at the oldest value of the replay cache.
-    pub fn subscribe(&mut self) -> Admitted
-        ensures ok { IfOk result.reader (λ reader. Comes self.old (round.Subscribe (Ok result.number)) self.new × IsLetIn self.old result.number reader self.new) }
+    /// Admits a reader, which starts at the oldest value of the replay cache.
+    pub fn subscribe(&mut self) -> NewReader
+        ensures ok { IfOk result.reader (λ reader. Comes self.old (round.Subscribe (Ok result.number)) self.new × IsAdmitted self.old result.number reader self.new) }
         ensures err { IfErr result.reader (λ refusal. Comes self.old (round.Subscribe (Err refusal)) self.new × IsAtLimit refusal) }
         ensures looker { result.looker ≡ record { table = self.old.name.flag; looks = [] } }
         ensures asleep { SleepOn self.old self.new }
@@ -53,22 +53,22 @@ impl Shared {
         let number = self.sequencer.next_subscription();
         let reader = self.sequencer.admit(self.track.lane());
         let looker = self.track.looker(&mut self.keeper);
-        Admitted {
+        NewReader {
             number,
             looker,
             reader,
         }
     }
 
-    /// After a subscription received a value without the lock: lets in what waits, as far as there is room by that.
-    pub fn make_room(&mut self, number: u64)
+    /// After a subscription received a value without the lock: accepts what waits, as far as there is room by that.
+    pub fn accept_waiting(&mut self, number: u64)
         ensures does { Comes self.old (round.Next number) self.new }
         ensures asleep { SleepOn self.old self.new }
     {
         self.sequencer.scan(self.track.lane());
     }
 
-    /// A look of a subscription at the lane, after what waits was let in. Who has the lock alone accepts: what this look doesn't
+    /// A look of a subscription at the lane, after what waits was accepted. Who has the lock alone accepts: what this look doesn't
     /// find comes after its task sleeps.
     pub fn look(&mut self, number: u64, reader: &mut Reader) -> Taken<u64>
         requires { IsReaderOf self.old.name.lane reader.old }
@@ -87,17 +87,17 @@ impl Shared {
         taken
     }
 
-    /// The task of a subscription without a value sleeps until something is accepted. Who sleeps in its bed already sleeps on
+    /// The task of a subscription without a value sleeps until something is accepted. Who sleeps under its key already sleeps on
     /// there, and takes no other.
-    pub fn sleep_subscription(&mut self, number: u64, bed: &mut Bed, cx: &mut Context<'_>)
+    pub fn sleep_subscription(&mut self, number: u64, wait_key: &mut WaitKey, cx: &mut Context<'_>)
         ensures same { self.new ≡ record self.old { subscriptions = self.new.subscriptions } }
-        ensures lies { LiesDown number self.old.subscriptions self.new.subscriptions }
-        ensures stays { SleepsAt self.old.subscriptions bed.old.key number → bed.new.key ≡ bed.old.key }
-        ensures others { StayBut bed.new.key self.old.subscriptions self.new.subscriptions }
+        ensures lies { Parks number self.old.subscriptions self.new.subscriptions }
+        ensures stays { SleepsAt self.old.subscriptions wait_key.old.key number → wait_key.new.key ≡ wait_key.old.key }
+        ensures others { StayBut wait_key.new.key self.old.subscriptions self.new.subscriptions }
         ensures armed { IsArmed cx.new }
         ensures kept { Keeps cx.old cx.new }
     {
-        self.subscriptions.sleep(number, bed, cx);
+        self.subscriptions.sleep(number, wait_key, cx);
     }
 
     /// Lets in what waits, compares what sequencer and reader know, ends the subscription, and lets in once more. Where nothing waits,

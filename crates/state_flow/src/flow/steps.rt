@@ -9,7 +9,7 @@ ghost use Rattle.state_flow.specs.Steps.{gathered};
 
 use super::StateFlow;
 use crate::plays::{
-    Begin, Cancel, Compare, Cut, End, Gather, Launch, Look, Merge, Part, Put, Tally,
+    Begin, Cancel, Compare, Cut, End, Gather, GivenShare, Launch, Look, Merge, Put, Tally,
 };
 use crate::view::View;
 use atomic_table::Seat;
@@ -144,7 +144,7 @@ impl<T: Word, A: Allocator> StateFlow<T, A> {
     }
 
     /// A new seat with a part of the share, which the caller picks for the proof too.
-    pub(crate) fn split<J: Part>(
+    pub(crate) fn split<J: GivenShare>(
         &self,
         seat: &mut Seat<(), View<T>>,
         part: u32,

@@ -90,7 +90,7 @@ impl ListBody {
     }
 
     /// Accepts the emission that waits longest, where there is room. Answers whether it did.
-    fn accept_waiting(&mut self) -> Result<bool, AllocError> {
+    fn accept_first(&mut self) -> Result<bool, AllocError> {
         if self.waiting.is_empty() {
             return Ok(false);
         }
@@ -110,7 +110,7 @@ impl ListBody {
     /// Accepts waiting emissions, the oldest first, while there is room.
     pub(crate) fn settle(&mut self) -> Result<(), AllocError> {
         for _ in 0..self.waiting.len() {
-            if !self.accept_waiting()? {
+            if !self.accept_first()? {
                 return Ok(());
             }
         }

@@ -1,5 +1,5 @@
 use Rattle.std.proofs.Common.{◌≡◌, sym, ap, subst, ◌∙◌}
-use Rattle.round_lock.specs.History.{Begins}
+use Rattle.flow_terms.specs.Lists.{IsPrefix}
 use Rattle.shared_flow.specs.Owners.{Owning, HasHeard}
 use Rattle.shared_rounds.specs.Reach.{Party, Rounds}
 use Rattle.shared_flow.proofs.Making.{meets}
@@ -19,7 +19,7 @@ returns g c =
     let owner : last.flow.now ≡ c.hold-held.result.flow.now = since ∙ c.tell_emitter.ensures.owner in
     let same : last.flow.now.party ≡ record p { seen = last.flow.now.party.seen } =
     ap (λ (o : Owning). o.party) owner ∙ c.hold-held.ensures.party ∙ ap (λ (o : Owning). record p { seen = o.party.seen }) (sym owner) in
-    let on = subst (λ (o : Owning). Begins o.party.seen p.seen) (sym owner) c.hold-held.ensures.seen in
+    let on = subst (λ (o : Owning). IsPrefix p.seen o.party.seen) (sym owner) c.hold-held.ensures.seen in
     let told = subst (λ (o : Owning). HasHeard o.party.seen s.party m.party) (sym since) c.tell_subscription.ensures.heard in
     let it = c.release.ensures.made in
     let heard = subst (λ (o : Owning). HasHeard o.party.seen e.party f.party) (sym owner) c.tell_emitter.ensures.heard in

@@ -1,6 +1,6 @@
 use Rattle.std.proofs.Common.{◌≡◌, ℕ, ◌+◌, ◌-◌, ◌<◌, ◌≤◌, length, replicate, false, ap, subst, ◌∙◌, arith, length-append}
 use Rattle.std.proofs.lemmas.List.{length-replicate}
-use Rattle.lane_steps.specs.Law.{Begins}
+use Rattle.flow_terms.specs.Lists.{IsPrefix}
 use Rattle.shared_lane.specs.Readers.{IsReaderOf, IsSameReader, at}
 use Rattle.shared_lane.specs.Views.{LaneSeen, ReaderSeen, ReceiptSeen}
 use Rattle.shared_lane.specs.declared.reader.Taken.TheVariants.{Nothing}
@@ -12,7 +12,7 @@ use Rattle.hot_callers.proofs.shared_calling.emitted_and_heard.Goals as goal
 
 -- a reader that was told of an emission, and then finds nothing, is past it
 is_past : (lane : LaneSeen) (e : Emission) (receipt : ReceiptSeen) (r m t : ReaderSeen) → IsReceiptFor lane e receipt → IsReaderOf lane r → IsSameReader r m
-    → Begins m.seen receipt.seen → Looked m Nothing t → receipt.number < at t
+    → IsPrefix receipt.seen m.seen → Looked m Nothing t → receipt.number < at t
 is_past lane e receipt r m t its of told begins look =
     let n : ℕ = look.1.0 in
     let far : at m ≤ n = look.1.1.0 in

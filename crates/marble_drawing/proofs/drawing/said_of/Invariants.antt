@@ -1,6 +1,6 @@
 use Rattle.std.proofs.Common.{◌≡◌, map}
 use Rattle.marble_drawing.specs.Pictures.{saying_of}
-use Rattle.marble_marks.specs.Turns.{saying_in}
+use Rattle.marble_marks.specs.AnsweredLines.{saying_in}
 use Rattle.marble_drawing.proofs.drawing.said_of.Given as goal
 
 abbrev pub invariant-loop-answered : goal.invariant-loop-answered

@@ -1,13 +1,13 @@
 use Rattle.std.proofs.Common.{arith, refl, ◌≡◌, ℕ, ◌+◌, ◌-◌, ◌≤◌, List, [], ◌∷◌, ◌++◌, length, sym, ◌∙◌, subst, length-append}
 use Rattle.lane_steps.specs.Steps.{next_number}
 use Rattle.shared_lane.specs.Surveys.{ShutFrom, Cleared, Visit}
-use Rattle.shared_lane.proofs.Rounds.{round_none, round_more}
+use Rattle.shared_lane.proofs.Passes.{pass_none, pass_more}
 use Rattle.shared_lane.proofs.Rooms.{room_before, room_after}
-use Rattle.shared_lane.proofs.WholeRounds.{all_of, all_long, cleared_still, cleared_shut, whole_of, room_all, ends_none, ends_more, shut_after}
+use Rattle.shared_lane.proofs.WholePasses.{all_of, all_long, cleared_still, cleared_shut, whole_of, room_all, ends_none, ends_more, shut_after}
 use Rattle.shared_lane.proofs.blocks.clear_room.Goals as goal
 
 pub loop-place-init : goal.loop-place-init
-loop-place-init g c = ((refl, refl, refl), ([], refl, round_none _ _, room_before _ _ _, ends_none))
+loop-place-init g c = ((refl, refl, refl), ([], refl, pass_none _ _, room_before _ _ _, ends_none))
 
 pub room_left-room-requires : goal.room_left-room-requires
 room_left-room-requires g c = λ ne. let inv = c.loop-place.invariant.1 in let only = inv.2.only in let below = c.clear_one-at.ensures.visited.below ne in
@@ -20,7 +20,7 @@ loop-place-preserved g c = let before = c.loop-place.invariant.0 in let inv = c.
       (
         ns ++ n ∷ [],
         omega arith,
-        round_more E c.args.seat.now.me.0 c.loop-place.seat.me.0 c.clear_one-at.new.seat.me.0 ns n inv.2 (subst (λ (z : ℕ). Visit E c.loop-place.seat.me.0 z n c.clear_one-at.new.seat.me.0) (sym long) visit),
+        pass_more E c.args.seat.now.me.0 c.loop-place.seat.me.0 c.clear_one-at.new.seat.me.0 ns n inv.2 (subst (λ (z : ℕ). Visit E c.loop-place.seat.me.0 z n c.clear_one-at.new.seat.me.0) (sym long) visit),
         room_after c.args.tail c.args.words.now.shape.cells c.args.most c.loop-place.room c.room_left-room.result ns n inv.3 c.room_left-room.ensures,
         ends_more ns n c.loop-place.place c.loop-place.end c.end_with-end.result long inv.4 c.end_with-end.ensures,
       ),

@@ -1,13 +1,13 @@
 use Rattle.std.proofs.Common.{arith, refl, ◌≡◌, ℕ, ◌+◌, ◌-◌, ◌≤◌, ◌<◌, List, [], ◌∷◌, ◌++◌, length, sym, ◌∙◌, subst, length-append}
 use Rattle.lane_steps.specs.Steps.{next_number, Surveyed}
 use Rattle.shared_lane.specs.Surveys.{ShutFrom, FoundAt}
-use Rattle.shared_lane.proofs.Rounds.{visited, round_none, round_more}
+use Rattle.shared_lane.proofs.Passes.{visited, pass_none, pass_more}
 use Rattle.shared_lane.proofs.Rooms.{room_before, room_after}
-use Rattle.shared_lane.proofs.WholeRounds.{all_of, all_long, found_still, found_shut, whole_of, room_all, ends_none, ends_more, shut_after}
+use Rattle.shared_lane.proofs.WholePasses.{all_of, all_long, found_still, found_shut, whole_of, room_all, ends_none, ends_more, shut_after}
 use Rattle.shared_lane.proofs.blocks.load_room.Goals as goal
 
 pub loop-place-init : goal.loop-place-init
-loop-place-init g c = ((refl, refl, refl), ([], refl, round_none _ _, room_before _ _ _, ends_none))
+loop-place-init g c = ((refl, refl, refl), ([], refl, pass_none _ _, room_before _ _ _, ends_none))
 
 pub room_left-room-requires : goal.room_left-room-requires
 room_left-room-requires g c = λ ne. let inv = c.loop-place.invariant.1 in let only = inv.2.only in let below = (c.load_cursor-at.ensures.view.2 ne).2 in
@@ -21,7 +21,7 @@ loop-place-preserved g c = let before = c.loop-place.invariant.0 in let inv = c.
       (
         ns ++ n ∷ [],
         omega arith,
-        round_more _ c.args.seat.now.me.0 c.loop-place.seat.me.0 c.load_cursor-at.new.seat.me.0 ns n inv.2 (visited c.loop-place.seat.me.0 c.load_cursor-at.new.seat.me.0 (length ns) n inside (subst (λ (z : ℕ). Surveyed z c.loop-place.seat.me.0 n c.load_cursor-at.new.seat.me.0) (sym long) here.view)),
+        pass_more _ c.args.seat.now.me.0 c.loop-place.seat.me.0 c.load_cursor-at.new.seat.me.0 ns n inv.2 (visited c.loop-place.seat.me.0 c.load_cursor-at.new.seat.me.0 (length ns) n inside (subst (λ (z : ℕ). Surveyed z c.loop-place.seat.me.0 n c.load_cursor-at.new.seat.me.0) (sym long) here.view)),
         room_after c.args.tail c.args.lag c.args.most c.loop-place.room c.room_left-room.result ns n inv.3 c.room_left-room.ensures,
         ends_more ns n c.loop-place.place c.loop-place.end c.end_with-end.result long inv.4 c.end_with-end.ensures,
       ),

@@ -3,7 +3,8 @@ use Rattle.lane_steps.specs.declared.view.View.{View}
 use Rattle.lane_steps.specs.declared.view.Reading.{Reading}
 use Rattle.lane_steps.specs.declared.view.Shape.{Shape}
 use Rattle.lane_steps.specs.Layout.{cell_index}
-use Rattle.lane_steps.specs.Law.{Entry, Begins, received, lost}
+use Rattle.flow_terms.specs.Lists.{IsPrefix}
+use Rattle.lane_steps.specs.Law.{Entry, received, lost}
 use Rattle.lane_steps.specs.Steps.{position, found_at, next_number}
 use Rattle.shared_lane.specs.Views.{LaneSeen, ReaderSeen, SequencerSeen}
 use Rattle.shared_lane.proofs.Stories.{position_found, received_none, each_once}
@@ -75,7 +76,7 @@ returns-clause-reader g c = rw (← c.reader.view_is) (let s = c.reader.inside i
         ap (λ (x : Reading). x.start) e,
         ap (λ (x : Reading). x.place) e,
         shape ∙ sym old_shape,
-        subst (λ (z : List Entry × List Entry). Begins z.0 z.1) (λ i. (sym seen i, told i)) met.1,
+        subst (λ (z : List Entry × List Entry). IsPrefix z.1 z.0) (λ i. (sym seen i, told i)) met.1,
         table ∙ sym (ap (λ (z : ReaderSeen). z.table) c.reader.view_is ∙ c.requires.1.0),
         ap (λ (x : Reading). x.opening) e,
       ),

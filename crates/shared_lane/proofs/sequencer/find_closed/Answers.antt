@@ -2,9 +2,9 @@ use Rattle.std.proofs.Common.{arith, ◌≡◌, ◌≢◌, ℕ, ◌+◌, ◌<◌
 use Rattle.lane_steps.specs.Law.{closed}
 use Rattle.lane_steps.specs.declared.view.Known.{Known}
 use Rattle.lane_steps.specs.Steps.{Surveyed, known_of}
-use Rattle.shared_lane.specs.Surveys.{Round, FoundAt, may_be_open}
+use Rattle.shared_lane.specs.Surveys.{Pass, FoundAt, may_be_open}
 use Rattle.lane_steps.proofs.Lists.{which}
-use Rattle.shared_lane.proofs.Rounds.{visited, round_more, round_loses_none, all_more, shut_at}
+use Rattle.shared_lane.proofs.Passes.{visited, pass_more, pass_loses_none, all_more, shut_at}
 use Rattle.shared_lane.proofs.sequencer.find_closed.Goals as goal
 
 pub loop-place-preserved : goal.loop-place-preserved
@@ -15,7 +15,7 @@ loop-place-preserved g c = let before = c.loop-place.invariant.0 in let inv = c.
       (
         ns ++ n ∷ [],
         omega arith,
-        round_more FoundAt c.args.seat.now.me.0 c.loop-place.seat.me.0 c.load_cursor.new.seat.me.0 ns n inv.2
+        pass_more FoundAt c.args.seat.now.me.0 c.loop-place.seat.me.0 c.load_cursor.new.seat.me.0 ns n inv.2
             (visited c.loop-place.seat.me.0 c.load_cursor.new.seat.me.0 (length ns) n inside (subst (λ (z : ℕ). Surveyed z c.loop-place.seat.me.0 n c.load_cursor.new.seat.me.0) (sym long) here.view)),
         all_more (λ z. z ≢ closed) ns n inv.3 c.if-load_cursor.false,
       ),
@@ -29,7 +29,7 @@ returns-then-load_cursor-clause-some g c = let inv = c.loop-place.invariant.1 in
       (
         ns,
         long,
-        subst (λ (z : ℕ). Round FoundAt c.args.seat.now.me.0 (ns ++ z ∷ []) c.load_cursor.new.seat.me.0) shut (round_more FoundAt c.args.seat.now.me.0 c.loop-place.seat.me.0 c.load_cursor.new.seat.me.0 ns n inv.2 visit),
+        subst (λ (z : ℕ). Pass FoundAt c.args.seat.now.me.0 (ns ++ z ∷ []) c.load_cursor.new.seat.me.0) shut (pass_more FoundAt c.args.seat.now.me.0 c.loop-place.seat.me.0 c.load_cursor.new.seat.me.0 ns n inv.2 visit),
         inv.3,
         ap (λ (z : ℕ). (known_of c.load_cursor.new.seat.me.0.sequencing z).is_open) (sym long) ∙ (ap (λ (k : Known). k.is_open) visit.here ∙ shut_at n (known_of c.loop-place.seat.me.0.sequencing (length ns)) shut),
         λ x before. ⊎_elim (λ o. o) (λ s. absurd (inv.3 x (omega arith) (inv.2.shut x (omega arith) s))) (which (may_be_open c.args.seat.now.me.0 x)),
@@ -40,7 +40,7 @@ pub returns-then-load_cursor-clause-keeps : goal.returns-then-load_cursor-clause
 returns-then-load_cursor-clause-keeps g c = let inv = c.loop-place.invariant.1 in let ns : List ℕ = inv.0 in let n : ℕ = c.load_cursor.result in let v = c.args.seat.now.me.0 in let w = c.load_cursor.new.seat.me.0 in
     let long = inv.1 in let same = inv.2.only.count in let count = c.requires.sized.1 in let test = c.loop-place-test.true in let inside : length ns < length c.loop-place.seat.me.0.sequencing.places = omega arith in
     let visit = visited c.loop-place.seat.me.0 w (length ns) n inside (subst (λ (z : ℕ). Surveyed z c.loop-place.seat.me.0 n w) (sym long) c.load_cursor.ensures.view) in
-    round_loses_none v w (ns ++ n ∷ []) (round_more FoundAt v c.loop-place.seat.me.0 w ns n inv.2 visit)
+    pass_loses_none v w (ns ++ n ∷ []) (pass_more FoundAt v c.loop-place.seat.me.0 w ns n inv.2 visit)
 
 pub returns-clause-keeps : goal.returns-clause-keeps
-returns-clause-keeps g c = let inv = c.loop-place.invariant.1 in round_loses_none c.args.seat.now.me.0 c.loop-place.seat.me.0 inv.0 inv.2
+returns-clause-keeps g c = let inv = c.loop-place.invariant.1 in pass_loses_none c.args.seat.now.me.0 c.loop-place.seat.me.0 inv.0 inv.2

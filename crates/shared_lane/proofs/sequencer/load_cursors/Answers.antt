@@ -1,9 +1,9 @@
 use Rattle.std.proofs.Common.{arith, ◌≡◌, ℕ, ◌+◌, ◌-◌, ◌≤◌, ◌<◌, List, [], ◌∷◌, ◌++◌, length, cond, eqb, sym, ap, ◌∙◌, subst, length-append}
 use Rattle.lane_steps.specs.Law.{closed}
 use Rattle.lane_steps.specs.Steps.{Surveyed}
-use Rattle.shared_lane.proofs.Rounds.{visited, round_more, behind_more, open_more, open_few}
+use Rattle.shared_lane.proofs.Passes.{visited, pass_more, behind_more, open_more, open_few}
 use Rattle.shared_lane.specs.Surveys.{ShutFrom, FoundAt}
-use Rattle.shared_lane.proofs.WholeRounds.{all_of, all_long, found_still, found_shut, whole_of, found_loses_none, behind_all, open_all, ends_more, shut_after}
+use Rattle.shared_lane.proofs.WholePasses.{all_of, all_long, found_still, found_shut, whole_of, found_loses_none, behind_all, open_all, ends_more, shut_after}
 use Rattle.shared_lane.proofs.sequencer.load_cursors.Goals as goal
 
 pub with-found-requires : goal.with-found-requires
@@ -17,7 +17,7 @@ loop-place-preserved g c = let before = c.loop-place.invariant.0 in let inv = c.
       (
         ns ++ n ∷ [],
         omega arith,
-        round_more _ c.args.seat.now.me.0 c.loop-place.seat.me.0 c.load_cursor-at.new.seat.me.0 ns n inv.2 (visited c.loop-place.seat.me.0 c.load_cursor-at.new.seat.me.0 (length ns) n inside (subst (λ (z : ℕ). Surveyed z c.loop-place.seat.me.0 n c.load_cursor-at.new.seat.me.0) (sym long) here.view)),
+        pass_more _ c.args.seat.now.me.0 c.loop-place.seat.me.0 c.load_cursor-at.new.seat.me.0 ns n inv.2 (visited c.loop-place.seat.me.0 c.load_cursor-at.new.seat.me.0 (length ns) n inside (subst (λ (z : ℕ). Surveyed z c.loop-place.seat.me.0 n c.load_cursor-at.new.seat.me.0) (sym long) here.view)),
         behind_more c.args.tail c.args.lag ns n c.loop-place.found.behind c.with-found.result.behind inv.3 with.behind with.kept.0 with.kept.1,
         with.open ∙ (ap (λ (z : ℕ). cond (eqb n closed) z (z + 1)) inv.4 ∙ sym (open_more ns n)),
         ends_more ns n c.loop-place.place c.loop-place.end c.end_with-end.result long inv.5 c.end_with-end.ensures,

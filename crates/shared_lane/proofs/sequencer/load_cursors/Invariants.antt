@@ -1,8 +1,8 @@
 use Rattle.std.proofs.Common.{◌≡◌, ℕ, List, length}
 use Rattle.lane_steps.specs.Seats.{IsSameSeat}
-use Rattle.shared_lane.specs.Surveys.{Round, FoundAt, Behind, open_count}
-use Rattle.shared_lane.proofs.WholeRounds.{EndsAt}
+use Rattle.shared_lane.specs.Surveys.{Pass, FoundAt, Behind, open_count}
+use Rattle.shared_lane.proofs.WholePasses.{EndsAt}
 use Rattle.shared_lane.proofs.sequencer.load_cursors.Given as goal
 
 abbrev pub invariant-loop-place : goal.invariant-loop-place
-invariant-loop-place g l = IsSameSeat l.initial.seat l.seat × ((ns : List ℕ) × (length ns ≡ l.place) × Round FoundAt l.initial.seat.me.0 ns l.seat.me.0 × Behind l.fn.tail l.fn.lag ns l.found.behind × (l.found.open ≡ open_count ns) × EndsAt ns l.end)
+invariant-loop-place g l = IsSameSeat l.initial.seat l.seat × ((ns : List ℕ) × (length ns ≡ l.place) × Pass FoundAt l.initial.seat.me.0 ns l.seat.me.0 × Behind l.fn.tail l.fn.lag ns l.found.behind × (l.found.open ≡ open_count ns) × EndsAt ns l.end)

@@ -1,7 +1,8 @@
 use Rattle.std.proofs.Common.{◌++◌, Ok, refl, ap, ◌∙◌}
 use Rattle.std.proofs.lemmas.List.{append-nil}
 use Rattle.shared_flow.specs.Looks.{by_none}
-use Rattle.shared_flow.specs.Parties.{received, some_of}
+use Rattle.flow_terms.specs.Lists.{some_of}
+use Rattle.shared_flow.specs.Parties.{received}
 use Rattle.shared_flow.proofs.Waiting.{only_next}
 use Rattle.flow_stopping.specs.Waits.{received_of}
 use Rattle.flow_stopping.proofs.Looking.{looked_once, received_now, receives_then, room_now}

@@ -5,7 +5,8 @@ use Rattle.shared_rounds.specs.declared.round.Round.TheVariants as round
 use Rattle.shared_rounds.specs.Entering.{Made}
 use Rattle.shared_flow.specs.Looks.{GaveIn, MadeRoomIn, MissedTwice, by_none, once_more}
 use Rattle.shared_flow.specs.Preludes.{IsGreeted, IsPast, GreetedOr}
-use Rattle.shared_flow.specs.Parties.{received, ready_of, some_of}
+use Rattle.flow_terms.specs.Lists.{some_of}
+use Rattle.shared_flow.specs.Parties.{received, ready_of}
 use Rattle.shared_flow.proofs.Waiting.{only_next}
 use Rattle.flow_stopping.proofs.Looking.{looked_on, looked_soon, received_since, room_now, room_polled, room_then, rounds_since, since}
 use Rattle.flow_stopping.proofs.parker.StoppableParker.received.Goals as goal

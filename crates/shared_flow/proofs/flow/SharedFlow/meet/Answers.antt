@@ -1,5 +1,5 @@
 use Rattle.std.proofs.Common.{rules, ◌≡◌, sym, ap, subst, ◌∙◌}
-use Rattle.round_lock.specs.History.{Begins}
+use Rattle.flow_terms.specs.Lists.{IsPrefix}
 use Rattle.shared_flow.specs.Owners.{Owning, HasHeard, Meets}
 use Rattle.shared_rounds.specs.Reach.{Party}
 use Rattle.shared_flow.proofs.Making.{meets}
@@ -13,7 +13,7 @@ returns-clause-meets g c =
     let owner : last.flow.now ≡ c.hold-held.result.flow.now = c.meet-met.ensures.owner ∙ c.tell_subscription.ensures.owner in
     let same : last.flow.now.party ≡ record p { seen = last.flow.now.party.seen } =
     ap (λ (o : Owning). o.party) owner ∙ c.hold-held.ensures.party ∙ ap (λ (o : Owning). record p { seen = o.party.seen }) (sym owner) in
-    let on = subst (λ (o : Owning). Begins o.party.seen p.seen) (sym owner) c.hold-held.ensures.seen in
+    let on = subst (λ (o : Owning). IsPrefix p.seen o.party.seen) (sym owner) c.hold-held.ensures.seen in
     let told = subst (λ (o : Owning). HasHeard o.party.seen c.args.subscription.now.party c.tell_subscription.new.subscription.party) (sym owner) c.tell_subscription.ensures.heard in
     let met = meets p last.flow.now.party c.release.new.self.0.party c.args.subscription.now c.tell_subscription.new.subscription c.meet-met.new.subscription c.meet-met.result last.kept same on
     told c.tell_subscription.ensures.subscription c.meet-met.ensures.same c.meet-met.ensures.rest c.meet-met.ensures.met c.release.ensures.made in

@@ -63,7 +63,7 @@ returns-clause-has g c =
     let took = took_next inside.reader t c.try_next.result c.self.invariant.4 (c.try_next.ensures.same.1, c.try_next.ensures.has) in
     let one = took.1 ∙ ap (λ x. words_received inside.reader ++ taken_of x) c.in-Value.is in
     let same : received read c.if-waits.self ≡ inside.rest.given ++ map read (words_received t) = elim c.if-waits.branch [
-      | then-waits w ↦ ap (received read) (w.self-is ∙ w.make_room.ensures.same)
+      | then-waits w ↦ ap (received read) (w.self-is ∙ w.accept_waiting.ensures.same)
       | else-waits w ↦ ap (received read) w.self-is
     ] in
     rw (← c.self.view_is) (same ∙ received_more read inside.rest.given inside.reader t (c.in-Value.word ∷ []) one
@@ -75,8 +75,8 @@ returns-clause-room g c =
     let s : Subscribed _ = record { party = party_of inside.access; number = inside.number; given = inside.rest.given; rest = inside.rest.left; reader = inside.reader; looks = inside.looker.looks } in
     subst (λ (x : Subscribed _). MadeRoom x c.if-waits.self) c.self.view_is (elim c.if-waits.branch [
       | then-waits w ↦ subst (MadeRoom s) (sym w.self-is) (inr (
-        w.make_room.ensures.made,
-        subst (λ (x : Subscribed _). FoundUp (at x.reader) (length inside.access.rounds) inside.looker.looks x.looks) (sym w.make_room.ensures.same) (c.has_unfinished-waits.ensures.some w.if-waits.true),
+        w.accept_waiting.ensures.made,
+        subst (λ (x : Subscribed _). FoundUp (at x.reader) (length inside.access.rounds) inside.looker.looks x.looks) (sym w.accept_waiting.ensures.same) (c.has_unfinished-waits.ensures.some w.if-waits.true),
       ))
       | else-waits w ↦ subst (MadeRoom s) (sym w.self-is) (inl (refl, c.has_unfinished-waits.ensures.none w.if-waits.false))
     ])

@@ -9,9 +9,9 @@ use Rattle.shared_flow.proofs.subscription.Subscription.look_for_all.Goals as go
 pub returns-then-waits-clause-room : goal.returns-then-waits-clause-room
 returns-then-waits-clause-room g c = λ k is.
     let inside = c.self.inside in
-    subst (λ (x : Subscribed _). MadeRoom x c.make_room.new.self) c.self.view_is (inr (
-      c.make_room.ensures.made,
-      subst (λ (x : Subscribed _). FoundUp (at x.reader) (length inside.access.rounds) inside.looker.looks x.looks) (sym c.make_room.ensures.same) (c.has_unfinished-waits.ensures.some c.if-waits.true),
+    subst (λ (x : Subscribed _). MadeRoom x c.accept_waiting.new.self) c.self.view_is (inr (
+      c.accept_waiting.ensures.made,
+      subst (λ (x : Subscribed _). FoundUp (at x.reader) (length inside.access.rounds) inside.looker.looks x.looks) (sym c.accept_waiting.ensures.same) (c.has_unfinished-waits.ensures.some c.if-waits.true),
     ))
 
 pub invariant_of-self : goal.invariant_of-self
@@ -64,7 +64,7 @@ returns-then-waits-clause-has g c =
     let took = took_all inside.reader t _ c.try_next_all-taken.result words.0 c.self.invariant.4 (c.try_next_all-taken.ensures.same.1, words.2) in (
       map g.T.Word.read_as words.0,
       words.1,
-      rw (← c.self.view_is) (ap (received g.T.Word.read_as) c.make_room.ensures.same ∙ received_more g.T.Word.read_as inside.rest.given inside.reader t words.0 took.1),
+      rw (← c.self.view_is) (ap (received g.T.Word.read_as) c.accept_waiting.ensures.same ∙ received_more g.T.Word.read_as inside.rest.given inside.reader t words.0 took.1),
     )
 
 pub returns-else-waits-clause-has : goal.returns-else-waits-clause-has

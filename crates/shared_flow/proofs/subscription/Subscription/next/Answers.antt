@@ -1,7 +1,8 @@
 use Rattle.std.proofs.Common.{◌++◌, ⊎_elim, inl, inr, refl, sym, ap, subst, ◌∙◌}
 use Rattle.shared_flow.specs.Looks.{Missed, not_once, by_none}
 use Rattle.std.proofs.lemmas.List.{append-nil}
-use Rattle.shared_flow.specs.Parties.{Subscribed, received, some_of, ok_of}
+use Rattle.flow_terms.specs.Lists.{some_of}
+use Rattle.shared_flow.specs.Parties.{Subscribed, received, ok_of}
 use Rattle.shared_rounds.proofs.Doing.{if_ok, if_err}
 use Rattle.shared_flow.proofs.Waiting.{only_next, waited_before}
 use Rattle.shared_flow.proofs.Receiving.{has_room_at_once, has_room_since, only_since}

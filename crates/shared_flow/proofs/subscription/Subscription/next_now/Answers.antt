@@ -1,7 +1,8 @@
 use Rattle.std.proofs.Common.{◌++◌, ap, ◌∙◌}
 use Rattle.shared_flow.specs.Looks.{Missed}
 use Rattle.shared_flow.specs.Preludes.{IsGreeted}
-use Rattle.shared_flow.specs.Parties.{received, some_of}
+use Rattle.flow_terms.specs.Lists.{some_of}
+use Rattle.shared_flow.specs.Parties.{received}
 use Rattle.shared_flow.proofs.Receiving.{gave_room, past_looked, still}
 use Rattle.shared_flow.proofs.subscription.Subscription.next_now.Goals as goal
 

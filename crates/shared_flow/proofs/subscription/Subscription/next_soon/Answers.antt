@@ -1,7 +1,8 @@
 use Rattle.std.proofs.Common.{arith, [], ◌∷◌, ◌++◌, inl, inr, sym, ap, subst, ◌∙◌}
 use Rattle.shared_flow.specs.Looks.{MissedOn, not_once, once_more}
 use Rattle.std.proofs.lemmas.List.{append-nil}
-use Rattle.shared_flow.specs.Parties.{Subscribed, received, some_of}
+use Rattle.flow_terms.specs.Lists.{some_of}
+use Rattle.shared_flow.specs.Parties.{Subscribed, received}
 use Rattle.shared_flow.proofs.Receiving.{looked_as, looked_twice, room_since, rounds_since, still}
 use Rattle.shared_flow.proofs.Preludes.{prelude_looked}
 use Rattle.shared_flow.proofs.subscription.Subscription.next_soon.Goals as goal

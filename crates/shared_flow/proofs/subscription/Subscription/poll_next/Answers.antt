@@ -1,6 +1,7 @@
 use Rattle.std.proofs.Common.{◌++◌, ⊎_elim, inl, inr, ap, ◌∙◌}
 use Rattle.std.proofs.lemmas.List.{append-nil}
-use Rattle.shared_flow.specs.Parties.{Subscribed, received, some_of, ready_of}
+use Rattle.flow_terms.specs.Lists.{some_of}
+use Rattle.shared_flow.specs.Parties.{Subscribed, received, ready_of}
 use Rattle.shared_flow.proofs.Receiving.{if_both, if_ready, missed_since, on_pending, pending_since, within_since}
 use Rattle.shared_flow.proofs.subscription.Subscription.poll_next.Goals as goal
 

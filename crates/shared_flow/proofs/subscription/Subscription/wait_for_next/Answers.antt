@@ -2,7 +2,8 @@ use Rattle.std.proofs.Common.{[], ◌∷◌, ◌++◌, ap, ◌≡◌, ◌⊎◌,
 use Rattle.std.proofs.lemmas.List.{append-nil}
 use Rattle.std.proofs.lemmas.Result.{err_from_is_err_and}
 use Rattle.futures.specs.Poll.{IfReady, OnPending}
-use Rattle.shared_flow.specs.Parties.{received, some_of, ok_of, ready_of}
+use Rattle.flow_terms.specs.Lists.{some_of}
+use Rattle.shared_flow.specs.Parties.{received, ok_of, ready_of}
 use Rattle.shared_rounds.specs.declared.round.Round.TheVariants as round
 use Rattle.shared_rounds.specs.Entering.{Made}
 use Rattle.shared_flow.specs.Looks.{GaveIn, MadeRoomIn, MissedTwice, once_more, by_none}

@@ -5,20 +5,20 @@ use Rattle.lane_steps.specs.Steps.{IsRoomyAt, next_number}
 use Rattle.flow_terms.specs.declared.policy.Policy.{Policy}
 use Rattle.flow_terms.specs.declared.policy.Policy.TheVariants.{Suspend, DropOldest, DropLatest}
 use Rattle.shared_lane.specs.Views.{LaneSeen, SequencerSeen, sequencer_of}
-use Rattle.shared_lane.specs.Sequencers.{next, RoundedBy}
-use Rattle.shared_lane.specs.Surveys.{WholeRound, FoundAt, Behind}
-use Rattle.shared_lane.specs.Blocks.{FindRoom, RoundedFor}
+use Rattle.shared_lane.specs.Sequencers.{next, PassedBy}
+use Rattle.shared_lane.specs.Surveys.{WholePass, FoundAt, Behind}
+use Rattle.shared_lane.specs.Blocks.{FindRoom, PassedFor}
 use Rattle.shared_lane.proofs.Rooms.{room_found, room_kept}
 use Rattle.atomic_table.specs.Seated.{TableId}
 use Rattle.shared_lane.proofs.Sameness.{loaded_as}
 use Rattle.shared_lane.proofs.sequencer.Sequencer.find_room_for.Goals as goal
 
-none : (p : Policy) (q : SequencerSeen) (v : View) → (p ≡ DropOldest → ⊥) → ((ns : List ℕ) × (length ns ≡ q.view.shape.places) × WholeRound FoundAt q.view ns v × Behind (next q) q.capacity ns true) → RoundedBy p q.capacity q false v
+none : (p : Policy) (q : SequencerSeen) (v : View) → (p ≡ DropOldest → ⊥) → ((ns : List ℕ) × (length ns ≡ q.view.shape.places) × WholePass FoundAt q.view ns v × Behind (next q) q.capacity ns true) → PassedBy p q.capacity q false v
 none Suspend q v ne f = f
 none DropOldest q v ne f = absurd (ne refl)
 none DropLatest q v ne f = f
 
-some : (p : Policy) (k : ℕ) (q : SequencerSeen) (v : View) → (p ≡ DropOldest → ⊥) → ((ns : List ℕ) × (length ns ≡ q.view.shape.places) × WholeRound FoundAt q.view ns v × FindRoom q.capacity (next q) (next q + k) ns) → RoundedFor p k q v
+some : (p : Policy) (k : ℕ) (q : SequencerSeen) (v : View) → (p ≡ DropOldest → ⊥) → ((ns : List ℕ) × (length ns ≡ q.view.shape.places) × WholePass FoundAt q.view ns v × FindRoom q.capacity (next q) (next q + k) ns) → PassedFor p k q v
 some Suspend k q v ne f = f
 some DropOldest k q v ne f = absurd (ne refl)
 some DropLatest k q v ne f = f

@@ -1,8 +1,0 @@
-use Rattle.std.proofs.Common.{◌≡◌, ℕ, List, length}
-use Rattle.lane_steps.specs.Seats.{IsSameSeat}
-use Rattle.shared_lane.specs.Surveys.{Round, Cleared}
-use Rattle.shared_lane.proofs.WholeRounds.{EndsAt}
-use Rattle.shared_lane.proofs.sequencer.make_room.Given as goal
-
-abbrev pub invariant-loop-place : goal.invariant-loop-place
-invariant-loop-place g l = IsSameSeat l.initial.seat l.seat × ((ns : List ℕ) × (length ns ≡ l.place) × Round (Cleared l.fn.tail l.fn.words.shape.cells) l.initial.seat.me.0 ns l.seat.me.0 × EndsAt ns l.end)

@@ -1,6 +1,0 @@
-use Rattle.std.proofs.Common.{rules}
-use Rattle.shared_rounds.proofs.sleepers.Sleepers.is_in.Goals as goal
-
--- A wrong body makes this false: so answered, it is refused at once.
-pub returns-in-Some-get : goal.returns-in-Some-get
-returns-in-Some-get c = search rules

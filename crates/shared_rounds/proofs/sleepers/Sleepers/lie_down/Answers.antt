@@ -1,6 +1,0 @@
-use Rattle.std.proofs.Common.{rules}
-use Rattle.shared_rounds.proofs.sleepers.Sleepers.lie_down.Goals as goal
-
--- A wrong body makes this false: so answered, it is refused at once.
-pub returns-then-len-capacity-clause-full : goal.returns-then-len-capacity-clause-full
-returns-then-len-capacity-clause-full c = search rules
