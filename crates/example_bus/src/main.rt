@@ -68,7 +68,7 @@ fn send_all(
 /// One sender's thread, with an owner of the bus that was moved into it, and an emitter and a parker of its own.
 fn send(rt: &impl Runtime, mut bus: SharedFlow<Message>, sender: u32) -> Result<(), Refusal> {
     let mut parker = Parker::new(rt)?;
-    let mut emitter = bus.emitter(rt, sender)?;
+    let mut emitter = bus.emitter(sender)?;
     let sent = send_all(rt, &mut emitter, &mut parker, sender);
     emitter.close(rt);
     sent
@@ -82,9 +82,9 @@ struct Senders {
 }
 
 impl Senders {
-    fn of(rt: &impl Wait, bus: &mut SharedFlow<Message>) -> Result<Senders, Refusal> {
-        let one = bus.dup(rt)?;
-        let other = bus.dup(rt)?;
+    fn of(bus: &mut SharedFlow<Message>) -> Result<Senders, Refusal> {
+        let one = bus.dup()?;
+        let other = bus.dup()?;
         Ok(Senders { one, other })
     }
 
@@ -176,8 +176,8 @@ fn hear_both(
     other: &mut Subscription<Message>,
 ) -> Result<(Vec<Message>, Vec<Message>), Refusal> {
     let mut parker = Parker::new(rt)?;
-    let senders = Senders::of(rt, bus)?;
-    let mut closing = bus.emitter(rt, 0)?;
+    let senders = Senders::of(bus)?;
+    let mut closing = bus.emitter(0)?;
     let heard = exchange(rt, senders, &mut closing, &mut parker, one, other);
     closing.close(rt);
     heard

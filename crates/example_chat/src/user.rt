@@ -33,7 +33,7 @@ impl User {
         chat: &mut SharedFlow<u64>,
         id: u32,
     ) -> Result<(User, Stopper), Refusal> {
-        let chat = chat.dup(rt)?;
+        let chat = chat.dup()?;
         let (parker, stopper) = StoppableParker::new(rt)?;
         let user = User {
             id,
@@ -57,7 +57,7 @@ impl User {
     /// Joins, takes part, and leaves: emitter and subscription are ended on each path.
     fn join(&mut self, rt: &impl Runtime, script: &Script, room: &Room) -> Result<bool, Refusal> {
         let mut reader = self.chat.subscribe(rt)?;
-        let outcome = match self.chat.emitter(rt, self.id) {
+        let outcome = match self.chat.emitter(self.id) {
             Ok(mut emitter) => {
                 let outcome = self.talk(rt, script, room, &mut emitter, &mut reader);
                 emitter.close(rt);

@@ -74,7 +74,7 @@ where
     let (mut receiving, stopper) = StoppableParker::new(rt)?;
     let mut flow = SharedFlow::new(rt.alloc(), NEWS)?;
     let mut reader = flow.subscribe(rt)?;
-    let received = match flow.emitter(rt, 1) {
+    let received = match flow.emitter(1) {
         Ok(mut emitter) => {
             let (received, sent) = thread::join(
                 rt,

@@ -91,7 +91,7 @@ where
     R: Clock + Print + Wait + AllocGlobal,
 {
     let mut flow = SharedFlow::new(rt.alloc(), PLACES)?;
-    let mut sharing = share_in(rt, &mut flow, range(1, 4), STARTED)?;
+    let mut sharing = share_in(&mut flow, range(1, 4), STARTED)?;
     let polled = poll_on(rt, &mut flow, &mut sharing, cx);
     sharing.close(rt);
     polled

@@ -85,7 +85,7 @@ fn take_each<R: Clock + AllocGlobal + Wait>(
 ) -> Result<Receipts, Fault> {
     let block = places(rt, receipts::BLOCK)?;
     let start = now(rt);
-    let mut emitter = ByBlock::of(IdleEmitter::of(rt, flow)?, block);
+    let mut emitter = ByBlock::of(IdleEmitter::of(flow)?, block);
     let total = emit_and_take(rt, &mut emitter, readers, blocks);
     close(rt, emitter);
     Receipts::since(rt, start, total)
@@ -120,7 +120,7 @@ where
     R: Clock + AllocGlobal + Threads + Wait + Sync,
 {
     let block = places(rt, fan_out::BLOCK)?;
-    let mut emitter = ByBlock::of(IdleEmitter::of(rt, flow)?, block);
+    let mut emitter = ByBlock::of(IdleEmitter::of(flow)?, block);
     let fanned_out = fan_out(rt, &mut emitter, sleepers, values);
     close(rt, emitter);
     fanned_out

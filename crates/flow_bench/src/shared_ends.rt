@@ -15,8 +15,8 @@ pub(crate) struct IdleEmitter {
 }
 
 impl IdleEmitter {
-    pub(crate) fn of<R: Wait>(rt: &R, flow: &mut SharedFlow<u64>) -> Result<IdleEmitter, Fault> {
-        let emitter = flow.emitter(rt, 0)?;
+    pub(crate) fn of(flow: &mut SharedFlow<u64>) -> Result<IdleEmitter, Fault> {
+        let emitter = flow.emitter(0)?;
         Ok(IdleEmitter { emitter })
     }
 

@@ -56,7 +56,7 @@ fn emit_to_all<R>(
 where
     R: Clock + Threads + Wait + Sync,
 {
-    let mut emitter = IdleEmitter::of(rt, flow)?;
+    let mut emitter = IdleEmitter::of(flow)?;
     let fanned_out = fan_out(rt, &mut emitter, listeners, values);
     emitter.close(rt);
     fanned_out

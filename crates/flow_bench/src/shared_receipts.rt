@@ -81,7 +81,7 @@ fn take_each<R: Clock + Wait>(
 ) -> Result<Receipts, Fault> {
     let start = now(rt);
     let mut polling = Polling {
-        emitter: IdleEmitter::of(rt, flow)?,
+        emitter: IdleEmitter::of(flow)?,
         cx: task.begin(),
     };
     let total = emit_and_take(rt, &mut polling, readers, values);

@@ -232,10 +232,10 @@ impl<R: Wait + AllocGlobal> Engine for Flows<'_, R> {
         let Ok(out) = Vec::with_capacity(self.rt.alloc(), ROOM) else {
             return Err(Wrong::NoMemory);
         };
-        let Ok(first) = flow.emitter(self.rt, 1) else {
+        let Ok(first) = flow.emitter(1) else {
             return Err(Wrong::NotMade);
         };
-        let Ok(second) = flow.emitter(self.rt, 2) else {
+        let Ok(second) = flow.emitter(2) else {
             first.close(self.rt);
             return Err(Wrong::NotMade);
         };

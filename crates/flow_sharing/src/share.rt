@@ -11,7 +11,6 @@ use crate::sharing::Sharing;
 use cold_flow::{Flow, Refusal, Word};
 use flow_terms::Started;
 use shared_flow::SharedFlow;
-use std::sync::Wait;
 
 /// Shares `upstream`: what one run of it gives is emitted into `flow`, for all its subscriptions, while `started` says so. Kotlin's
 /// `shareIn`, where a coroutine does what a caller of [`Sharing::poll`] does here.
@@ -19,7 +18,6 @@ use std::sync::Wait;
 /// Its emitter has the id 0. Nobody else is to emit into the flow. The sharing has half of the flow's share of the lock. Refused as
 /// `NoMemory`, and then nothing is shared.
 pub fn share_in<T: Word, F: Flow<Item = T>>(
-    rt: &impl Wait,
     flow: &mut SharedFlow<T>,
     upstream: F,
     started: Started,
@@ -33,8 +31,8 @@ pub fn share_in<T: Word, F: Flow<Item = T>>(
     ensures half { IfOk result (λ _. flow.new ≡ record flow.old { party = sharing_of flow.old.party }) }
     ensures same { IfErr result (λ _. flow.new ≡ flow.old) }
 {
-    let mut owner = flow.dup(rt)?;
-    let emitter = match owner.emitter(rt, 0) {
+    let mut owner = flow.dup()?;
+    let emitter = match owner.emitter(0) {
         Ok(emitter) => emitter,
         Err(refusal) => {
             flow.take_back(owner);

@@ -134,8 +134,8 @@ impl Worker {
         let block = Vec::with_capacity(rt.alloc(), BLOCK)?;
         let (seat, resting) = two_seats(state)?;
         let task = MockTask::new(rt)?;
-        let owner = flow.dup(rt)?;
-        let emitter = flow.emitter(rt, id)?;
+        let owner = flow.dup()?;
+        let emitter = flow.emitter(id)?;
         Ok(Worker {
             id,
             random,

@@ -72,7 +72,7 @@ where
     let (sending, stops_sending) = StoppableParker::new(rt).expect(rt, "a parker");
     let (hearing, stops_hearing) = StoppableParker::new(rt).expect(rt, "a parker");
     let subscription = flow.subscribe(rt).expect(rt, "a subscription");
-    let emitter = flow.emitter(rt, 1).expect(rt, "an emitter");
+    let emitter = flow.emitter(1).expect(rt, "an emitter");
     let pair = Pair {
         emitter,
         sending,
@@ -232,12 +232,12 @@ fn a_value_that_is_there_passes_a_held_lock(rt: HostRuntime) -> Result<(), Fail>
     let sent_first = sent(&rt, &mut pair.emitter, &mut pair.sending, 5);
     let held = flow.hold(&rt);
     let first = heard(&rt, &mut pair.subscription, &mut pair.hearing);
-    held.release(&rt);
+    held.release();
     let sent_second = sent(&rt, &mut pair.emitter, &mut pair.sending, 6);
     stoppers.hearing.stop();
     let held = flow.hold(&rt);
     let second = heard(&rt, &mut pair.subscription, &mut pair.hearing);
-    held.release(&rt);
+    held.release();
     let found = [sent_first, first, sent_second, second, pair.end(&rt)];
     assert_eq!(rt;
         found,

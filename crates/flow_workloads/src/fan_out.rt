@@ -132,7 +132,7 @@ where
     R: AllocGlobal + RandomSource + Threads + Wait + Sync,
 {
     let mut parker = Parker::new(rt)?;
-    let mut emitter = flow.emitter(rt, 0)?;
+    let mut emitter = flow.emitter(0)?;
     let spoke = one_speaks(rt, &mut emitter, &mut parker, listeners, speech);
     closed(digest, emitter.close(rt));
     let numbers = spoke?;
@@ -151,8 +151,8 @@ fn speak_together<R>(
 where
     R: AllocGlobal + RandomSource + Threads + Wait + Sync,
 {
-    let mut one = flow.emitter(rt, 0)?;
-    let also = flow.emitter(rt, 1);
+    let mut one = flow.emitter(0)?;
+    let also = flow.emitter(1);
     let spoke = match also {
         Ok(mut other) => {
             let spoke = two_speak(rt, &mut one, &mut other, listeners, speech);

@@ -29,7 +29,7 @@ fn emitters_of(
     count: u32,
 ) -> Vec<Emitter<u64>> {
     for id in 0..count {
-        let Ok(emitter) = flow.emitter(rt, id) else {
+        let Ok(emitter) = flow.emitter(id) else {
             break;
         };
         if let Err(refused) = emitters.push(emitter) {

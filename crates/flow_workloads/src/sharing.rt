@@ -170,7 +170,7 @@ where
     R: AllocGlobal + Wait,
 {
     let upstream = source(rt.alloc(), random, 3000)?;
-    let mut sharing = share_in(rt, flow, upstream, started)?;
+    let mut sharing = share_in(flow, upstream, started)?;
     let visited = visits_in(rt, task, flow, &mut sharing, count, digest);
     closed(digest, sharing.close(rt));
     visited?;

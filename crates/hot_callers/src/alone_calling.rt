@@ -41,7 +41,7 @@ where
     ensures has { IfOk result (λ new. AreNew config (prelude_values prelude) new.flow.party new.emitter new.subscription) }
 {
     let mut flow = SharedFlow::new(rt.alloc(), config)?;
-    let mut emitter = flow.emitter(rt, 1)?;
+    let mut emitter = flow.emitter(1)?;
     match flow.subscribe_with(rt, prelude) {
         Ok(subscription) => Ok(Parties {
             flow,

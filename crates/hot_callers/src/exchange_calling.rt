@@ -136,7 +136,7 @@ fn meet_both(
     held.tell_emitter(emitter);
     held.tell_subscription(subscription);
     let _met = held.meet(subscription);
-    held.release(rt);
+    held.release();
 }
 
 // The owner ends both, and takes them in, with their rounds and their shares of the lock. By the round that it makes then it knows who made
@@ -187,7 +187,7 @@ where
     each_subscription_receives_prelude_cache_then_later::<u64>();
     an_emitter_alone::<u64>();
     let mut flow = SharedFlow::new(rt.alloc(), config)?;
-    let mut emitter = flow.emitter(rt, 1)?;
+    let mut emitter = flow.emitter(1)?;
     let mut subscription = match flow.subscribe_with(rt, prelude) {
         Ok(subscription) => subscription,
         Err(refusal) => {
@@ -261,7 +261,7 @@ fn tell_both(
     let mut held = flow.hold(rt);
     held.tell_emitter(one);
     held.tell_emitter(two);
-    held.release(rt);
+    held.release();
 }
 
 // The owner ends both emitters, and takes them in. By the round that it makes then it knows who made each.
@@ -298,8 +298,8 @@ where
 {
     each_subscription_receives_prelude_cache_then_later::<u64>();
     let mut flow = SharedFlow::new(rt.alloc(), config)?;
-    let mut one = flow.emitter(rt, 1)?;
-    let mut two = match flow.emitter(rt, 2) {
+    let mut one = flow.emitter(1)?;
+    let mut two = match flow.emitter(2) {
         Ok(two) => two,
         Err(refusal) => {
             one.close(rt);

@@ -161,7 +161,7 @@ where
     ensures same { named flow.new.party ≡ named flow.old.party }
 {
     let subscription = flow.subscribe(rt)?;
-    let mut emitter = match flow.emitter(rt, 1) {
+    let mut emitter = match flow.emitter(1) {
         Ok(emitter) => emitter,
         Err(refusal) => {
             subscription.cancel(rt);
@@ -256,7 +256,7 @@ pub fn heard_at_once(
     ensures halved { IfOk result (λ _. flow.new.party.halved ≡ flow.old.party.halved + 2) }
 {
     let mut subscription = flow.subscribe(rt)?;
-    let mut emitter = match flow.emitter(rt, 1) {
+    let mut emitter = match flow.emitter(1) {
         Ok(emitter) => emitter,
         Err(refusal) => {
             subscription.cancel(rt);
@@ -293,7 +293,7 @@ pub fn counted_with_cache(
     let held = flow.hold(rt);
     let count = held.count();
     let added = add_cache(&held, values);
-    held.release(rt);
+    held.release();
     match added {
         Ok(()) => Ok(count),
         Err(AllocError) => Err(Refusal::NoMemory),

@@ -21,7 +21,7 @@ pub fn first_poll<T: Word, F: Flow<Item = T>>(
     ensures half { IfOk result (λ _. flow.new ≡ record flow.old { party = sharing_of flow.old.party }) }
     ensures same { (flow.new ≡ flow.old) ⊎ (flow.new ≡ record flow.old { party = sharing_of flow.old.party }) }
 {
-    let mut sharing = share_in(rt, flow, upstream, Started::Eagerly)?;
+    let mut sharing = share_in(flow, upstream, Started::Eagerly)?;
     let polled = sharing.poll(rt, now, cx);
     sharing.close(rt);
     polled

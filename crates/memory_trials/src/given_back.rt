@@ -115,10 +115,10 @@ fn flow_on_one_thread(rt: &impl Abort, alloc: Global) {
 // Who ends gives back what it has itself, by way of the owner that takes it in, or as it is refused: one may subscribe.
 fn flow_between_threads<R: Wait + Abort>(rt: &R, alloc: Global) {
     let mut flow = SharedFlow::<u64>::new(alloc, CONFIG).expect(rt, "a flow");
-    let _other = flow.dup(rt).expect(rt, "another owner");
-    let taken_in = flow.emitter(rt, 2).expect(rt, "an emitter");
+    let _other = flow.dup().expect(rt, "another owner");
+    let taken_in = flow.emitter(2).expect(rt, "an emitter");
     flow.close(rt, taken_in);
-    let emitter = flow.emitter(rt, 1).expect(rt, "an emitter");
+    let emitter = flow.emitter(1).expect(rt, "an emitter");
     let prelude = Prelude::of(&[1, 2]).expect(rt, "a prelude");
     let subscription = flow
         .subscribe_with(rt, prelude)
@@ -155,10 +155,10 @@ fn boxed(rt: &impl Abort, alloc: Global, value: u64) -> Box<u64> {
 // Each way to write lets go the value that was there, or the one that isn't kept.
 fn state_of_any_type<R: Wait + Abort>(rt: &R, alloc: Global) {
     let mut state = ValueState::new(alloc, boxed(rt, alloc, 0)).expect(rt, "a state");
-    let mut other = state.dup(rt).expect(rt, "another owner");
-    let taken_in = state.dup(rt).expect(rt, "another owner");
+    let mut other = state.dup().expect(rt, "another owner");
+    let taken_in = state.dup().expect(rt, "another owner");
     state.take_in(taken_in);
-    let mut watcher = state.watch(rt).expect(rt, "a watcher");
+    let mut watcher = state.watch().expect(rt, "a watcher");
     let stopper = watcher.stopper(alloc).expect(rt, "a stopper");
     let _another = stopper.clone().expect(rt, "another stopper");
     state.set(rt, boxed(rt, alloc, 1));
@@ -167,15 +167,15 @@ fn state_of_any_type<R: Wait + Abort>(rt: &R, alloc: Global) {
         let _was_equal = state.compare_and_set(rt, &one, boxed(rt, alloc, 2));
         let _differed = other.set_distinct(rt, boxed(rt, alloc, value));
     }
-    let _watching = other.watch(rt).expect(rt, "a watcher");
+    let _watching = other.watch().expect(rt, "a watcher");
     let _owner = watcher.cancel();
 }
 
 // Under this policy the second value takes the place of the first, which is let go by the one who emits; the second one goes with the flow.
 fn flow_of_any_type<R: Wait + Abort>(rt: &R, alloc: Global) {
     let mut flow = ValueFlow::<Box<u64>>::new(alloc, &OF_ANY_TYPE).expect(rt, "a flow");
-    let mut other = flow.dup(rt).expect(rt, "another owner");
-    let taken_in = flow.dup(rt).expect(rt, "another owner");
+    let mut other = flow.dup().expect(rt, "another owner");
+    let taken_in = flow.dup().expect(rt, "another owner");
     flow.take_in(taken_in);
     let mut subscription = flow.subscribe(rt).expect(rt, "a subscription");
     let stopper = subscription.stopper(alloc).expect(rt, "a stopper");

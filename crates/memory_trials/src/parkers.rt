@@ -43,7 +43,7 @@ impl Side {
         hears: &mut SharedFlow<u64>,
     ) -> Side {
         let subscription = hears.subscribe(rt).expect(rt, "a subscription");
-        let emitter = says.emitter(rt, 1).expect(rt, "an emitter");
+        let emitter = says.emitter(1).expect(rt, "an emitter");
         Side {
             emitter,
             subscription,
@@ -152,7 +152,7 @@ fn hear_at_once(rt: &impl Wait, side: &mut Side, parker: &mut StoppableParker, t
 #[test]
 fn turns_of_a_parker_that_can_be_stopped_do_not_pile_up(rt: HostRuntime) -> Result<(), Fail> {
     let mut flow = SharedFlow::new(rt.alloc(), CONFIG).expect(&rt, "a flow");
-    let mut other = flow.dup(&rt).expect(&rt, "another owner");
+    let mut other = flow.dup().expect(&rt, "another owner");
     let (mut parker, _stopper) = StoppableParker::new(&rt).expect(&rt, "a parker");
     let mut side = Side::of(&rt, &mut flow, &mut other);
     let first = hear_at_once(&rt, &mut side, &mut parker, FIRST);

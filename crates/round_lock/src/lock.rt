@@ -94,7 +94,7 @@ impl<S: Called<E> + Drop, E: Drop> Lock<S, E> {
     }
 
     /// Gives the lock up, with the state as a call left it.
-    pub fn put(&mut self, rt: &impl Wait, guarded: Guarded<S>, entry: E)
+    pub fn put(&mut self, guarded: Guarded<S>, entry: E)
         requires call { (old : S) × (self.old.log.held ≡ Some old) × S.step old entry guarded.state }
         ensures given { self.new ≡ record self.old { log = called self.old.log (Some (self.old.pass, entry, guarded.state)) } }
     {
@@ -105,7 +105,7 @@ impl<S: Called<E> + Drop, E: Drop> Lock<S, E> {
     /// Gives the lock up as `put` does, where the proof picks the entry: for a call whose answer isn't at hand as one
     /// value.
     #[inline(always)]
-    pub fn put_as<M: Made<E>>(&mut self, rt: &impl Wait, guarded: Guarded<S>)
+    pub fn put_as<M: Made<E>>(&mut self, guarded: Guarded<S>)
         requires call { (old : S) × (e : E) × (M.entry ≡ Some e) × (self.old.log.held ≡ Some old) × S.step old e guarded.state }
         ensures given { self.new ≡ record self.old { log = called self.old.log (turn_of self.old.pass M.entry guarded.state) } }
     {
@@ -115,7 +115,7 @@ impl<S: Called<E> + Drop, E: Drop> Lock<S, E> {
 
     /// Another owner of the same state, which has made no call, and has seen as much as this one. It has half of this
     /// one's share of the lock, of which the first owner has the whole: so no body makes an owner that nobody sees.
-    pub fn dup(&mut self, rt: &impl Wait) -> Result<Lock<S, E>, AllocError>
+    pub fn dup(&mut self) -> Result<Lock<S, E>, AllocError>
         ensures other { IfOk result (λ other. (other.log ≡ another self.old.log) × (other.place ≡ self.old.place)) }
         ensures half { IfOk result (λ _. self.new ≡ record self.old { log = sharing self.old.log }) }
         ensures same { IfErr result (λ _. self.new ≡ self.old) }

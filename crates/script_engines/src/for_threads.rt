@@ -50,7 +50,7 @@ fn prepare(
     if spare.is_some() {
         return Ok(());
     }
-    let emitter = flow.emitter(rt, EMITTER)?;
+    let emitter = flow.emitter(EMITTER)?;
     if let Some(other) = spare.replace(emitter) {
         let _idle = other.close(rt);
     }
@@ -65,7 +65,7 @@ impl<'a, W: Wait> ForThreads<'a, W> {
         ensures { MadeUnless (making_refusal config) result (λ made. IsUntouched config (parties_of made)) }
     {
         let mut flow = SharedFlow::new(alloc, config)?;
-        let emitter = flow.emitter(rt, EMITTER)?;
+        let emitter = flow.emitter(EMITTER)?;
         Ok(ForThreads {
             rt,
             subscriptions: Subscriptions::new(rt, alloc, flow),

@@ -41,7 +41,7 @@ impl<'a, W: Wait, S: Flow<Item = u64, Fault = u64>> ScriptSharing<'a, W, S> {
         ensures shows { IfOk result (λ made. Shows (sharings_of made.1).strategy []) }
     {
         let mut flow = SharedFlow::new(alloc, config)?;
-        let sharing = share_in(rt, &mut flow, source, started)?;
+        let sharing = share_in(&mut flow, source, started)?;
         Ok((flow, ScriptSharing { rt, sharing }))
     }
 }

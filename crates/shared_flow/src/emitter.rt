@@ -99,7 +99,7 @@ impl<T: Word> Emitter<T> {
         let answer = inside.guarded.state.try_emit(emission);
         let tried = inside.guarded.state.tried_with_receipt(emission, answer);
         self.last = last_tried(self.last, &answer);
-        self.access.leave(rt, inside, Round::Try(emission, answer));
+        self.access.leave(inside, Round::Try(emission, answer));
         tried
     }
 
@@ -133,8 +133,7 @@ impl<T: Word> Emitter<T> {
         let begun = inside.guarded.state.begun_with_receipt(emission, answer);
         self.last = last_begun(self.last, &answer);
         self.ticket = begun_ticket(&answer);
-        self.access
-            .leave(rt, inside, Round::Start(emission, answer));
+        self.access.leave(inside, Round::Start(emission, answer));
         begun
     }
 
@@ -161,12 +160,12 @@ impl<T: Word> Emitter<T> {
                 .state
                 .sleep_emission(ticket, emit, &mut self.wait_key, cx);
             let round = polled_without_receipt(ticket, self.id, self.last, emit);
-            self.access.leave(rt, inside, round);
+            self.access.leave(inside, round);
             return Poll::Pending;
         };
         self.ticket = None;
         self.last = Some(receipt.number());
-        self.access.leave(rt, inside, Round::Poll(ticket, emit));
+        self.access.leave(inside, Round::Poll(ticket, emit));
         Poll::Ready(receipt)
     }
 
@@ -284,12 +283,12 @@ impl<T: Word> Emitter<T> {
         self.ticket = None;
         let Some(receipt) = receipt else {
             let round = withdrawn_without_receipt(ticket, self.id, self.last, withdrawn);
-            self.access.leave(rt, inside, round);
+            self.access.leave(inside, round);
             return unless_left(withdrawn);
         };
         self.last = Some(receipt.number());
         self.access
-            .leave(rt, inside, Round::Withdraw(ticket, withdrawn));
+            .leave(inside, Round::Withdraw(ticket, withdrawn));
         Withdrawn::Left(receipt)
     }
 

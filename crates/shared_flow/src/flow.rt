@@ -82,13 +82,13 @@ impl<T: Word> SharedFlow<T> {
 
     /// Another owner of the same flow, which has made no call and has seen as much: in Kotlin, a second reference to it. It has half
     /// of this owner's share of the lock. Refused as `NoMemory`.
-    pub fn dup(&mut self, rt: &impl Wait) -> Result<SharedFlow<T>, Refusal>
+    pub fn dup(&mut self) -> Result<SharedFlow<T>, Refusal>
         ensures other { IfOk result (λ other. other ≡ at_rest (newcomer_of other.party.pass self.old.party)) }
         ensures half { IfOk result (λ _. self.new ≡ record self.old { party = sharing_of self.old.party }) }
         ensures memory { IsOkUnless result Refusal.NoMemory }
         ensures same { IfErr result (λ _. self.new ≡ self.old) }
     {
-        let access = self.access.another(rt)?;
+        let access = self.access.another()?;
         Ok(SharedFlow {
             access,
             marker: PhantomData,
@@ -152,7 +152,7 @@ impl<T: Word> SharedFlow<T> {
     /// share of the lock. Refused as `NoMemory`.
     ///
     /// Two emitters with one id are one emitter in the flow.
-    pub fn emitter(&mut self, rt: &impl Wait, id: u32) -> Result<Emitter<T>, Refusal>
+    pub fn emitter(&mut self, id: u32) -> Result<Emitter<T>, Refusal>
         ensures flow { IfOk result (λ emitter. emitter.party ≡ newcomer_of emitter.party.pass self.old.party) }
         ensures id { IfOk result (λ emitter. emitter.id ≡ id) }
         ensures idle { IfOk result (λ emitter. emitter.ticket ≡ None) }
@@ -160,7 +160,7 @@ impl<T: Word> SharedFlow<T> {
         ensures memory { IsOkUnless result Refusal.NoMemory }
         ensures same { IfErr result (λ _. self.new ≡ self.old) }
     {
-        let access = self.access.another(rt)?;
+        let access = self.access.another()?;
         Ok(Emitter::new(access, id))
     }
 
@@ -199,7 +199,7 @@ impl<T: Word> SharedFlow<T> {
         ensures refused { IfErr result (λ refusal. (refusal ≡ NoMemory) ⊎ IsAtLimit refusal) }
         ensures kept { IfErr result (λ refusal. IsLeftOut self.old refusal self.new) }
     {
-        let access = self.access.another(rt)?;
+        let access = self.access.another()?;
         let mut inside = self.access.enter(rt);
         let NewReader {
             number,
@@ -208,12 +208,11 @@ impl<T: Word> SharedFlow<T> {
         } = inside.guarded.state.subscribe();
         match reader {
             Ok(reader) => {
-                self.access.leave(rt, inside, Round::Subscribe(Ok(number)));
+                self.access.leave(inside, Round::Subscribe(Ok(number)));
                 Ok(Subscription::new(access, number, prelude, reader, looker))
             }
             Err(refusal) => {
-                self.access
-                    .leave(rt, inside, Round::Subscribe(Err(refusal)));
+                self.access.leave(inside, Round::Subscribe(Err(refusal)));
                 self.access.take_back(access);
                 Err(refusal)
             }
@@ -227,7 +226,7 @@ impl<T: Word> SharedFlow<T> {
     {
         let mut inside = self.access.enter(rt);
         inside.guarded.state.reset_replay();
-        self.access.leave(rt, inside, Round::Reset);
+        self.access.leave(inside, Round::Reset);
     }
 
     /// Adds the replay cache to `out`, the oldest value first: Kotlin's `replayCache`. Refused as `NoMemory`, and then `out` is
@@ -242,11 +241,11 @@ impl<T: Word> SharedFlow<T> {
         let mut inside = self.access.enter(rt);
         match inside.guarded.state.replay_cache_into(out) {
             Ok(()) => {
-                self.access.leave_cache(rt, inside);
+                self.access.leave_cache(inside);
                 Ok(())
             }
             Err(refusal) => {
-                self.access.leave(rt, inside, Round::Cache(Err(refusal)));
+                self.access.leave(inside, Round::Cache(Err(refusal)));
                 Err(refusal)
             }
         }
@@ -266,7 +265,7 @@ impl<T: Word> SharedFlow<T> {
         let mut held = self.hold(rt);
         held.tell_subscription(subscription);
         let met = held.meet(subscription);
-        held.release(rt);
+        held.release();
         met
     }
 
@@ -277,7 +276,7 @@ impl<T: Word> SharedFlow<T> {
     {
         let mut inside = self.access.enter(rt);
         let count = inside.guarded.state.subscription_count();
-        self.access.leave(rt, inside, Round::Count(count));
+        self.access.leave(inside, Round::Count(count));
         count
     }
 }

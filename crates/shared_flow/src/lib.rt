@@ -21,7 +21,7 @@
 //! threads start, lent to them by `&mut` in the closures of `thread::join`, and spent after the join:
 //!
 //! ```text
-//! let mut emitter = flow.emitter(rt, 1)?;
+//! let mut emitter = flow.emitter(1)?;
 //! let mut subscription = flow.subscribe(rt)?;
 //! let passed = thread::join(rt, || emitted(rt, &mut emitter, 5), || received(rt, &mut subscription));
 //! subscription.cancel(rt);

@@ -299,7 +299,7 @@ impl<T: Word> Subscription<T> {
     {
         let mut inside = self.access.enter(rt);
         inside.guarded.state.accept_waiting(self.number);
-        self.access.leave(rt, inside, Round::Next(self.number));
+        self.access.leave(inside, Round::Next(self.number));
     }
 
     // Looks for a value with the lock held. Without one the task sleeps.
@@ -320,7 +320,7 @@ impl<T: Word> Subscription<T> {
         let mut inside = self.access.enter(rt);
         match inside.guarded.state.look(self.number, &mut self.reader) {
             Taken::Value(word) => {
-                self.access.leave(rt, inside, Round::Next(self.number));
+                self.access.leave(inside, Round::Next(self.number));
                 Poll::Ready(T::from_word(word))
             }
             Taken::Nothing => {
@@ -328,12 +328,12 @@ impl<T: Word> Subscription<T> {
                     .guarded
                     .state
                     .sleep_subscription(self.number, &mut self.wait_key, cx);
-                self.access.leave(rt, inside, Round::Pending(self.number));
+                self.access.leave(inside, Round::Pending(self.number));
                 Poll::Pending
             }
             // Nobody moves a cursor but under the lock, so that this doesn't come: it asks to be polled again.
             Taken::Overtaken => {
-                self.access.leave(rt, inside, Round::Pending(self.number));
+                self.access.leave(inside, Round::Pending(self.number));
                 let _again: Poll<()> = cx.yield_now();
                 Poll::Pending
             }
@@ -445,7 +445,7 @@ impl<T: Word> Subscription<T> {
         } = self;
         let mut inside = access.enter(rt);
         let met = inside.guarded.state.cancel(number, reader);
-        access.leave(rt, inside, Round::Cancel(number));
+        access.leave(inside, Round::Cancel(number));
         Ended { access, met }
     }
 }

@@ -98,7 +98,7 @@ impl Access {
     }
 
     /// Another owner of the same flow, which has made no call, and has seen as much. It has half of this owner's share of the lock.
-    pub fn another(&mut self, rt: &impl Wait) -> Result<Access, Refusal>
+    pub fn another(&mut self) -> Result<Access, Refusal>
         ensures other { IfOk result (λ other. other ≡ record self.old { held = None; pass = other.pass; halved = suc self.old.halved; taken = []; rounds = [] }) }
         ensures half { IfOk result (λ _. self.new ≡ record self.old { halved = suc self.old.halved }) }
         ensures memory { IsOkUnless result Refusal.NoMemory }
@@ -106,7 +106,7 @@ impl Access {
     {
         let wakes = WakeList::new(self.alloc, &self.config)?;
         let track = Arc::try_clone(&self.track)?;
-        let lock = self.lock.dup(rt)?;
+        let lock = self.lock.dup()?;
         Ok(Access {
             lock,
             track,
@@ -211,13 +211,13 @@ impl Access {
     // Inlined, so that the round, of which contracts alone speak, is never written.
     /// Helps those whom the round that was made has helped, gives the lock back with that round, and then wakes them.
     #[inline(always)]
-    pub fn leave(&mut self, rt: &impl Wait, inside: Inside, round: Round)
+    pub fn leave(&mut self, inside: Inside, round: Round)
         requires round { IsCalled self.old inside.before round inside.guarded.state.value }
         ensures left { Left round inside.guarded.state.value self.old self.new }
     {
         let ended = ended_by(&round);
         let taken = taken_by(&round);
-        self.leave_as::<Brand, _>(rt, inside, ended, taken, &round);
+        self.leave_as::<Brand, _>(inside, ended, taken, &round);
     }
 
     /// Who has the lock meets another owner of it: both have seen the same rounds then, and the other's own are its part of them.
@@ -234,7 +234,6 @@ impl Access {
     /// Leaves as `leave` does, after an emitter tried these values: the round has their words, of which the program makes no list.
     pub fn leave_block<T: Word, M: Made<Round>>(
         &mut self,
-        rt: &impl Wait,
         inside: Inside,
         emitter: u32,
         values: &[T],
@@ -244,22 +243,21 @@ impl Access {
         requires round { IsCalled self.old inside.before (round.TryAll emitter (map T.word values.now) answer) inside.guarded.state.value }
         ensures left { Left (round.TryAll emitter (map T.word values.now) answer) inside.guarded.state.value self.old self.new }
     {
-        self.leave_as::<M, _>(rt, inside, None, None, &());
+        self.leave_as::<M, _>(inside, None, None, &());
     }
 
     /// Leaves as `leave` does, after the replay cache was read: the round has the words that it had.
-    pub fn leave_cache(&mut self, rt: &impl Wait, inside: Inside)
+    pub fn leave_cache(&mut self, inside: Inside)
         requires round { IsCalled self.old inside.before (round.Cache (Ok inside.guarded.state.value.sequencer.cache)) inside.guarded.state.value }
         ensures left { Left (round.Cache (Ok inside.guarded.state.value.sequencer.cache)) inside.guarded.state.value self.old self.new }
     {
-        self.leave_as::<Brand, _>(rt, inside, None, None, &());
+        self.leave_as::<Brand, _>(inside, None, None, &());
     }
 
     // Leaves with the round that the proof picks, where it can by what the call is shown.
     #[inline(always)]
     fn leave_as<M: Made<Round>, P>(
         &mut self,
-        rt: &impl Wait,
         inside: Inside,
         ended: Option<u64>,
         taken: Option<u64>,
@@ -271,7 +269,7 @@ impl Access {
         let guarded = helped(&mut self.wakes, inside, ended, taken);
         // Most calls wake nobody, and load nothing for that after the lock was given back.
         let is_idle = self.wakes.is_empty();
-        self.lock.put_as::<M>(rt, guarded);
+        self.lock.put_as::<M>(guarded);
         self.wakes.fire_unless(is_idle);
     }
 }

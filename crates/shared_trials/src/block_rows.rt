@@ -33,7 +33,7 @@ fn count_from(first: u64, places: &mut [u64]) {
 fn assert_in_order<R: Wait + Abort + AllocGlobal>(rt: &R, flow: &mut SharedFlow<u64>) {
     let mut numbers = [0; LENGTH];
     count_from(0, &mut numbers);
-    let mut emitter = flow.emitter(rt, 1).expect(rt, "an emitter");
+    let mut emitter = flow.emitter(1).expect(rt, "an emitter");
     let prelude = Prelude::of(&[7, 8, 9]).expect(rt, "a prelude");
     let mut subscription = flow
         .subscribe_with(rt, prelude)
@@ -157,7 +157,7 @@ fn assert_passed_on<R: Abort + Wait + Threads + RandomSource + AllocGlobal + Syn
 ) {
     let made = SharedFlow::<u64>::new(rt.alloc(), config(0, extra, Policy::Suspend));
     let mut flow = made.expect(rt, "a flow");
-    let mut emitter = flow.emitter(rt, 1).expect(rt, "an emitter");
+    let mut emitter = flow.emitter(1).expect(rt, "an emitter");
     let mut subscription = flow.subscribe(rt).expect(rt, "a subscription");
     let mut near = Parker::new(rt).expect(rt, "a parker");
     let mut far = Parker::new(rt).expect(rt, "a parker");

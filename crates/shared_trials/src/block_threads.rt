@@ -169,7 +169,7 @@ fn joined<R: Wait + Abort + RandomSource + AllocGlobal>(
     let mut sides = Vec::new(rt.alloc());
     for seed in 0..EMITTERS + SUBSCRIPTIONS {
         let party = if seed < EMITTERS {
-            let emitter = flow.emitter(rt, seed).expect(rt, "an emitter");
+            let emitter = flow.emitter(seed).expect(rt, "an emitter");
             Party::Emitting(emitter, Said::by(seed))
         } else {
             let subscription = flow.subscribe(rt).expect(rt, "a subscription");
@@ -217,7 +217,7 @@ fn emitted<R: Wait + Abort + RandomSource>(
     parker: &mut Parker,
     values: &[u64],
 ) -> Result<u64, CutShort> {
-    let mut emitter = flow.emitter(rt, 1).expect(rt, "an emitter");
+    let mut emitter = flow.emitter(1).expect(rt, "an emitter");
     let emitted = emitter.emit_all(rt, parker, values);
     emitter.close(rt);
     emitted

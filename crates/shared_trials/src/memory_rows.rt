@@ -122,12 +122,11 @@ fn state_turns_on<F: Flow<Item = u64, Fault = u64>>(
 
 /// Shares a flow, once more where that was refused.
 fn share_again<F: Flow<Item = u64, Fault = u64> + Copy>(
-    rt: &impl Wait,
     flow: &mut SharedFlow<u64>,
     upstream: F,
 ) -> Result<Sharing<u64, F>, Refusal> {
-    match share_in(rt, flow, upstream, Started::Eagerly) {
-        Err(Refusal::NoMemory) => share_in(rt, flow, upstream, Started::Eagerly),
+    match share_in(flow, upstream, Started::Eagerly) {
+        Err(Refusal::NoMemory) => share_in(flow, upstream, Started::Eagerly),
         sharing => sharing,
     }
 }
@@ -188,7 +187,7 @@ fn shared<F: Flow<Item = u64, Fault = u64> + Copy>(
     flow: &mut SharedFlow<u64>,
     upstream: F,
 ) -> Result<bool, Refusal> {
-    let mut sharing = share_again(rt, flow, upstream)?;
+    let mut sharing = share_again(flow, upstream)?;
     let turned = turns_on(rt, task, &mut sharing);
     sharing.close(rt);
     Ok(turned)

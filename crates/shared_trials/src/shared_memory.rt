@@ -33,11 +33,11 @@ fn emitter_made<R: Wait + Abort + AllocGlobal>(
     flow: &mut SharedFlow<u64>,
     values: &[u64],
 ) -> Result<Emitter<u64>, Refusal> {
-    match flow.emitter(rt, 3) {
+    match flow.emitter(3) {
         Ok(emitter) => Ok(emitter),
         Err(Refusal::NoMemory) => {
             assert!(rt; is_unchanged(rt, flow, values), "a refused emitter");
-            flow.emitter(rt, 3)
+            flow.emitter(3)
         }
         Err(refusal) => Err(refusal),
     }
@@ -48,11 +48,11 @@ fn other_made<R: Wait + Abort + AllocGlobal>(
     flow: &mut SharedFlow<u64>,
     values: &[u64],
 ) -> Result<SharedFlow<u64>, Refusal> {
-    match flow.dup(rt) {
+    match flow.dup() {
         Ok(other) => Ok(other),
         Err(Refusal::NoMemory) => {
             assert!(rt; is_unchanged(rt, flow, values), "a refused owner");
-            flow.dup(rt)
+            flow.dup()
         }
         Err(refusal) => Err(refusal),
     }
@@ -118,7 +118,7 @@ fn assert_subscribed<R: Wait + Abort + AllocGlobal>(
     let count = other.subscription_count(rt);
     let held = other.hold(rt);
     let kept = (held.count(), held.replay_len());
-    held.release(rt);
+    held.release();
     subscription.cancel(rt);
     assert_same(rt, "subscriptions", count, 1);
     assert_same(rt, "count and cache while the lock is kept", kept, (1, 2));

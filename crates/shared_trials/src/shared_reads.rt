@@ -107,7 +107,7 @@ fn keep_lock(
     signals.is_held.store(true, Ordering::SeqCst);
     let is_over = was_set(&signals.is_over);
     let last = look_at(&held);
-    held.release(rt);
+    held.release();
     (first, last, is_over)
 }
 
@@ -189,7 +189,7 @@ fn assert_polled<R: Wait + Abort>(rt: &R, flow: &mut SharedFlow<u64>, listening:
         listening.take(),
     ];
     let after = look_at(&held);
-    held.release(rt);
+    held.release();
     let wanted = Shown {
         count: 1,
         cache: Some([3, 4]),
@@ -255,7 +255,7 @@ fn a_prelude_passes_a_held_lock(rt: HostRuntime) -> Result<(), Fail> {
     let first = subscription.try_next();
     let second = subscription.next(&rt, &mut parker);
     let met = held.meet(&mut subscription);
-    held.release(&rt);
+    held.release();
     let third = taken_and_counted(&mut subscription);
     let value = taken_and_counted(&mut subscription);
     let last = taken_and_counted(&mut subscription);
@@ -337,7 +337,7 @@ where
     };
     let signals = Signals::new();
     let mut flow = SharedFlow::new(rt.alloc(), config).expect(rt, "a flow");
-    let mut emitter = flow.emitter(rt, 1).expect(rt, "an emitter");
+    let mut emitter = flow.emitter(1).expect(rt, "an emitter");
     let mut subscription = flow.subscribe(rt).expect(rt, "a subscription");
     let mut receipt = receipt_of(rt, &mut emitter, value).expect(rt, "a receipt");
     let ((_, _, is_over), answered) = thread::join(

@@ -153,7 +153,7 @@ impl Emitting {
         id: u32,
     ) -> Emitting {
         Emitting {
-            emitter: Some(flow.emitter(rt, id).expect(rt, "an emitter")),
+            emitter: Some(flow.emitter(id).expect(rt, "an emitter")),
             id,
             watcher: Watcher::new(rt),
         }
@@ -380,7 +380,7 @@ impl Stage {
         config: Config,
     ) -> Stage {
         let mut flow = SharedFlow::new(rt.alloc(), config).expect(rt, "a flow");
-        let mut other = flow.dup(rt).expect(rt, "another owner");
+        let mut other = flow.dup().expect(rt, "another owner");
         Stage {
             first: Emitting::new(rt, &mut flow, 1),
             second: Emitting::new(rt, &mut flow, 2),

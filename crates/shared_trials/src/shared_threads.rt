@@ -138,7 +138,7 @@ impl Stage {
         for _ in 0..100 {
             yield_now();
         }
-        held.release(rt);
+        held.release();
     }
 
     // What one thread does.
@@ -224,7 +224,7 @@ impl Party {
             Part::Emits(id, least) => Emitting::party(rt, flow, *id, *least, policy, false),
             Part::EmitsOn(id, least) => Emitting::party(rt, flow, *id, *least, policy, true),
             Part::Receives(most) => Listening::party(rt, flow, *most),
-            Part::Keeps => Party::Keeping(flow.dup(rt).expect(rt, "another owner")),
+            Part::Keeps => Party::Keeping(flow.dup().expect(rt, "another owner")),
         }
     }
 
@@ -279,7 +279,7 @@ impl Emitting {
         goes_on: bool,
     ) -> Party {
         Party::Emitting(Emitting {
-            emitter: flow.emitter(rt, id).expect(rt, "an emitter"),
+            emitter: flow.emitter(id).expect(rt, "an emitter"),
             said: Said::by(id),
             emitted: 0,
             least,

@@ -355,7 +355,7 @@ where
         task: MockTask::new(rt).expect(rt, "a task"),
         latest: 0,
     };
-    let made = share_in(rt, &mut stage.flow, upstream, row.when.started());
+    let made = share_in(&mut stage.flow, upstream, row.when.started());
     let mut sharing = made.expect(rt, "a sharing");
     let lines = stage.shared(rt, &mut sharing, row.lines);
     let closed = withdrawn(sharing.close(rt), 0);

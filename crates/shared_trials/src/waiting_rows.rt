@@ -49,7 +49,7 @@ fn let_in<R: Wait + Abort>(
     parker: &mut Parker,
     values: u64,
 ) -> u64 {
-    let mut emitter = flow.emitter(rt, 1).expect(rt, "an emitter");
+    let mut emitter = flow.emitter(1).expect(rt, "an emitter");
     let mut waiting = flow.subscribe(rt).expect(rt, "a subscription");
     let mut other = flow.subscribe(rt).expect(rt, "a subscription");
     let mut count: u64 = 0;
@@ -90,8 +90,8 @@ fn assert_answered<R: Wait + Abort + AllocGlobal>(
     answers: &mut SharedFlow<u64>,
     parker: &mut Parker,
 ) {
-    let mut asking = questions.emitter(rt, 1).expect(rt, "an emitter");
-    let mut answering = answers.emitter(rt, 2).expect(rt, "an emitter");
+    let mut asking = questions.emitter(1).expect(rt, "an emitter");
+    let mut answering = answers.emitter(2).expect(rt, "an emitter");
     let mut subscription = answers.subscribe(rt).expect(rt, "a subscription");
     let there = matches!(answering.try_emit(rt, 7), Ok(Tried::Accepted(_)));
     let answer = asked(rt, parker, &mut asking, &mut subscription, 5);

@@ -432,7 +432,7 @@ fn emitter_of<R: Wait + Abort>(
     part: &Part,
 ) -> Option<Emitter<u64>> {
     let id = part.says?;
-    Some(flow.emitter(rt, id).expect(rt, "an emitter"))
+    Some(flow.emitter(id).expect(rt, "an emitter"))
 }
 
 fn subscription_of<R: Wait + Abort>(

@@ -81,13 +81,13 @@ impl<T: Drop> ValueFlow<T> {
 
     /// Another owner of the same flow, which has made no call and has seen as much: in Kotlin, a second reference to it. It has half of
     /// this owner's share of the lock. It takes no memory, and is refused only where there are as many as a counter can tell apart.
-    pub fn dup(&mut self, rt: &impl Wait) -> Result<ValueFlow<T>, AllocError>
+    pub fn dup(&mut self) -> Result<ValueFlow<T>, AllocError>
         ensures other { IfOk result (λ other. (other.log ≡ another self.old.log) × (other.place ≡ self.old.place)) }
         ensures half { IfOk result (λ _. self.new ≡ record self.old { log = sharing self.old.log }) }
         ensures same { IfErr result (λ _. self.new ≡ self.old) }
     {
         let bells = self.bells.shared()?;
-        let lock = self.lock.dup(rt)?;
+        let lock = self.lock.dup()?;
         Ok(ValueFlow { lock, bells })
     }
 
@@ -193,7 +193,7 @@ impl<T: Drop> ValueFlow<T> {
         ensures refused { IfErr result (λ refused. ((refused ≡ refusal.NoMemory) × (self.new ≡ self.old)) ⊎ ((refused ≡ refusal.SubscribersFull) × (self.new ≡ record self.old { log = sharing self.old.log }) × WasFull self.old)) }
     {
         let bells = self.bells.shared()?;
-        let mut lock = self.lock.dup(rt)?;
+        let mut lock = self.lock.dup()?;
         let Some((place, start)) = begin(&mut lock, rt) else {
             return Err(Refusal::SubscribersFull);
         };
@@ -206,7 +206,7 @@ impl<T: Drop> ValueFlow<T> {
     {
         let mut guarded = enter(&mut self.lock, rt);
         guarded.state.forgotten = guarded.state.next;
-        self.lock.put(rt, guarded, Round::Forget);
+        self.lock.put(guarded, Round::Forget);
     }
 
     /// From now on who waits on this flow is let go, and who will: each subscription is answered `Stopped` once it was given what was

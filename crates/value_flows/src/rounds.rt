@@ -19,15 +19,11 @@ pub(crate) fn enter<T: Drop>(lock: &mut Lock<Ring<T>, Round>, rt: &impl Wait) ->
 }
 
 /// Gives the lock up, with the ring as it was.
-pub(crate) fn leave<T: Drop>(
-    lock: &mut Lock<Ring<T>, Round>,
-    rt: &impl Wait,
-    guarded: Guarded<Ring<T>>,
-)
+pub(crate) fn leave<T: Drop>(lock: &mut Lock<Ring<T>, Round>, guarded: Guarded<Ring<T>>)
     requires { lock.old.log.held ≡ Some guarded.state }
     ensures { lock.new ≡ giving round.Look guarded.state lock.old }
 {
-    lock.put(rt, guarded, Round::Look);
+    lock.put(guarded, Round::Look);
 }
 
 /// Tries to have the flow accept a value.
@@ -44,15 +40,15 @@ pub(crate) fn offer<T: Drop>(
             let number = guarded.state.next;
             let next = number_after(rt, number);
             let old = guarded.state.accept(value, next);
-            lock.put(rt, guarded, Round::Emit);
+            lock.put(guarded, Round::Emit);
             Offered::Accepted(number, old)
         }
         Entrance::Dropped => {
-            leave(lock, rt, guarded);
+            leave(lock, guarded);
             Offered::Dropped(value)
         }
         Entrance::Full => {
-            leave(lock, rt, guarded);
+            leave(lock, guarded);
             Offered::Full(value)
         }
     }
@@ -71,11 +67,11 @@ pub(crate) fn begin<T: Drop>(
         Some(place) => {
             let start = guarded.state.cache_start();
             guarded.state.move_to(place, Some(start));
-            lock.put(rt, guarded, Round::Begin(place as u64, start));
+            lock.put(guarded, Round::Begin(place as u64, start));
             Some((place, start))
         }
         None => {
-            leave(lock, rt, guarded);
+            leave(lock, guarded);
             None
         }
     }

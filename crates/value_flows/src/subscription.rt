@@ -79,7 +79,7 @@ impl<T: Drop> Subscription<T> {
         ensures { MatchResult result (λ received. Asks T.is_clone self.old received self.new) (λ _. Fails (λ (value : T). ¬ T.is_infallible value) self.old self.new) }
     {
         match self.look(rt) {
-            Looked::There(guarded) => match self.give_clone(rt, guarded) {
+            Looked::There(guarded) => match self.give_clone(guarded) {
                 Ok(answer) => Ok(Received::Value(answer)),
                 Err(refused) => Err(refused),
             },
@@ -100,7 +100,7 @@ impl<T: Drop> Subscription<T> {
         ensures { MatchResult result (λ received. Awaits T.is_clone self.old received self.new) (λ _. FailsLate (λ (value : T). ¬ T.is_infallible value) self.old self.new) }
     {
         let awaited = self.awaited(rt);
-        self.received(rt, awaited)
+        self.received(awaited)
     }
 
     /// The same, for no longer than `limit`, and then `Nothing`: Kotlin's `withTimeoutOrNull(limit) { .. }` around that turn. The time
@@ -116,7 +116,7 @@ impl<T: Drop> Subscription<T> {
         ensures { MatchResult result (λ received. AwaitsWithin T.is_clone self.old received self.new) (λ _. FailsLate (λ (value : T). ¬ T.is_infallible value) self.old self.new) }
     {
         match self.awaited_within(rt, limit) {
-            Some(awaited) => self.received(rt, awaited),
+            Some(awaited) => self.received(awaited),
             None => Ok(Received::Nothing),
         }
     }
@@ -271,14 +271,14 @@ impl<T: Drop> Subscription<T> {
     }
 
     // Answers what a wait came to.
-    fn received(&mut self, rt: &impl Wait, awaited: Awaited<T>) -> Result<Received<T>, AllocError>
+    fn received(&mut self, awaited: Awaited<T>) -> Result<Received<T>, AllocError>
     where
         T: Clone,
         requires { (before : _) × ComesTo before awaited self.old }
         ensures { (before : _) → ComesTo before awaited self.old → MatchResult result (λ received. Awaits T.is_clone before received self.new) (λ _. FailsLate (λ (value : T). ¬ T.is_infallible value) before self.new) }
     {
         match awaited {
-            Awaited::There(guarded) => match self.give_clone(rt, guarded) {
+            Awaited::There(guarded) => match self.give_clone(guarded) {
                 Ok(answer) => Ok(Received::Value(answer)),
                 Err(refused) => Err(refused),
             },
@@ -289,7 +289,7 @@ impl<T: Drop> Subscription<T> {
 
     // Gives a clone of the value that the lock was taken for, and gives the lock up. Where there is no memory for the clone the value
     // wasn't given.
-    fn give_clone(&mut self, rt: &impl Wait, guarded: Guarded<Ring<T>>) -> Result<T, AllocError>
+    fn give_clone(&mut self, guarded: Guarded<Ring<T>>) -> Result<T, AllocError>
     where
         T: Clone,
         requires { (before : _) × (value : T) × Takes before guarded.state value self.old }
@@ -298,18 +298,18 @@ impl<T: Drop> Subscription<T> {
     {
         match guarded.state.value(self.next).clone() {
             Ok(answer) => {
-                self.give(rt, guarded);
+                self.give(guarded);
                 Ok(answer)
             }
             Err(refused) => {
-                self.pass(rt, guarded);
+                self.pass(guarded);
                 Err(refused)
             }
         }
     }
 
     // Gives the lock up, with the value that it was taken for as received.
-    fn give(&mut self, rt: &impl Wait, mut guarded: Guarded<Ring<T>>)
+    fn give(&mut self, mut guarded: Guarded<Ring<T>>)
         requires { (before : _) × (value : T) × Takes before guarded.state value self.old }
         ensures { (before : _) → (value : T) → Takes before guarded.state value self.old → Gives before value self.new }
     {
@@ -317,17 +317,17 @@ impl<T: Drop> Subscription<T> {
         let next = number_within(number, guarded.state.next);
         guarded.state.move_to(self.place, Some(next));
         self.lock
-            .put(rt, guarded, Round::Give(self.place as u64, number));
+            .put(guarded, Round::Give(self.place as u64, number));
         self.next = next;
         self.bells.room.ring();
     }
 
     // Gives the lock up, with the value that it was taken for as not received.
-    fn pass(&mut self, rt: &impl Wait, guarded: Guarded<Ring<T>>)
+    fn pass(&mut self, guarded: Guarded<Ring<T>>)
         requires { (before : _) × (value : T) × Takes before guarded.state value self.old }
         ensures { (before : _) → (value : T) → Takes before guarded.state value self.old → LeavesIt before value self.new }
     {
-        leave(&mut self.lock, rt, guarded);
+        leave(&mut self.lock, guarded);
     }
 }
 
@@ -358,11 +358,11 @@ fn find<T: Drop>(
             let oldest = guarded.state.oldest();
             *next = oldest;
             guarded.state.move_to(place, Some(oldest));
-            lock.put(rt, guarded, Round::Miss(place as u64, from, count));
+            lock.put(guarded, Round::Miss(place as u64, from, count));
             Looked::Missed(count)
         }
         Standing::Nothing => {
-            leave(lock, rt, guarded);
+            leave(lock, guarded);
             Looked::Nothing
         }
     }
@@ -375,5 +375,5 @@ fn end<T: Drop>(lock: &mut Lock<Ring<T>, Round>, rt: &impl Wait, place: usize)
 {
     let mut guarded = enter(lock, rt);
     guarded.state.move_to(place, None);
-    lock.put(rt, guarded, Round::End(place as u64));
+    lock.put(guarded, Round::End(place as u64));
 }

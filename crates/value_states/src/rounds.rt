@@ -20,15 +20,11 @@ pub(crate) fn enter<T: Drop>(
 }
 
 /// Gives the lock up, with the value as it was.
-pub(crate) fn leave<T: Drop>(
-    lock: &mut Lock<Versioned<T>, Round>,
-    rt: &impl Wait,
-    guarded: Guarded<Versioned<T>>,
-)
+pub(crate) fn leave<T: Drop>(lock: &mut Lock<Versioned<T>, Round>, guarded: Guarded<Versioned<T>>)
     requires { lock.old.log.held ≡ Some guarded.state }
     ensures { lock.new ≡ giving round.Read guarded.state lock.old }
 {
-    lock.put(rt, guarded, Round::Read);
+    lock.put(guarded, Round::Read);
 }
 
 /// Gives the lock up with another value, and hands back the one before.
@@ -45,7 +41,7 @@ pub(crate) fn write<T: Drop>(
     let Guarded { state: old } = guarded;
     let version = next_version(rt, old.version);
     let state = Versioned { value, version };
-    lock.put(rt, Guarded { state }, Round::Write);
+    lock.put(Guarded { state }, Round::Write);
     let Versioned { value, version: _ } = old;
     value
 }

@@ -61,13 +61,13 @@ impl<T: Drop> ValueState<T> {
 
     /// Another owner of the same state, which has made no call and has seen as much: in Kotlin, a second reference to it. It has half
     /// of this owner's share of the lock. It takes no memory, and is refused only where there are as many as a counter can tell apart.
-    pub fn dup(&mut self, rt: &impl Wait) -> Result<ValueState<T>, AllocError>
+    pub fn dup(&mut self) -> Result<ValueState<T>, AllocError>
         ensures other { IfOk result (λ other. (other.log ≡ another self.old.log) × (other.place ≡ self.old.place)) }
         ensures half { IfOk result (λ _. self.new ≡ record self.old { log = sharing self.old.log }) }
         ensures same { IfErr result (λ _. self.new ≡ self.old) }
     {
         let bell = Arc::try_clone(&self.bell)?;
-        let lock = self.lock.dup(rt)?;
+        let lock = self.lock.dup()?;
         Ok(ValueState { lock, bell })
     }
 
@@ -92,7 +92,7 @@ impl<T: Drop> ValueState<T> {
     {
         let guarded = enter(&mut self.lock, rt);
         let answer = shown(&guarded.state.value, reader);
-        leave(&mut self.lock, rt, guarded);
+        leave(&mut self.lock, guarded);
         answer
     }
 
@@ -104,7 +104,7 @@ impl<T: Drop> ValueState<T> {
     {
         let guarded = enter(&mut self.lock, rt);
         let answer: Result<T, AllocError> = guarded.state.value.clone();
-        leave(&mut self.lock, rt, guarded);
+        leave(&mut self.lock, guarded);
         answer
     }
 
@@ -141,7 +141,7 @@ impl<T: Drop> ValueState<T> {
         let version = next_version(rt, guarded.state.version);
         let answer = changed(&mut guarded.state.value, change);
         guarded.state.version = version;
-        self.lock.put(rt, guarded, Round::Write);
+        self.lock.put(guarded, Round::Write);
         self.bell.ring();
         answer
     }
@@ -161,7 +161,7 @@ impl<T: Drop> ValueState<T> {
             drop(old);
             return true;
         }
-        leave(&mut self.lock, rt, guarded);
+        leave(&mut self.lock, guarded);
         false
     }
 
@@ -175,7 +175,7 @@ impl<T: Drop> ValueState<T> {
         let guarded = enter(&mut self.lock, rt);
         let is_equal = guarded.state.value == value;
         if is_equal {
-            leave(&mut self.lock, rt, guarded);
+            leave(&mut self.lock, guarded);
             return false;
         }
         let old = write(&mut self.lock, rt, guarded, value);
@@ -186,13 +186,13 @@ impl<T: Drop> ValueState<T> {
 
     /// A watcher of this state, which was given nothing yet: Kotlin's `collect` begins so. It is one more owner, as by
     /// [`dup`](ValueState::dup).
-    pub fn watch(&mut self, rt: &impl Wait) -> Result<Watcher<T>, AllocError>
+    pub fn watch(&mut self) -> Result<Watcher<T>, AllocError>
         ensures other { IfOk result (λ watcher. (watcher.log ≡ another self.old.log) × (watcher.place ≡ self.old.place)) }
         ensures half { IfOk result (λ _. self.new ≡ record self.old { log = sharing self.old.log }) }
         ensures same { IfErr result (λ _. self.new ≡ self.old) }
     {
         let bell = Arc::try_clone(&self.bell)?;
-        let lock = self.lock.dup(rt)?;
+        let lock = self.lock.dup()?;
         Ok(Watcher::over(lock, bell))
     }
 

@@ -88,7 +88,7 @@ impl<T: Drop> Watcher<T> {
         match self.news(rt) {
             Some(guarded) => {
                 let answer = shown(&guarded.state.value, reader);
-                self.give(rt, guarded);
+                self.give(guarded);
                 Some(answer)
             }
             None => None,
@@ -112,7 +112,7 @@ impl<T: Drop> Watcher<T> {
         ensures refused { IfErr result (λ _. (value : T) × Reads self.old value self.new × ¬ T.is_infallible value) }
     {
         match self.news(rt) {
-            Some(guarded) => Ok(Some(self.give_clone(rt, guarded)?)),
+            Some(guarded) => Ok(Some(self.give_clone(guarded)?)),
             None => Ok(None),
         }
     }
@@ -130,7 +130,7 @@ impl<T: Drop> Watcher<T> {
         match self.awaited(rt) {
             Awaited::News(guarded) => {
                 let answer = shown(&guarded.state.value, reader);
-                self.give(rt, guarded);
+                self.give(guarded);
                 Collected::Value(answer)
             }
             Awaited::Stopped => Collected::Stopped,
@@ -145,7 +145,7 @@ impl<T: Drop> Watcher<T> {
         ensures { MatchResult result (λ collected. Awaits T.is_clone self.old collected self.new) (λ _. FailsLate (λ (value : T). ¬ T.is_infallible value) self.old self.new) }
     {
         let outcome = self.awaited(rt);
-        self.collected(rt, outcome)
+        self.collected(outcome)
     }
 
     /// The same, for no longer than `limit`, and then nothing: Kotlin's `withTimeoutOrNull(limit) { .. }` around that turn. The time
@@ -161,7 +161,7 @@ impl<T: Drop> Watcher<T> {
         ensures { MatchResult result (λ collected. AwaitsWithin T.is_clone self.old collected self.new) (λ _. FailsLate (λ (value : T). ¬ T.is_infallible value) self.old self.new) }
     {
         match self.awaited_within(rt, limit) {
-            Some(awaited) => Ok(Some(self.collected(rt, awaited)?)),
+            Some(awaited) => Ok(Some(self.collected(awaited)?)),
             None => Ok(None),
         }
     }
@@ -293,14 +293,14 @@ impl<T: Drop> Watcher<T> {
     }
 
     // Gives a clone of the value that a wait came to.
-    fn collected(&mut self, rt: &impl Wait, awaited: Awaited<T>) -> Result<Collected<T>, AllocError>
+    fn collected(&mut self, awaited: Awaited<T>) -> Result<Collected<T>, AllocError>
     where
         T: Clone,
         requires { (before : _) × ComesTo before awaited self.old }
         ensures { (before : _) → ComesTo before awaited self.old → MatchResult result (λ collected. Awaits T.is_clone before collected self.new) (λ _. FailsLate (λ (value : T). ¬ T.is_infallible value) before self.new) }
     {
         match awaited {
-            Awaited::News(guarded) => match self.give_clone(rt, guarded) {
+            Awaited::News(guarded) => match self.give_clone(guarded) {
                 Ok(answer) => Ok(Collected::Value(answer)),
                 Err(refused) => Err(refused),
             },
@@ -310,11 +310,7 @@ impl<T: Drop> Watcher<T> {
 
     // Gives a clone of the value that the lock was taken for, and gives the lock up. Where there is no memory for the clone the value
     // wasn't given.
-    fn give_clone(
-        &mut self,
-        rt: &impl Wait,
-        guarded: Guarded<Versioned<T>>,
-    ) -> Result<T, AllocError>
+    fn give_clone(&mut self, guarded: Guarded<Versioned<T>>) -> Result<T, AllocError>
     where
         T: Clone,
         requires { (before : _) × Takes before guarded.state self.old }
@@ -323,32 +319,32 @@ impl<T: Drop> Watcher<T> {
     {
         match guarded.state.value.clone() {
             Ok(answer) => {
-                self.give(rt, guarded);
+                self.give(guarded);
                 Ok(answer)
             }
             Err(refused) => {
-                self.pass(rt, guarded);
+                self.pass(guarded);
                 Err(refused)
             }
         }
     }
 
     // Gives the lock up, with the value that it was taken for as given.
-    fn give(&mut self, rt: &impl Wait, guarded: Guarded<Versioned<T>>)
+    fn give(&mut self, guarded: Guarded<Versioned<T>>)
         requires { (before : _) × Takes before guarded.state self.old }
         ensures { (before : _) → Takes before guarded.state self.old → Gives before guarded.state.value self.new }
     {
         let version = guarded.state.version;
-        self.lock.put(rt, guarded, Round::Give(version));
+        self.lock.put(guarded, Round::Give(version));
         self.latest = Some(version);
     }
 
     // Gives the lock up, with the value that it was taken for as one that was read, and not given.
-    fn pass(&mut self, rt: &impl Wait, guarded: Guarded<Versioned<T>>)
+    fn pass(&mut self, guarded: Guarded<Versioned<T>>)
         requires { (before : _) × Holds before guarded.state self.old }
         ensures { (before : _) → Holds before guarded.state self.old → Reads before guarded.state.value self.new }
     {
-        leave(&mut self.lock, rt, guarded);
+        leave(&mut self.lock, guarded);
     }
 }
 
@@ -368,7 +364,7 @@ fn find<T: Drop>(
     if is_new {
         return Some(guarded);
     }
-    leave(lock, rt, guarded);
+    leave(lock, guarded);
     None
 }
 

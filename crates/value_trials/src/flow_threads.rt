@@ -179,7 +179,7 @@ fn let_go<R: AllocGlobal + Threads + Wait + Abort + Sync>(
     turns: u32,
 ) -> Answer {
     let mut flow = flow_of(rt, Policy::Suspend);
-    let mut other = flow.dup(rt).expect(rt, "another owner");
+    let mut other = flow.dup().expect(rt, "another owner");
     let parcels = flow.subscribe(rt).expect(rt, "a subscription");
     let gathering = Gathering::of(2);
     let (answer, ()) = thread::join(

@@ -195,8 +195,8 @@ const GIVEN: [Answer; 3] = [Answer::Number(1), Answer::Stopped, Answer::Number(1
 
 fn two_watch<R: AllocGlobal + Wait + Abort>(rt: &R, tally: &Arc<Tally>) {
     let mut state = state_made(rt, tally).expect(rt, "a state");
-    let mut one = state.watch(rt).expect(rt, "a watcher");
-    let mut other = state.watch(rt).expect(rt, "another watcher");
+    let mut one = state.watch().expect(rt, "a watcher");
+    let mut other = state.watch().expect(rt, "another watcher");
     let is_let_go = stop_watcher(rt.alloc(), &mut one) && one.is_stopped();
     let is_other = other.is_stopped() || state.is_stopped();
     let given = [

@@ -211,7 +211,7 @@ fn follow<R: Wait + Clock + Abort>(
 
 fn play<R: AllocGlobal + Wait + Clock + Abort>(rt: &R, tally: &Arc<Tally>) {
     let mut state = ValueState::new(rt.alloc(), parcel_of(rt, tally, 1)).expect(rt, "a state");
-    let mut watcher = state.watch(rt).expect(rt, "a watcher");
+    let mut watcher = state.watch().expect(rt, "a watcher");
     follow(rt, &mut state, &mut watcher, tally);
 }
 

@@ -42,8 +42,8 @@ fn counted<R: AllocGlobal + Threads + Wait + Abort + Sync>(
     tally: &Arc<Tally>,
 ) -> (bool, u64) {
     let mut one = ValueState::new(rt.alloc(), parcel_of(rt, tally, 0)).expect(rt, "a state");
-    let mut two = one.dup(rt).expect(rt, "another owner");
-    let mut three = one.dup(rt).expect(rt, "a third owner");
+    let mut two = one.dup().expect(rt, "another owner");
+    let mut three = one.dup().expect(rt, "a third owner");
     let (rose, ()) = thread::join(
         rt,
         || clone_often(rt, &mut three),
@@ -127,8 +127,8 @@ fn call(
 fn called<R: AllocGlobal + Threads + Wait + Abort + Sync>(rt: &R) -> (bool, bool) {
     let mut there = ValueState::new(rt.alloc(), TIMES).expect(rt, "a state");
     let mut back = ValueState::new(rt.alloc(), TIMES).expect(rt, "another state");
-    let mut calls = there.watch(rt).expect(rt, "a watcher");
-    let mut echoes = back.watch(rt).expect(rt, "another watcher");
+    let mut calls = there.watch().expect(rt, "a watcher");
+    let mut echoes = back.watch().expect(rt, "another watcher");
     let is_first = hears(rt, &mut calls, TIMES) && hears(rt, &mut echoes, TIMES);
     assert_so(rt, "the first values", is_first);
     let gathering = Gathering::of(2);
@@ -177,7 +177,7 @@ fn set_and_stop(rt: &impl Wait, state: &mut ValueState<u64>, turns: u64, gatheri
 /// What a watcher was given last, where 1 is set after so many turns, and all are let go after as many more.
 fn stopped<R: AllocGlobal + Threads + Wait + Abort + Sync>(rt: &R, turns: u64) -> Option<u64> {
     let mut state = ValueState::new(rt.alloc(), 0u64).expect(rt, "a state");
-    let mut watcher = state.watch(rt).expect(rt, "a watcher");
+    let mut watcher = state.watch().expect(rt, "a watcher");
     let gathering = Gathering::of(2);
     let (latest, ()) = thread::join(
         rt,

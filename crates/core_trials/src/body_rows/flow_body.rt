@@ -105,7 +105,7 @@ impl<'a, R: Wait + AllocGlobal> FlowBody<'a, R> {
     }
 
     fn attempt(&mut self, id: u32, value: u64) -> Option<Reply<u64>> {
-        let Ok(mut emitter) = self.flow.emitter(self.rt, id) else {
+        let Ok(mut emitter) = self.flow.emitter(id) else {
             return None;
         };
         let reply = attempted(self.rt, &mut emitter, value);
@@ -114,7 +114,7 @@ impl<'a, R: Wait + AllocGlobal> FlowBody<'a, R> {
     }
 
     fn start(&mut self, id: u32, value: u64) -> Option<Reply<u64>> {
-        let Ok(mut emitter) = self.flow.emitter(self.rt, id) else {
+        let Ok(mut emitter) = self.flow.emitter(id) else {
             return None;
         };
         let ticket = Ticket(self.first.saturating_add(self.emitters.len() as u64));
@@ -270,7 +270,7 @@ impl<R: Wait + AllocGlobal> Body for FlowBody<'_, R> {
     }
 
     fn try_all(&mut self, emitter: u32, values: &[u64]) -> Result<u64, Refusal> {
-        let mut emitter = self.flow.emitter(self.rt, emitter)?;
+        let mut emitter = self.flow.emitter(emitter)?;
         let answer = attempted_all(self.rt, &mut emitter, values);
         emitter.close(self.rt);
         answer

@@ -47,7 +47,7 @@ impl<T: Word> Emitter<T> {
         let mut inside = self.access.enter(rt);
         let answer = inside.guarded.state.try_emit_all(self.id, values);
         self.access
-            .leave_block::<T, Brand>(rt, inside, self.id, values, answer);
+            .leave_block::<T, Brand>(inside, self.id, values, answer);
         answer
     }
 

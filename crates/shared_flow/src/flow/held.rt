@@ -132,13 +132,13 @@ impl<T: Word> Held<'_, T> {
     }
 
     /// Gives the lock back, and then wakes those that were helped when it was taken.
-    pub fn release(self, rt: &impl Wait)
+    pub fn release(self)
         requires held { KeepsLock self.flow.now self.kept }
         ensures round { self.exit.0.now ≡ at_rest (with_round (round.Hold self.entry.kept.count) self.exit.0.now.party.seen self.entry.flow.now.party) }
         ensures made { MadeOf self.entry.kept.shared (round.Hold self.entry.kept.count) self.entry.flow.now.party self.exit.0.now.party }
     {
         let Held { flow, kept } = self;
         let Kept { inside, count } = kept;
-        flow.access.leave(rt, inside, Round::Hold(count));
+        flow.access.leave(inside, Round::Hold(count));
     }
 }
