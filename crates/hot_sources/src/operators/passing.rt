@@ -1,6 +1,7 @@
 //! An operator over a run: each value passes or is left out.
 
 ghost use Rattle.std.specs.Prelude.{◌≡◌};
+ghost use Rattle.cold_flow.specs.Polled.{Rests};
 ghost use Rattle.cold_flow.specs.Trace.{on_values};
 ghost use Rattle.cold_flow.specs.Poll.{Through, Unless};
 ghost use Rattle.cold_flow.specs.Laws.{Through-begins, Unless-begins, Unless-over};
@@ -39,7 +40,8 @@ impl<S: Run, M: Sift<S::Item>> Run for Passing<S, M> {
     ghost polls = { λ r. S.polls r.source };
 
     // The answer is what passes of the values that the source gave in this poll.
-    ghost polled = { λ old answer new. PassesOn S.polled M.passes old.sift old.source answer new.sift new.source };
+    ghost polled = { λ old answer new. PassesOn S.polled M.passes old.sift old.source answer new.sift new.source
+        × Rests (S.ended old.source) old.source new.source };
 
     ghost cancelled = { λ old new. S.cancelled old.source new.source × (new.sift ≡ old.sift) };
 

@@ -1,7 +1,7 @@
 use Rattle.std.proofs.Common.{arith, refl, inl, sym, ◌∙◌}
 use Rattle.cold_flow.specs.Trace.{on_values}
 use Rattle.cold_flow.specs.Laws.{Through-within, told-some}
-use Rattle.cold_flow.specs.LoopLaws.{asked_more, asked_last, asked_fewer, going_no_end}
+use Rattle.cold_flow.specs.LoopLaws.{asked_more, asked_last, asked_fewer, going_no_end, going_rests}
 use Rattle.cold_flow.specs.SiftLaws.{sift_gives, sift_ends, sift_skips}
 use Rattle.hot_sources.specs.PassingLaws.{left_out_none, left_out_more, passes_value, passes_end, passes_pending, passes_nothing, passes_again}
 use Rattle.hot_sources.proofs.operators.passing.PassingRun.poll_next.Goals as goal
@@ -98,27 +98,37 @@ loop-asked-preserved g c =
       approaches =
           asked_more (g.S.Run.polls c.args.self.now.source) (g.S.Run.polls c.loop-asked.self.source) (g.S.Run.polls c.poll_next.new.self)
           c.loop-asked._asked c.loop-asked.invariant.approaches fewer;
-      left_out = left_out_more _ g.M.Sift.passes g.M.Sift.keeps g.M.Sift.after g.met.M.Sift.step _ _ _ _ _ _ _ _ c.loop-asked.invariant.left_out polled
+      left_out = left_out_more _ g.M.Sift.passes g.M.Sift.keeps g.M.Sift.after g.met.M.Sift.step _ _ _ _ _ _ _ _ _ c.loop-asked.invariant.left_out polled
           c.sift.ensures.keeps c.in_default-sift.is c.sift.ensures.after;
       kept = λ fact h. c.poll_next.ensures.kept fact (c.loop-asked.invariant.kept fact h);
     }
 
 pub returns-in-Some-clause-polled : goal.returns-in-Some-clause-polled
-returns-in-Some-clause-polled g c = passes_again _ _ _ _ _
+returns-in-Some-clause-polled g c = (passes_again _ _ _ _ _, λ _ _. refl)
 
 pub returns-in-Some-sift-clause-polled : goal.returns-in-Some-sift-clause-polled
 returns-in-Some-sift-clause-polled g c =
     let polled = rw c.in-Ready-Value.field-0-is at c.in-Ready-Value.ensures.polled in
-    passes_value _ g.M.Sift.passes g.M.Sift.keeps g.M.Sift.after g.met.M.Sift.step _ _ _ _ _ _ _ _ _ c.loop-asked.invariant.left_out polled c.sift.ensures.keeps c.in-Some-sift.is c.sift.ensures.after
+    let before = c.loop-asked.invariant.left_out in (
+      passes_value _ g.M.Sift.passes g.M.Sift.keeps g.M.Sift.after g.met.M.Sift.step _ _ _ _ _ _ _ _ _ _ before polled c.sift.ensures.keeps
+          c.in-Some-sift.is c.sift.ensures.after,
+      going_rests _ _ _ c.loop-asked.invariant.begun,
+    )
 
 pub returns-in-Ready-End-clause-polled : goal.returns-in-Ready-End-clause-polled
 returns-in-Ready-End-clause-polled g c =
     let polled = rw c.in-Ready-End.field-0-is at c.in-Ready-End.ensures.polled in
-    passes_end _ _ _ _ _ _ _ _ c.loop-asked.invariant.left_out polled
+    (passes_end _ _ _ _ _ _ _ _ _ c.loop-asked.invariant.left_out polled, going_rests _ _ _ c.loop-asked.invariant.begun)
 
 pub returns-in-Pending-clause-polled : goal.returns-in-Pending-clause-polled
-returns-in-Pending-clause-polled g c = passes_pending _ _ _ _ _ _ _ c.loop-asked.invariant.left_out c.in-Pending.ensures.polled
+returns-in-Pending-clause-polled g c = (
+  passes_pending _ _ _ _ _ _ _ _ c.loop-asked.invariant.left_out c.in-Pending.ensures.polled,
+  going_rests _ _ _ c.loop-asked.invariant.begun,
+)
 
 pub returns-clause-polled : goal.returns-clause-polled
 returns-clause-polled g c =
-    rw c.yield_now.ensures.pending (passes_nothing _ _ _ _ _ _ c.loop-asked.invariant.left_out)
+    rw c.yield_now.ensures.pending (
+      passes_nothing _ _ _ _ _ _ _ c.loop-asked.invariant.left_out (omega arith),
+      going_rests _ _ _ c.loop-asked.invariant.begun,
+    )
