@@ -1,11 +1,17 @@
 -- What a source gives that calls the code of its user.
-use Rattle.std.specs.Prelude.{◌≡◌, ◌⊎◌, Bool, true, false, [], ◌∷◌}
+use Rattle.std.specs.Prelude.{◌≡◌, ◌⊎◌, Bool, true, false, [], ◌∷◌, ⊤}
 use Rattle.cold_flow.specs.declared.builders.scripted.Step.{Step}
-use Rattle.cold_flow.specs.declared.builders.scripted.Step.TheVariants.{Value, Fail}
+use Rattle.cold_flow.specs.declared.builders.scripted.Step.TheVariants.{Value, Pending, Fail}
 use Rattle.cold_flow.specs.declared.cause.Cause.TheVariants.{Finished, Failed}
 use Rattle.cold_flow.specs.Trace.{Trace, ◌⊑◌, so_far, ended_by}
 
 module _ {T E : Type 0} where
+  -- the code has a value or a fault
+  abbrev pub IsDone : Step T E → Type 0
+  IsDone (Value v) = ⊤
+  IsDone Pending = ⊥
+  IsDone (Fail e) = ⊤
+
   -- One value that the code may answer, and then the end; or a fault that it may answer; or nothing yet.
   abbrev pub GivesOnce : (Step T E → Type 0) → Trace T E → Type 0
   GivesOnce answers t = (t ≡ so_far [])

@@ -1,9 +1,9 @@
 //! A source whose runs call the code of its user.
 
-ghost use Rattle.std.specs.Prelude.{◌≡◌, true, IsTrue, ⊤};
+ghost use Rattle.std.specs.Prelude.{◌≡◌, Bool, true, false, IsTrue, ⊤};
 ghost use Rattle.cold_flow.specs.declared.builders.scripted.Step.{Step};
 ghost use Rattle.cold_flow.specs.Poll.{Within};
-ghost use Rattle.calling_sources.specs.Calling.{GivesOnce, OnceOrDone};
+ghost use Rattle.calling_sources.specs.Calling.{GivesOnce, IsDone, OnceOrDone};
 
 use cold_flow::{EndingRun, Flow, Refusal, Step, Steps};
 use std::alloc::AllocError;
@@ -19,9 +19,13 @@ pub trait Call: Copy {
     // Holds of each answer that a call may give.
     ghost answers: { Self → Step Self.Item Self.Fault → Type 0 } = { λ _ _. ⊤ };
 
+    // No call answers that it isn't done.
+    ghost prompt: { Self → Bool } = { λ _. false };
+
     /// The value, or a fault, or that it isn't done: then it is called again.
     fn call(&self) -> Step<Self::Item, Self::Fault>
-        ensures { answers self.now result };
+        ensures answers { answers self.now result }
+        ensures prompt { IsTrue (prompt self.now) → IsDone result };
 }
 
 /// The flow of `calling`, and the steps of a run of it.
@@ -45,10 +49,11 @@ impl<C: Copy> Clone for Called<C> {
 /// What `code` answers, called by each run anew: Kotlin's `flow { emit(load()) }`.
 ///
 /// A run gives the value and finishes, or fails with the fault; where the code isn't done, it asks to be polled again, and calls it
-/// again. It calls it in its polls alone, and no more once it has a value or a fault. A start takes no memory and calls nothing. That
-/// two calls answer alike isn't claimed.
+/// again. It calls it in its polls alone, and no more once it has a value or a fault. No poll is pending where the code is always done
+/// (`prompt`). A start takes no memory and calls nothing. That two calls answer alike isn't claimed.
 pub fn calling<C: Call>(code: C) -> Called<C>
     ensures gives { Within (GivesOnce (C.answers code)) (⟦<Called<C> as Flow>⟧.may result) }
+    ensures prompt { IsTrue (C.prompt code) → IsTrue (⟦<Called<C> as Flow>⟧.prompt result) }
     ensures starts { IsTrue (⟦<Called<C> as Flow>⟧.starts result) }
 {
     Called {
@@ -68,6 +73,8 @@ impl<C: Call> Flow for Called<C> {
 
     ghost may = { λ f. OnceOrDone f.is_done (C.answers f.code) };
 
+    ghost prompt = { λ f. C.prompt f.code };
+
     ghost starts = { λ _. true };
 
     fn start(&self) -> Result<EndingRun<Called<C>, C::Fault>, Refusal> {
@@ -85,6 +92,8 @@ impl<C: Call> Steps for Called<C> {
     type Fault = C::Fault;
 
     ghost may = { λ s. OnceOrDone s.is_done (C.answers s.code) };
+
+    ghost prompt = { λ s. C.prompt s.code };
 
     fn step(&mut self) -> Option<Step<C::Item, C::Fault>> {
         if self.is_done {

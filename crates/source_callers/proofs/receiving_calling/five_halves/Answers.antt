@@ -7,8 +7,8 @@ use Rattle.source_callers.proofs.receiving_calling.five_halves.Goals as goal
 pub returns : goal.returns
 returns g c =
     let took = at_none _ _ _ c.in-None.is c.in_ok-take_of.ensures.took in
-    let mapped = passed_all took.3 (λ r. r.sift) (λ r. r.source) (λ q a p h. h) in
-    let filtered = passed_all mapped.1 (λ r. r.sift) (λ r. r.source) (λ q a p h. h) in
+    let mapped = passed_all took.3 (λ r. r.sift) (λ r. r.source) (λ q a p h. h.0) in
+    let filtered = passed_all mapped.1 (λ r. r.sift) (λ r. r.source) (λ q a p h. h.0) in
     let received = received_all filtered.1 _ (λ r. r.subscription.ghost_name) (λ r. r.subscription.now) (λ q a p h. h) in
     let began =
     inside c.map-chain.result c.filter.result c.receiving.result (λ q. q.source) (λ r. r.source) (λ s. s.subscription.now) c.args.news.now
