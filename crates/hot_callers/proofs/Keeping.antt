@@ -8,7 +8,7 @@ use Rattle.shared_rounds.specs.declared.round.Emission.{Emission}
 use Rattle.shared_rounds.specs.declared.round.Round.{Round}
 use Rattle.shared_rounds.specs.declared.round.Round.TheVariants as round
 use Rattle.shared_rounds.specs.Entering.{Made}
-use Rattle.shared_rounds.specs.Reach.{Party, with_round}
+use Rattle.shared_rounds.specs.Reach.{Party, Rounds, with_round}
 use Rattle.shared_flow.specs.declared.emitter.blocks.CutShort.{CutShort}
 use Rattle.shared_flow.specs.Blocks.{EmitsOn, IsCutShort, TriedAll, none_yet, one_dropped, one_more, tried_more}
 use Rattle.shared_flow.specs.Emitters.{Emits, EndsAs, Waited, WasFinished, WasLeft, emission_by, not_yet, once_more}
@@ -71,7 +71,7 @@ all_same e f words (Err short) emitted cut = cut_same e f words short cut
 
 -- ---- a subscription's calls
 
-quiet_round : (p q : Party) (r : Round) → ((id : ℕ) → taken_up id r ≡ []) → Made r p q → OnlyReceives p q
+pub quiet_round : (p q : Party) (r : Round) → ((id : ℕ) → taken_up id r ≡ []) → Made r p q → OnlyReceives p q
 quiet_round p q r nothing made = (
   same_by p q made.after refl,
   λ quiet. λ id. subst (λ (x : Party). NothingEmitted x.rounds) (sym made.after) (λ e. nothing_more e p.rounds r (quiet e) (nothing e)) id,
@@ -88,11 +88,27 @@ only_receives number _ _ (by_none p) = receives_nothing p
 only_receives number _ _ (by_one p q r was made) = receives_then p q r (only_receives number p q was) (quiet_round q r (round.Next number) (λ id. refl) made)
 only_receives number _ _ (by_pending p q r was made) = receives_then p q r (only_receives number p q was) (quiet_round q r (round.Pending number) (λ id. refl) made)
 
+-- it heard of rounds
+pub heard_only : (p q : Party) (list : Rounds) → q ≡ record p { seen = list } → OnlyReceives p q
+heard_only p q list same = (same_by p q same refl, λ quiet. λ id. subst (λ (x : Party). NothingEmitted x.rounds) (sym same) quiet id)
+
 pub takes_only : (s : Subscribed ℕ) → OnlyTakes s s
 takes_only s = (refl, receives_nothing s.party)
 
 pub takes_only_more : (s m t : Subscribed ℕ) → OnlyTakes s m → OnlyTakes m t → OnlyTakes s t
 takes_only_more s m t was now = (now.0 ∙ was.0, receives_then s.party m.party t.party was.1 now.1)
+
+-- ---- an owner
+
+-- it is the owner that it was, but for whom it took in, its rounds, and what it has seen
+abbrev pub IsSameOwner : Party → Party → Type 0
+IsSameOwner p q = q ≡ record p { taken = q.taken; rounds = q.rounds; seen = q.seen }
+
+pub same_owner : (p q : Party) {x : Party} → q ≡ x → x ≡ record p { taken = x.taken; rounds = x.rounds; seen = x.seen } → IsSameOwner p q
+same_owner p q is only = is ∙ only ∙ ap (λ (y : Party). record p { taken = y.taken; rounds = y.rounds; seen = y.seen }) (sym is)
+
+pub owner_then : (p q r : Party) → IsSameOwner p q → IsSameOwner q r → IsSameOwner p r
+owner_then p q r was now = now ∙ ap (λ (x : Party). record x { taken = r.taken; rounds = r.rounds; seen = r.seen }) was
 
 -- ---- all three
 

@@ -7,5 +7,6 @@ mod Own
 mod Alone
 mod Exchanging
 pub mod Keeping
+mod Refused
 mod Whole
 mod StateExchanging

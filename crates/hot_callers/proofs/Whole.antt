@@ -28,11 +28,12 @@ use Rattle.shared_flow.specs.Looks.{WasEnded, closed_reader}
 use Rattle.shared_flow.specs.Owners.{Meets}
 use Rattle.shared_flow.specs.Parties.{Emitting, IsSamePrelude, Subscribed, received, since_start, taking_of}
 use Rattle.shared_flow.specs.Received.{ReceivesAllButDropped}
-use Rattle.hot_callers.specs.Alone.{AreNew, EmitsAlone, HasSeenItsLast, HaveWholeLock, NothingEmitted, ReceivesOnlyIts, part_of}
+use Rattle.hot_callers.specs.Alone.{AreNew, EmitsAlone, HasSeenItsLast, HaveWholeLock, NothingEmitted, ReceivesOnlyIts, TakesBoth, part_of}
 use Rattle.hot_callers.specs.Exchanges.{TakesEach}
 use Rattle.hot_callers.specs.Receiving.{AreSettled, IsSettled, ReceivesItsOwn}
 use Rattle.hot_callers.proofs.Accepting.{keeps_all}
 use Rattle.hot_callers.proofs.Exchanging.{IsQuietWith, prefix_then, has_whole, quiet_more, quiet_same, quiet_taking}
+use Rattle.hot_callers.proofs.Keeping.{heard_only, owner_then, quiet_round, receives_then, same_owner}
 
 -- ---- the lock
 
@@ -83,6 +84,16 @@ module _ (p q r m last : Party) (e : Emitting) (s t : Subscribed ℕ) (met ended
   pub has_whole_lock : HasAll last.halved last.taken
   has_whole_lock = has_whole p.halved parts last
       (ap (λ (x : Party). x.halved) made.after ∙ with_both.0.0, ap (λ (x : Party). x.taken) made.after ∙ with_both.0.1) has_parts
+
+  pub takes_both : TakesBoth p last e.party s.party
+  takes_both = record {
+    left = left;
+    only_received = receives_then s.party t.party left (heard_only s.party t.party meets.made.before meets.heard.same)
+        (quiet_round t.party left (round.Cancel t.number) (λ id. refl) ended.made);
+    taken = ap (λ (x : Party). x.taken) made.after ∙ with_both.0.1;
+    same = owner_then p m last (owner_then p r m (owner_then p q r (same_owner p q took_emitter refl) (same_owner q r meets.made.after refl)) (same_owner r m took refl))
+        (same_owner m last made.after refl);
+  }
 
 -- ---- the emissions
 

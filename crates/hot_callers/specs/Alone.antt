@@ -71,6 +71,14 @@ pub record HaveWholeLock (owner emitter subscription : Party) : Type 0 where
   pub has_all : HasAll owner.halved (part_of emitter ∷ part_of subscription ∷ [])
   pub quiet : NothingEmitted owner.rounds × NothingEmitted subscription.rounds
 
+-- An owner took in an emitter and a subscription for good, with their rounds, of which the subscription's emitted nothing, and their shares of
+-- the lock. It is else the owner that it was, but for its own rounds, and for the list of rounds that it has seen.
+pub record TakesBoth (owner after emitter subscription : Party) : Type 0 where
+  pub left : Party
+  pub only_received : OnlyReceives subscription left
+  pub taken : after.taken ≡ part_of emitter ∷ part_of left ∷ []
+  pub same : after ≡ record owner { taken = after.taken; rounds = after.rounds; seen = after.seen }
+
 -- They are of a new flow of this config: the emitter has emitted nothing, and the subscription, which has this prelude, received nothing.
 pub record AreNew (config : Config) (prelude : List ℕ) (owner : Party) (e : Emitting) (s : Subscribed ℕ) : Type 0 where
   pub whole : HaveWholeLock owner e.party s.party

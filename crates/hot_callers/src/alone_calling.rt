@@ -1,11 +1,13 @@
 //! A flow with one emitter and one subscription, which have the whole lock with its owner: what came is what was emitted.
 
-ghost use Rattle.std.specs.Prelude.{◌≡◌, ◌+◌, None, length, IfOk, IfErr};
-ghost use Rattle.flow_terms.specs.declared.refusal.Refusal.TheVariants.{NoMemory};
+ghost use Rattle.std.specs.Prelude.{◌≡◌, ◌⊎◌, ◌+◌, ◌<◌, ℕ, Err, None, length, IfOk, IfErr, IfSome, IfNone};
+ghost use Rattle.flow_terms.specs.declared.refusal.Refusal.TheVariants.{NoMemory, Spent, EmitsFull};
 ghost use Rattle.round_lock.specs.History.{HasAll};
+ghost use Rattle.shared_core.specs.Kept.{making_refusal};
 ghost use Rattle.shared_core.specs.Preludes.{prelude_values};
-ghost use Rattle.shared_flow.specs.Emitted.{GrewByAll, emitted};
-ghost use Rattle.hot_callers.specs.Alone.{AreNew, EmitterAloneLaw, HaveWholeLock, OnlyTakes, ReceivesOnlyIts};
+ghost use Rattle.shared_rounds.specs.Rounds.{IsAtLimit};
+ghost use Rattle.shared_flow.specs.Emitted.{GrewBy, GrewByAll, emitted};
+ghost use Rattle.hot_callers.specs.Alone.{AreNew, EmitterAloneLaw, HaveWholeLock, OnlyTakes, ReceivesOnlyIts, TakesBoth};
 ghost use Rattle.hot_callers.specs.Exchanges.{IsSameParty, TakesEach};
 ghost use Rattle.hot_callers.specs.Receiving.{ReceivesItsOwn};
 
@@ -34,11 +36,13 @@ pub struct Parties {
 /// Makes a flow with one emitter, whose id is 1, and one subscription. Lend emitter and subscription to threads, and end both by
 /// [`end_alone`].
 ///
-/// Refused as `SharedFlow::new` is, and as `NoMemory`.
+/// Refused as `SharedFlow::new` is, then as `SharedFlow::subscribe` is.
 pub fn begin_alone<R>(rt: &R, config: Config, prelude: Prelude<u64>) -> Result<Parties, Refusal>
 where
     R: Wait + AllocGlobal,
     ensures has { IfOk result (λ new. AreNew config (prelude_values prelude) new.flow.party new.emitter new.subscription) }
+    ensures refused { IfSome (making_refusal config) (λ refusal. result ≡ Err refusal) }
+    ensures otherwise { IfNone (making_refusal config) (IfErr result (λ refusal. (refusal ≡ NoMemory) ⊎ IsAtLimit refusal)) }
 {
     let mut flow = SharedFlow::new(rt.alloc(), config)?;
     let mut emitter = flow.emitter(1)?;
@@ -69,6 +73,7 @@ pub fn end_alone(
     requires idle { emitter.ticket ≡ None }
     requires whole { HaveWholeLock flow.old.party emitter.party subscription.party }
     ensures has { ReceivesOnlyIts flow.old.party.flow emitter subscription }
+    ensures taken { TakesBoth flow.old.party flow.new.party emitter.party subscription.party }
     ensures whole { HasAll flow.new.party.halved flow.new.party.taken }
 {
     an_emitter_alone::<u64>();
@@ -81,7 +86,8 @@ pub fn end_alone(
     flow.subscription_count(rt);
 }
 
-/// Emits the values and waits until all are emitted, as [`Emitter::emit_all`] does. Its share of the lock stays what it was.
+/// Emits the values and waits until all are emitted, as [`Emitter::emit_all`] does, and is refused as that is. Its share of the lock stays
+/// what it was.
 pub fn emit_each(
     rt: &impl Wait,
     emitter: &mut Emitter<u64>,
@@ -92,6 +98,7 @@ pub fn emit_each(
     ensures has { GrewByAll (emitted emitter.old) values.now result (emitted emitter.new) }
     ensures idle { emitter.new.ticket ≡ None }
     ensures same { IsSameParty emitter.old.party emitter.new.party }
+    ensures refused { IfErr result (λ cut. (cut.refusal ≡ NoMemory) ⊎ ((cut.refusal ≡ Spent) ⊎ (cut.refusal ≡ EmitsFull))) }
 {
     emitter.emit_all(rt, parker, values)
 }
@@ -105,6 +112,7 @@ fn take_next(
 ) -> Result<(), Refusal>
     ensures has { TakesEach received.old.items subscription.old received.new.items subscription.new }
     ensures one { IfOk result (λ _. length received.new.items ≡ length received.old.items + 1) }
+    ensures none { IfErr result (λ _. received.new.items ≡ received.old.items) }
     ensures only { OnlyTakes subscription.old subscription.new }
     ensures refused { IfErr result (λ refusal. refusal ≡ NoMemory) }
 {
@@ -115,7 +123,7 @@ fn take_next(
 }
 
 /// Waits for so many values, and adds each to a list: Kotlin's `take(count).toList()`. It emits nothing, and its share of the lock stays
-/// what it was. Refused as `NoMemory`: what was received until then is in the list.
+/// what it was. Refused as `NoMemory`: what was received until then, which is fewer, is in the list.
 pub fn take_waiting(
     rt: &impl Wait,
     parker: &mut Parker,
@@ -125,6 +133,7 @@ pub fn take_waiting(
 ) -> Result<(), Refusal>
     ensures has { TakesEach received.old.items subscription.old received.new.items subscription.new }
     ensures all { IfOk result (λ _. length received.new.items ≡ length received.old.items + count) }
+    ensures fewer { IfErr result (λ _. length received.new.items < length received.old.items + count) }
     ensures only { OnlyTakes subscription.old subscription.new }
     ensures refused { IfErr result (λ refusal. refusal ≡ NoMemory) }
 {
@@ -135,7 +144,7 @@ pub fn take_waiting(
 }
 
 // Emits in one thread, and takes in another. Both sleep where they have to wait.
-fn emit_and_take<R: Threads + Wait + Sync>(
+fn take_while_emitting<R: Threads + Wait + Sync>(
     rt: &R,
     emitter: &mut Emitter<u64>,
     sending: &mut Parker,
@@ -149,9 +158,11 @@ fn emit_and_take<R: Threads + Wait + Sync>(
     ensures emits { GrewByAll (emitted emitter.old) values.now result.0 (emitted emitter.new) }
     ensures idle { emitter.new.ticket ≡ None }
     ensures same { IsSameParty emitter.old.party emitter.new.party }
+    ensures cut { IfErr result.0 (λ cut. (cut.refusal ≡ NoMemory) ⊎ ((cut.refusal ≡ Spent) ⊎ (cut.refusal ≡ EmitsFull))) }
     ensures has { TakesEach received.old.items subscription.old received.new.items subscription.new }
     ensures all { IfOk result.1 (λ _. length received.new.items ≡ length received.old.items + count) }
     ensures only { OnlyTakes subscription.old subscription.new }
+    ensures refused { IfErr result.1 (λ refusal. refusal ≡ NoMemory) }
 {
     join_mut(
         rt,
@@ -160,20 +171,60 @@ fn emit_and_take<R: Threads + Wait + Sync>(
             ensures emits { GrewByAll (emitted emitter.entry.now) values.entry.now result (emitted emitter.exit.now) }
             ensures idle { emitter.exit.now.ticket ≡ None }
             ensures same { IsSameParty emitter.entry.now.party emitter.exit.now.party }
+            ensures cut { IfErr result (λ cut. (cut.refusal ≡ NoMemory) ⊎ ((cut.refusal ≡ Spent) ⊎ (cut.refusal ≡ EmitsFull))) }
         { emit_each(rt, emitter, sending, values) },
         &mut ||
             ensures has { TakesEach received.entry.now.items subscription.entry.now received.exit.now.items subscription.exit.now }
             ensures all { IfOk result (λ _. length received.exit.now.items ≡ length received.entry.now.items + count) }
             ensures only { OnlyTakes subscription.entry.now subscription.exit.now }
+            ensures refused { IfErr result (λ refusal. refusal ≡ NoMemory) }
         { take_waiting(rt, receiving, subscription, count, received) },
     )
+}
+
+// Does so, each by a parker of its own. Refused, where emitting is, for that reason.
+fn emit_and_take<R>(
+    rt: &R,
+    emitter: &mut Emitter<u64>,
+    values: &[u64],
+    subscription: &mut Subscription<u64>,
+    count: usize,
+    received: &mut Vec<u64>,
+) -> Result<(), Refusal>
+where
+    R: Threads + Wait + Sync + RandomSource + AllocGlobal,
+    requires idle { emitter.old.ticket ≡ None }
+    ensures emits { IfOk result (λ _. (n : ℕ) × GrewBy (emitted emitter.old) values.now n (emitted emitter.new)) }
+    ensures idle { emitter.new.ticket ≡ None }
+    ensures same { IsSameParty emitter.old.party emitter.new.party }
+    ensures has { TakesEach received.old.items subscription.old received.new.items subscription.new }
+    ensures all { IfOk result (λ _. length received.new.items ≡ length received.old.items + count) }
+    ensures only { OnlyTakes subscription.old subscription.new }
+    ensures refused { IfErr result (λ refusal. (refusal ≡ NoMemory) ⊎ ((refusal ≡ Spent) ⊎ (refusal ≡ EmitsFull))) }
+{
+    let mut sending = Parker::new(rt)?;
+    let mut receiving = Parker::new(rt)?;
+    let (sent, taken) = take_while_emitting(
+        rt,
+        emitter,
+        &mut sending,
+        values,
+        subscription,
+        &mut receiving,
+        count,
+        received,
+    );
+    match sent {
+        Ok(_count) => taken,
+        Err(cut) => Err(cut.refusal),
+    }
 }
 
 /// Makes a flow, emits values in one thread, and takes so many in another, each of which sleeps where it has to wait. What came is of
 /// these values alone: of the last ones that were accepted, in order and once, less what the policy dropped.
 ///
-/// Refused as `SharedFlow::new` and `Emitter::emit` are, and as `NoMemory`. It returns where so many values come, and where none waits for
-/// room that nobody makes: that isn't claimed.
+/// Refused as [`begin_alone`] is, and then as `Emitter::emit` is. It returns where so many values come, and where none waits for room that
+/// nobody makes: that isn't claimed.
 pub fn emit_and_collect<R>(
     rt: &R,
     config: Config,
@@ -185,31 +236,25 @@ where
     R: Threads + Wait + Sync + RandomSource + AllocGlobal,
     ensures has { IfOk result (λ received. ReceivesItsOwn config.policy (prelude_values prelude) values.now received.items) }
     ensures all { IfOk result (λ received. length received.items ≡ count) }
+    ensures refused { IfSome (making_refusal config) (λ refusal. result ≡ Err refusal) }
+    ensures otherwise { IfNone (making_refusal config) (IfErr result (λ refusal. (refusal ≡ NoMemory) ⊎ (IsAtLimit refusal ⊎ (refusal ≡ EmitsFull)))) }
 {
-    let mut sending = Parker::new(rt)?;
-    let mut receiving = Parker::new(rt)?;
-    let mut received = Vec::new(rt.alloc());
     let alone = begin_alone(rt, config, prelude)?;
     let Parties {
         mut flow,
         mut emitter,
         mut subscription,
     } = alone;
-    let (sent, taken) = emit_and_take(
+    let mut received = Vec::new(rt.alloc());
+    let taken = emit_and_take(
         rt,
         &mut emitter,
-        &mut sending,
         values,
         &mut subscription,
-        &mut receiving,
         count,
         &mut received,
     );
     end_alone(rt, &mut flow, emitter, subscription);
-    match sent {
-        Ok(_count) => {}
-        Err(cut) => return Err(cut.refusal),
-    }
     taken?;
     Ok(received)
 }

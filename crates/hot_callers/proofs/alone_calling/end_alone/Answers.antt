@@ -4,7 +4,7 @@ use Rattle.shared_rounds.specs.Reach.{Party}
 use Rattle.shared_flow.specs.Emitted.{emitted}
 use Rattle.shared_flow.specs.Looks.{closed_reader}
 use Rattle.shared_flow.specs.Parties.{Emitting, Subscribed, since_start, taking_of}
-use Rattle.hot_callers.proofs.Whole.{all_settled, emits_alone, has_whole_lock, receives_its_own}
+use Rattle.hot_callers.proofs.Whole.{all_settled, emits_alone, has_whole_lock, receives_its_own, takes_both}
 use Rattle.hot_callers.proofs.alone_calling.end_alone.Goals as goal
 
 pub returns : goal.returns
@@ -30,5 +30,6 @@ returns g c =
       has = λ config words n made grew.
           receives_its_own config words n q r e s t c.meet.result c.cancel.result left (subst (IsMadeWith config) (sym (ap (λ (x : Party). x.flow) took_emitter)) made) grew meets ended seen_all
           alone (c.an_emitter_alone.ensures e s t c.emissions_are_its_part.ensures (all_settled words n (emitted e) grew) alone) c.receives_all_but_dropped.ensures c.meet.ensures.has c.meet.ensures.prelude;
+      taken = takes_both p q r m last e s t c.meet.result c.cancel.result left c.subscription_count.result c.requires.whole took_emitter meets ended end.2 c.subscription_count.ensures.made;
       whole = has_whole_lock p q r m last e s t c.meet.result c.cancel.result left c.subscription_count.result c.requires.whole took_emitter meets ended end.2 c.subscription_count.ensures.made;
     }
