@@ -2,7 +2,6 @@
 
 ghost use Rattle.std.specs.Prelude.{◌≡◌, None};
 
-use crate::meeting::Gathering;
 use crate::shared_stage::config;
 use crate::tools::assert_same;
 use cold_flow::{Policy, Refusal};
@@ -14,6 +13,7 @@ use std::random::RandomSource;
 use std::sync::Wait;
 use std::thread;
 use std::thread::Threads;
+use trial_tools::Gathering;
 
 /// How many lists a thread emits, and how long each is: longer than what goes to the lane at once.
 const LISTS: u64 = 100;

@@ -3,27 +3,16 @@
 
 use crate::shared_stage::config;
 use cold_flow::Policy;
-use hot_callers::{emit_and_receive, emit_and_receive_between};
+use hot_callers::{emit_and_collect, emit_and_receive, emit_and_receive_between};
 use shared_core::Prelude;
 use std::test::Fail;
+use trial_tools::rise_below;
 
 /// How often a subscription looks: by far oftener than it has values.
 const TURNS: usize = 100_000;
 
 /// Room for all values, so that none is dropped.
 const PLACES: u64 = 64;
-
-// Whether the values rise, each of them below the bound.
-fn rise_below(values: &[u64], bound: u64) -> bool {
-    let mut least = 0;
-    for value in values {
-        if *value <= least || bound <= *value {
-            return false;
-        }
-        least = *value;
-    }
-    true
-}
 
 // Whether these come first.
 fn begins_with(values: &[u64], first: &[u64]) -> bool {
@@ -51,6 +40,23 @@ fn what_is_emitted_meanwhile_comes_in_order(rt: HostRuntime) -> Result<(), Fail>
             rise_below(&some.received, 19),
         );
         assert_eq!(rt; found, (0, true, true), "what came");
+    }
+    Ok(())
+}
+
+/// Who waits for as many values as there are has its prelude, and then all that was emitted, where there is room for all.
+#[test]
+fn who_waits_for_each_has_all(rt: HostRuntime) -> Result<(), Fail> {
+    let values = [11, 12, 13, 14, 15];
+    for policy in [Policy::Suspend, Policy::DropOldest] {
+        let prelude = Prelude::of(&[7])?;
+        let config = config(0, PLACES, policy);
+        let received = emit_and_collect(&rt, config, prelude, &values, 6)?;
+        let found = (
+            received.len(),
+            begins_with(&received, &[7, 11, 12, 13, 14, 15]),
+        );
+        assert_eq!(rt; found, (6, true), "what came");
     }
     Ok(())
 }

@@ -11,8 +11,6 @@ mod exchange_rows;
 #[cfg(test)]
 mod ledger;
 #[cfg(test)]
-mod meeting;
-#[cfg(test)]
 mod memory_rows;
 #[cfg(test)]
 mod scarce;

@@ -36,8 +36,14 @@ fn rising(alloc: Global, count: u64, fault: Option<u64>) -> Result<Stepped<u64, 
 /// A flow whose start finds no memory so many times.
 #[derive(Drop)]
 pub(crate) struct Scarce<'a, F> {
-    pub(crate) refusals: &'a Cell<u32>,
-    pub(crate) flow: F,
+    refusals: &'a Cell<u32>,
+    flow: F,
+}
+
+impl<'a, F> Scarce<'a, F> {
+    pub(crate) fn of(flow: F, refusals: &'a Cell<u32>) -> Scarce<'a, F> {
+        Scarce { refusals, flow }
+    }
 }
 
 impl<F: Flow> Flow for Scarce<'_, F> {

@@ -372,10 +372,7 @@ fn flows_are_shared(rt: HostRuntime) -> Result<(), Fail> {
     for row in ROWS {
         let flow = row.source.flow(rt.alloc())?;
         let refusals = Cell::new(row.refusals);
-        let scarce = Scarce {
-            refusals: &refusals,
-            flow,
-        };
+        let scarce = Scarce::of(flow, &refusals);
         compare_row(&rt, &mut all, scarce, row)?;
     }
     assert_none(&rt, &all);

@@ -284,10 +284,7 @@ fn states_are_set(rt: HostRuntime) -> Result<(), Fail> {
     for row in ROWS {
         let flow = row.source.flow(rt.alloc())?;
         let refusals = Cell::new(row.refusals);
-        let scarce = Scarce {
-            refusals: &refusals,
-            flow,
-        };
+        let scarce = Scarce::of(flow, &refusals);
         compare_row(&rt, &mut all, scarce, row)?;
     }
     assert_none(&rt, &all);

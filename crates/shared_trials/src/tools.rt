@@ -7,6 +7,11 @@ use std::process::Abort;
 use std::random::RandomSource;
 use trial_tools::Differences;
 
+/// Fails with all that was noted, where something was.
+pub(crate) fn assert_none(rt: &impl Abort, differences: &Differences) {
+    assert!(rt; differences.lines().is_empty(), "{}", differences.lines());
+}
+
 /// A task that is polled by hand. It is made once more where memory was refused, as under `rt try --test --fail-alloc N`.
 pub(crate) fn task_made<R: Abort + RandomSource + AllocGlobal>(rt: &R) -> MockTask {
     match MockTask::new(rt) {
@@ -23,9 +28,4 @@ pub(crate) fn assert_same<T: PartialEq + Debug + Drop>(
     wanted: T,
 ) {
     assert_eq!(rt; found, wanted, "{name}");
-}
-
-/// Fails with all that was noted, where something was.
-pub(crate) fn assert_none(rt: &impl Abort, differences: &Differences) {
-    assert!(rt; differences.lines().is_empty(), "{}", differences.lines());
 }

@@ -3,7 +3,6 @@
 //! waits for good.
 
 use crate::ledger::{Heard, Said};
-use crate::meeting::Gathering;
 use crate::shared_stage::config;
 use crate::tools::assert_none;
 use crate::waiting_rows::{emitted, received};
@@ -16,7 +15,7 @@ use std::random::RandomSource;
 use std::sync::Wait;
 use std::test::Fail;
 use std::thread::{Threads, for_each_mut};
-use trial_tools::Differences;
+use trial_tools::{Differences, Gathering};
 
 /// How many sides there are at most.
 const SIDES: usize = 8;

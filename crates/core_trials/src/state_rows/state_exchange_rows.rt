@@ -3,21 +3,10 @@
 
 use hot_callers::set_and_collect;
 use std::test::Fail;
+use trial_tools::rise_below;
 
 /// How often a collector is asked: by far oftener than there are values.
 const TURNS: usize = 100_000;
-
-// Whether the values rise, each of them below the bound.
-fn rise_below(values: &[u64], bound: u64) -> bool {
-    let mut least = 0;
-    for value in values {
-        if *value <= least || bound <= *value {
-            return false;
-        }
-        least = *value;
-    }
-    true
-}
 
 /// A collector that is never asked receives nothing. One that is receives the value at once, and then what is set meanwhile, in order,
 /// never one value twice.
