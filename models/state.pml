@@ -174,7 +174,7 @@ inline look_whether_let_go(w) {
 #endif
 }
 
-/* Watcher::turn, without the sleep: the turn, whether the watcher was let go, and the value. */
+/* Watcher::attempt, without the sleep: the turn, whether the watcher was let go, and the value. */
 inline look(w) {
 #ifdef WRONG_TURN_LOADED_LAST
     look_whether_let_go(w);

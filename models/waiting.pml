@@ -186,7 +186,7 @@ inline wake_ended(gone) {
 #endif
 #define IS_TO_RISE(key, below) (asleep[key] != 0 && !HAS_TO_WAIT(asleep[key], below))
 
-/* WaitList::wake_done */
+/* SleepingEmissions::wake_done */
 inline wake_done(below) {
 #ifdef WRONG_WAKES_ANOTHER          /* the first that sleeps, where one has to wait no more */
     if
