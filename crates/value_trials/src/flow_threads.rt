@@ -1,7 +1,6 @@
 //! Threads that emit and receive values of any type.
 
 use crate::flow_rows::{emit, flow_of, received};
-use crate::meeting::Gathering;
 use crate::parcels::{Answer, Parcel, Tally, assert_let_go, tally_of};
 use crate::tools::assert_so;
 use std::alloc::AllocGlobal;
@@ -10,6 +9,7 @@ use std::process::Abort;
 use std::sync::{Arc, Wait};
 use std::thread;
 use std::thread::Threads;
+use trial_tools::Gathering;
 use value_flows::{Policy, Subscription, ValueFlow};
 
 /// How many values are emitted.

@@ -6,8 +6,6 @@ mod flow_rows;
 #[cfg(test)]
 mod flow_threads;
 #[cfg(test)]
-mod meeting;
-#[cfg(test)]
 mod parcels;
 #[cfg(test)]
 mod refusals;

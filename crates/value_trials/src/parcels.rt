@@ -1,4 +1,7 @@
 //! A value whose makings and lettings go are counted, and whose clone may be refused.
+ghost use Rattle.std.specs.Prelude.{◌==◌};
+ghost use Rattle.std.proofs.Common.{rules};
+ghost use Rattle.std.specs.Cmp.Rules.{comparing};
 
 use std::alloc::{AllocError, AllocGlobal, Global};
 use std::process::Abort;
@@ -70,6 +73,17 @@ impl Clone for Parcel {
             return Err(AllocError);
         }
         Parcel::new(&self.tally, self.number)
+    }
+}
+
+// By their numbers alone.
+impl PartialEq for Parcel {
+    ghost eq = { λ a b. a.number == b.number };
+
+    ghost laws = { Prim.search (comparing, rules) };
+
+    fn eq(&self, other: &Parcel) -> bool {
+        self.number == other.number
     }
 }
 

@@ -12,6 +12,10 @@ use value_states::{Collected, ValueState, Watcher};
 enum Call {
     Set(u64),
     Replace(u64),
+    /// To the second number, where it has the first.
+    CompareAndSet(u64, u64),
+    /// Unless it has it.
+    SetDistinct(u64),
     /// By one, by `update`.
     CountUp,
     Value,
@@ -59,6 +63,15 @@ const ROWS: &[(Call, Answer)] = &[
     (Call::Refuse(false), Answer::Done),
     (Call::NextWithin, Answer::Number(7)),
     (Call::TryNext, Answer::Nothing),
+    // One that compares sets another value where it answers so, and else nothing.
+    (Call::CompareAndSet(6, 5), Answer::No),
+    (Call::SetDistinct(7), Answer::No),
+    (Call::TryNext, Answer::Nothing),
+    (Call::CompareAndSet(7, 5), Answer::Yes),
+    (Call::TryNext, Answer::Number(5)),
+    (Call::SetDistinct(6), Answer::Yes),
+    (Call::TryNext, Answer::Number(6)),
+    (Call::Left, Answer::Number(1)),
     // A stop is told once there is nothing new, and what is set after it is given, too.
     (Call::Set(8), Answer::Done),
     (Call::IsStopped, Answer::No),
@@ -142,6 +155,28 @@ fn replace<R: Wait + Abort>(
     shown(&state.replace(rt, parcel_of(rt, tally, number)))
 }
 
+/// Has it set a parcel with the second number, where its own has the first.
+fn compare_and_set<R: Wait + Abort>(
+    rt: &R,
+    state: &mut ValueState<Parcel>,
+    tally: &Arc<Tally>,
+    expect: u64,
+    update: u64,
+) -> Answer {
+    let expected = parcel_of(rt, tally, expect);
+    said(state.compare_and_set(rt, &expected, parcel_of(rt, tally, update)))
+}
+
+/// Has it set a parcel with this number, unless its own has it.
+fn set_distinct<R: Wait + Abort>(
+    rt: &R,
+    state: &mut ValueState<Parcel>,
+    tally: &Arc<Tally>,
+    number: u64,
+) -> Answer {
+    said(state.set_distinct(rt, parcel_of(rt, tally, number)))
+}
+
 impl Call {
     /// What the watcher answers, to a call of its own.
     fn ask<R: Wait + Clock>(self, rt: &R, watcher: &mut Watcher<Parcel>) -> Answer {
@@ -167,6 +202,10 @@ impl Call {
         match self {
             Call::Set(number) => return set(rt, state, tally, number),
             Call::Replace(number) => return replace(rt, state, tally, number),
+            Call::CompareAndSet(expect, update) => {
+                return compare_and_set(rt, state, tally, expect, update);
+            }
+            Call::SetDistinct(number) => return set_distinct(rt, state, tally, number),
             Call::Value => return cloned(state.value(rt)),
             Call::Read => return state.read(rt, |parcel| shown(parcel)),
             Call::CountUp => return state.update(rt, |parcel| count_up(parcel)),

@@ -1,6 +1,5 @@
 //! Threads that set, change and watch a state of any type.
 
-use crate::meeting::Gathering;
 use crate::parcels::{Parcel, Tally, assert_let_go, parcel_of, tally_of};
 use crate::tools::assert_so;
 use std::alloc::AllocGlobal;
@@ -9,6 +8,7 @@ use std::process::Abort;
 use std::sync::{Arc, Wait};
 use std::thread;
 use std::thread::Threads;
+use trial_tools::Gathering;
 use value_states::{Collected, ValueState, Watcher};
 
 /// How often each thread calls.
