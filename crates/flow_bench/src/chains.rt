@@ -19,7 +19,7 @@ const ELEMENTS: u64 = 10_000_000;
 
 /// One more, modulo 2^64.
 #[derive(Clone, Copy)]
-struct OneMore;
+pub(crate) struct OneMore;
 
 impl Apply<u64> for OneMore {
     type Out = u64;
@@ -33,7 +33,7 @@ impl Apply<u64> for OneMore {
 
 /// Whether a value is even.
 #[derive(Clone, Copy)]
-struct IsEven;
+pub(crate) struct IsEven;
 
 impl Apply<u64> for IsEven {
     type Out = bool;
@@ -47,7 +47,7 @@ impl Apply<u64> for IsEven {
 
 /// The sum of two values, modulo 2^64.
 #[derive(Clone, Copy)]
-struct Sum;
+pub(crate) struct Sum;
 
 impl Apply<(u64, u64)> for Sum {
     type Out = u64;
@@ -92,7 +92,12 @@ where
 }
 
 /// Adds up all that the flow gives.
-fn folded<R, F>(rt: &R, scenario: &'static str, flow: F, elements: u64) -> Result<Figure, Fault>
+pub(crate) fn folded<R, F>(
+    rt: &R,
+    scenario: &'static str,
+    flow: F,
+    elements: u64,
+) -> Result<Figure, Fault>
 where
     R: Clock + AllocGlobal + RandomSource,
     F: Flow<Item = u64, Fault = u64>,

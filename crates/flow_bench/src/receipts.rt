@@ -55,9 +55,9 @@ pub(crate) trait TakesBlocks<L>: EmitsBlocks {
 #[derive(Clone, Copy)]
 pub(crate) struct Receipts {
     /// The sum of it, modulo 2^64.
-    total: u64,
+    pub(crate) total: u64,
     /// The emissions are in it.
-    nanoseconds: u64,
+    pub(crate) nanoseconds: u64,
 }
 
 impl Receipts {

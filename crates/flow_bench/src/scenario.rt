@@ -2,7 +2,8 @@
 
 use crate::fault::Fault;
 use crate::{
-    chains, fan_out, lane_lossy, receipts, script_lines, split_values, state_alone, state_threads,
+    chains, fan_out, hot_chains, lane_lossy, more_chains, receipts, script_lines, split_values,
+    state_alone, state_threads,
 };
 use bench_figures::Size;
 use std::alloc::AllocGlobal;
@@ -30,6 +31,8 @@ pub enum Scenario {
     Split,
     /// `cold`: chains of cold flows.
     Cold,
+    /// `hot`: a chain over a subscription, and looks alone.
+    Hot,
     /// `script`: lines of a script.
     Script,
     /// `texts`: receipts of a shared flow of texts, on one thread.
@@ -38,7 +41,7 @@ pub enum Scenario {
 
 impl Scenario {
     /// Every scenario.
-    pub const ALL: [Scenario; 10] = [
+    pub const ALL: [Scenario; 11] = [
         Scenario::Receipts,
         Scenario::ReceiptsBy16,
         Scenario::FanOut,
@@ -47,6 +50,7 @@ impl Scenario {
         Scenario::State,
         Scenario::Split,
         Scenario::Cold,
+        Scenario::Hot,
         Scenario::Script,
         Scenario::Texts,
     ];
@@ -62,6 +66,7 @@ impl Scenario {
             "state" => Some(Scenario::State),
             "split" => Some(Scenario::Split),
             "cold" => Some(Scenario::Cold),
+            "hot" => Some(Scenario::Hot),
             "script" => Some(Scenario::Script),
             "texts" => Some(Scenario::Texts),
             _ => None,
@@ -84,7 +89,11 @@ impl Scenario {
                 state_threads::measure(rt, size)
             }
             Scenario::Split => split_values::measure(rt, size),
-            Scenario::Cold => chains::measure(rt, size),
+            Scenario::Cold => {
+                chains::measure(rt, size)?;
+                more_chains::measure(rt, size)
+            }
+            Scenario::Hot => hot_chains::measure(rt, size),
             Scenario::Script => script_lines::measure(rt, size),
             Scenario::Texts => receipts::measure_texts(rt, size),
         }

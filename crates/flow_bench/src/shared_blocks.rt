@@ -91,7 +91,7 @@ fn take_each<R: Clock + AllocGlobal + Wait>(
     Receipts::since(rt, start, total)
 }
 
-fn close<R: Wait>(rt: &R, emitter: ByBlock<IdleEmitter>) {
+pub(crate) fn close<R: Wait>(rt: &R, emitter: ByBlock<IdleEmitter>) {
     let ByBlock { flow, block: _ } = emitter;
     flow.close(rt);
 }

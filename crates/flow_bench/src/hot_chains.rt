@@ -1,0 +1,188 @@
+//! `filter`, `map` and a number of values of a subscription, beside looks alone.
+
+use crate::blocks::{ByBlock, places};
+use crate::chains::{IsEven, OneMore};
+use crate::config::config_of;
+use crate::elapsed::now;
+use crate::fault::Fault;
+use crate::receipts::Receipts;
+use crate::report::report;
+use crate::shared_blocks::close;
+use crate::shared_ends::IdleEmitter;
+use crate::sides::Emits;
+use crate::sums::sum_to;
+use bench_figures::{Figure, Size, Subject, Unit};
+use cold_flow::{Policy, Run};
+use hot_sources::{Parker, filter, map, receiving, take_of};
+use shared_flow::{SharedFlow, Subscription};
+use std::alloc::AllocGlobal;
+use std::random::RandomSource;
+use std::rt::Clock;
+use std::sync::Wait;
+
+/// How many values are emitted.
+const VALUES: u64 = 6_400_000;
+
+/// How many are emitted before they are received. Half of them are even, the last one too.
+const BLOCK: usize = 64;
+
+/// Who receives a block, and gives the sum of what came.
+trait Sums {
+    fn sum_block<R: Wait>(&mut self, rt: &R) -> u64;
+}
+
+/// Who looks for each value.
+#[derive(Drop)]
+struct Looks<'a> {
+    news: &'a mut Subscription<u64>,
+}
+
+impl Sums for Looks<'_> {
+    #[inline]
+    fn sum_block<R: Wait>(&mut self, rt: &R) -> u64 {
+        let mut total: u64 = 0;
+        for _ in 0..BLOCK {
+            let Some(value) = self.news.next_now(rt) else {
+                break;
+            };
+            total = total.wrapping_add(value);
+        }
+        total
+    }
+}
+
+/// Who takes half as many values of a chain by one call, and would sleep for them.
+#[derive(Drop)]
+struct Takes<S> {
+    chain: S,
+    parker: Parker,
+    taken: Vec<u64>,
+}
+
+impl<S: Run<Item = u64>> Sums for Takes<S> {
+    #[inline]
+    fn sum_block<R: Wait>(&mut self, rt: &R) -> u64 {
+        self.taken.clear();
+        let _ended = take_of(
+            rt,
+            &mut self.parker,
+            &mut self.chain,
+            BLOCK / 2,
+            &mut self.taken,
+        );
+        let mut total: u64 = 0;
+        for value in &self.taken {
+            total = total.wrapping_add(*value);
+        }
+        total
+    }
+}
+
+/// Makes both measurements.
+pub(crate) fn measure<R>(rt: &R, size: Size) -> Result<(), Fault>
+where
+    R: Clock + Print + AllocGlobal + RandomSource + Wait,
+{
+    let values = size.of(VALUES);
+    let blocks = values / BLOCK as u64;
+    let looks = figure("hot-looks", values, by_looks(rt, blocks)?);
+    report(rt, looks, sum_to(values), size)?;
+    // One more than each even number.
+    let evens = values / 2;
+    let total = sum_to(evens).wrapping_mul(2).wrapping_add(evens);
+    report(
+        rt,
+        figure("hot-takes", values, by_takes(rt, blocks)?),
+        total,
+        size,
+    )
+}
+
+fn figure(scenario: &'static str, values: u64, receipts: Receipts) -> Figure {
+    Figure {
+        subject: Subject::Shared,
+        scenario,
+        name: "value",
+        unit: Unit::Nanoseconds,
+        operations: values,
+        nanoseconds: receipts.nanoseconds,
+        total: receipts.total,
+    }
+}
+
+/// A flow for one emitter and one subscription, with room for a block.
+fn new_flow<R: AllocGlobal>(rt: &R) -> Result<SharedFlow<u64>, Fault> {
+    let config = config_of(1, BLOCK as u64, Policy::Suspend);
+    Ok(SharedFlow::<u64>::new(rt.alloc(), config)?)
+}
+
+fn by_looks<R>(rt: &R, blocks: u64) -> Result<Receipts, Fault>
+where
+    R: Clock + AllocGlobal + RandomSource + Wait,
+{
+    let mut flow = new_flow(rt)?;
+    let mut news = flow.subscribe(rt)?;
+    let receipts = timed(rt, &mut flow, &mut Looks { news: &mut news }, blocks);
+    news.cancel(rt);
+    receipts
+}
+
+fn by_takes<R>(rt: &R, blocks: u64) -> Result<Receipts, Fault>
+where
+    R: Clock + AllocGlobal + RandomSource + Wait,
+{
+    let parker = Parker::new(rt)?;
+    let taken = Vec::with_capacity(rt.alloc(), BLOCK / 2)?;
+    let mut flow = new_flow(rt)?;
+    let mut news = flow.subscribe(rt)?;
+    let chain = map(
+        filter(receiving::<(), _, _>(&mut news, rt), IsEven),
+        OneMore,
+    );
+    let mut takes = Takes {
+        chain,
+        parker,
+        taken,
+    };
+    let receipts = timed(rt, &mut flow, &mut takes, blocks);
+    drop(takes);
+    news.cancel(rt);
+    receipts
+}
+
+/// Emits so many blocks, each of which is received before the next one, from a new emitter to its close.
+fn timed<R, T>(
+    rt: &R,
+    flow: &mut SharedFlow<u64>,
+    reader: &mut T,
+    blocks: u64,
+) -> Result<Receipts, Fault>
+where
+    R: Clock + AllocGlobal + Wait,
+    T: Sums,
+{
+    let block = places(rt, BLOCK)?;
+    let start = now(rt);
+    let mut emitter = ByBlock::of(IdleEmitter::of(flow)?, block);
+    let total = sum_of(rt, &mut emitter, reader, blocks);
+    close(rt, emitter);
+    Receipts::since(rt, start, Some(total))
+}
+
+// Kept apart, as each measured loop.
+#[inline(never)]
+fn sum_of<R: Wait, T: Sums>(
+    rt: &R,
+    emitter: &mut ByBlock<IdleEmitter>,
+    reader: &mut T,
+    blocks: u64,
+) -> u64 {
+    let mut total: u64 = 0;
+    let mut next: u64 = 1;
+    for _ in 0..blocks {
+        let _all = emitter.emit(rt, next);
+        next = next.wrapping_add(BLOCK as u64);
+        total = total.wrapping_add(reader.sum_block(rt));
+    }
+    total
+}

@@ -1,0 +1,123 @@
+//! A chain of operators of `more_operators`, folded to one sum, and the loop that does the same by hand.
+
+ghost use Rattle.std.specs.Prelude.{◌/◌, ◌%◌, ◌==◌, Some, None, nat_lt, if◌then◌else◌};
+
+use crate::chains::{Sum, folded};
+use crate::elapsed::{nanoseconds_since, now};
+use crate::fault::Fault;
+use crate::report::report;
+use bench_figures::{Figure, Size, Subject, Unit};
+use cold_flow::{Apply, range};
+use more_operators::{filter_map, scan, take_while};
+use std::alloc::AllocGlobal;
+use std::random::RandomSource;
+use std::rt::Clock;
+
+/// How many elements the source has: a multiple of 4,000.
+const ELEMENTS: u64 = 10_000_000;
+
+/// Half of an even number.
+#[derive(Clone, Copy)]
+struct Half;
+
+impl Apply<u64> for Half {
+    type Out = Option<u64>;
+
+    ghost gives = { λ _ value. if value % 2 == 0 then Some (value / 2) else None };
+
+    fn apply(&self, argument: u64) -> Option<u64> {
+        if argument % 2 == 0 {
+            Some(argument / 2)
+        } else {
+            None
+        }
+    }
+}
+
+/// Whether a value is below a limit.
+#[derive(Clone, Copy)]
+struct IsBelow {
+    limit: u64,
+}
+
+impl Apply<u64> for IsBelow {
+    type Out = bool;
+
+    ghost gives = { λ test value. nat_lt value test.limit };
+
+    fn apply(&self, argument: u64) -> bool {
+        argument < self.limit
+    }
+}
+
+/// Makes both measurements.
+pub(crate) fn measure<R>(rt: &R, size: Size) -> Result<(), Fault>
+where
+    R: Clock + Print + AllocGlobal + RandomSource,
+{
+    let elements = size.of(ELEMENTS);
+    let total = total_of(elements);
+    report(rt, chain(rt, elements)?, total, size)?;
+    report(rt, by_hand(rt, elements)?, total, size)
+}
+
+/// Half of each sum of 0 to k that is even, for k from 0 to below `elements`: those of 4j and 4j + 3, together 8j(j + 1) + 3.
+fn total_of(elements: u64) -> u64 {
+    let quarter = elements / 4;
+    let below = quarter.saturating_sub(1);
+    let cubes = below
+        .wrapping_mul(quarter)
+        .wrapping_mul(quarter.wrapping_add(1))
+        / 3;
+    cubes.wrapping_mul(8).wrapping_add(quarter.wrapping_mul(3))
+}
+
+/// No half of a sum comes so high.
+fn limit_of(elements: u64) -> u64 {
+    elements.saturating_mul(elements)
+}
+
+/// Half of each even state of a scan that adds up.
+fn chain<R>(rt: &R, elements: u64) -> Result<Figure, Fault>
+where
+    R: Clock + AllocGlobal + RandomSource,
+{
+    let states = filter_map(scan(range::<u64>(0, elements), 0, Sum), Half);
+    let limit = limit_of(elements);
+    let flow = take_while(states, IsBelow { limit });
+    folded(rt, "cold-more", flow, elements)
+}
+
+/// The same by a loop.
+fn by_hand<R: Clock>(rt: &R, elements: u64) -> Result<Figure, Fault> {
+    let start = now(rt);
+    let total = sum_by_hand(elements, limit_of(elements));
+    Ok(Figure {
+        subject: Subject::Cold,
+        scenario: "cold-by-hand",
+        name: "element",
+        unit: Unit::Nanoseconds,
+        operations: elements,
+        nanoseconds: nanoseconds_since(rt, start)?,
+        total,
+    })
+}
+
+// Kept apart, as each measured loop.
+/// Half of each even sum that is below the limit.
+#[inline(never)]
+fn sum_by_hand(elements: u64, limit: u64) -> u64 {
+    let mut state = 0u64;
+    let mut total = 0u64;
+    for value in 0..elements {
+        state = state.wrapping_add(value);
+        if state % 2 == 0 {
+            let half = state / 2;
+            if half >= limit {
+                break;
+            }
+            total = total.wrapping_add(half);
+        }
+    }
+    total
+}
