@@ -5,7 +5,7 @@ use Rattle.cold_flow.specs.declared.cause.Cause.TheVariants.{Finished}
 use Rattle.cold_flow.specs.Trace.{Trace, so_far, ended_by}
 use Rattle.cold_flow.specs.Poll.{Traces, Beginnings}
 use Rattle.shared_flow.specs.Emitted.{Outcome, Emissions}
-use Rattle.sharing_upstream.specs.declared.course.Course.TheVariants.{Running}
+use Rattle.sharing_upstream.specs.declared.upstream.Course.TheVariants.{Running}
 use Rattle.flow_sharing.specs.Taken.{RunGave, Took}
 use Rattle.flow_sharing.specs.Shared.{Emits, words_of}
 

@@ -1,7 +1,7 @@
 -- When nothing waits at the place where the values of a sharing go.
 use Rattle.std.proofs.Common.{◌≡◌, ◌≢◌, ℕ, Bool, true, false, Option, Some, None, ap, ◌∙◌, ⊎_elim, is_some}
-use Rattle.sharing_upstream.specs.declared.offer.Offer.{Offer}
-use Rattle.sharing_upstream.specs.declared.offer.Offer.TheVariants.{Accepted, Waiting, Refused}
+use Rattle.sharing_upstream.specs.declared.destination.Offer.{Offer}
+use Rattle.sharing_upstream.specs.declared.destination.Offer.TheVariants.{Accepted, Waiting, Refused}
 use Rattle.sharing_upstream.specs.Destinations.{Offered}
 use Rattle.flow_sharing.specs.FlowDestinations.{DestinationSeen, emitting, Found}
 

@@ -8,7 +8,7 @@ use Rattle.cold_flow.specs.declared.event.Event.{Event}
 use Rattle.cold_flow.specs.Poll.{Traces}
 use Rattle.state_flow.specs.declared.view.View.{View}
 use Rattle.shared_flow.specs.Emitted.{emitted}
-use Rattle.sharing_upstream.specs.declared.polled.Polled.{Polled}
+use Rattle.sharing_upstream.specs.declared.polling.Polled.{Polled}
 use Rattle.sharing_upstream.specs.declared.strategy.Strategy.{Strategy}
 use Rattle.sharing_upstream.specs.declared.upstream.Upstream.{Upstream}
 use Rattle.sharing_upstream.specs.Courses.{kept_cause}

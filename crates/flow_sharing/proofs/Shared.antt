@@ -19,7 +19,7 @@ use Rattle.shared_flow.specs.Parties.{Emitting}
 use Rattle.shared_flow.specs.Emitters.{emission_by}
 use Rattle.shared_flow.specs.Emitted.{Outcome, Emissions, accepted, accepted_in_block, dropped, full, refused, in_flight, withdrawn, settled, emitted, after_cancel, WasEmitted}
 use Rattle.shared_flow.proofs.Emitted.{has_started, has_waited, has_finished, has_left, has_let_go}
-use Rattle.sharing_upstream.specs.declared.course.Course.{Course}
+use Rattle.sharing_upstream.specs.declared.upstream.Course.{Course}
 use Rattle.sharing_upstream.specs.Courses.{stopped, kept_cause}
 use Rattle.sharing_upstream.specs.Destinations.{AcceptsEach}
 use Rattle.sharing_upstream.specs.Sharings.{Obeys, Takes, Shares, Acts}

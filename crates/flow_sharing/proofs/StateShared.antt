@@ -8,7 +8,7 @@ use Rattle.cold_flow.specs.declared.event.Event.{Event}
 use Rattle.cold_flow.specs.Poll.{Traces}
 use Rattle.state_flow.specs.declared.view.View.{View}
 use Rattle.state_flow.specs.Calls.{Counts, Sets}
-use Rattle.sharing_upstream.specs.declared.course.Course.{Course}
+use Rattle.sharing_upstream.specs.declared.upstream.Course.{Course}
 use Rattle.sharing_upstream.specs.Courses.{stopped}
 use Rattle.sharing_upstream.specs.Destinations.{AcceptsEach}
 use Rattle.sharing_upstream.specs.Sharings.{Obeys, Takes, Shares, Acts}

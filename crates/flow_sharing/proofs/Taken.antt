@@ -6,8 +6,8 @@ use Rattle.cold_flow.specs.Trace.{Trace, ended_by}
 use Rattle.cold_flow.specs.Poll.{Traces, Within}
 use Rattle.flow_terms.specs.declared.refusal.Refusal.{Refusal}
 use Rattle.std.specs.Prelude.{Option}
-use Rattle.sharing_upstream.specs.declared.course.Course.{Course}
-use Rattle.sharing_upstream.specs.declared.course.Course.TheVariants.{Idle, Running, Broken}
+use Rattle.sharing_upstream.specs.declared.upstream.Course.{Course}
+use Rattle.sharing_upstream.specs.declared.upstream.Course.TheVariants.{Idle, Running, Broken}
 use Rattle.sharing_upstream.specs.Courses.{GoesOn, Ends, GaveAll, IsNew, after_end, stopped}
 use Rattle.flow_sharing.specs.Taken.{RunGave, Took}
 

@@ -2,7 +2,7 @@
 use Rattle.std.specs.declared.cmp.PartialEq as compared
 use Rattle.flow_terms.specs.declared.word.Word as words
 use Rattle.shared_flow.specs.Owners.{Owning}
-use Rattle.flow_sharing.specs.declared.outlet.Outlet.{Outlet}
+use Rattle.flow_sharing.specs.declared.flow_destination.Outlet.{Outlet}
 use Rattle.flow_sharing.specs.FlowDestinations.{DestinationSeen}
 
 -- the place that it makes with this owner of the flow

@@ -5,7 +5,7 @@ use Rattle.cold_flow.specs.declared.cause.Cause.{Cause}
 use Rattle.cold_flow.specs.declared.cause.Cause.TheVariants.{Refused}
 use Rattle.cold_flow.specs.Poll.{Traces}
 use Rattle.shared_flow.specs.Emitted.{Outcome, Emissions, accepted, refused, in_flight, withdrawn, settled, WasEmitted}
-use Rattle.sharing_upstream.specs.declared.course.Course.{Course}
+use Rattle.sharing_upstream.specs.declared.upstream.Course.{Course}
 use Rattle.sharing_upstream.specs.Courses.{kept_cause}
 use Rattle.flow_sharing.specs.Taken.{Took}
 

@@ -9,7 +9,7 @@ use Rattle.cold_flow.specs.Poll.{Traces}
 use Rattle.shared_flow.specs.Emitted.{Emissions, emitted}
 use Rattle.shared_flow.specs.Owners.{Owning}
 use Rattle.shared_flow.specs.Parties.{Emitting, PartyName, named}
-use Rattle.sharing_upstream.specs.declared.polled.Polled.{Polled}
+use Rattle.sharing_upstream.specs.declared.polling.Polled.{Polled}
 use Rattle.sharing_upstream.specs.declared.strategy.Strategy.{Strategy}
 use Rattle.sharing_upstream.specs.declared.upstream.Upstream.{Upstream}
 use Rattle.sharing_upstream.specs.Sharings.{IsRefusedAt}

@@ -3,7 +3,7 @@ use Rattle.std.specs.Prelude.{◌≡◌, ◌⊎◌, ℕ, List, [], ◌∷◌}
 use Rattle.cold_flow.specs.Poll.{Traces}
 use Rattle.state_flow.specs.declared.view.View.{View}
 use Rattle.state_flow.specs.Calls.{Counts, Sets}
-use Rattle.sharing_upstream.specs.declared.course.Course.{Course}
+use Rattle.sharing_upstream.specs.declared.upstream.Course.{Course}
 use Rattle.flow_sharing.specs.Taken.{Took}
 
 -- each of these values was set, in this order

@@ -5,7 +5,7 @@ use Rattle.cold_flow.specs.declared.event.Event.{Event}
 use Rattle.cold_flow.specs.Poll.{Traces}
 use Rattle.futures.specs.declared.task.Poll.{Poll}
 use Rattle.state_flow.specs.Views.{SeatSeen}
-use Rattle.sharing_upstream.specs.declared.polled.Polled.{Polled}
+use Rattle.sharing_upstream.specs.declared.polling.Polled.{Polled}
 use Rattle.sharing_upstream.specs.declared.strategy.Strategy.{Strategy}
 use Rattle.sharing_upstream.specs.declared.upstream.Upstream.{Upstream}
 use Rattle.sharing_upstream.specs.Sharings.{IsRefusedAt}

@@ -4,8 +4,8 @@ use Rattle.cold_flow.specs.declared.cause.Cause.{Cause}
 use Rattle.cold_flow.specs.Trace.{so_far, ended_by}
 use Rattle.cold_flow.specs.Poll.{Traces, Within}
 use Rattle.cold_flow.specs.Gather.{Gathered}
-use Rattle.sharing_upstream.specs.declared.course.Course.{Course}
-use Rattle.sharing_upstream.specs.declared.course.Course.TheVariants.{Idle, Running, Broken}
+use Rattle.sharing_upstream.specs.declared.upstream.Course.{Course}
+use Rattle.sharing_upstream.specs.declared.upstream.Course.TheVariants.{Idle, Running, Broken}
 use Rattle.sharing_upstream.specs.Courses.{stopped}
 
 -- the word `may` says which traces a run may still give

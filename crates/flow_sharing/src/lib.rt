@@ -23,7 +23,6 @@
 #![tactic(auto)]
 
 mod flow_destination;
-mod outlet;
 mod share;
 mod sharing;
 mod state_destination;

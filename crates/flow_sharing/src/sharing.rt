@@ -11,8 +11,7 @@ ghost use Rattle.sharing_upstream.specs.Shown.{started_by, Shows};
 ghost use Rattle.sharing_upstream.specs.Polls.{ShowsMore, Answers};
 ghost use Rattle.sharing_upstream.specs.Upstreams.{flow_of, has_run, cause_kept, IsUnstarted};
 
-use crate::flow_destination::FlowDestination;
-use crate::outlet::Outlet;
+use crate::flow_destination::{FlowDestination, Outlet};
 use cold_flow::{Cause, Flow, Refusal, Word};
 use flow_terms::Started;
 use futures::task::Context;

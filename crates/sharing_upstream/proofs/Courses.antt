@@ -8,8 +8,8 @@ use Rattle.cold_flow.specs.Trace.{Trace, so_far}
 use Rattle.cold_flow.specs.Poll.{Traces, Within, After}
 use Rattle.cold_flow.specs.Gather.{Gathered}
 use Rattle.cold_flow.specs.GatherLaws.{gathers_value, gathers_end, gathers_so_far, gathers_within}
-use Rattle.sharing_upstream.specs.declared.course.Course.{Course}
-use Rattle.sharing_upstream.specs.declared.course.Course.TheVariants.{Idle, Running, Broken}
+use Rattle.sharing_upstream.specs.declared.upstream.Course.{Course}
+use Rattle.sharing_upstream.specs.declared.upstream.Course.TheVariants.{Idle, Running, Broken}
 use Rattle.sharing_upstream.specs.Courses.{Asked, AnsweredPending, GoesOn, Ends, GaveAll, Gave, GaveNothing}
 
 module _ {U T E : Type 0} (may : U → Traces T E) (ended : U → Option (Cause E)) where

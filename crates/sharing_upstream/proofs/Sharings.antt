@@ -10,8 +10,8 @@ use Rattle.flow_terms.specs.declared.refusal.Refusal.{Refusal}
 use Rattle.cold_flow.specs.Trace.{so_far}
 use Rattle.cold_flow.specs.Poll.{Traces}
 use Rattle.flow_terms.specs.declared.command.Command.{Command}
-use Rattle.sharing_upstream.specs.declared.course.Course.{Course}
-use Rattle.sharing_upstream.specs.declared.course.Course.TheVariants.{Idle, Running, Broken}
+use Rattle.sharing_upstream.specs.declared.upstream.Course.{Course}
+use Rattle.sharing_upstream.specs.declared.upstream.Course.TheVariants.{Idle, Running, Broken}
 use Rattle.sharing_upstream.specs.Courses.{Asked, AnsweredPending, GoesOn, is_running, after_end}
 use Rattle.sharing_upstream.specs.Destinations.{Steps, AcceptsEach}
 use Rattle.sharing_upstream.specs.Sharings.{Takes, Obeys, Shares, Acts}

@@ -3,7 +3,7 @@ use Rattle.std.proofs.Common.{◌≡◌, refl, not, ◌&&◌, ◌==◌, ◌∷�
 use Rattle.std.proofs.lemmas.Grind.{common_steps}
 use Rattle.flow_terms.specs.declared.started.Started.{Started}
 use Rattle.flow_terms.specs.declared.started.Started.TheVariants.{Eagerly, Lazily, WhileSubscribed, Custom}
-use Rattle.sharing_upstream.specs.declared.audience.Audience.{Audience}
+use Rattle.sharing_upstream.specs.declared.strategy.Audience.{Audience}
 use Rattle.sharing_upstream.specs.Keeping.{counted, is_past, is_expired, marked, on_by}
 use Rattle.sharing_upstream.specs.Shown.{audience_of, progress_of}
 use Rattle.sharing_upstream.specs.Strategies.{Look, History, latest, is_on, is_first_due}

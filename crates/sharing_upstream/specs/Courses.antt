@@ -8,8 +8,8 @@ use Rattle.cold_flow.specs.declared.event.Event.{Event}
 use Rattle.cold_flow.specs.Trace.{so_far, ended_by}
 use Rattle.cold_flow.specs.Poll.{Traces, Within, After}
 use Rattle.cold_flow.specs.Gather.{Gathered}
-use Rattle.sharing_upstream.specs.declared.course.Course.{Course}
-use Rattle.sharing_upstream.specs.declared.course.Course.TheVariants.{Idle, Running, Broken}
+use Rattle.sharing_upstream.specs.declared.upstream.Course.{Course}
+use Rattle.sharing_upstream.specs.declared.upstream.Course.TheVariants.{Idle, Running, Broken}
 
 -- the cause that is kept for good
 abbrev pub kept_cause : {U E : Type 0} → Course U E → Option (Cause E)

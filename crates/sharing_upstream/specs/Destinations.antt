@@ -1,8 +1,8 @@
 -- What the steps of a sharing do to the place where its values go.
 use Rattle.std.specs.Prelude.{◌≡◌, ℕ, Bool, List, [], ◌∷◌}
 use Rattle.flow_terms.specs.declared.refusal.Refusal.{Refusal}
-use Rattle.sharing_upstream.specs.declared.offer.Offer.{Offer}
-use Rattle.sharing_upstream.specs.declared.offer.Offer.TheVariants.{Accepted, Waiting, Refused}
+use Rattle.sharing_upstream.specs.declared.destination.Offer.{Offer}
+use Rattle.sharing_upstream.specs.declared.destination.Offer.TheVariants.{Accepted, Waiting, Refused}
 
 -- What each step does, where values of T go to a place of which contracts see an S. Each word says how the place stood before the
 -- step, what the step was handed and answered, and how the place stood after it

@@ -3,9 +3,9 @@ use Rattle.std.specs.Prelude.{ℕ, ◌-◌, Bool, true, false, ◌||◌, nat_lt,
 use Rattle.flow_terms.specs.declared.started.Started.{Started}
 use Rattle.flow_terms.specs.declared.started.Started.TheVariants.{Eagerly, Lazily, WhileSubscribed, Custom}
 use Rattle.flow_terms.specs.declared.plan.Entry.{Entry}
-use Rattle.sharing_upstream.specs.declared.audience.Audience.{Audience}
-use Rattle.sharing_upstream.specs.declared.audience.Audience.TheVariants.{Awaited, Present, Gone}
-use Rattle.sharing_upstream.specs.declared.progress.Progress.{Progress}
+use Rattle.sharing_upstream.specs.declared.strategy.Audience.{Audience}
+use Rattle.sharing_upstream.specs.declared.strategy.Audience.TheVariants.{Awaited, Present, Gone}
+use Rattle.sharing_upstream.specs.declared.strategy.Progress.{Progress}
 use Rattle.sharing_upstream.specs.Strategies.{expires, starts, taken_after, last_after}
 
 -- one more poll at this moment, with count 0 or not

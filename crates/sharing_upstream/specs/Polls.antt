@@ -2,7 +2,7 @@
 use Rattle.std.specs.Prelude.{◌≡◌, ℕ, false, ◌∷◌, Option, Some, None}
 use Rattle.cold_flow.specs.declared.cause.Cause.{Cause}
 use Rattle.flow_terms.specs.declared.command.Command.{Command}
-use Rattle.sharing_upstream.specs.declared.polled.Polled.{Polled}
+use Rattle.sharing_upstream.specs.declared.polling.Polled.{Polled}
 use Rattle.sharing_upstream.specs.declared.strategy.Strategy.{Strategy}
 use Rattle.flow_terms.specs.declared.started.Started.{Started}
 use Rattle.sharing_upstream.specs.Shown.{Shows}

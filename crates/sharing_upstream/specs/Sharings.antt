@@ -9,9 +9,9 @@ use Rattle.flow_terms.specs.declared.refusal.Refusal.{Refusal}
 use Rattle.cold_flow.specs.Poll.{Traces}
 use Rattle.flow_terms.specs.declared.command.Command.{Command}
 use Rattle.flow_terms.specs.declared.command.Command.TheVariants.{Start, Stop, StopAndReset}
-use Rattle.sharing_upstream.specs.declared.course.Course.{Course}
-use Rattle.sharing_upstream.specs.declared.course.Course.TheVariants.{Running, Broken}
-use Rattle.sharing_upstream.specs.declared.polled.Polled.{Polled}
+use Rattle.sharing_upstream.specs.declared.upstream.Course.{Course}
+use Rattle.sharing_upstream.specs.declared.upstream.Course.TheVariants.{Running, Broken}
+use Rattle.sharing_upstream.specs.declared.polling.Polled.{Polled}
 use Rattle.sharing_upstream.specs.declared.strategy.Strategy.{Strategy}
 use Rattle.sharing_upstream.specs.Courses.{IsNew, GoesOn, Ends, GaveAll, stopped, kept_cause}
 use Rattle.sharing_upstream.specs.Destinations.{Steps, AcceptsEach}

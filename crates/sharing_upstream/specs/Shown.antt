@@ -2,10 +2,10 @@
 use Rattle.std.specs.Prelude.{◌≡◌, if◌then◌else◌}
 use Rattle.std.specs.List.{list_any}
 use Rattle.flow_terms.specs.declared.started.Started.{Started}
-use Rattle.sharing_upstream.specs.declared.audience.Audience.{Audience}
-use Rattle.sharing_upstream.specs.declared.audience.Audience.TheVariants.{Awaited, Present, Gone}
-use Rattle.sharing_upstream.specs.declared.kept.Kept.{Kept}
-use Rattle.sharing_upstream.specs.declared.progress.Progress.{Progress}
+use Rattle.sharing_upstream.specs.declared.strategy.Audience.{Audience}
+use Rattle.sharing_upstream.specs.declared.strategy.Audience.TheVariants.{Awaited, Present, Gone}
+use Rattle.sharing_upstream.specs.declared.strategy.Kept.{Kept}
+use Rattle.sharing_upstream.specs.declared.strategy.Progress.{Progress}
 use Rattle.sharing_upstream.specs.declared.strategy.Strategy.{Strategy}
 use Rattle.sharing_upstream.specs.Strategies.{History, latest, was_visited, is_visited, stretch, beginning, is_due, is_on, entries_in, taken, last_taken}
 

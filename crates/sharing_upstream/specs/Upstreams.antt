@@ -4,10 +4,10 @@ use Rattle.futures.specs.declared.task.Poll.{Poll}
 use Rattle.cold_flow.specs.declared.cause.Cause.{Cause}
 use Rattle.cold_flow.specs.declared.event.Event.{Event}
 use Rattle.cold_flow.specs.Poll.{Traces}
-use Rattle.sharing_upstream.specs.declared.course.Course.{Course}
-use Rattle.sharing_upstream.specs.declared.course.Course.TheVariants.{Idle}
-use Rattle.sharing_upstream.specs.declared.live_run.LiveRun.{LiveRun}
-use Rattle.sharing_upstream.specs.declared.polled.Polled.{Polled}
+use Rattle.sharing_upstream.specs.declared.upstream.Course.{Course}
+use Rattle.sharing_upstream.specs.declared.upstream.Course.TheVariants.{Idle}
+use Rattle.sharing_upstream.specs.declared.upstream.LiveRun.{LiveRun}
+use Rattle.sharing_upstream.specs.declared.polling.Polled.{Polled}
 use Rattle.sharing_upstream.specs.declared.strategy.Strategy.{Strategy}
 use Rattle.sharing_upstream.specs.declared.upstream.Upstream.{Upstream}
 use Rattle.sharing_upstream.specs.Courses.{kept_cause, is_running}

@@ -2,10 +2,10 @@
 
 ghost use Rattle.std.specs.Prelude.{◌≡◌, ℕ, false, Bool, IsTrue};
 ghost use Rattle.futures.specs.Task.{IsArmed, Keeps};
-ghost use Rattle.sharing_upstream.specs.declared.offer.Offer.TheVariants.{Accepted};
+ghost use Rattle.sharing_upstream.specs.declared.destination.Offer.TheVariants.{Accepted};
 ghost use Rattle.sharing_upstream.specs.Destinations.{Steps, Offered};
 
-use crate::offer::Offer;
+use cold_flow::Refusal;
 use futures::task::Context;
 
 /// Where the values of a sharing go: into a shared flow, or onto a state.
@@ -55,4 +55,14 @@ pub trait Destination<T> {
     fn reset(&mut self)
         ensures kept { kept self.new ≡ kept self.old }
         ensures resets { (steps (kept self.old)).Resets (seen self.old) (seen self.new) };
+}
+
+/// What becomes of a value that is offered to a destination.
+pub enum Offer {
+    /// It was taken, or dropped, and doesn't wait.
+    Accepted,
+    /// It waits.
+    Waiting,
+    /// It was refused, and doesn't wait.
+    Refused(Refusal),
 }

@@ -37,26 +37,14 @@
 //! That any poll is made, and at which moments.
 #![tactic(auto)]
 
-mod audience;
-mod command;
-mod course;
-mod decision;
 mod destination;
-mod feeding;
-mod kept;
-mod live_run;
-mod offer;
-mod polled;
 mod polling;
 pub mod polls;
-mod progress;
 mod strategy;
 mod upstream;
 
-pub use destination::Destination;
+pub use destination::{Destination, Offer};
 pub use flow_terms::{Command, Entry, Plan, Started};
-pub use offer::Offer;
-pub use polled::Polled;
-pub use polling::poll_sharing;
+pub use polling::{Polled, poll_sharing};
 pub use strategy::Strategy;
 pub use upstream::Upstream;

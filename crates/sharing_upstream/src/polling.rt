@@ -1,19 +1,18 @@
-//! One poll of a sharing, wherever its values go.
+//! One poll of a sharing, wherever its values go: what it answers, what its strategy makes of it, and the place that it feeds.
 
-ghost use Rattle.std.specs.Prelude.{◌≡◌, None, IsTrue, IfOk, IfErr, OnErr};
+ghost use Rattle.std.specs.Prelude.{◌≡◌, None, false, IsTrue, IfOk, IfErr, OnErr};
 ghost use Rattle.futures.specs.Task.{IsArmed, Keeps};
 ghost use Rattle.flow_terms.specs.declared.refusal.Refusal.TheVariants.{NoMemory};
-ghost use Rattle.sharing_upstream.specs.Shown.{started_by};
-ghost use Rattle.sharing_upstream.specs.Polls.{ShowsMore, Answers};
+ghost use Rattle.sharing_upstream.specs.Shown.{started_by, keeping};
+ghost use Rattle.sharing_upstream.specs.Polls.{ShowsMore, PolledSo, Commands, Answers};
 ghost use Rattle.sharing_upstream.specs.Sharings.{IsRefusedAt};
 ghost use Rattle.sharing_upstream.specs.Upstreams.{flow_of, course_of, has_run, cause_kept, PollsAt};
 
-use crate::decision::Decision;
 use crate::destination::Destination;
-use crate::polled::Polled;
-use crate::strategy::Strategy;
+use crate::strategy::{Kept, Strategy, resets};
 use crate::upstream::Upstream;
 use cold_flow::{Flow, Refusal, Word};
+use flow_terms::Command;
 use futures::task::Context;
 
 /// One poll at the moment `now`: counts who listens, does what the strategy commands, and where sharing is on, offers what the upstream
@@ -52,4 +51,64 @@ pub fn poll_sharing<T: Word, F: Flow<Item = T>, D: Destination<T>>(
         upstream.share(destination, cx);
     }
     Ok(decision.polled)
+}
+
+/// What a poll of a sharing found, and what it came to. Kotlin has no such value: there a sharing runs by itself.
+#[derive(Clone, Copy, Debug, PartialEq, Eq)]
+pub struct Polled {
+    /// The moment of the poll, in milliseconds: the greatest one handed in so far.
+    pub now: u64,
+    /// How many subscriptions were live.
+    pub count: u32,
+    /// Whether sharing is on.
+    pub on: bool,
+    /// Whether what is shared was reset at this poll.
+    pub reset: bool,
+}
+
+impl Polled {
+    // The same poll of a sharing that has ended for good.
+    pub(crate) fn over(self) -> Polled
+        ensures { result ≡ record self { on = false; reset = false } }
+    {
+        Polled {
+            on: false,
+            reset: false,
+            ..self
+        }
+    }
+}
+
+// What a strategy makes of one poll of a sharing.
+#[derive(Clone, Copy)]
+pub(crate) struct Decision {
+    // What the strategy keeps after the poll.
+    pub(crate) kept: Kept,
+    // What the poll answers.
+    pub(crate) polled: Polled,
+    // What the sharing is to do.
+    pub(crate) command: Option<Command>,
+}
+
+impl Decision {
+    // Leaves the strategy as it was, as a poll does whose start is refused.
+    pub(crate) fn of(strategy: &Strategy, now: u64, count: u32) -> Decision
+        ensures count { result.polled.count ≡ count }
+        ensures shows { ShowsMore strategy.now now count (keeping result.kept strategy.now) }
+        ensures polled { PolledSo strategy.now now count result.polled }
+        ensures command { Commands strategy.now now count result.command }
+    {
+        let (kept, command) = strategy.after(now, count);
+        let polled = Polled {
+            now: kept.latest,
+            count,
+            on: kept.on,
+            reset: resets(command),
+        };
+        Decision {
+            kept,
+            polled,
+            command,
+        }
+    }
 }
