@@ -6,7 +6,7 @@ use Rattle.flow_terms.specs.declared.policy.Policy.{Policy}
 use Rattle.flow_terms.specs.declared.refusal.Refusal.{Refusal}
 use Rattle.flow_terms.specs.declared.refusal.Refusal.TheVariants.{NoMemory}
 use Rattle.flow_terms.specs.declared.started.Started.{Started}
-use Rattle.sharing_upstream.specs.declared.course.Course.TheVariants.{Idle}
+use Rattle.sharing_upstream.specs.declared.upstream.Course.TheVariants.{Idle}
 use Rattle.sharing_upstream.specs.Shown.{started_by, Shows}
 use Rattle.shared_core.specs.declared.config.Config.{Config}
 use Rattle.shared_core.specs.Flow.{empty}
@@ -31,10 +31,10 @@ use Rattle.script_sharings.specs.declared.share.ScriptSharing.{ScriptSharing}
 use Rattle.script_sharings.specs.declared.stated.Stated.{Stated}
 use Rattle.flow_sharing.specs.FlowDestinations.{IsNewDestination}
 use Rattle.script_sharings.specs.Ticks.{Sharings, Stating, sharings_of, stating_of}
-use Rattle.script_states.specs.Watching.{Watch}
-use Rattle.script_objects.specs.declared.object.Object.{Object}
-use Rattle.script_objects.specs.declared.sourced.Sourced.{Sourced}
-use Rattle.script_objects.specs.Objects.{MakesObject}
+use Rattle.script_engines.specs.Watching.{Watch}
+use Rattle.script_run.specs.declared.object.Object.{Object}
+use Rattle.script_run.specs.declared.sourced.Sourced.{Sourced}
+use Rattle.script_run.specs.Objects.{MakesObject}
 use Rattle.script_words.specs.Starts.{Starting, StartsAs, start_refusal}
 
 abbrev pub config_of : ℕ → ℕ → Policy → Config

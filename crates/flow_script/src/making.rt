@@ -7,10 +7,9 @@ ghost use Rattle.flow_script.specs.Makers.{config_of, MakesShare, MakesStated};
 
 use flow_terms::{Policy, Refusal};
 use script_commands::{Source, SourceFlow};
-use script_engines::Subscriptions;
-use script_objects::{Object, Sourced};
+use script_engines::{Subscriptions, Watched};
+use script_run::{Object, Sourced};
 use script_sharings::{ScriptSharing, Stated};
-use script_states::Watched;
 use script_words::Start;
 use shared_core::Config;
 use std::alloc::Global;

@@ -9,10 +9,9 @@ use flow_terms::Refusal;
 use futures::task::Context;
 use script_calls::{MutableShared, MutableState, Shared, SharedSource, State};
 use script_commands::{Answer, Joiner, Making, Part, Request, ScriptObject, SourceFlow};
-use script_engines::{ForThreads, OneThread, Subscriptions};
-use script_objects::{Object, ScriptBuffer};
+use script_engines::{ForThreads, OneThread, Subscriptions, Watched};
+use script_run::{Object, ScriptBuffer};
 use script_sharings::{ScriptSharing, Stated};
-use script_states::Watched;
 use std::alloc::{AllocError, Global};
 use std::sync::Wait;
 
@@ -63,7 +62,7 @@ fn made<'s, 'r, W: Wait, F: EngineFlow<'r, W>>(
 }
 
 impl<'s, 'r, W: Wait, F: EngineFlow<'r, W>> ScriptObject<'s> for EngineObject<'s, 'r, W, F> {
-    ghost use Rattle.script_objects.specs.Objects.{AsksObject, JoinsObject};
+    ghost use Rattle.script_run.specs.Objects.{AsksObject, JoinsObject};
     ghost use Rattle.flow_script.specs.Makers.{MakesWith, made_as};
 
     type Maker = &'r W;

@@ -5,3 +5,5 @@ pub mod Modelling
 pub mod Subscribing
 pub mod Parties
 pub mod Seen
+pub mod Keeping
+pub mod Watching

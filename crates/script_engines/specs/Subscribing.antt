@@ -26,7 +26,7 @@ pub record Subscribing : Type 0 where
 abbrev pub subscribing_of : {W : Type 0} → Subscriptions W → Subscribing
 subscribing_of it = record { flow = it.flow; places = it.places.items }
 
--- the owner made the round that let a subscription in, which has half its share of the lock, the next place and these values still to be
+-- the owner made the round that admitted a subscription, which has half its share of the lock, the next place and these values still to be
 -- given; or its round left it out, or there was no memory for one and nobody made a call, and before both, these values are too many
 abbrev pub Subscribes : Subscribing → List ℕ → Result SubId Refusal → Subscribing → Type 0
 Subscribes old prelude (Ok id) new = (length prelude ≤ 16) × (id.0 ≡ length old.places) × ((s : Subscribed ℕ) × (s.rest ≡ prelude)

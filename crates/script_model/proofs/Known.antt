@@ -8,12 +8,12 @@ use Rattle.script_commands.specs.declared.part.Part.{Part}
 use Rattle.script_commands.specs.declared.request.Request.{Request}
 use Rattle.script_commands.specs.Commands.{Joining}
 use Rattle.script_engines.specs.Modelling.{receiving, emitting}
-use Rattle.script_objects.specs.declared.object.Object.{Object}
-use Rattle.script_objects.specs.declared.object.Object.TheVariants as objects
-use Rattle.script_objects.specs.Objects.{AsksObject, JoinsObject}
-use Rattle.script_objects.specs.Replied.{Joined}
-use Rattle.script_objects.specs.Sources.{AsksShare, AsksStated, JoinsShare, JoinsStated}
-use Rattle.script_states.specs.Watching.{Watch, watching, setting}
+use Rattle.script_run.specs.declared.object.Object.{Object}
+use Rattle.script_run.specs.declared.object.Object.TheVariants as objects
+use Rattle.script_run.specs.Objects.{AsksObject, JoinsObject}
+use Rattle.script_run.specs.Replied.{Joined}
+use Rattle.script_run.specs.Sources.{AsksShare, AsksStated, JoinsShare, JoinsStated}
+use Rattle.script_engines.specs.Watching.{Watch, watching, setting}
 use Rattle.script_model.proofs.Objects.{AsksKnown, JoinsKnown}
 
 module _ {F L H K : Type 0} (seen : F → Seen ℕ) (share_receipts : Receipts L) where

@@ -9,13 +9,13 @@ use Rattle.script_commands.specs.declared.part.Part.{Part}
 use Rattle.script_commands.specs.declared.request.Request.{Request}
 use Rattle.script_commands.specs.Commands.{Made, Joining}
 use Rattle.script_commands.specs.Sources.{Origin}
-use Rattle.script_objects.specs.declared.object.Object.{Object}
-use Rattle.script_objects.specs.declared.sourced.Sourced.{Sourced}
+use Rattle.script_run.specs.declared.object.Object.{Object}
+use Rattle.script_run.specs.declared.sourced.Sourced.{Sourced}
 use Rattle.script_run.specs.declared.fault.ScriptFault.{ScriptFault}
 use Rattle.script_run.specs.declared.line_answer.LineAnswer.{LineAnswer}
 use Rattle.script_run.specs.Executing.{Joined}
 use Rattle.script_run.specs.Scripts.{Gives, ReadsToEnd}
-use Rattle.script_states.specs.Watching.{Watch}
+use Rattle.script_engines.specs.Watching.{Watch}
 use Rattle.script_words.specs.Starts.{Starting}
 use Rattle.flow_script.specs.Makers.{made_as}
 use Rattle.script_model.specs.Running.{GivesAnswers, RunsByModel}

@@ -25,21 +25,21 @@ use Rattle.script_commands.specs.Sources.{Origin}
 use Rattle.script_calls.specs.Makings.{MadeUnless}
 use Rattle.script_engines.specs.Modelling.{receiving, emitting}
 use Rattle.script_engines.specs.Preludes.{subscribed}
-use Rattle.script_objects.specs.declared.buffer.ScriptBuffer.{ScriptBuffer}
-use Rattle.script_objects.specs.declared.object.Object.{Object}
-use Rattle.script_objects.specs.declared.object.Object.TheVariants as objects
-use Rattle.script_objects.specs.declared.sourced.Sourced.{Sourced}
-use Rattle.script_objects.specs.Buffered.{ShowsBuffer, AsksBuffer, ask_buffer}
-use Rattle.script_objects.specs.Buffers.{Buffering, begun}
-use Rattle.script_objects.specs.Flows.{AsksFlow, JoinsFlow, SubscribesUnless}
-use Rattle.script_objects.specs.Objects.{Makes, Keeps, as_object}
-use Rattle.script_objects.specs.Replied.{Joined, NoAnswer}
+use Rattle.script_run.specs.declared.buffer.ScriptBuffer.{ScriptBuffer}
+use Rattle.script_run.specs.declared.object.Object.{Object}
+use Rattle.script_run.specs.declared.object.Object.TheVariants as objects
+use Rattle.script_run.specs.declared.sourced.Sourced.{Sourced}
+use Rattle.script_run.specs.Buffered.{ShowsBuffer, AsksBuffer, ask_buffer}
+use Rattle.script_run.specs.Buffers.{Buffering, begun}
+use Rattle.script_run.specs.Flows.{AsksFlow, JoinsFlow, SubscribesUnless}
+use Rattle.script_run.specs.Objects.{Makes, Keeps, as_object}
+use Rattle.script_run.specs.Replied.{Joined, NoAnswer}
 use Rattle.script_words.specs.Starts.{Starting, start_refusal}
-use Rattle.script_states.specs.Keeping as states
-use Rattle.script_states.specs.Watching.{Watch, ShowEach, watching, setting}
-use Rattle.script_states.specs.Watching as watched
-use Rattle.script_states.proofs.Keeping.{acts_as_kept}
-use Rattle.script_objects.specs.States.{AsksState, JoinsState}
+use Rattle.script_engines.specs.Keeping as states
+use Rattle.script_engines.specs.Watching.{Watch, ShowEach, watching, setting}
+use Rattle.script_engines.specs.Watching as watched
+use Rattle.script_engines.proofs.Keeping.{acts_as_kept}
+use Rattle.script_run.specs.States.{AsksState, JoinsState}
 use Rattle.state_flow.specs.declared.view.View.{View}
 use Rattle.state_flow.specs.Views.{HasAll}
 use Rattle.flow_script.specs.Makers.{StartsOr, MakesState, config_of, made_as}

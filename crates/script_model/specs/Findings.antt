@@ -1,7 +1,7 @@
 -- What a line found that neither the script nor the model tells.
 use Rattle.std.specs.Prelude.{ℕ, Bool, true, false, ◌==◌, List, [], ◌∷◌, Option, None, if◌then◌else◌}
 use Rattle.script_commands.specs.declared.answer.Answer.{Answer}
-use Rattle.script_objects.specs.Replied.{Joined}
+use Rattle.script_run.specs.Replied.{Joined}
 
 pub data Finding : Type 0 where
   -- nothing

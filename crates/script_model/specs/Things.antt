@@ -18,10 +18,10 @@ use Rattle.script_commands.specs.Commands as commands
 use Rattle.script_commands.specs.Parts.{subscription_in, emission_in}
 use Rattle.script_commands.specs.Replies.{try_answer, emit_answer, poll_answer, withdraw_answer, subscribe_answer, next_answer, cancel_answer}
 use Rattle.script_engines.specs.Preludes.{subscribed}
-use Rattle.script_objects.specs.Buffered.{ask_buffer}
-use Rattle.script_objects.specs.Buffers.{Buffering, begun}
-use Rattle.script_objects.specs.Replied.{Joined}
-use Rattle.script_states.specs.Keeping as states
+use Rattle.script_run.specs.Buffered.{ask_buffer}
+use Rattle.script_run.specs.Buffers.{Buffering, begun}
+use Rattle.script_run.specs.Replied.{Joined}
+use Rattle.script_engines.specs.Keeping as states
 use Rattle.script_words.specs.Starts.{start_refusal}
 use Rattle.flow_script.specs.Makers.{config_of}
 use Rattle.script_model.specs.Findings.{Finding, was_refused, has_waited, said_in, took_in}

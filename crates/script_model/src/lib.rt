@@ -1,7 +1,7 @@
 //! What a script answers is a function of its bytes.
 //!
 //! With the engine `core` each line's answer is what a model says: the one of shared flows (`shared_core`), a state as the list of its
-//! values (`script_states`), and pipes as the lists that they come to. Beside the bytes it takes only for which lines memory was
+//! values (`script_engines`), and pipes as the lists that they come to. Beside the bytes it takes only for which lines memory was
 //! refused; for a buffer also where its source was pending, and for what shares a source what that answered.
 #![tactic(auto)]
 

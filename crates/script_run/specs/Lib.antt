@@ -1,3 +1,11 @@
+pub mod Replied
+pub mod Preludes
+pub mod Flows
+pub mod States
+pub mod Sources
+pub mod Buffers
+pub mod Buffered
+pub mod Objects
 pub mod Input
 pub mod Output
 pub mod Names

@@ -10,9 +10,9 @@ use Rattle.futures.specs.declared.task.Poll.{Poll}
 use Rattle.flow_terms.specs.declared.refusal.Refusal.{Refusal}
 use Rattle.flow_terms.specs.declared.refusal.Refusal.TheVariants.{NoMemory}
 use Rattle.flow_terms.specs.declared.started.Started.{Started}
-use Rattle.sharing_upstream.specs.declared.course.Course.{Course}
-use Rattle.sharing_upstream.specs.declared.live_run.LiveRun.{LiveRun}
-use Rattle.sharing_upstream.specs.declared.polled.Polled.{Polled}
+use Rattle.sharing_upstream.specs.declared.upstream.Course.{Course}
+use Rattle.sharing_upstream.specs.declared.upstream.LiveRun.{LiveRun}
+use Rattle.sharing_upstream.specs.declared.polling.Polled.{Polled}
 use Rattle.sharing_upstream.specs.declared.strategy.Strategy.{Strategy}
 use Rattle.sharing_upstream.specs.Courses.{kept_cause}
 use Rattle.sharing_upstream.specs.Destinations.{Steps}

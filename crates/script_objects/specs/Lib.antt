@@ -1,8 +1,0 @@
-pub mod Replied
-pub mod Preludes
-pub mod Flows
-pub mod States
-pub mod Sources
-pub mod Buffers
-pub mod Buffered
-pub mod Objects

@@ -1,5 +1,0 @@
-use Rattle.script_states.proofs.Keeping.{acts_as_kept}
-use Rattle.script_states.proofs.laws.acts_as_kept.Goals as goal
-
-pub returns : goal.returns
-returns c = acts_as_kept

@@ -1,7 +1,0 @@
-use Rattle.std.proofs.Common.{ℕ, ap}
-use Rattle.state_flow.specs.declared.view.View.{View}
-use Rattle.script_states.proofs.Watching.{stepped}
-use Rattle.script_states.proofs.watched.WatchedState.value.Goals as goal
-
-pub invariant_of-self : goal.invariant_of-self
-invariant_of-self c = stepped c.self.inside.seat _ _ c.self.invariant (ap (λ (v : View ℕ). v.share) c.value.ensures.has.one_step.only) (ap (λ (v : View ℕ). v.runs) c.value.ensures.has.one_step.only)
