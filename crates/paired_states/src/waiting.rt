@@ -6,12 +6,9 @@ ghost use Rattle.paired_states.specs.Pairing.{Asked, AskedOnce, AskedNone, IsSom
 
 use crate::fresh::Fresh;
 use flow_terms::Word;
-use state_bell::{Bell, pause};
+use state_bell::{Bell, LOOKS, pause};
 use state_flow::Collector;
 use std::sync::Wait;
-
-/// How often both are asked before the thread sleeps, with pauses in between.
-const LOOKS: u32 = 4;
 
 /// What is new of either state, for which the thread sleeps: one turn of Kotlin's `combine(first, second) { .. }.collect { }`. Keep
 /// the last value of each: at the first call both are new. `None` where all were let go, by [`Bell::let_go`], and nothing is new:

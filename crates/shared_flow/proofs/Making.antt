@@ -32,7 +32,7 @@ made r p q t found taken saw went = record {
   after = ap party_of went.after ∙ ap (λ (x : Reach). with_round r (q.seen ++ (x.pass, r, went.left) ∷ []) (party_of x)) taken;
 }
 
--- so it did, and let a reader in
+-- so it did, and admitted a reader
 pub was_admitted : (number : ℕ) (p q t : Reach) (found called : SharedSeen) (reader : ReaderSeen) → q ≡ record p { held = Some found; seen = q.seen }
     → Found (party_of p) found q.seen → p.flow ≡ Some found.name → Left (round.Subscribe (Ok number)) called q t → IsAdmitted found number reader called
     → WasAdmittedBy number reader (party_of p) (party_of t)

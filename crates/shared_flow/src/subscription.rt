@@ -290,7 +290,7 @@ impl<T: Word> Subscription<T> {
         Some(T::from_word(word))
     }
 
-    // Lets in what waits, after a value was received without the lock. Not inlined, nor is the second look: a
+    // Accepts what waits, after a value was received without the lock. Not inlined, nor is the second look: a
     // receipt that takes no lock then saves no registers for them.
     #[inline(never)]
     fn accept_waiting(&mut self, rt: &impl Wait)

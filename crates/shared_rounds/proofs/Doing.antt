@@ -27,7 +27,7 @@ use Rattle.shared_rounds.proofs.Numbers.{same_log}
 use Rattle.shared_rounds.specs.Reach.{Reach}
 use Rattle.shared_rounds.specs.Rounds.{Makes, Scanned, Comes, Does, Frees, FreesAfter, HasFreed, RaisedFor, AcceptsFor, IsStray, IsNotAfter, IsReceiptAfter, look_round, number_done, number_left, poll_round, withdraw_round}
 use Rattle.shared_rounds.specs.Sleeping.{Parks, NobodySleeps, OnlyThese}
-use Rattle.shared_rounds.specs.Waking.{Helps, Lies, SleepOn, IsTied, IsUnfinished, WakesEmissions, ended_by}
+use Rattle.shared_rounds.specs.Waking.{Helps, FallsAsleep, SleepOn, IsTied, IsUnfinished, WakesEmissions, ended_by}
 
 module _ {A E : Type 0} where
   pub if_ok : (result : Result A E) (P Q : A → Type 0) → ((a : A) → P a → Q a) → IfOk result P → IfOk result Q
@@ -82,7 +82,7 @@ watched_rests (Ok (begun.Accepted n)) q t watched = inl watched
 watched_rests (Ok begun.Dropped) q t watched = inl watched
 watched_rests (Err refusal) q t watched = inl watched
 
--- neither a poll nor a withdrawal lets in once more
+-- neither a poll nor a withdrawal accepts what waits once more
 pub polled_frees : (ticket : Ticket) (id : ℕ) (last : Option ℕ) (answer : Emit) (receipt : Option ReceiptSeen) (q : SequencerSeen) (t : SharedSeen) → Frees (poll_round ticket id last answer receipt) q t
 polled_frees ticket id last (emit.Done n) (Some r) q t = tt
 polled_frees ticket id last (emit.Done n) None q t = tt
@@ -96,14 +96,14 @@ withdrawn_frees ticket id last withdrawn.Removed receipt q t = tt
 withdrawn_frees ticket id last withdrawn.Gone receipt q t = tt
 
 -- who has made a call helps others, and may look at the cursors for that: then it is a round
-pub does_on : (s x t : SharedSeen) (r : Round) → Comes s r x → Lies s r x → Helps (next s.sequencer) (ended_by r) x t → Does s r t
+pub does_on : (s x t : SharedSeen) (r : Round) → Comes s r x → FallsAsleep s r x → Helps (next s.sequencer) (ended_by r) x t → Does s r t
 does_on s x t r came lies helps =
     let made = came.2 in
     let rests = made.5.2 in (
       helps.named ∙ came.0,
       same_through s.sequencer x.sequencer t.sequencer came.1 helps.same,
       (made.0, made.1, made.2, made.3, made.4, (made.5.0, made.5.1, (rests.0, rests.1, loaded_twice rests.0 x.sequencer t.sequencer rests.2 helps.only), frees_on r made.5.0 x t made.5.3 helps.only helps.raised)),
-      record { called = x; lies = lies; helps = helps },
+      record { called = x; asleep = lies; helps = helps },
     )
 
 -- the flag stays tied where nothing but views of the cursors changed
@@ -202,46 +202,46 @@ none_freed (Value word) s t none = absurd (none word refl)
 none_freed Nothing s t none = tt
 none_freed Overtaken s t none = tt
 
--- a poll of a subscription without a value, where nobody lay down
-pub none_lies : (s t : SharedSeen) (number : ℕ) → SleepOn s t → Lies s (round.Pending number) t
-none_lies s t number same = (subst (Parks number s.subscriptions) (sym same.0) (λ key. inl refl), same.1)
+-- a poll of a subscription without a value, where nobody fell asleep
+pub none_asleep : (s t : SharedSeen) (number : ℕ) → SleepOn s t → FallsAsleep s (round.Pending number) t
+none_asleep s t number same = (subst (Parks number s.subscriptions) (sym same.0) (λ key. inl refl), same.1)
 
--- a subscription that took nothing lay down
-pub lay_down : (s x t : SharedSeen) (number : ℕ) → Comes s (round.Pending number) x → SleepOn s x → t ≡ record x { subscriptions = t.subscriptions }
-    → Parks number x.subscriptions t.subscriptions → Comes s (round.Pending number) t × Lies s (round.Pending number) t
-lay_down s x t number came asleep same lies = (
+-- a subscription that took nothing fell asleep
+pub fell_asleep : (s x t : SharedSeen) (number : ℕ) → Comes s (round.Pending number) x → SleepOn s x → t ≡ record x { subscriptions = t.subscriptions }
+    → Parks number x.subscriptions t.subscriptions → Comes s (round.Pending number) t × FallsAsleep s (round.Pending number) t
+fell_asleep s x t number came asleep same lies = (
   subst (Comes s (round.Pending number)) (sym same) came,
   (subst (λ l. Parks number l t.subscriptions) asleep.0 lies, ap (λ (z : SharedSeen). z.emissions) same ∙ asleep.1),
 )
 
--- an emission lay down that waits, and no other
-pub lay_down_for : (s x t : SharedSeen) (ticket : Ticket) (id : ℕ) (last : Option ℕ) (answer : Emit) → Comes s (poll_round ticket id last answer None) x → SleepOn s x
+-- an emission fell asleep that waits, and no other
+pub fell_asleep_for : (s x t : SharedSeen) (ticket : Ticket) (id : ℕ) (last : Option ℕ) (answer : Emit) → Comes s (poll_round ticket id last answer None) x → SleepOn s x
     → t ≡ record x { emissions = t.emissions } → (answer ≡ emit.Waiting → Parks ticket.0 x.emissions t.emissions) → (answer ≢ emit.Waiting → t ≡ x)
-    → Comes s (poll_round ticket id last answer None) t × Lies s (poll_round ticket id last answer None) t
-lay_down_for s x t ticket id last (emit.Done n) came asleep same lies others =
+    → Comes s (poll_round ticket id last answer None) t × FallsAsleep s (poll_round ticket id last answer None) t
+fell_asleep_for s x t ticket id last (emit.Done n) came asleep same lies others =
     let is = sym (others (λ e. cc)) in (subst (Comes s (round.StrayPoll ticket id last n)) is came, subst (SleepOn s) is asleep)
-lay_down_for s x t ticket id last emit.Gone came asleep same lies others =
+fell_asleep_for s x t ticket id last emit.Gone came asleep same lies others =
     let is = sym (others (λ e. cc)) in (subst (Comes s (round.Poll ticket emit.Gone)) is came, subst (SleepOn s) is asleep)
-lay_down_for s x t ticket id last emit.Waiting came asleep same lies others = (
+fell_asleep_for s x t ticket id last emit.Waiting came asleep same lies others = (
   subst (Comes s (round.Poll ticket emit.Waiting)) (sym same) came,
   (ap (λ (z : SharedSeen). z.subscriptions) same ∙ asleep.0, subst (λ l. Parks ticket.0 l t.emissions) asleep.1 (lies refl)),
 )
 
--- a withdrawal, where nobody lay down
-pub withdrawn_lies : (s t : SharedSeen) (ticket : Ticket) (id : ℕ) (last : Option ℕ) (answer : Withdrawn ℕ) (receipt : Option ReceiptSeen) → SleepOn s t → Lies s (withdraw_round ticket id last answer receipt) t
-withdrawn_lies s t ticket id last (withdrawn.Left n) (Some r) same = same
-withdrawn_lies s t ticket id last (withdrawn.Left n) None same = same
-withdrawn_lies s t ticket id last withdrawn.Removed r same = same
-withdrawn_lies s t ticket id last withdrawn.Gone r same = same
+-- a withdrawal, where nobody fell asleep
+pub withdrawn_asleep : (s t : SharedSeen) (ticket : Ticket) (id : ℕ) (last : Option ℕ) (answer : Withdrawn ℕ) (receipt : Option ReceiptSeen) → SleepOn s t → FallsAsleep s (withdraw_round ticket id last answer receipt) t
+withdrawn_asleep s t ticket id last (withdrawn.Left n) (Some r) same = same
+withdrawn_asleep s t ticket id last (withdrawn.Left n) None same = same
+withdrawn_asleep s t ticket id last withdrawn.Removed r same = same
+withdrawn_asleep s t ticket id last withdrawn.Gone r same = same
 
 -- an owner that has the lock has made a call
 pub is_called : (q : Reach) (found s called : SharedSeen) (before : ℕ) (r : Round) → q.held ≡ Some found → before ≡ next found.sequencer → s ≡ found
-    → Comes s r called → Lies s r called → IsCalled q before r called
+    → Comes s r called → FallsAsleep s r called → IsCalled q before r called
 is_called q found s called before r held number same came lies = (
   found,
   held,
   subst (λ (x : SharedSeen). Comes x r called) same came,
-  subst (λ (x : SharedSeen). Lies x r called) same lies,
+  subst (λ (x : SharedSeen). FallsAsleep x r called) same lies,
   number,
 )
 

@@ -1,6 +1,6 @@
 pub mod Flags
 pub mod Rises
-pub mod Lying
+pub mod Parked
 pub mod Receipts
 pub mod Refusals
 pub mod Starting

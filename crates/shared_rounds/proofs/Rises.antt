@@ -27,8 +27,8 @@ same_key None key = inr (λ is. none-some key is)
 same_key (Some own) key = ⊎_elim (λ is. inl (ap Some is)) (λ other. inr (λ is. other (same_Some own key is))) (cases_eq own key)
 
 -- and stays there
-pub lies_still : (old mid new : Slab Sleeper) (number : ℕ) (wait_key : Option ℕ) → Parks number old mid → SleepsAt mid wait_key number → SleepsAt new wait_key number → StayBut wait_key mid new → Parks number old new
-lies_still old mid new number wait_key lies was is others key =
+pub asleep_still : (old mid new : Slab Sleeper) (number : ℕ) (wait_key : Option ℕ) → Parks number old mid → SleepsAt mid wait_key number → SleepsAt new wait_key number → StayBut wait_key mid new → Parks number old new
+asleep_still old mid new number wait_key lies was is others key =
     ⊎_elim
     (λ own. let same = same_Some _ _ (sym was.2 ∙ own) in let still = same_Some _ _ (sym is.2 ∙ own) in
     let before : HasNumber (get mid key) number = (was.1, ap (get mid) (sym same) ∙ was.3, was.4) in

@@ -30,7 +30,7 @@ use Rattle.shared_rounds.specs.declared.wait_list.Sleeper.{Sleeper}
 use Rattle.shared_rounds.specs.Names.{SharedSeen}
 use Rattle.shared_rounds.specs.Rounds.{Makes, Finishes, Scanned, Comes}
 use Rattle.shared_rounds.specs.Sleeping.{OnlyThese, Parks, SleepsOn}
-use Rattle.shared_rounds.specs.Waking.{AreOutBut, HasToWait, Lies, taken_by}
+use Rattle.shared_rounds.specs.Waking.{AreOutBut, HasToWait, FallsAsleep, taken_by}
 use Rattle.shared_rounds.proofs.Numbers.{Left}
 use Rattle.shared_rounds.proofs.Rises.{not_out}
 
@@ -202,25 +202,25 @@ comes_out s t r b came kept out =
 
 -- ---- who sleeps
 
--- nobody lay down, or one whose poll waits
-lay_down : (s t : SharedSeen) (r : Round) → Lies s r t → (t.emissions ≡ s.emissions) ⊎ ((ticket : Ticket) × (r ≡ round.Poll ticket emit.Waiting) × Parks ticket.0 s.emissions t.emissions)
-lay_down s t (round.Pending number) lies = inl lies.1
-lay_down s t (round.Poll ticket emit.Waiting) lies = inr (ticket, refl, lies.1)
-lay_down s t (round.Poll ticket (emit.Done n)) lies = inl lies.1
-lay_down s t (round.Poll ticket emit.Gone) lies = inl lies.1
-lay_down s t (round.Try e a) lies = inl lies.1
-lay_down s t (round.TryAll e words a) lies = inl lies.1
-lay_down s t (round.Start e a) lies = inl lies.1
-lay_down s t (round.StrayPoll ticket e last n) lies = inl lies.1
-lay_down s t (round.Withdraw ticket a) lies = inl lies.1
-lay_down s t (round.StrayWithdraw ticket e last n) lies = inl lies.1
-lay_down s t (round.Subscribe a) lies = inl lies.1
-lay_down s t (round.Next n) lies = inl lies.1
-lay_down s t (round.Cancel n) lies = inl lies.1
-lay_down s t round.Reset lies = inl lies.1
-lay_down s t (round.Cache a) lies = inl lies.1
-lay_down s t (round.Count n) lies = inl lies.1
-lay_down s t (round.Hold n) lies = inl lies.1
+-- nobody fell asleep, or one whose poll waits
+fell_asleep : (s t : SharedSeen) (r : Round) → FallsAsleep s r t → (t.emissions ≡ s.emissions) ⊎ ((ticket : Ticket) × (r ≡ round.Poll ticket emit.Waiting) × Parks ticket.0 s.emissions t.emissions)
+fell_asleep s t (round.Pending number) lies = inl lies.1
+fell_asleep s t (round.Poll ticket emit.Waiting) lies = inr (ticket, refl, lies.1)
+fell_asleep s t (round.Poll ticket (emit.Done n)) lies = inl lies.1
+fell_asleep s t (round.Poll ticket emit.Gone) lies = inl lies.1
+fell_asleep s t (round.Try e a) lies = inl lies.1
+fell_asleep s t (round.TryAll e words a) lies = inl lies.1
+fell_asleep s t (round.Start e a) lies = inl lies.1
+fell_asleep s t (round.StrayPoll ticket e last n) lies = inl lies.1
+fell_asleep s t (round.Withdraw ticket a) lies = inl lies.1
+fell_asleep s t (round.StrayWithdraw ticket e last n) lies = inl lies.1
+fell_asleep s t (round.Subscribe a) lies = inl lies.1
+fell_asleep s t (round.Next n) lies = inl lies.1
+fell_asleep s t (round.Cancel n) lies = inl lies.1
+fell_asleep s t round.Reset lies = inl lies.1
+fell_asleep s t (round.Cache a) lies = inl lies.1
+fell_asleep s t (round.Count n) lies = inl lies.1
+fell_asleep s t (round.Hold n) lies = inl lies.1
 
 waits_out : (s t : SharedSeen) (r : Round) (ticket : Ticket) → r ≡ round.Poll ticket emit.Waiting → Comes s r t → IsOut t.sequencer ticket.0
 waits_out s t r ticket is came =
@@ -228,8 +228,8 @@ waits_out s t r ticket is came =
     let after = here.2 in
     rests_out after.5.0 t.sequencer ticket.0 after.5.2 (polled_out after.0 ticket.0 after.5.0 after.5.1)
 
--- whose tickets were out as the lock was taken, and who lay down since, has a ticket that is out, but for the one that was taken back
-pub asleep_out : (s t : SharedSeen) (r : Round) (taken : Option ℕ) → taken ≡ taken_by r → AreOutBut None s → Comes s r t → Lies s r t → AreOutBut taken t
+-- whose tickets were out as the lock was taken, and who fell asleep since, has a ticket that is out, but for the one that was taken back
+pub asleep_out : (s t : SharedSeen) (r : Round) (taken : Option ℕ) → taken ≡ taken_by r → AreOutBut None s → Comes s r t → FallsAsleep s r t → AreOutBut taken t
 asleep_out s t r taken is were came lies key sleeper gets other =
     let kept : taken_by r ≢ Some sleeper.number = λ same. other (is ∙ same) in
     let was : get s.emissions key ≡ Some sleeper → IsOut t.sequencer sleeper.number = λ slept. comes_out s t r sleeper.number came kept (were key sleeper slept (λ no. none-some _ no)) in
@@ -240,7 +240,7 @@ asleep_out s t r taken is were came lies key sleeper gets other =
     (λ lies_here. let it = lies_here.0 in
     subst (λ b. IsOut t.sequencer b) (sym it.2 ∙ ap (λ (z : Sleeper). z.number) (same_Some it.0 sleeper (sym it.1 ∙ gets))) (waits_out s t r lay.0 lay.1 came))
     (lay.2 key))
-    (lay_down s t r lies)
+    (fell_asleep s t r lies)
 
 -- after a round everyone who sleeps has to wait, so its ticket is out
 pub out_for : (q : SequencerSeen) (b emitter : ℕ) → IsOutFor q b emitter → IsOut q b

@@ -7,7 +7,7 @@ use Rattle.shared_rounds.specs.declared.round.Round.{Round}
 use Rattle.shared_rounds.specs.Names.{SharedSeen, IsNew}
 use Rattle.shared_rounds.specs.Reach.{Party, Reach, Rounds, with_round}
 use Rattle.shared_rounds.specs.Rounds.{Comes, Does}
-use Rattle.shared_rounds.specs.Waking.{Lies, ended_by, taken_by}
+use Rattle.shared_rounds.specs.Waking.{FallsAsleep, ended_by, taken_by}
 
 -- what some list of rounds left of a new flow
 abbrev pub IsLeftBy : SharedSeen → Rounds → SharedSeen → Type 0
@@ -26,7 +26,7 @@ pub record Found (p : Party) (found : SharedSeen) (seen : Rounds) : Type 0 where
 
 -- the owner has the lock, and a call that it made of what it found has come to this; the next number was `before` as it was found
 abbrev pub IsCalled : Reach → ℕ → Round → SharedSeen → Type 0
-IsCalled r before round called = (found : SharedSeen) × (r.held ≡ Some found) × Comes found round called × Lies found round called × (before ≡ next found.sequencer)
+IsCalled r before round called = (found : SharedSeen) × (r.held ≡ Some found) × Comes found round called × FallsAsleep found round called × (before ≡ next found.sequencer)
 
 -- the same of the round that a step of the lock picks, and which ended this subscription, and took this ticket back
 abbrev pub IsCalledAs : Reach → ℕ → Option Round → Option ℕ → Option ℕ → SharedSeen → Type 0

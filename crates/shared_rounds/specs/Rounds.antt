@@ -55,7 +55,7 @@ withdraw_round ticket emitter last (withdrawn.Left n) None = round.StrayWithdraw
 withdraw_round ticket emitter last withdrawn.Removed r = round.Withdraw ticket withdrawn.Removed
 withdraw_round ticket emitter last withdrawn.Gone r = round.Withdraw ticket withdrawn.Gone
 
--- what a call does, which has let in what waited
+-- what a call does, which has accepted what waited
 abbrev pub Makes : LaneSeen → SequencerSeen → Round → SequencerSeen → Type 0
 Makes lane q (round.Try e (Ok answer)) t = TriedOn q (entry e) answer t
 Makes lane q (round.Try e (Err refusal)) t = RefusedTry q refusal t
@@ -179,7 +179,7 @@ abbrev pub RaisedFor : Option Ticket → SequencerSeen → ℕ → Type 0
 RaisedFor (Some ticket) q loads = loads ≡ length q.view.loads
 RaisedFor None q loads = ⊤
 
--- why nobody can be let in: the numbers are used up, or the places are
+-- why nobody can be admitted: the numbers are used up, or the places are
 abbrev pub IsAtLimit : Refusal → Type 0
 IsAtLimit refusal = (refusal ≡ Spent) ⊎ (refusal ≡ SubscribersFull)
 
@@ -187,11 +187,11 @@ IsAtLimit refusal = (refusal ≡ Spent) ⊎ (refusal ≡ SubscribersFull)
 abbrev pub IsAdmitted : SharedSeen → ℕ → ReaderSeen → SharedSeen → Type 0
 IsAdmitted s number r t = AfterScan s.sequencer (λ m. (number ≡ m.subscription) × Admitted s.name.lane m r t.sequencer)
 
--- the reader was let in to this flow, by what the sequencer knew when what waited had been let in
+-- the reader was admitted to this flow, by what the sequencer knew when what waited had been accepted
 abbrev pub WasAdmitted : SharedSeen → ReaderSeen → SharedSeen → Type 0
 WasAdmitted s r t = AfterScan s.sequencer (λ m. (n : SequencerSeen) × Admitted s.name.lane m r n × OnlyLoaded n t.sequencer)
 
--- Sequencer and reader compared what they know, and counted; then the sequencer heard that the reader has closed its cursor, and let in
+-- Sequencer and reader compared what they know, and counted; then the sequencer heard that the reader has closed its cursor, and accepted
 -- what waits
 abbrev pub HasClosedAt : ReaderSeen → Met → SequencerSeen → SequencerSeen → Type 0
 HasClosedAt r met q t = (k : SequencerSeen) × (last : ReaderSeen) × (n : SequencerSeen)

@@ -43,7 +43,7 @@ Parks number old new = (key : ℕ) → (get new key ≡ get old key) ⊎ (HasNum
 
 -- the ticket of each that sleeps stands in a list with its key
 abbrev pub AreListed : List (ℕ × ℕ) → Slab Sleeper → Type 0
-AreListed lain sleeping = (key : ℕ) (sleeper : Sleeper) → get sleeping key ≡ Some sleeper → Contains lain (sleeper.number, key)
+AreListed entries sleeping = (key : ℕ) (sleeper : Sleeper) → get sleeping key ≡ Some sleeper → Contains entries (sleeper.number, key)
 
 -- the lowest ticket is on top
 abbrev pub IsTicketHeap : {X : Type 0} → (X → ℕ × ℕ) → List X → Type 0
@@ -51,7 +51,7 @@ IsTicketHeap pair heap = IsHeap (λ x y. ordering_then (nat_cmp (pair y).0 (pair
 
 -- none of the tickets in a list is before this one
 abbrev pub NoneBefore : Option Ticket → List (ℕ × ℕ) → Type 0
-NoneBefore first lain = (ticket key : ℕ) → Contains lain (ticket, key) → IsBefore ticket first → ⊥
+NoneBefore first entries = (ticket key : ℕ) → Contains entries (ticket, key) → IsBefore ticket first → ⊥
 
 -- there is room for all whom one call of a flow with this config may have to wake: all subscriptions, all emissions, and one that it ends
 abbrev pub HasRoomFor : Config → WakeList → Type 0

@@ -13,16 +13,16 @@ use Rattle.shared_rounds.specs.declared.wait_list.Sleeper.{Sleeper}
 use Rattle.shared_rounds.specs.Names.{FlowName, SharedSeen}
 use Rattle.shared_rounds.specs.Sleeping.{NobodySleeps, OnlyThese, Parks}
 
--- nobody lay down, and nobody was woken
+-- nobody fell asleep, and nobody was woken
 abbrev pub SleepOn : SharedSeen → SharedSeen → Type 0
 SleepOn s t = (t.subscriptions ≡ s.subscriptions) × (t.emissions ≡ s.emissions)
 
--- Who sleeps as a call has its answer: the task of a poll that found no value may have lain down under its subscription's number, that of
+-- Who sleeps as a call has its answer: the task of a poll that found no value may have fallen asleep under its subscription's number, that of
 -- a poll which waits under its ticket.
-abbrev pub Lies : SharedSeen → Round → SharedSeen → Type 0
-Lies s (round.Pending number) t = Parks number s.subscriptions t.subscriptions × (t.emissions ≡ s.emissions)
-Lies s (round.Poll ticket emit.Waiting) t = (t.subscriptions ≡ s.subscriptions) × Parks ticket.0 s.emissions t.emissions
-Lies s _ t = SleepOn s t
+abbrev pub FallsAsleep : SharedSeen → Round → SharedSeen → Type 0
+FallsAsleep s (round.Pending number) t = Parks number s.subscriptions t.subscriptions × (t.emissions ≡ s.emissions)
+FallsAsleep s (round.Poll ticket emit.Waiting) t = (t.subscriptions ≡ s.subscriptions) × Parks ticket.0 s.emissions t.emissions
+FallsAsleep s _ t = SleepOn s t
 
 -- the subscription that a round ends
 abbrev pub ended_by : Round → Option ℕ
@@ -86,5 +86,5 @@ pub record Helps (before : ℕ) (ended : Option ℕ) (s t : SharedSeen) : Type 0
 -- a round: its call may have put a task to sleep, and then those were woken whom it has helped
 pub record WakesWhomItHelps (s : SharedSeen) (r : Round) (t : SharedSeen) : Type 0 where
   pub called : SharedSeen
-  pub lies : Lies s r called
+  pub asleep : FallsAsleep s r called
   pub helps : Helps (next s.sequencer) (ended_by r) called t

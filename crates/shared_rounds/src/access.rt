@@ -13,7 +13,6 @@ ghost use Rattle.shared_rounds.specs.Sleeping.{NobodySleeps, HasRoomFor};
 ghost use Rattle.shared_rounds.specs.Waking.{AreOutBut, Helps, ended_by as the_ended_by, taken_by as the_taken_by};
 
 use crate::flag::Stands;
-use crate::looking::{LOOKS, pause};
 use crate::round::Round;
 use crate::shared::Shared;
 use crate::track::{Looker, Track};
@@ -22,6 +21,7 @@ use flow_terms::{Refusal, Word};
 use round_lock::{Guarded, Lock, Made};
 use shared_core::{Config, Emit};
 use shared_lane::{Lane, Reader};
+use state_bell::{LOOKS, pause};
 use std::alloc::{AllocError, Global};
 use std::marker::{Brand, Model};
 use std::sync::{Arc, Wait};

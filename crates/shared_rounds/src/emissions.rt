@@ -59,7 +59,7 @@ impl SleepingEmissions {
     /// The task of this poll sleeps until the emission with this ticket is woken. Without a place for it, which no flow comes to,
     /// the task yields.
     pub fn sleep(&mut self, ticket: Ticket, wait_key: &mut WaitKey, cx: &mut Context<'_>)
-        ensures lies { Parks ticket.0 self.old self.new }
+        ensures asleep { Parks ticket.0 self.old self.new }
         ensures room { self.new.capacity ≡ self.old.capacity }
         ensures armed { IsArmed cx.new }
         ensures kept { Keeps cx.old cx.new }
@@ -73,7 +73,7 @@ impl SleepingEmissions {
 
     // Takes a place, where one is left, and says whether it did.
     fn park(&mut self, ticket: Ticket, wait_key: &mut WaitKey) -> bool
-        ensures lies { result ≡ true → SleepsAt self.new wait_key.new.key ticket.0 }
+        ensures asleep { result ≡ true → SleepsAt self.new wait_key.new.key ticket.0 }
         ensures others { Parks ticket.0 self.old self.new }
         ensures room { self.new.capacity ≡ self.old.capacity }
     {

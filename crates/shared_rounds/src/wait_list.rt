@@ -57,7 +57,7 @@ impl WaitList {
     pub fn sleep(&mut self, number: u64, wait_key: &mut WaitKey, cx: &mut Context<'_>)
         ensures sleeps { slab_len self.old.sleeping < self.old.sleeping.capacity → SleepsAt self.new.sleeping wait_key.new.key number }
         ensures stays { SleepsAt self.old.sleeping wait_key.old.key number → wait_key.new.key ≡ wait_key.old.key }
-        ensures lies { Parks number self.old.sleeping self.new.sleeping }
+        ensures asleep { Parks number self.old.sleeping self.new.sleeping }
         ensures others { StayBut wait_key.new.key self.old.sleeping self.new.sleeping }
         ensures room { self.new.sleeping.capacity ≡ self.old.sleeping.capacity }
         ensures armed { IsArmed cx.new }
@@ -103,7 +103,7 @@ impl WaitList {
 
     /// Parks the one with this number, where a place is left, and says whether it did. Its task registers after that.
     pub fn park(&mut self, number: u64, wait_key: &mut WaitKey) -> bool
-        ensures lies { result ≡ true → SleepsAt self.new.sleeping wait_key.new.key number }
+        ensures asleep { result ≡ true → SleepsAt self.new.sleeping wait_key.new.key number }
         ensures stay { StayBut wait_key.new.key self.old.sleeping self.new.sleeping }
         ensures full { result ≡ false → (self.new ≡ self.old) × (self.old.sleeping.capacity ≤ slab_len self.old.sleeping) }
         ensures others { Parks number self.old.sleeping self.new.sleeping }

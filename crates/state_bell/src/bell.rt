@@ -1,21 +1,9 @@
 //! What the watchers of a state sleep by, and who changes it rings.
 
 use std::alloc::{AllocError, Global};
-use std::hint;
 use std::sync::atomic::{AtomicBool, AtomicU64, Ordering};
 use std::sync::{Arc, Wait};
 use std::time::Duration;
-
-/// How many turns a pause has.
-const PAUSE: u32 = 64;
-
-/// Lets some time pass before the next ask. The thread keeps its processor meanwhile: where others want it, who yields has it back
-/// only after a time slice of theirs, some milliseconds, while a thread that sleeps goes on soon after it was woken.
-pub fn pause() {
-    for _ in 0..PAUSE {
-        hint::spin_loop();
-    }
-}
 
 /// What all seats and watchers of a state share beside it. Who sleeps and who is woken is no part of contracts.
 ///

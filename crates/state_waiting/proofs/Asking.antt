@@ -1,10 +1,11 @@
 -- Asks of a wait, one after another.
-use Rattle.std.proofs.Common.{◌≡◌, List, ◌++◌, Option, Some, None, refl, ap, ◌∙◌}
+use Rattle.std.proofs.Common.{◌≡◌, ℕ, List, ◌++◌, Option, Some, None, refl, ap, subst, ◌∙◌}
 use Rattle.state_flow.specs.declared.view.View.{View}
 use Rattle.flow_terms.specs.Lists.{some_of}
 use Rattle.state_flow.proofs.Collected.{collected_on}
 use Rattle.state_waiting.specs.declared.collected.Collected.{Collected}
 use Rattle.state_waiting.specs.declared.collected.Collected.TheVariants as collected
+use Rattle.state_waiting.specs.declared.collected.Attempt.{Attempt}
 use Rattle.state_waiting.specs.declared.collected.Attempt.TheVariants as attempt
 use Rattle.state_waiting.specs.Waits.{AskedOn, Awaits, AwaitsWithin, Comes, MissedOn, not_once, once_more, value_of, value_within}
 
@@ -30,6 +31,14 @@ module _ {T : Type 0} where
   pub is_over : (v m w : View T) (c : Collected T) → MissedOn v m → Comes m (attempt.Over c) w → Awaits v c w
   is_over v m w (collected.Value x) before came = (m, before, came)
   is_over v m w collected.Stopped before came = (m, before, came)
+
+  -- one turn more of a wait: the thread sleeps after it
+  pub goes_on : (v m w : View T) (n : ℕ) (turn : Attempt T) → turn ≡ attempt.Asleep n → MissedOn v m → Comes m turn w → MissedOn v w
+  goes_on v m w n turn is before came = once_more v m w before (subst (λ (t : Attempt T). Comes m t w) is came)
+
+  -- or the wait ends by it
+  pub ends_so : (v m w : View T) (c : Collected T) (turn : Attempt T) → turn ≡ attempt.Over c → MissedOn v m → Comes m turn w → Awaits v c w
+  ends_so v m w c turn is before came = is_over v m w c before (subst (λ (t : Attempt T). Comes m t w) is came)
 
   -- asks that gave nothing leave what was collected
   pub missed_keeps : (v w : View T) → MissedOn v w → w.collected ≡ v.collected

@@ -394,11 +394,11 @@ fn one_is_let_go_at_any_moment(rt: HostRuntime) -> Result<(), Fail> {
     Ok(())
 }
 
-/// How many stops of each kind come just as a watcher lies down.
+/// How many stops of each kind come just as a watcher goes to sleep.
 const CLOSE: u64 = 1_000;
 
 /// How many turns of a loop a stop comes after its watcher began to wait, and how many more at most: the watcher looks on for about as
-/// many, and lies down then.
+/// many, and goes to sleep then.
 const SOONEST: u64 = 192;
 
 const SPREAD: u64 = 128;
@@ -487,7 +487,7 @@ fn have_begun(begun: &AtomicU64, count: u64) -> bool {
     false
 }
 
-/// Lets go one watcher after another, each just as it lies down.
+/// Lets go one watcher after another, each just as it goes to sleep.
 fn stop_each(stopping: Vec<Stops>, begun: &AtomicU64) {
     let mut count: u64 = 0;
     for stops in stopping {

@@ -8,15 +8,11 @@ ghost use Rattle.state_waiting.specs.Waits.{AskedOn, Awaits, AwaitsWithin, Comes
 use crate::collected::{Attempt, Collected};
 use crate::seat::WatchedSeat;
 use flow_terms::Word;
-use state_bell::{Bell, Limit, Stopper, pause};
+use state_bell::{Bell, LOOKS, Limit, Stopper, pause};
 use state_flow::Collector;
 use std::marker::Model;
 use std::sync::{Arc, Wait};
 use std::time::{Clock, Duration};
-
-/// How often a watcher asks before it sleeps. With the pauses in between that takes some microseconds at most; to sleep and to be
-/// woken takes more, of itself and of who wakes it.
-const LOOKS: u32 = 4;
 
 /// A watcher of a state: what runs inside Kotlin's `collect`, where it suspends. What it is given, over all its asks, is a
 /// subsequence of the value history without equal neighbours.

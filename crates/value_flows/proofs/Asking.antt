@@ -1,10 +1,12 @@
 -- Asks of a wait, one after another.
+use Rattle.std.proofs.Common.{◌≡◌, ℕ, subst}
 use Rattle.std.specs.Prelude.{Option, Some, None, MatchOption}
 use Rattle.round_lock.specs.Locking.{Locking}
 use Rattle.value_flows.specs.declared.round.Round.{Round}
 use Rattle.value_flows.specs.declared.ring.Ring.{Ring}
 use Rattle.value_flows.specs.declared.received.Awaited.{Awaited}
 use Rattle.value_flows.specs.declared.received.Awaited.TheVariants as awaited
+use Rattle.value_flows.specs.declared.received.Attempt.{Attempt}
 use Rattle.value_flows.specs.declared.received.Attempt.TheVariants as attempt
 use Rattle.value_flows.specs.declared.received.Received.{Received}
 use Rattle.value_flows.specs.declared.received.Received.TheVariants as received
@@ -35,6 +37,14 @@ module _ {T : Type 0} where
   is_over v m w (awaited.There guarded) before came = (came.0, (m, before, came.1))
   is_over v m w (awaited.Missed count) before came = (m, before, came)
   is_over v m w awaited.Stopped before came = (m, before, came)
+
+  -- one turn more of a wait: the thread sleeps after it
+  pub goes_on : (v m w : Locking (Ring T) Round) (n : ℕ) (turn : Attempt T) → turn ≡ attempt.Asleep n → FoundNoneOn v m → Comes m turn w → FoundNoneOn v w
+  goes_on v m w n turn is before came = once_more v m w before (subst (λ (t : Attempt T). Comes m t w) is came)
+
+  -- or the wait ends by it
+  pub ends_so : (v m w : Locking (Ring T) Round) (a : Awaited T) (turn : Attempt T) → turn ≡ attempt.Over a → FoundNoneOn v m → Comes m turn w → ComesTo v a w
+  ends_so v m w a turn is before came = is_over v m w a before (subst (λ (t : Attempt T). Comes m t w) is came)
 
 module _ {T R : Type 0} (makes : T → R → Type 0) where
   -- a wait without an end answers as one for some time

@@ -10,15 +10,11 @@ use crate::ring::{Ring, Standing};
 use crate::round::Round;
 use crate::rounds::{enter, leave};
 use round_lock::{Guarded, Lock};
-use state_bell::{Limit, Stopper, pause};
+use state_bell::{LOOKS, Limit, Stopper, pause};
 use std::alloc::{AllocError, Global};
 use std::marker::Model;
 use std::sync::Wait;
 use std::time::{Clock, Duration};
-
-/// How often a subscription asks before it sleeps. With the pauses in between that takes some microseconds at most; to sleep and to be
-/// woken takes more, of itself and of who wakes it.
-const LOOKS: u32 = 4;
 
 /// A subscription to a flow: what runs inside Kotlin's `collect`, where it suspends. It is one more owner of the flow. It receives each
 /// value that the flow accepted from its start on, in order and once, less those that it is told it missed. It has no `Drop`: it is ended

@@ -1,10 +1,12 @@
 -- Asks of a wait, one after another.
+use Rattle.std.proofs.Common.{◌≡◌, ℕ, subst}
 use Rattle.std.specs.Prelude.{Option, Some, None, MatchOption}
 use Rattle.round_lock.specs.Locking.{Locking}
 use Rattle.value_states.specs.declared.round.Round.{Round}
 use Rattle.value_states.specs.declared.versioned.Versioned.{Versioned}
 use Rattle.value_states.specs.declared.collected.Awaited.{Awaited}
 use Rattle.value_states.specs.declared.collected.Awaited.TheVariants as awaited
+use Rattle.value_states.specs.declared.collected.Attempt.{Attempt}
 use Rattle.value_states.specs.declared.collected.Attempt.TheVariants as attempt
 use Rattle.value_states.specs.Watching.{AwaitsNothing, Comes, ComesTo, MissedOn, not_once, once_more}
 
@@ -30,3 +32,11 @@ module _ {T : Type 0} where
   pub is_over : (v m w : Locking (Versioned T) Round) (a : Awaited T) → MissedOn v m → Comes m (attempt.Over a) w → ComesTo v a w
   is_over v m w (awaited.News guarded) before came = (m, before, came)
   is_over v m w awaited.Stopped before came = (m, before, came)
+
+  -- one turn more of a wait: the thread sleeps after it
+  pub goes_on : (v m w : Locking (Versioned T) Round) (n : ℕ) (turn : Attempt T) → turn ≡ attempt.Asleep n → MissedOn v m → Comes m turn w → MissedOn v w
+  goes_on v m w n turn is before came = once_more v m w before (subst (λ (t : Attempt T). Comes m t w) is came)
+
+  -- or the wait ends by it
+  pub ends_so : (v m w : Locking (Versioned T) Round) (a : Awaited T) (turn : Attempt T) → turn ≡ attempt.Over a → MissedOn v m → Comes m turn w → ComesTo v a w
+  ends_so v m w a turn is before came = is_over v m w a before (subst (λ (t : Attempt T). Comes m t w) is came)

@@ -12,15 +12,11 @@ use crate::rounds::{enter, leave, shown};
 use crate::state::ValueState;
 use crate::versioned::Versioned;
 use round_lock::{Guarded, Lock};
-use state_bell::{Bell, Limit, Stopper, pause};
+use state_bell::{Bell, LOOKS, Limit, Stopper, pause};
 use std::alloc::{AllocError, Global};
 use std::marker::Model;
 use std::sync::{Arc, Wait};
 use std::time::{Clock, Duration};
-
-/// How often a watcher asks before it sleeps. With the pauses in between that takes some microseconds at most; to sleep and to be
-/// woken takes more, of itself and of who wakes it.
-const LOOKS: u32 = 4;
 
 /// A watcher of a state: what runs inside Kotlin's `collect`, where it suspends. It is one more owner of the state. The versions of
 /// what it is given, over all its asks, rise; and each is a place in the history, so what it is given is a subsequence of that.

@@ -91,7 +91,7 @@ impl Shared {
     /// there, and takes no other.
     pub fn sleep_subscription(&mut self, number: u64, wait_key: &mut WaitKey, cx: &mut Context<'_>)
         ensures same { self.new ≡ record self.old { subscriptions = self.new.subscriptions } }
-        ensures lies { Parks number self.old.subscriptions self.new.subscriptions }
+        ensures asleep { Parks number self.old.subscriptions self.new.subscriptions }
         ensures stays { SleepsAt self.old.subscriptions wait_key.old.key number → wait_key.new.key ≡ wait_key.old.key }
         ensures others { StayBut wait_key.new.key self.old.subscriptions self.new.subscriptions }
         ensures armed { IsArmed cx.new }
@@ -100,7 +100,7 @@ impl Shared {
         self.subscriptions.sleep(number, wait_key, cx);
     }
 
-    /// Lets in what waits, compares what sequencer and reader know, ends the subscription, and lets in once more. Where nothing waits,
+    /// Accepts what waits, compares what sequencer and reader know, ends the subscription, and does the first again. Where nothing waits,
     /// that loads no cursor but the reader's.
     pub fn cancel(&mut self, number: u64, reader: Reader) -> Met
         requires { IsReaderOf self.old.name.lane reader }

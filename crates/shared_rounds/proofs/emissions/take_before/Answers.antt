@@ -2,7 +2,7 @@ use Rattle.std.proofs.Common.{rules, ◌∷◌, refl}
 use Rattle.std.specs.BinaryHeap.{heap_items}
 use Rattle.std.proofs.lemmas.List.Sorted.{IsPermutation-map}
 use Rattle.shared_lane.specs.Ordering.{IsBefore}
-use Rattle.shared_rounds.proofs.Lying.{lowest, none_before}
+use Rattle.shared_rounds.proofs.Parked.{lowest, none_before}
 use Rattle.shared_rounds.proofs.emissions.take_before.Goals as goal
 
 pub returns-then-not-is_before-clause-none : goal.returns-then-not-is_before-clause-none

@@ -9,7 +9,7 @@ use Rattle.shared_rounds.specs.Reach.{Reach, party_of}
 use Rattle.shared_rounds.specs.Rounds.{IsReceiptAfter, after_number, Comes, withdraw_round}
 use Rattle.shared_flow.specs.Parties.{Emitting, WasAnswered}
 use Rattle.shared_flow.proofs.Rising.{answered_on, answered_last}
-use Rattle.shared_rounds.proofs.Doing.{is_called, withdrawn_lies}
+use Rattle.shared_rounds.proofs.Doing.{is_called, withdrawn_asleep}
 use Rattle.shared_flow.proofs.Making.{made}
 use Rattle.shared_flow.proofs.Waiting.{unless_left}
 use Rattle.shared_flow.proofs.Emitted.{grown, has_let_go}
@@ -41,7 +41,7 @@ leave-requires g c =
     let answer = c.cancel_emit-withdrawn.result.withdrawn in
     let came = subst (λ r. Comes before (withdraw_round ticket id c.self.inside.last answer r) new) c.in_default-receipt.is c.cancel_emit-withdrawn.ensures.does in
     let called = is_called c.enter-inside.new.self found before new c.enter-inside.result.before (withdraw_round ticket id c.self.inside.last answer None) (ap (λ (r : Reach). r.held) c.enter-inside.ensures.taken)
-    c.enter-inside.ensures.before c.deref_mut.ensures.value came (withdrawn_lies before new ticket id c.self.inside.last answer None c.cancel_emit-withdrawn.ensures.asleep) in
+    c.enter-inside.ensures.before c.deref_mut.ensures.value came (withdrawn_asleep before new ticket id c.self.inside.last answer None c.cancel_emit-withdrawn.ensures.asleep) in
     record { round = subst (λ r. IsCalled c.enter-inside.new.self c.enter-inside.result.before r new) (sym c.withdrawn_without_receipt-round.ensures) called }
 
 pub leave-requires-2 : goal.leave-requires-2

@@ -9,7 +9,7 @@ use Rattle.shared_rounds.specs.Rounds.{IsReceiptAfter, after_number, Comes, poll
 use Rattle.shared_rounds.specs.Waking.{SleepOn}
 use Rattle.shared_flow.specs.Parties.{Emitting, WasAnswered}
 use Rattle.shared_flow.proofs.Rising.{answered_on, answered_last}
-use Rattle.shared_rounds.proofs.Doing.{is_called, lay_down_for}
+use Rattle.shared_rounds.proofs.Doing.{is_called, fell_asleep_for}
 use Rattle.shared_flow.proofs.Making.{made}
 use Rattle.shared_flow.proofs.Emitted.{grown, has_pending}
 use Rattle.shared_flow.proofs.OwnPart.{own_grown, own_poll, own_asked}
@@ -61,7 +61,7 @@ leave-requires g c =
     let answer = c.poll_emit-emit.result.emit in
     let did = subst (λ r. Comes before (poll_round ticket id c.self.inside.last answer r) c.poll_emit-emit.new.self) c.in_default-receipt.is c.poll_emit-emit.ensures.does in
     let is = sym c.deref_mut-in_default-receipt.ensures.value in
-    let lain = lay_down_for before polled last ticket id c.self.inside.last answer (subst (Comes before (poll_round ticket id c.self.inside.last answer None)) is did) (subst (SleepOn before) is c.poll_emit-emit.ensures.asleep)
+    let lain = fell_asleep_for before polled last ticket id c.self.inside.last answer (subst (Comes before (poll_round ticket id c.self.inside.last answer None)) is did) (subst (SleepOn before) is c.poll_emit-emit.ensures.asleep)
     c.sleep_emission.ensures.same c.sleep_emission.ensures.waits c.sleep_emission.ensures.others in
     let called = is_called c.enter-inside.new.self found before last c.enter-inside.result.before (poll_round ticket id c.self.inside.last answer None) (ap (λ (r : Reach). r.held) c.enter-inside.ensures.taken)
     c.enter-inside.ensures.before c.deref_mut.ensures.value lain.0 lain.1 in

@@ -9,7 +9,7 @@ use Rattle.shared_rounds.specs.Names.{SharedSeen}
 use Rattle.shared_rounds.specs.Reach.{Reach}
 use Rattle.shared_rounds.specs.Rounds.{Comes, FreesAfter, HasFreed, look_round}
 use Rattle.shared_rounds.specs.Waking.{SleepOn}
-use Rattle.shared_rounds.proofs.Doing.{is_called, lay_down, none_lies}
+use Rattle.shared_rounds.proofs.Doing.{is_called, fell_asleep, none_asleep}
 use Rattle.shared_flow.specs.Looks.{Missed}
 use Rattle.shared_flow.specs.Parties.{words_received, taken_of, Subscribed}
 use Rattle.shared_flow.proofs.Making.{made, missed_all, was_made_within}
@@ -33,10 +33,10 @@ leave-requires-in-Overtaken g c =
     let came = subst (λ (x : Taken _). Comes c.deref_mut.result.now (look_round number x) c.look.new.self) c.in-Overtaken.is c.look.ensures.does in
     record {
       round = is_called c.enter-inside.new.self found c.deref_mut.result.now c.look.new.self c.enter-inside.result.before (round.Pending number) (ap (λ (r : Reach). r.held) c.enter-inside.ensures.taken)
-          c.enter-inside.ensures.before c.deref_mut.ensures.value came (none_lies c.deref_mut.result.now c.look.new.self number c.look.ensures.asleep);
+          c.enter-inside.ensures.before c.deref_mut.ensures.value came (none_asleep c.deref_mut.result.now c.look.new.self number c.look.ensures.asleep);
     }
 
--- the task lies down after the look
+-- the task goes to sleep after the look
 pub leave-requires-in-Nothing : goal.leave-requires-in-Nothing
 leave-requires-in-Nothing g c =
     let found : SharedSeen = c.enter-inside.result.guarded.state.value in
@@ -46,8 +46,8 @@ leave-requires-in-Nothing g c =
     let number = c.self.inside.number in
     let is = sym c.deref_mut-in-Nothing.ensures.value in
     let came = subst (λ (x : Taken _). Comes before (look_round number x) c.look.new.self) c.in-Nothing.is c.look.ensures.does in
-    let lain = lay_down before looked last number (subst (Comes before (round.Pending number)) is came) (subst (SleepOn before) is c.look.ensures.asleep)
-    c.sleep_subscription.ensures.same c.sleep_subscription.ensures.lies in
+    let lain = fell_asleep before looked last number (subst (Comes before (round.Pending number)) is came) (subst (SleepOn before) is c.look.ensures.asleep)
+    c.sleep_subscription.ensures.same c.sleep_subscription.ensures.asleep in
     record {
       round = is_called c.enter-inside.new.self found before last c.enter-inside.result.before (round.Pending number) (ap (λ (r : Reach). r.held) c.enter-inside.ensures.taken)
           c.enter-inside.ensures.before c.deref_mut.ensures.value lain.0 lain.1;

@@ -2,7 +2,7 @@ use Rattle.std.proofs.Common.{rules, ◌∷◌, IsPermutation, map}
 use Rattle.std.specs.BinaryHeap.{heap_items}
 use Rattle.std.proofs.lemmas.List.Sorted.{IsPermutation-map}
 use Rattle.shared_rounds.specs.Sleeping.{IsTicketHeap, SleepsAt}
-use Rattle.shared_rounds.proofs.Lying.{parked}
+use Rattle.shared_rounds.proofs.Parked.{parked}
 use Rattle.shared_rounds.proofs.emissions.SleepingEmissions.park.Goals as goal
 
 pub invariant_of-self-2 : goal.invariant_of-self-2

@@ -1,11 +1,11 @@
 use Rattle.std.proofs.Common.{rules, refl, sym, subst, inl}
 use Rattle.shared_rounds.specs.Sleeping.{Parks, SleepsAt}
-use Rattle.shared_rounds.proofs.Rises.{lies_still}
+use Rattle.shared_rounds.proofs.Rises.{asleep_still}
 use Rattle.shared_rounds.proofs.emissions.SleepingEmissions.sleep.Goals.{else-not-is_in-via-then-not-is_in+else-not-park, else-not-is_in-via-else-not-is_in}
 use Rattle.shared_rounds.proofs.emissions.SleepingEmissions.sleep.Goals as goal
 
-pub returns-clause-lies : goal.returns-clause-lies
-returns-clause-lies c =
+pub returns-clause-asleep : goal.returns-clause-asleep
+returns-clause-asleep c =
     let mid = c.else-not-is_in.self in
     let lain : Parks c.args.ticket.0 c.args.self.now mid = elim c.else-not-is_in.branch [
       | else-not-is_in-via-then-not-is_in+else-not-park w ↦ subst (Parks c.args.ticket.0 c.args.self.now) (sym w.self-is) w.park.ensures.others
@@ -15,4 +15,4 @@ returns-clause-lies c =
       | else-not-is_in-via-then-not-is_in+else-not-park w ↦ search rules
       | else-not-is_in-via-else-not-is_in w ↦ search rules
     ] in
-    lies_still c.args.self.now mid c.register.new.self.sleeping c.args.ticket.0 c.else-not-is_in.wait_key.key lain there c.register.ensures.sleeps (search rules)
+    asleep_still c.args.self.now mid c.register.new.self.sleeping c.args.ticket.0 c.else-not-is_in.wait_key.key lain there c.register.ensures.sleeps (search rules)

@@ -3,7 +3,7 @@ use Rattle.std.specs.BinaryHeap.{heap_items}
 use Rattle.std.proofs.lemmas.Bool.{ne_eqb}
 use Rattle.std.proofs.lemmas.Fn.{filter_same}
 use Rattle.shared_rounds.specs.Sleeping.{OnlyThese}
-use Rattle.shared_rounds.proofs.Lying.{still_there}
+use Rattle.shared_rounds.proofs.Parked.{still_there}
 use Rattle.shared_rounds.proofs.emissions.SleepingEmissions.wake.Goals as goal
 
 pub invariant_of-self : goal.invariant_of-self

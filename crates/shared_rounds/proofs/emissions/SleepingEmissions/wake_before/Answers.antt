@@ -1,7 +1,7 @@
 use Rattle.std.proofs.Common.{rules, ◌≡◌, ◌∷◌, IsPermutation, map, sym, subst, ◌∙◌}
 use Rattle.std.specs.BinaryHeap.{heap_items}
 use Rattle.shared_rounds.specs.Sleeping.{AreListed}
-use Rattle.shared_rounds.proofs.Lying.{woken_out, one_woken, all_woken}
+use Rattle.shared_rounds.proofs.Parked.{woken_out, one_woken, all_woken}
 use Rattle.shared_rounds.proofs.emissions.SleepingEmissions.wake_before.Goals as goal
 
 pub loop-ticket-preserved : goal.loop-ticket-preserved

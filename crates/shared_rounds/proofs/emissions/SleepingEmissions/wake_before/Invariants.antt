@@ -1,7 +1,7 @@
 use Rattle.std.proofs.Common.{◌≡◌, map}
 use Rattle.std.specs.BinaryHeap.{heap_items, heap_len}
 use Rattle.shared_rounds.specs.Sleeping.{AreListed, IsTicketHeap, HasAsMuchRoom}
-use Rattle.shared_rounds.proofs.Lying.{AfterWaking}
+use Rattle.shared_rounds.proofs.Parked.{AfterWaking}
 use Rattle.shared_rounds.proofs.emissions.SleepingEmissions.wake_before.Given as goal
 
 abbrev pub invariant-loop-ticket : goal.invariant-loop-ticket

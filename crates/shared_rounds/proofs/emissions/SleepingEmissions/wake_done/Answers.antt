@@ -1,7 +1,7 @@
 use Rattle.std.proofs.Common.{rules, ◌≡◌, None, sym, subst}
 use Rattle.shared_lane.specs.Ordering.{IsBefore}
 use Rattle.shared_rounds.specs.Sleeping.{OnlyThese, SleepsOn}
-use Rattle.shared_rounds.proofs.Lying.{none_gone, gone_before, gone_after}
+use Rattle.shared_rounds.proofs.Parked.{none_gone, gone_before, gone_after}
 use Rattle.shared_rounds.proofs.emissions.SleepingEmissions.wake_done.Goals as goal
 
 pub returns-then-not-is_before-clause-done : goal.returns-then-not-is_before-clause-done

@@ -1,21 +1,17 @@
-use Rattle.std.proofs.Common.{refl, subst, ◌∙◌}
-use Rattle.state_waiting.specs.Waits.{Comes, not_once, once_more}
-use Rattle.state_waiting.proofs.Asking.{is_over}
+use Rattle.std.proofs.Common.{refl, ◌∙◌}
+use Rattle.state_waiting.specs.Waits.{not_once}
+use Rattle.state_waiting.proofs.Asking.{goes_on, ends_so}
 use Rattle.state_waiting.proofs.watcher.Watcher.wait.Goals as goal
 
 pub loop-init : goal.loop-init
 loop-init g c = (refl, not_once c.args.self.now.view)
 
 pub loop-preserved : goal.loop-preserved
-loop-preserved g c =
-    let before = c.loop.self in
-    let after = c.attempt.new.self in
-    let missed = subst (λ came. Comes before.view came after.view) c.in-Asleep.is c.attempt.ensures.came in
-    (c.attempt.ensures.same_flow ∙ c.loop.invariant.0, once_more c.args.self.now.view before.view after.view c.loop.invariant.1 missed)
+loop-preserved g c = (
+  c.attempt.ensures.same_flow ∙ c.loop.invariant.0,
+  goes_on c.args.self.now.view c.loop.self.view c.attempt.new.self.view _ _ c.in-Asleep.is c.loop.invariant.1 c.attempt.ensures.came,
+)
 
 pub returns-in-Over-clause-awaits : goal.returns-in-Over-clause-awaits
 returns-in-Over-clause-awaits g c =
-    let before = c.loop.self in
-    let after = c.attempt.new.self in
-    let came = subst (λ came. Comes before.view came after.view) c.in-Over.is c.attempt.ensures.came in
-    is_over c.args.self.now.view before.view after.view c.in-Over.collected c.loop.invariant.1 came
+    ends_so c.args.self.now.view c.loop.self.view c.attempt.new.self.view c.in-Over.collected _ c.in-Over.is c.loop.invariant.1 c.attempt.ensures.came

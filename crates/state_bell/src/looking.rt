@@ -1,4 +1,5 @@
-//! How a thread looks on before it sleeps.
+//! How a thread looks on before it sleeps, for a state or for a shared flow.
+
 use std::hint;
 
 /// How often a thread looks on before it sleeps. With the pauses in between it looks for some microseconds at most; to sleep and to
