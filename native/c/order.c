@@ -102,7 +102,7 @@ static void try_until_accepted(hillgauze_sequencer *sequencer, uint64_t number, 
     expect("try_emit", reply, HILLGAUZE_ACCEPTED, number);
 }
 
-/* Begins an emission, and lets it in and asks for its end until it is done. */
+/* Begins an emission, and has it accepted and asks for its end until it is done. */
 static void start_until_done(hillgauze_sequencer *sequencer, uint64_t number, uint64_t word) {
     hillgauze_reply reply = hillgauze_lane_start_emit(sequencer, 0, word);
     if (!is_kind(reply, HILLGAUZE_WAITING)) {

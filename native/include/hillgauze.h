@@ -252,15 +252,15 @@ hillgauze_reply hillgauze_shared_free(hillgauze_shared *flow);
 hillgauze_reply hillgauze_lane_new(hillgauze_sequencer *sequencer, const hillgauze_config *config);
 
 /*
- * Emits where there is room, after it let in the emissions that wait: those stay let in, whatever it answers.
+ * Emits where there is room, after it accepted the emissions that wait: those stay accepted, whatever it answers.
  * ACCEPTED, DROPPED under DROP_LATEST, or FULL under SUSPEND. Under DROP_OLDEST it moves a reader that is too far
  * behind past its oldest value. Refused: SPENT.
  */
 hillgauze_reply hillgauze_lane_try_emit(hillgauze_sequencer *sequencer, uint32_t emitter, uint64_t value);
 
 /*
- * Tries these values one after another, up to the first that isn't accepted, after it let in the emissions that wait:
- * those stay let in, whatever it answers. One look at the readers serves for as many values as find room. COUNT says
+ * Tries these values one after another, up to the first that isn't accepted, after it accepted the emissions that wait:
+ * those stay accepted, whatever it answers. One look at the readers serves for as many values as find room. COUNT says
  * how many were accepted: all, or there is no room for the next one, or DROP_LATEST drops it, or the numbers are used
  * up. Under DROP_OLDEST it moves a reader that is too far behind past its oldest values. Refused: SPENT, where the
  * first one is.
@@ -269,7 +269,7 @@ hillgauze_reply hillgauze_lane_try_emit_all(hillgauze_sequencer *sequencer, uint
                                             size_t count);
 
 /*
- * Begins an emission, after it let in those that wait. ACCEPTED; DROPPED under DROP_LATEST; WAITING with a ticket
+ * Begins an emission, after it accepted those that wait. ACCEPTED; DROPPED under DROP_LATEST; WAITING with a ticket
  * under SUSPEND, where it waits for room, or, on a lane without places, until each reader has received it. Refused:
  * SPENT, EMITS_FULL.
  */
@@ -277,18 +277,18 @@ hillgauze_reply hillgauze_lane_start_emit(hillgauze_sequencer *sequencer, uint32
 
 /*
  * Asks about an emission with a ticket. DONE: it is finished, word is its number, and the ticket is taken back;
- * WAITING; GONE. It lets nothing in: hillgauze_lane_scan does.
+ * WAITING; GONE. It accepts nothing: hillgauze_lane_scan does.
  */
 hillgauze_reply hillgauze_lane_poll_emit(hillgauze_sequencer *sequencer, uint64_t ticket);
 
 /* Takes a ticket back. REMOVED, LEFT or GONE. */
 hillgauze_reply hillgauze_lane_cancel_emit(hillgauze_sequencer *sequencer, uint64_t ticket);
 
-/* Lets in emissions that wait, in their order, while there is room. COUNT says how many. */
+/* Accepts emissions that wait, in their order, while there is room. COUNT says how many. */
 hillgauze_reply hillgauze_lane_scan(hillgauze_sequencer *sequencer);
 
 /*
- * Lets a reader in, and puts it in a null handle. It begins at the oldest value of the replay cache, as it is now,
+ * Admits a reader, and puts it in a null handle. It begins at the oldest value of the replay cache, as it is now,
  * and may go to another thread. It takes the memory of the values that it will take at once. DONE.
  * Refused: NO_MEMORY, SPENT, SUBSCRIBERS_FULL.
  */

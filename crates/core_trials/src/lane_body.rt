@@ -1,4 +1,4 @@
-//! A lane on one thread, by the calls of a shared flow: what a receipt or an end makes room for is let in at once.
+//! A lane on one thread, by the calls of a shared flow: what a receipt or an end makes room for is accepted at once.
 
 ghost use Rattle.std.specs.Prelude.{IfOk};
 ghost use Rattle.shared_lane.specs.Readers.{IsReaderOf};
@@ -37,7 +37,7 @@ impl<'a> Sending<'a> {
         })
     }
 
-    // Lets in what waits, as far as there is room.
+    // Accepts what waits, as far as there is room.
     fn accept_waiting(&mut self) {
         self.sequencer.scan(self.lane);
     }

@@ -26,7 +26,7 @@ pub enum Call {
     TakeBack,
     Subscribe,
     Next,
-    /// A receipt that lets nothing in and registers nothing, where the flow has such a call.
+    /// A receipt that accepts nothing and registers nothing, where the flow has such a call.
     Take,
     /// As many such receipts as there is room for.
     TakeAll,

@@ -87,7 +87,7 @@ impl<'a> Sending<'a> {
         }
     }
 
-    // What waits is let in where there is room, and the emission with this ticket is asked for.
+    // What waits is accepted where there is room, and the emission with this ticket is asked for.
     fn ask(&mut self, ticket: Ticket) -> Answer {
         self.sequencer.scan(self.lane);
         match self.sequencer.poll_emit(self.lane, ticket) {

@@ -92,7 +92,7 @@ pub record ReaderOk (key : Shape) (log : List Entry) (j : ℕ) (r : Reading) (pl
   -- what it picked, where its cursor still stands there
   pub picked : cursor pl ≡ r.start + length r.story → HasWords key.first log (cursor pl) r.picked
 
--- the place was opened again since this reader's part was let in
+-- the place was opened again since this reader's part was admitted
 abbrev pub WasOpenedAgain : Reading → Place → Type 0
 WasOpenedAgain r pl = r.opening < pl.opening
 

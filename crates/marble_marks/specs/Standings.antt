@@ -83,7 +83,7 @@ abbrev pub room_for : ℕ → ℕ → ℕ → List Seat → ℕ
 room_for places accepted most [] = most
 room_for places accepted most (it ∷ seats) = room_for places accepted (min most (free places accepted it)) seats
 
--- HOW MANY OF THOSE THAT WAIT ARE LET IN
+-- HOW MANY OF THOSE THAT WAIT ARE ACCEPTED
 abbrev pub accepted_later : Stand → ℕ
 accepted_later stand = room_for stand.places stand.accepted (length stand.waiting) stand.seats
 

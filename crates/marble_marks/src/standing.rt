@@ -195,7 +195,7 @@ impl Standing {
         }
     }
 
-    /// Lets in what waits, as far as there is room, and gives it, the one that waited longest first.
+    /// Accepts what waits, as far as there is room, and gives it, the one that waited longest first.
     pub(crate) fn settle(&mut self, alloc: Global) -> Result<Vec<u64>, AllocError>
         requires { self.old.accepted + length self.old.waiting.items < 18446744073709551616 }
         ensures settled { OnOk result (stand_in self.new ≡ settled (stand_in self.old)) }

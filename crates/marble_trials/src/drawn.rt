@@ -214,7 +214,7 @@ impl Drawn {
     }
 }
 
-/// Whether this stands in a picture, and nothing else there was let in.
+/// Whether this stands in a picture, and nothing else there was accepted.
 fn has_once(picture: &str, accepted_later: &str) -> bool {
     match picture.split_once(accepted_later) {
         Some((before, after)) => {

@@ -27,7 +27,7 @@ const FLOWS: &[&str] = &["a", "b"];
 /// The names of all others there.
 const PARTIES: &[&str] = &["c", "d", "e", "f", "g", "h"];
 
-/// The kinds of lines by which emissions wait, and by which they are let in.
+/// The kinds of lines by which emissions wait, and by which they are accepted.
 const WAITING: &[usize] = &[0, 2, 4, 6, 6, 6, 7, 7, 7, 10, 11, 14, 15];
 
 /// Many names are parts of this.
@@ -38,7 +38,7 @@ const LETTERS: &str = "abcdefghijklmnopqrstuvwxyzABCDEFGHIJKLMNOPQRSTUVWXYZ";
 enum Size {
     /// Few names that are bound again and again.
     Short,
-    /// The same, of two flows whose emissions wait and are let in, mostly while somebody is subscribed.
+    /// The same, of two flows whose emissions wait and are accepted, mostly while somebody is subscribed.
     Waiting,
     /// Hundreds of names, each bound now and then.
     Long,

@@ -125,7 +125,7 @@ sound_stood q x was few accepted last low = record {
   in_order = order_stood q.standing q.waiting q.ticket (next_number q.view) was.in_order x last.0 last.1 last.2 low;
 }
 
--- it has loaded cursors, and may have let a reader in
+-- it has loaded cursors, and may have admitted a reader
 pub sound_seeing : (q : SequencerSeen) (v : View) (subscription : ℕ) → IsSound q → v.shape ≡ q.view.shape → v.seen ≡ q.view.seen → v.sequencing.active ≡ true → v.sequencing.flight ≡ []
     → length v.sequencing.places ≡ length q.view.sequencing.places → subscription ≤ 4611686018427387904 → ((p : ℕ) → opening_at v p ≤ subscription) → IsSound (record q { view = v; subscription = subscription })
 sound_seeing q v subscription was shape log active flight places few openings = record {

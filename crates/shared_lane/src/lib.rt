@@ -3,7 +3,7 @@
 //!
 //! # A lane
 //! [`Lane::new`] gives the lane and its [`Sequencer`]. The lane is shared by reference; the sequencer is the one party that
-//! accepts emissions, keeps the replay cache, and lets readers in. A [`Reader`] takes every accepted value from its start on,
+//! accepts emissions, keeps the replay cache, and admits readers. A [`Reader`] takes every accepted value from its start on,
 //! once, in order. Its start is the oldest value of the replay cache, as it was when it was admitted
 //! ([`admit`](Sequencer::admit)).
 //!

@@ -156,7 +156,7 @@ impl<T, S: Storage<T>> Flow<T, S> {
         verdict
     }
 
-    // Lets in all that wait. Says what a try comes to where that can't be done, or the flow has ended.
+    // Accepts all that wait. Says what a try comes to where that can't be done, or the flow has ended.
     #[inline]
     fn come_first(&self, emitting: &mut Emitting<T>, after: &mut After<'_, T>) -> Option<Verdict> {
         if emitting.emitter.is_none() {
@@ -193,7 +193,7 @@ impl<T, S: Storage<T>> Flow<T, S> {
         after.accepted();
     }
 
-    /// Puts an emission at the end of the line, and lets in what it can.
+    /// Puts an emission at the end of the line, and accepts what it can.
     pub(crate) fn queue(&self, queued: &Arc<Queued<T>>) {
         self.locked(|emitting, after| {
             if emitting.emitter.is_none() {
@@ -208,7 +208,7 @@ impl<T, S: Storage<T>> Flow<T, S> {
         });
     }
 
-    // Lets in the emissions of the line, the first one first, as far as there is room. Where one waits still, the gate was
+    // Accepts the emissions of the line, the first one first, as far as there is room. Where one waits still, the gate was
     // closed for it before the last look.
     fn let_in(&self, emitting: &mut Emitting<T>, after: &mut After<'_, T>) {
         while let Some(first) = emitting.line.front().map(Arc::clone) {
@@ -294,7 +294,7 @@ impl<T, S: Storage<T>> Flow<T, S> {
         }
     }
 
-    /// The receipt of so many values, from this number on: where it may let an emission in, that is done.
+    /// The receipt of so many values, from this number on: where it may help an emission, that is done.
     #[inline]
     pub(crate) fn received(&self, number: u64, count: u64) -> Option<After<'_, T>> {
         if self.gate.is_passed_by(number, count) {
@@ -389,7 +389,7 @@ impl<T, S: Storage<T>> Flow<T, S> {
         }
     }
 
-    /// Lets a receiver in, and says at which number it begins.
+    /// Admits a receiver, and says at which number it begins.
     pub(crate) fn admit(&self) -> Result<(Cursor, u64), Refusal> {
         self.locked(|emitting, _after| {
             let cursor = emitting.lane.admit()?;

@@ -1,4 +1,4 @@
-//! Which receipts may let an emission in that waits: how a receiver learns, by one load, that it has to look.
+//! Which receipts may help an emission that waits: how a receiver learns, by one load, that it has to look.
 //!
 //! # Why no emission that waits is forgotten
 //! This mirrors `sleepers.rs`. An emission has to wait where some receiver hasn't received the value whose place it would
@@ -16,7 +16,7 @@
 //! time, by the receipt of `g` itself. Take the one whose step a is the last of all. Where its b comes before 1, then so
 //! do all steps a, and step 2 finds room. Where 1 comes before b, it finds `g`, or what was stored there later. The gate
 //! is stored under the lock only where the emission that waited at it is done, or was taken back; and else it has `g`,
-//! takes the lock, and finds all cursors past `g`: so it lets the emission in. One that comes later begins at the replay
+//! takes the lock, and finds all cursors past `g`: so it accepts the emission. One that comes later begins at the replay
 //! cache; it is at `g` or before it only where `g` is cached, and then it moves past `g` as the others do. One that
 //! leaves takes the lock in any case, and looks.
 //!
@@ -65,7 +65,7 @@ impl Gate {
         }
     }
 
-    /// Whether the receipt of so many values, from this number on, may let an emission in.
+    /// Whether the receipt of so many values, from this number on, may help an emission.
     #[inline]
     pub(crate) fn is_passed_by(&self, number: u64, count: u64) -> bool {
         let first = self.first.load(SeqCst);
@@ -157,7 +157,7 @@ mod tests {
             }
         }
 
-        /// Whether each order of the steps that are left lets the emission in.
+        /// Whether each order of the steps that are left accepts the emission.
         fn always_lets_in(&self) -> bool {
             let mut is_done = true;
             for thread in 0..self.threads.len() {

@@ -225,7 +225,7 @@ impl<T, S: Storage<T>> Receiver<T, S> {
         }
     }
 
-    // Takes the value of a word that was received. Others are let in before the value is cloned, which may panic, and are
+    // Takes the value of a word that was received. Others are accepted before the value is cloned, which may panic, and are
     // woken after it: a value that is there by then is kept if a waker panics.
     #[inline]
     fn take(&mut self, word: u64) -> Option<T> {

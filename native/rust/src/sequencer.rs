@@ -65,7 +65,7 @@ impl<T: Word> Sequencer<T> {
 
     /// Emits where there is room, after the emissions that wait: Kotlin's `tryEmit`, with three answers.
     ///
-    /// It first lets waiting emissions in, and what it let in stands whatever it answers. `Full` (under `Suspend`
+    /// It first accepts waiting emissions, and what it accepted stands whatever it answers. `Full` (under `Suspend`
     /// alone) where an emission waits still or some reader is too far behind, `Dropped` under `DropLatest` alone. Under
     /// `DropOldest` a reader that is too far behind loses its oldest value. Refused as `Spent` where the numbers are
     /// used up.
@@ -89,7 +89,7 @@ impl<T: Word> Sequencer<T> {
     /// [`try_emit`](Sequencer::try_emit) of one after another comes to, but one look at the readers serves for as many
     /// as there is room for.
     ///
-    /// It first lets waiting emissions in, and what it let in stands whatever it answers. Under `Suspend` it stops
+    /// It first accepts waiting emissions, and what it accepted stands whatever it answers. Under `Suspend` it stops
     /// where a try would be `Full`, under `DropLatest` where one would be `Dropped`; under `DropOldest` all are
     /// accepted, and each reader loses what it would have lost. Refused as `Spent` where the numbers are used up and
     /// none was accepted.
@@ -119,7 +119,7 @@ impl<T: Word> Sequencer<T> {
 
     /// Begins an emission, which gets a ticket where it isn't done at once: Kotlin's `emit`.
     ///
-    /// It first lets waiting emissions in, and what it let in stands whatever it answers. `Waiting` (under `Suspend`
+    /// It first accepts waiting emissions, and what it accepted stands whatever it answers. `Waiting` (under `Suspend`
     /// alone) where it waits for room, or, on a lane without places, until every reader has received it. Refused as
     /// `Spent` where the numbers of emissions or of tickets are used up, then as `EmitsFull` where it would need a
     /// ticket and all are out.
@@ -135,7 +135,7 @@ impl<T: Word> Sequencer<T> {
     }
 
     /// Says whether an emission is done, and takes back the ticket of one that is: what Kotlin's `emit` waits for. It
-    /// lets nothing in: [`scan`](Sequencer::scan) does.
+    /// accepts nothing: [`scan`](Sequencer::scan) does.
     pub fn poll_emit(&mut self, ticket: Ticket) -> Emit {
         let emit = self.lane.poll_emit(ticket);
         if let Emit::Done(_) = emit {
@@ -163,7 +163,7 @@ impl<T: Word> Sequencer<T> {
         settled
     }
 
-    /// Lets a reader in. It begins at the oldest value of the replay cache, and goes on with every later accepted one:
+    /// Admits a reader. It begins at the oldest value of the replay cache, and goes on with every later accepted one:
     /// what Kotlin's `collect` begins with.
     ///
     /// Refused as `NoMemory`, as `Spent` where the numbers of readers are used up, then as `SubscribersFull`.

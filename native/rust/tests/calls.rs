@@ -274,7 +274,7 @@ fn a_reader_takes_64_at_once() {
     assert_eq!(counts(&reader), (0, 167, 0));
 }
 
-/// A block comes behind the emissions that wait, and lets these in first, also where it has no values.
+/// A block comes behind the emissions that wait, and accepts these first, also where it has no values.
 #[test]
 fn a_block_lets_in_what_waits() {
     let mut sequencer = Sequencer::new(one_subscriber(2, 2, 0)).unwrap();

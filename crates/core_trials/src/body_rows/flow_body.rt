@@ -1,4 +1,4 @@
-//! A shared flow for threads, on one thread, by the calls of one on one thread: what a receipt makes room for is let in at once.
+//! A shared flow for threads, on one thread, by the calls of one on one thread: what a receipt makes room for is accepted at once.
 
 use crate::body_rows::Body;
 use cold_flow::Refusal;
@@ -292,7 +292,7 @@ impl<R: Wait + AllocGlobal> Body for FlowBody<'_, R> {
                 none if taken == 0 => return none,
                 _ => break,
             }
-            // What waits is let in by a call that takes the lock.
+            // What waits is accepted by a call that takes the lock.
             let _live = self.flow.subscription_count(self.rt);
         }
         Next::Value(taken)

@@ -32,7 +32,7 @@ impl<A: Allocator> Sequencer<A> {
         .open
     }
 
-    /// Lets a reader in, at a place whose cursor this call found closed. It begins at the oldest value of the replay cache,
+    /// Admits a reader, at a place whose cursor this call found closed. It begins at the oldest value of the replay cache,
     /// and goes on with every later accepted one: what Kotlin's `collect` begins with.
     ///
     /// Refused: `Spent` where the numbers of subscriptions are used up, then `SubscribersFull` where every cursor was loaded

@@ -87,7 +87,7 @@ impl<A: Allocator> Sequencer<A> {
     /// Says whether an emission is done, and takes back the ticket of one that is: what Kotlin's `emit` waits for.
     ///
     /// Where there are places an accepted emission is done; where there are none, once every cursor, as this call loads it,
-    /// is closed or above its number. It lets nothing in: [`scan`](Sequencer::scan) does.
+    /// is closed or above its number. It accepts nothing: [`scan`](Sequencer::scan) does.
     pub fn poll_emit<B: Allocator>(&mut self, lane: &Lane<B>, ticket: Ticket) -> Emit
         requires { IsSequencerOf lane.now self.old }
         ensures has { PolledOn self.old ticket.0 result self.new }

@@ -120,7 +120,7 @@ impl Clone for Fragile {
     }
 }
 
-/// tokio's `panic_in_clone`: the receiver goes on with the next value, and what waits is let in by the last receipt.
+/// tokio's `panic_in_clone`: the receiver goes on with the next value, and what waits is accepted by the last receipt.
 #[test]
 fn a_clone_that_panics_loses_its_value_alone() {
     let breaks = Arc::new(AtomicBool::new(true));

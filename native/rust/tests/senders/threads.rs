@@ -424,6 +424,6 @@ fn emits_or_gives_up(number: u64, sender: &Sender<Counted>, value: Counted) -> b
             Poll::Ready(done) => Poll::Ready(Some(done.is_ok())),
         }
     }));
-    // Where it was let in since it was polled last, it stays so.
+    // Where it was accepted since it was polled last, it stays so.
     polled.unwrap_or_else(|| emission.withdraw().is_err())
 }

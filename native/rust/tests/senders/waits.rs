@@ -1,4 +1,4 @@
-//! Emissions that wait: who lets them in, in which order, and how they end.
+//! Emissions that wait: who accepts them, in which order, and how they end.
 
 use crate::calls::{all, with_places};
 use crate::task::Task;
