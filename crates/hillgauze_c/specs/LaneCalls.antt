@@ -28,7 +28,7 @@ OnSequencer Call = OnHandle sequencer_of Sequencer Call
 abbrev pub OnReader : (ReaderSeen → Reply → ReaderSeen → Type 0) → Option Object → Reply → Option Object → Type 0
 OnReader Call = OnHandle reader_of Reader Call
 
--- a reader was let in to the sequencer's lane
+-- a reader was admitted to the sequencer's lane
 abbrev pub IsAdmitted : SequencerSeen → ReaderSeen → SequencerSeen → Type 0
 IsAdmitted q r t = (lane : LaneSeen) × IsSequencerOf lane q × Admitted lane q r t
 
@@ -69,7 +69,7 @@ ReadsLaneCache index q reply t = (t ≡ q) × (reply ≡ value_reply (slice_get 
 abbrev pub ResetsLane : SequencerSeen → Reply → SequencerSeen → Type 0
 ResetsLane q reply t = (reply ≡ answered 1 0) × (t ≡ record q { cache = [] })
 
--- a reader was let in and stands in the handle, or the call was refused
+-- a reader was admitted and stands in the handle, or the call was refused
 abbrev pub Admits : Option Object → SequencerSeen → Reply → SequencerSeen → Type 0
 Admits handle q reply t =
     ((r : ReaderSeen) × (reply ≡ answered 1 0) × (handle ≡ Some (Reader r)) × IsAdmitted q r t)

@@ -59,12 +59,7 @@ pub extern "C" fn hillgauze_collector_cancel(
 pub extern "C" fn hillgauze_collector_try_next(collector: &mut Handle) -> Reply
     ensures { OnCollector (CollectsValue) collector.old.object result collector.new.object }
 {
-    let Some(object) = collector.lend() else {
-        return Reply::refused(NULL_HANDLE);
-    };
-    let Some(collecting) = object.collector() else {
-        return Reply::refused(OTHER_KIND);
-    };
+    lent!(collecting = collector.collector());
     Reply::of_value(collecting.collector.try_next())
 }
 
@@ -73,12 +68,7 @@ pub extern "C" fn hillgauze_collector_try_next(collector: &mut Handle) -> Reply
 pub extern "C" fn hillgauze_collector_free(alloc: Global, collector: &mut Handle) -> Reply
     ensures { IsFreed collector_of collector.old.object result collector.new.object }
 {
-    let Some(object) = collector.lend() else {
-        return Reply::refused(NULL_HANDLE);
-    };
-    let Some(_own) = object.collector() else {
-        return Reply::refused(OTHER_KIND);
-    };
+    lent!(_own = collector.collector());
     collector.clear(alloc);
     Reply::done()
 }

@@ -9,7 +9,7 @@ use crate::config::FlowConfig;
 use crate::handle::Handle;
 use crate::object::Object;
 use crate::parties::Sequencing;
-use crate::reply::{HANDLE_TAKEN, NO_SUCH_POLICY, NULL_HANDLE, OTHER_KIND, Reply};
+use crate::reply::{HANDLE_TAKEN, NO_SUCH_POLICY, Reply};
 use flow_terms::{Refusal, Ticket};
 use std::alloc::Global;
 
@@ -39,12 +39,7 @@ pub extern "C" fn hillgauze_lane_new(
 pub extern "C" fn hillgauze_lane_try_emit(sequencer: &mut Handle, emitter: u32, value: u64) -> Reply
     ensures { OnSequencer (Told tried_reply (TriedBy emitter value)) sequencer.old.object result sequencer.new.object }
 {
-    let Some(object) = sequencer.lend() else {
-        return Reply::refused(NULL_HANDLE);
-    };
-    let Some(sequencing) = object.sequencer() else {
-        return Reply::refused(OTHER_KIND);
-    };
+    lent!(sequencing = sequencer.sequencer());
     Reply::of_try(sequencing.try_emit(emitter, value))
 }
 
@@ -57,12 +52,7 @@ pub extern "C" fn hillgauze_lane_try_emit_all(
 ) -> Reply
     ensures { OnSequencer (Told tries_reply (TriedAllBy emitter values.now)) sequencer.old.object result sequencer.new.object }
 {
-    let Some(object) = sequencer.lend() else {
-        return Reply::refused(NULL_HANDLE);
-    };
-    let Some(sequencing) = object.sequencer() else {
-        return Reply::refused(OTHER_KIND);
-    };
+    lent!(sequencing = sequencer.sequencer());
     Reply::of_tries(sequencing.try_emit_all(emitter, values))
 }
 
@@ -75,12 +65,7 @@ pub extern "C" fn hillgauze_lane_start_emit(
 ) -> Reply
     ensures { OnSequencer (Told begun_reply (BegunBy emitter value)) sequencer.old.object result sequencer.new.object }
 {
-    let Some(object) = sequencer.lend() else {
-        return Reply::refused(NULL_HANDLE);
-    };
-    let Some(sequencing) = object.sequencer() else {
-        return Reply::refused(OTHER_KIND);
-    };
+    lent!(sequencing = sequencer.sequencer());
     Reply::of_start(sequencing.start_emit(emitter, value))
 }
 
@@ -89,12 +74,7 @@ pub extern "C" fn hillgauze_lane_start_emit(
 pub extern "C" fn hillgauze_lane_poll_emit(sequencer: &mut Handle, ticket: u64) -> Reply
     ensures { OnSequencer (Told emit_reply (PolledBy ticket)) sequencer.old.object result sequencer.new.object }
 {
-    let Some(object) = sequencer.lend() else {
-        return Reply::refused(NULL_HANDLE);
-    };
-    let Some(sequencing) = object.sequencer() else {
-        return Reply::refused(OTHER_KIND);
-    };
+    lent!(sequencing = sequencer.sequencer());
     Reply::of_poll(sequencing.poll_emit(Ticket(ticket)))
 }
 
@@ -103,26 +83,16 @@ pub extern "C" fn hillgauze_lane_poll_emit(sequencer: &mut Handle, ticket: u64) 
 pub extern "C" fn hillgauze_lane_cancel_emit(sequencer: &mut Handle, ticket: u64) -> Reply
     ensures { OnSequencer (Told withdrawn_reply (WithdrawnBy ticket)) sequencer.old.object result sequencer.new.object }
 {
-    let Some(object) = sequencer.lend() else {
-        return Reply::refused(NULL_HANDLE);
-    };
-    let Some(sequencing) = object.sequencer() else {
-        return Reply::refused(OTHER_KIND);
-    };
+    lent!(sequencing = sequencer.sequencer());
     Reply::of_withdrawal(sequencing.cancel_emit(Ticket(ticket)))
 }
 
-/// Lets in emissions that wait.
+/// Accepts emissions that wait.
 #[unsafe(no_mangle)]
 pub extern "C" fn hillgauze_lane_scan(sequencer: &mut Handle) -> Reply
     ensures { OnSequencer (Scans) sequencer.old.object result sequencer.new.object }
 {
-    let Some(object) = sequencer.lend() else {
-        return Reply::refused(NULL_HANDLE);
-    };
-    let Some(sequencing) = object.sequencer() else {
-        return Reply::refused(OTHER_KIND);
-    };
+    lent!(sequencing = sequencer.sequencer());
     Reply::of_count(sequencing.scan() as u64)
 }
 
@@ -131,12 +101,7 @@ pub extern "C" fn hillgauze_lane_scan(sequencer: &mut Handle) -> Reply
 pub extern "C" fn hillgauze_lane_count(sequencer: &mut Handle) -> Reply
     ensures { OnSequencer (CountsReaders) sequencer.old.object result sequencer.new.object }
 {
-    let Some(object) = sequencer.lend() else {
-        return Reply::refused(NULL_HANDLE);
-    };
-    let Some(sequencing) = object.sequencer() else {
-        return Reply::refused(OTHER_KIND);
-    };
+    lent!(sequencing = sequencer.sequencer());
     Reply::of_count(sequencing.live() as u64)
 }
 
@@ -145,12 +110,7 @@ pub extern "C" fn hillgauze_lane_count(sequencer: &mut Handle) -> Reply
 pub extern "C" fn hillgauze_lane_cache_len(sequencer: &mut Handle) -> Reply
     ensures { OnSequencer (HasCacheLength) sequencer.old.object result sequencer.new.object }
 {
-    let Some(object) = sequencer.lend() else {
-        return Reply::refused(NULL_HANDLE);
-    };
-    let Some(sequencing) = object.sequencer() else {
-        return Reply::refused(OTHER_KIND);
-    };
+    lent!(sequencing = sequencer.sequencer());
     Reply::of_count(sequencing.replay_len())
 }
 
@@ -159,12 +119,7 @@ pub extern "C" fn hillgauze_lane_cache_len(sequencer: &mut Handle) -> Reply
 pub extern "C" fn hillgauze_lane_cache_at(sequencer: &mut Handle, index: u64) -> Reply
     ensures { OnSequencer (ReadsLaneCache index) sequencer.old.object result sequencer.new.object }
 {
-    let Some(object) = sequencer.lend() else {
-        return Reply::refused(NULL_HANDLE);
-    };
-    let Some(sequencing) = object.sequencer() else {
-        return Reply::refused(OTHER_KIND);
-    };
+    lent!(sequencing = sequencer.sequencer());
     if index >= sequencing.replay_len() {
         return Reply::of_value(None);
     }
@@ -176,17 +131,12 @@ pub extern "C" fn hillgauze_lane_cache_at(sequencer: &mut Handle, index: u64) ->
 pub extern "C" fn hillgauze_lane_reset(sequencer: &mut Handle) -> Reply
     ensures { OnSequencer (ResetsLane) sequencer.old.object result sequencer.new.object }
 {
-    let Some(object) = sequencer.lend() else {
-        return Reply::refused(NULL_HANDLE);
-    };
-    let Some(sequencing) = object.sequencer() else {
-        return Reply::refused(OTHER_KIND);
-    };
+    lent!(sequencing = sequencer.sequencer());
     sequencing.reset_replay();
     Reply::done()
 }
 
-/// Lets a reader in, and puts it in a null handle.
+/// Admits a reader, and puts it in a null handle.
 #[unsafe(no_mangle)]
 pub extern "C" fn hillgauze_lane_admit(
     alloc: Global,
@@ -200,13 +150,8 @@ pub extern "C" fn hillgauze_lane_admit(
     if !reader.is_null() {
         return Reply::refused(HANDLE_TAKEN);
     }
-    let Some(object) = sequencer.lend() else {
-        return Reply::refused(NULL_HANDLE);
-    };
-    let Some(sequencing) = object.sequencer() else {
-        return Reply::refused(OTHER_KIND);
-    };
-    // Memory is met first, so that no reader is let in for whom there is none.
+    lent!(sequencing = sequencer.sequencer());
+    // Memory is met first, so that no reader is admitted for whom there is none.
     if !reader.make(alloc, Object::Vacant) {
         return Reply::of_refusal(Refusal::NoMemory);
     }
@@ -227,12 +172,7 @@ pub extern "C" fn hillgauze_lane_admit(
 pub extern "C" fn hillgauze_lane_free(alloc: Global, sequencer: &mut Handle) -> Reply
     ensures { IsFreed sequencer_of sequencer.old.object result sequencer.new.object }
 {
-    let Some(object) = sequencer.lend() else {
-        return Reply::refused(NULL_HANDLE);
-    };
-    let Some(_own) = object.sequencer() else {
-        return Reply::refused(OTHER_KIND);
-    };
+    lent!(_own = sequencer.sequencer());
     sequencer.clear(alloc);
     Reply::done()
 }

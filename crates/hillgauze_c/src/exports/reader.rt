@@ -6,7 +6,7 @@ ghost use Rattle.hillgauze_c.specs.Kinds.{IsFreed, Told, reader_of};
 ghost use Rattle.hillgauze_c.specs.LaneCalls.{OnReader, TookAndStayed, TookAtOnce, Tells, began_at};
 
 use crate::handle::Handle;
-use crate::reply::{NULL_HANDLE, OTHER_KIND, Reply};
+use crate::reply::Reply;
 use std::alloc::Global;
 
 /// Takes the reader's next value.
@@ -14,12 +14,7 @@ use std::alloc::Global;
 pub extern "C" fn hillgauze_reader_try_next(reader: &mut Handle) -> Reply
     ensures { OnReader (Told taken_reply TookAndStayed) reader.old.object result reader.new.object }
 {
-    let Some(object) = reader.lend() else {
-        return Reply::refused(NULL_HANDLE);
-    };
-    let Some(reading) = object.reader() else {
-        return Reply::refused(OTHER_KIND);
-    };
+    lent!(reading = reader.reader());
     Reply::of_taking(reading.try_next())
 }
 
@@ -29,12 +24,7 @@ pub extern "C" fn hillgauze_reader_try_next_all(reader: &mut Handle, values: &mu
     ensures taken { OnReader (Told takes_reply (TookAtOnce values.old values.new)) reader.old.object result reader.new.object }
     ensures untouched { result.refusal ≢ 0 → values.new ≡ values.old }
 {
-    let Some(object) = reader.lend() else {
-        return Reply::refused(NULL_HANDLE);
-    };
-    let Some(reading) = object.reader() else {
-        return Reply::refused(OTHER_KIND);
-    };
+    lent!(reading = reader.reader());
     Reply::of_takes(reading.try_next_all(values))
 }
 
@@ -43,12 +33,7 @@ pub extern "C" fn hillgauze_reader_try_next_all(reader: &mut Handle, values: &mu
 pub extern "C" fn hillgauze_reader_start(reader: &mut Handle) -> Reply
     ensures { OnReader (Tells began_at) reader.old.object result reader.new.object }
 {
-    let Some(object) = reader.lend() else {
-        return Reply::refused(NULL_HANDLE);
-    };
-    let Some(reading) = object.reader() else {
-        return Reply::refused(OTHER_KIND);
-    };
+    lent!(reading = reader.reader());
     Reply::of_count(reading.start())
 }
 
@@ -57,12 +42,7 @@ pub extern "C" fn hillgauze_reader_start(reader: &mut Handle) -> Reply
 pub extern "C" fn hillgauze_reader_received(reader: &mut Handle) -> Reply
     ensures { OnReader (Tells received_count) reader.old.object result reader.new.object }
 {
-    let Some(object) = reader.lend() else {
-        return Reply::refused(NULL_HANDLE);
-    };
-    let Some(reading) = object.reader() else {
-        return Reply::refused(OTHER_KIND);
-    };
+    lent!(reading = reader.reader());
     Reply::of_count(reading.received())
 }
 
@@ -71,12 +51,7 @@ pub extern "C" fn hillgauze_reader_received(reader: &mut Handle) -> Reply
 pub extern "C" fn hillgauze_reader_dropped(reader: &mut Handle) -> Reply
     ensures { OnReader (Tells lost_count) reader.old.object result reader.new.object }
 {
-    let Some(object) = reader.lend() else {
-        return Reply::refused(NULL_HANDLE);
-    };
-    let Some(reading) = object.reader() else {
-        return Reply::refused(OTHER_KIND);
-    };
+    lent!(reading = reader.reader());
     Reply::of_count(reading.dropped())
 }
 
@@ -85,12 +60,7 @@ pub extern "C" fn hillgauze_reader_dropped(reader: &mut Handle) -> Reply
 pub extern "C" fn hillgauze_reader_close(alloc: Global, reader: &mut Handle) -> Reply
     ensures { IsFreed reader_of reader.old.object result reader.new.object }
 {
-    let Some(object) = reader.lend() else {
-        return Reply::refused(NULL_HANDLE);
-    };
-    let Some(_own) = object.reader() else {
-        return Reply::refused(OTHER_KIND);
-    };
+    lent!(_own = reader.reader());
     reader.clear(alloc);
     Reply::done()
 }

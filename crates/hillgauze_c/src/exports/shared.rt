@@ -12,7 +12,7 @@ use crate::config::FlowConfig;
 use crate::handle::Handle;
 use crate::object::Object;
 use crate::receiving::receive_into;
-use crate::reply::{HANDLE_TAKEN, NO_SUCH_POLICY, NULL_HANDLE, OTHER_KIND, Reply};
+use crate::reply::{HANDLE_TAKEN, NO_SUCH_POLICY, Reply};
 use flow_terms::{SubId, Ticket};
 use shared_core::{Prelude, SharedState};
 use std::alloc::Global;
@@ -43,12 +43,7 @@ pub extern "C" fn hillgauze_shared_new(
 pub extern "C" fn hillgauze_shared_try_emit(flow: &mut Handle, emitter: u32, value: u64) -> Reply
     ensures { OnShared (Answers tried_reply (calls.try_emit emitter value)) flow.old.object result flow.new.object }
 {
-    let Some(object) = flow.lend() else {
-        return Reply::refused(NULL_HANDLE);
-    };
-    let Some(shared) = object.shared() else {
-        return Reply::refused(OTHER_KIND);
-    };
+    lent!(shared = flow.shared());
     Reply::of_try(shared.try_emit(emitter, value))
 }
 
@@ -61,12 +56,7 @@ pub extern "C" fn hillgauze_shared_try_emit_all(
 ) -> Reply
     ensures { OnShared (Answers tries_reply (blocks.try_emit_all emitter values.now)) flow.old.object result flow.new.object }
 {
-    let Some(object) = flow.lend() else {
-        return Reply::refused(NULL_HANDLE);
-    };
-    let Some(shared) = object.shared() else {
-        return Reply::refused(OTHER_KIND);
-    };
+    lent!(shared = flow.shared());
     Reply::of_tries(shared.try_emit_all(emitter, values))
 }
 
@@ -75,12 +65,7 @@ pub extern "C" fn hillgauze_shared_try_emit_all(
 pub extern "C" fn hillgauze_shared_start_emit(flow: &mut Handle, emitter: u32, value: u64) -> Reply
     ensures { OnShared (Answers begun_reply (calls.start_emit emitter value)) flow.old.object result flow.new.object }
 {
-    let Some(object) = flow.lend() else {
-        return Reply::refused(NULL_HANDLE);
-    };
-    let Some(shared) = object.shared() else {
-        return Reply::refused(OTHER_KIND);
-    };
+    lent!(shared = flow.shared());
     Reply::of_start(shared.start_emit(emitter, value))
 }
 
@@ -89,12 +74,7 @@ pub extern "C" fn hillgauze_shared_start_emit(flow: &mut Handle, emitter: u32, v
 pub extern "C" fn hillgauze_shared_poll_emit(flow: &mut Handle, ticket: u64) -> Reply
     ensures { OnShared (Answers emit_reply (calls.poll_emit ticket)) flow.old.object result flow.new.object }
 {
-    let Some(object) = flow.lend() else {
-        return Reply::refused(NULL_HANDLE);
-    };
-    let Some(shared) = object.shared() else {
-        return Reply::refused(OTHER_KIND);
-    };
+    lent!(shared = flow.shared());
     Reply::of_poll(shared.poll_emit(Ticket(ticket)))
 }
 
@@ -103,12 +83,7 @@ pub extern "C" fn hillgauze_shared_poll_emit(flow: &mut Handle, ticket: u64) -> 
 pub extern "C" fn hillgauze_shared_cancel_emit(flow: &mut Handle, ticket: u64) -> Reply
     ensures { OnShared (Answers withdrawn_reply (calls.cancel_emit ticket)) flow.old.object result flow.new.object }
 {
-    let Some(object) = flow.lend() else {
-        return Reply::refused(NULL_HANDLE);
-    };
-    let Some(shared) = object.shared() else {
-        return Reply::refused(OTHER_KIND);
-    };
+    lent!(shared = flow.shared());
     Reply::of_withdrawal(shared.cancel_emit(Ticket(ticket)))
 }
 
@@ -117,12 +92,7 @@ pub extern "C" fn hillgauze_shared_cancel_emit(flow: &mut Handle, ticket: u64) -
 pub extern "C" fn hillgauze_shared_subscribe(flow: &mut Handle) -> Reply
     ensures { OnShared (Answers subscribed_reply calls.subscribe) flow.old.object result flow.new.object }
 {
-    let Some(object) = flow.lend() else {
-        return Reply::refused(NULL_HANDLE);
-    };
-    let Some(shared) = object.shared() else {
-        return Reply::refused(OTHER_KIND);
-    };
+    lent!(shared = flow.shared());
     Reply::of_subscription(shared.subscribe())
 }
 
@@ -131,12 +101,7 @@ pub extern "C" fn hillgauze_shared_subscribe(flow: &mut Handle) -> Reply
 pub extern "C" fn hillgauze_shared_subscribe_with(flow: &mut Handle, values: &[u64]) -> Reply
     ensures { OnShared (SubscribesWith values.now) flow.old.object result flow.new.object }
 {
-    let Some(object) = flow.lend() else {
-        return Reply::refused(NULL_HANDLE);
-    };
-    let Some(shared) = object.shared() else {
-        return Reply::refused(OTHER_KIND);
-    };
+    lent!(shared = flow.shared());
     match Prelude::of(values) {
         Ok(prelude) => Reply::of_subscription(shared.subscribe_with(prelude)),
         Err(refusal) => Reply::of_refusal(refusal),
@@ -148,12 +113,7 @@ pub extern "C" fn hillgauze_shared_subscribe_with(flow: &mut Handle, values: &[u
 pub extern "C" fn hillgauze_shared_next(flow: &mut Handle, subscription: u64) -> Reply
     ensures { OnShared (Answers next_reply (calls.next_value subscription)) flow.old.object result flow.new.object }
 {
-    let Some(object) = flow.lend() else {
-        return Reply::refused(NULL_HANDLE);
-    };
-    let Some(shared) = object.shared() else {
-        return Reply::refused(OTHER_KIND);
-    };
+    lent!(shared = flow.shared());
     Reply::of_next(shared.next(SubId(subscription)))
 }
 
@@ -167,12 +127,7 @@ pub extern "C" fn hillgauze_shared_try_next_all(
     ensures received { OnShared (Told receipts_reply (ReceivesInto subscription values.old values.new)) flow.old.object result flow.new.object }
     ensures untouched { result.refusal ≢ 0 → values.new ≡ values.old }
 {
-    let Some(object) = flow.lend() else {
-        return Reply::refused(NULL_HANDLE);
-    };
-    let Some(shared) = object.shared() else {
-        return Reply::refused(OTHER_KIND);
-    };
+    lent!(shared = flow.shared());
     Reply::of_receipts(receive_into(shared, SubId(subscription), values))
 }
 
@@ -181,12 +136,7 @@ pub extern "C" fn hillgauze_shared_try_next_all(
 pub extern "C" fn hillgauze_shared_cancel(flow: &mut Handle, subscription: u64) -> Reply
     ensures { OnShared (Answers ended_reply (calls.cancel subscription)) flow.old.object result flow.new.object }
 {
-    let Some(object) = flow.lend() else {
-        return Reply::refused(NULL_HANDLE);
-    };
-    let Some(shared) = object.shared() else {
-        return Reply::refused(OTHER_KIND);
-    };
+    lent!(shared = flow.shared());
     Reply::of_end(shared.cancel(SubId(subscription)))
 }
 
@@ -195,12 +145,7 @@ pub extern "C" fn hillgauze_shared_cancel(flow: &mut Handle, subscription: u64) 
 pub extern "C" fn hillgauze_shared_pending(flow: &mut Handle, subscription: u64) -> Reply
     ensures { OnShared (CountsAs (CountsPending subscription)) flow.old.object result flow.new.object }
 {
-    let Some(object) = flow.lend() else {
-        return Reply::refused(NULL_HANDLE);
-    };
-    let Some(shared) = object.shared() else {
-        return Reply::refused(OTHER_KIND);
-    };
+    lent!(shared = flow.shared());
     Reply::of_count(shared.pending(SubId(subscription)))
 }
 
@@ -209,12 +154,7 @@ pub extern "C" fn hillgauze_shared_pending(flow: &mut Handle, subscription: u64)
 pub extern "C" fn hillgauze_shared_count(flow: &mut Handle) -> Reply
     ensures { OnShared (CountsAs IsLiveCount) flow.old.object result flow.new.object }
 {
-    let Some(object) = flow.lend() else {
-        return Reply::refused(NULL_HANDLE);
-    };
-    let Some(shared) = object.shared() else {
-        return Reply::refused(OTHER_KIND);
-    };
+    lent!(shared = flow.shared());
     Reply::of_count(shared.subscription_count() as u64)
 }
 
@@ -223,12 +163,7 @@ pub extern "C" fn hillgauze_shared_count(flow: &mut Handle) -> Reply
 pub extern "C" fn hillgauze_shared_cache_len(flow: &mut Handle) -> Reply
     ensures { OnShared (CountsAs IsCacheLength) flow.old.object result flow.new.object }
 {
-    let Some(object) = flow.lend() else {
-        return Reply::refused(NULL_HANDLE);
-    };
-    let Some(shared) = object.shared() else {
-        return Reply::refused(OTHER_KIND);
-    };
+    lent!(shared = flow.shared());
     Reply::of_count(shared.replay_len())
 }
 
@@ -237,12 +172,7 @@ pub extern "C" fn hillgauze_shared_cache_len(flow: &mut Handle) -> Reply
 pub extern "C" fn hillgauze_shared_cache_at(flow: &mut Handle, index: u64) -> Reply
     ensures { OnShared (ReadsCache index) flow.old.object result flow.new.object }
 {
-    let Some(object) = flow.lend() else {
-        return Reply::refused(NULL_HANDLE);
-    };
-    let Some(shared) = object.shared() else {
-        return Reply::refused(OTHER_KIND);
-    };
+    lent!(shared = flow.shared());
     if index >= shared.replay_len() {
         return Reply::of_value(None);
     }
@@ -254,12 +184,7 @@ pub extern "C" fn hillgauze_shared_cache_at(flow: &mut Handle, index: u64) -> Re
 pub extern "C" fn hillgauze_shared_reset(flow: &mut Handle) -> Reply
     ensures { OnShared (Resets) flow.old.object result flow.new.object }
 {
-    let Some(object) = flow.lend() else {
-        return Reply::refused(NULL_HANDLE);
-    };
-    let Some(shared) = object.shared() else {
-        return Reply::refused(OTHER_KIND);
-    };
+    lent!(shared = flow.shared());
     shared.reset_replay();
     Reply::done()
 }
@@ -269,12 +194,7 @@ pub extern "C" fn hillgauze_shared_reset(flow: &mut Handle) -> Reply
 pub extern "C" fn hillgauze_shared_free(alloc: Global, flow: &mut Handle) -> Reply
     ensures { IsFreed shared_of flow.old.object result flow.new.object }
 {
-    let Some(object) = flow.lend() else {
-        return Reply::refused(NULL_HANDLE);
-    };
-    let Some(_own) = object.shared() else {
-        return Reply::refused(OTHER_KIND);
-    };
+    lent!(_own = flow.shared());
     flow.clear(alloc);
     Reply::done()
 }

@@ -18,12 +18,7 @@ use std::alloc::Global;
 pub extern "C" fn hillgauze_state_value(seat: &mut Handle) -> Reply
     ensures { OnSeat (ReadsValue) seat.old.object result seat.new.object }
 {
-    let Some(object) = seat.lend() else {
-        return Reply::refused(NULL_HANDLE);
-    };
-    let Some(seating) = object.seat() else {
-        return Reply::refused(OTHER_KIND);
-    };
+    lent!(seating = seat.seat());
     Reply::of_value(Some(seating.seat.value()))
 }
 
@@ -32,12 +27,7 @@ pub extern "C" fn hillgauze_state_value(seat: &mut Handle) -> Reply
 pub extern "C" fn hillgauze_state_set(seat: &mut Handle, value: u64) -> Reply
     ensures { OnSeat (SetsValue value) seat.old.object result seat.new.object }
 {
-    let Some(object) = seat.lend() else {
-        return Reply::refused(NULL_HANDLE);
-    };
-    let Some(seating) = object.seat() else {
-        return Reply::refused(OTHER_KIND);
-    };
+    lent!(seating = seat.seat());
     seating.seat.set(value);
     Reply::done()
 }
@@ -51,12 +41,7 @@ pub extern "C" fn hillgauze_state_compare_and_set(
 ) -> Reply
     ensures { OnSeat (ComparesValue expect update) seat.old.object result seat.new.object }
 {
-    let Some(object) = seat.lend() else {
-        return Reply::refused(NULL_HANDLE);
-    };
-    let Some(seating) = object.seat() else {
-        return Reply::refused(OTHER_KIND);
-    };
+    lent!(seating = seat.seat());
     Reply::of_comparison(seating.seat.compare_and_set(expect, update))
 }
 
@@ -65,12 +50,7 @@ pub extern "C" fn hillgauze_state_compare_and_set(
 pub extern "C" fn hillgauze_state_collectors(seat: &mut Handle) -> Reply
     ensures { OnSeat (CountsCollectors) seat.old.object result seat.new.object }
 {
-    let Some(object) = seat.lend() else {
-        return Reply::refused(NULL_HANDLE);
-    };
-    let Some(seating) = object.seat() else {
-        return Reply::refused(OTHER_KIND);
-    };
+    lent!(seating = seat.seat());
     Reply::of_count(seating.seat.collectors() as u64)
 }
 
@@ -79,12 +59,7 @@ pub extern "C" fn hillgauze_state_collectors(seat: &mut Handle) -> Reply
 pub extern "C" fn hillgauze_state_spare(seat: &mut Handle) -> Reply
     ensures { OnSeat (CountsSpare) seat.old.object result seat.new.object }
 {
-    let Some(object) = seat.lend() else {
-        return Reply::refused(NULL_HANDLE);
-    };
-    let Some(seating) = object.seat() else {
-        return Reply::refused(OTHER_KIND);
-    };
+    lent!(seating = seat.seat());
     Reply::of_count(seating.seat.spare() as u64)
 }
 
@@ -122,12 +97,7 @@ pub extern "C" fn hillgauze_state_take_seat(
     if !other.is_null() {
         return Reply::refused(HANDLE_TAKEN);
     }
-    let Some(object) = seat.lend() else {
-        return Reply::refused(NULL_HANDLE);
-    };
-    let Some(seating) = object.seat() else {
-        return Reply::refused(OTHER_KIND);
-    };
+    lent!(seating = seat.seat());
     // Memory is met first, so that no seat is taken for which there is none.
     if !other.make(alloc, Object::Vacant) {
         return Reply::of_refusal(Refusal::NoMemory);
@@ -149,12 +119,7 @@ pub extern "C" fn hillgauze_state_take_seat(
 pub extern "C" fn hillgauze_state_free(alloc: Global, seat: &mut Handle) -> Reply
     ensures { IsFreed seat_of seat.old.object result seat.new.object }
 {
-    let Some(object) = seat.lend() else {
-        return Reply::refused(NULL_HANDLE);
-    };
-    let Some(_own) = object.seat() else {
-        return Reply::refused(OTHER_KIND);
-    };
+    lent!(_own = seat.seat());
     seat.clear(alloc);
     Reply::done()
 }
@@ -183,12 +148,7 @@ pub extern "C" fn hillgauze_state_give_back(
     requires { AreOfOneFlow seat.old.object other.old.object }
     ensures { GivesBack seat.old.object other.old.object result seat.new.object other.new.object }
 {
-    let Some(object) = seat.lend() else {
-        return Reply::refused(NULL_HANDLE);
-    };
-    let Some(seating) = object.seat() else {
-        return Reply::refused(OTHER_KIND);
-    };
+    lent!(seating = seat.seat());
     match taken(alloc, other) {
         Ok(given) => {
             seating.seat.give_back(given.seat);

@@ -92,7 +92,7 @@ impl Sequencing {
         self.sequencer.cancel_emit(&self.lane, ticket)
     }
 
-    /// Lets in emissions that wait.
+    /// Accepts emissions that wait.
     pub fn scan(&mut self) -> u32
         ensures same { IsSameSequencer self.old self.new }
         ensures settled { AcceptedWaiting result self.old self.new }
@@ -109,7 +109,7 @@ impl Sequencing {
         self.sequencer.live(&self.lane)
     }
 
-    /// Lets a reader in.
+    /// Admits a reader.
     pub fn admit(&mut self, alloc: Global) -> Result<Reading, Refusal>
         ensures ok { IfOk result (λ r. IsAdmitted self.old r self.new) }
         ensures err { IfErr result (λ e. IsNotAdmitted self.old e self.new) }
