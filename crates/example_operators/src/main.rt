@@ -12,24 +12,15 @@ use lists::{counted, pairs, quiet, six, states, tries};
 use more_operators::on_each;
 use std::alloc::{AllocGlobal, Global};
 use std::io;
+use thiserror::Error;
 
 /// Why the program ends early.
-#[derive(Debug, Drop)]
+#[derive(Debug, Drop, Error)]
 enum Fault {
-    Refused(Refusal),
-    Host(io::Error),
-}
-
-impl From<Refusal> for Fault {
-    fn from(refusal: Refusal) -> Fault {
-        Fault::Refused(refusal)
-    }
-}
-
-impl From<io::Error> for Fault {
-    fn from(error: io::Error) -> Fault {
-        Fault::Host(error)
-    }
+    #[error("{0}")]
+    Refused(#[from] Refusal),
+    #[error("no output")]
+    Host(#[from] io::Error),
 }
 
 /// Kotlin's `(1..3).asFlow().onEach { count++ }`, polled by hand: each value, and how many came so far.

@@ -11,6 +11,7 @@ use std::rt::Clock;
 use std::sync::Wait;
 use std::time::{Duration, Instant};
 use std::{io, thread};
+use thiserror::Error;
 
 /// The shared flow, which the numbers are emitted into.
 const PLACES: Config = Config {
@@ -29,22 +30,12 @@ const STARTED: Started = Started::WhileSubscribed {
 };
 
 /// Why the program ends early.
-#[derive(Debug, Drop)]
+#[derive(Debug, Drop, Error)]
 enum Fault {
-    Refused(Refusal),
-    Host(io::Error),
-}
-
-impl From<Refusal> for Fault {
-    fn from(refusal: Refusal) -> Fault {
-        Fault::Refused(refusal)
-    }
-}
-
-impl From<io::Error> for Fault {
-    fn from(error: io::Error) -> Fault {
-        Fault::Host(error)
-    }
+    #[error("{0}")]
+    Refused(#[from] Refusal),
+    #[error("no clock or no output")]
+    Host(#[from] io::Error),
 }
 
 /// One poll of the sharing, at the moment that the clock gives: whether sharing is on. Nothing runs by itself, so without polls
