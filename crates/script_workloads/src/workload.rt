@@ -5,7 +5,7 @@ use crate::{pictures, pipes, scripts};
 use std::alloc::AllocGlobal;
 use std::random::RandomSource;
 use std::sync::Wait;
-use workload_inputs::{Digest, Scale};
+use workload_inputs::{Digest, Scale, seed_in};
 
 /// A workload.
 #[derive(Clone, Copy)]
@@ -64,13 +64,9 @@ impl Workload {
 impl Order {
     /// What these two words ask for.
     pub(crate) fn of(name: &str, seed: &str) -> Option<Order> {
-        let workload = Workload::named(name)?;
-        match seed.parse::<u32>() {
-            Ok(seed) => Some(Order {
-                workload,
-                seed: u64::from(seed),
-            }),
-            Err(_) => None,
-        }
+        Some(Order {
+            workload: Workload::named(name)?,
+            seed: seed_in(seed)?,
+        })
     }
 }

@@ -6,5 +6,5 @@ mod random;
 mod scale;
 
 pub use digest::Digest;
-pub use random::Random;
+pub use random::{Random, seed_in};
 pub use scale::Scale;

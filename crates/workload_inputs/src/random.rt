@@ -37,3 +37,11 @@ impl Random {
         self.below(all) < count
     }
 }
+
+/// The seed that a word says.
+pub fn seed_in(word: &str) -> Option<u64> {
+    match word.parse::<u32>() {
+        Ok(seed) => Some(u64::from(seed)),
+        Err(_) => None,
+    }
+}
