@@ -56,7 +56,7 @@ def test_marks_of_columns_of_their_own_widths_stand_apart(browser, folder):
     page.close()
 
 
-# Line 10 lets in both emissions that wait.
+# Line 10 has both emissions accepted that wait.
 BOTH_LET_IN = """shared f 0 2 suspend
 sub f a
 sub f b

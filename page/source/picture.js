@@ -149,7 +149,7 @@ function fillCells(picture, marks) {
   picture.cells = picture.columns.flat();
 }
 
-/** The elements of each mark of a cell. What one line lets in stands side by side there, each mark's frame before the rest of it. */
+/** The elements of each mark of a cell. What one line has accepted stands side by side there, each mark's frame before the rest of it. */
 function marksOf({ elements }) {
   if (elements[0].look !== LET_IN) return [elements];
   const frames = elements.flatMap(({ look }, index) => (look === LET_IN ? [index] : []));
