@@ -1,7 +1,10 @@
 //! A caller of a shared flow in two threads, one of which emits and the other receives, with the sentence for both.
 
-ghost use Rattle.std.specs.Prelude.{◌≡◌, ◌++◌, None, IfOk};
+ghost use Rattle.std.specs.Prelude.{◌≡◌, ◌⊎◌, ◌++◌, Err, None, IfOk, IfErr, IfSome, IfNone};
+ghost use Rattle.flow_terms.specs.declared.refusal.Refusal.TheVariants.{NoMemory};
+ghost use Rattle.shared_core.specs.Kept.{making_refusal};
 ghost use Rattle.shared_core.specs.Preludes.{prelude_values};
+ghost use Rattle.shared_rounds.specs.Rounds.{IsAtLimit};
 ghost use Rattle.hot_callers.specs.Exchanges.{EndsBoth, EndsEmitters, Exchange, LateExchange, MeetsBoth, ReceivesBetween, TakesEach, TakesInTurn, TellsBoth, TriesEach};
 ghost use Rattle.hot_callers.specs.Receiving.{ReceivesItsOwn, ReceivesOfBoth, WereTried};
 ghost use Rattle.shared_flow.specs.Emitted.{emitted};
@@ -170,7 +173,7 @@ pub struct Exchanged {
 /// then of these values, each in its order and once; nobody else emits. Both are lent to the threads, meet their flow then, and are ended
 /// by its owner, which takes them in.
 ///
-/// Refused as `SharedFlow::new` is, and as `NoMemory`.
+/// Refused as `SharedFlow::new` is, then as `SharedFlow::subscribe` is, and as `NoMemory`.
 pub fn emit_and_receive<R>(
     rt: &R,
     config: Config,
@@ -183,6 +186,8 @@ where
     ensures has { IfOk result (λ exchanged.
         ReceivesItsOwn config.policy (prelude_values prelude) values.now exchanged.received.items) }
     ensures exchange { IfOk result (λ exchanged. Exchange config (prelude_values prelude) values.now exchanged.received.items exchanged.flow.party) }
+    ensures refused { IfSome (making_refusal config) (λ refusal. result ≡ Err refusal) }
+    ensures otherwise { IfNone (making_refusal config) (IfErr result (λ refusal. (refusal ≡ NoMemory) ⊎ IsAtLimit refusal)) }
 {
     each_subscription_receives_prelude_cache_then_later::<u64>();
     an_emitter_alone::<u64>();
@@ -229,6 +234,7 @@ where
     ensures one { IfOk result (λ _. TriesEach first.now one.old one.new) }
     ensures two { IfOk result (λ _. TriesEach second.now two.old two.new) }
     ensures receives { IfOk result (λ received. ReceivesBetween flow.old.party flow.new.party (prelude_values prelude) received.items two.new.party) }
+    ensures refused { IfErr result (λ refusal. (refusal ≡ NoMemory) ⊎ IsAtLimit refusal) }
 {
     let mut subscription = flow.subscribe_with(rt, prelude)?;
     let mut received = Vec::new(rt.alloc());
@@ -279,7 +285,7 @@ fn end_emitters(rt: &impl Wait, flow: &mut SharedFlow<u64>, one: Emitter<u64>, t
 /// has tried the `early` values before the subscription begins; the second tries the `late` ones after it was ended, of which it has
 /// received nothing, and the list of rounds goes on.
 ///
-/// Refused as `SharedFlow::new` is, and as `NoMemory`.
+/// Refused as `SharedFlow::new` is, then as `SharedFlow::subscribe` is, and as `NoMemory`.
 pub fn emit_and_receive_between<R>(
     rt: &R,
     config: Config,
@@ -295,6 +301,8 @@ where
     ensures has { IfOk result (λ exchanged.
         ReceivesOfBoth (prelude_values prelude) (early.now ++ first.now) second.now exchanged.received.items) }
     ensures exchange { IfOk result (λ exchanged. LateExchange config (prelude_values prelude) (early.now ++ first.now) second.now late.now exchanged.received.items exchanged.flow.party) }
+    ensures refused { IfSome (making_refusal config) (λ refusal. result ≡ Err refusal) }
+    ensures otherwise { IfNone (making_refusal config) (IfErr result (λ refusal. (refusal ≡ NoMemory) ⊎ IsAtLimit refusal)) }
 {
     each_subscription_receives_prelude_cache_then_later::<u64>();
     let mut flow = SharedFlow::new(rt.alloc(), config)?;

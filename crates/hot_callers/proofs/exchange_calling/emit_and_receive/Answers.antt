@@ -1,4 +1,6 @@
-use Rattle.std.proofs.Common.{ℕ, List, [], sym, ap, subst}
+use Rattle.std.proofs.Common.{ℕ, List, [], sym, ap, subst, rules}
+use Rattle.shared_core.specs.Kept.{making_refusal}
+use Rattle.shared_rounds.proofs.Refusals.{none_if_ok, whatever}
 use Rattle.shared_rounds.specs.Names.{IsMadeWith}
 use Rattle.shared_flow.specs.Owners.{Owning}
 use Rattle.shared_rounds.specs.Reach.{Party}
@@ -29,4 +31,27 @@ returns g c =
     (ap (λ (p : Party). p.rounds) c.in_ok-emitter.ensures.flow) c.in_ok-emitter.ensures.id
     (quiet_newcomer 0 [] new c.in_ok-emitter.emitter.party quiet c.in_ok-emitter.ensures.flow).0
     c.in_two_threads-taken.ensures.emits met.emitter c.emissions_are_its_part.ensures c.end_both.ensures) in
-    record { has = both.0; exchange = both.1 }
+    record {
+      has = both.0;
+      exchange = both.1;
+      refused = none_if_ok (making_refusal config) c.in_ok-flow.flow _ c.in_ok-flow.ensures.refused;
+      otherwise = whatever (making_refusal config) _ tt;
+    }
+
+pub returns-in_err-emitter-clause-refused : goal.returns-in_err-emitter-clause-refused
+returns-in_err-emitter-clause-refused g c = none_if_ok (making_refusal c.args.config) c.in_ok-flow.flow _ c.in_ok-flow.ensures.refused
+
+pub returns-in_err-emitter-clause-otherwise : goal.returns-in_err-emitter-clause-otherwise
+returns-in_err-emitter-clause-otherwise g c = whatever (making_refusal c.args.config) _ (search rules)
+
+pub returns-in-Err-clause-refused : goal.returns-in-Err-clause-refused
+returns-in-Err-clause-refused g c = none_if_ok (making_refusal c.args.config) c.in_ok-flow.flow _ c.in_ok-flow.ensures.refused
+
+pub returns-in-Err-clause-otherwise : goal.returns-in-Err-clause-otherwise
+returns-in-Err-clause-otherwise g c = whatever (making_refusal c.args.config) _ c.in-Err.ensures.refused
+
+pub returns-in_err-taken-clause-refused : goal.returns-in_err-taken-clause-refused
+returns-in_err-taken-clause-refused g c = none_if_ok (making_refusal c.args.config) c.in_ok-flow.flow _ c.in_ok-flow.ensures.refused
+
+pub returns-in_err-taken-clause-otherwise : goal.returns-in_err-taken-clause-otherwise
+returns-in_err-taken-clause-otherwise g c = whatever (making_refusal c.args.config) _ (search rules)

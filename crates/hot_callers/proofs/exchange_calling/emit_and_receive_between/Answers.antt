@@ -1,4 +1,6 @@
-use Rattle.std.proofs.Common.{Option, [], sym, ap, subst, ◌∙◌}
+use Rattle.std.proofs.Common.{Option, [], sym, ap, subst, ◌∙◌, rules}
+use Rattle.shared_core.specs.Kept.{making_refusal}
+use Rattle.shared_rounds.proofs.Refusals.{none_if_ok, whatever}
 use Rattle.shared_rounds.specs.Names.{FlowName, IsMadeWith}
 use Rattle.shared_rounds.specs.Reach.{Party}
 use Rattle.shared_flow.specs.Owners.{Owning}
@@ -36,4 +38,27 @@ returns g c =
     (ap (λ (p : Party). p.rounds) c.in-Ok.ensures.flow) c.in-Ok.ensures.id (quiet_newcomer 1 [] with_one c.in-Ok.two.party halved c.in-Ok.ensures.flow).0
     (tries_on early first c.in_ok-one.one c.try_each.new.emitter between.new.one c.try_each.ensures.tries c.in-Ok-between.ensures.one)
     c.in-Ok-between.ensures.two c.try_each-2.ensures.tries c.in-Ok-between.ensures.receives c.tell_both.ensures c.end_emitters.ensures in
-    record { has = exchange.received_with_others_is_prelude_then_both; exchange = exchange }
+    record {
+      has = exchange.received_with_others_is_prelude_then_both;
+      exchange = exchange;
+      refused = none_if_ok (making_refusal c.args.config) c.in_ok-flow.flow _ c.in_ok-flow.ensures.refused;
+      otherwise = whatever (making_refusal c.args.config) _ tt;
+    }
+
+pub returns-in_err-one-clause-refused : goal.returns-in_err-one-clause-refused
+returns-in_err-one-clause-refused g c = none_if_ok (making_refusal c.args.config) c.in_ok-flow.flow _ c.in_ok-flow.ensures.refused
+
+pub returns-in_err-one-clause-otherwise : goal.returns-in_err-one-clause-otherwise
+returns-in_err-one-clause-otherwise g c = whatever (making_refusal c.args.config) _ (search rules)
+
+pub returns-in-Err-clause-refused : goal.returns-in-Err-clause-refused
+returns-in-Err-clause-refused g c = none_if_ok (making_refusal c.args.config) c.in_ok-flow.flow _ c.in_ok-flow.ensures.refused
+
+pub returns-in-Err-clause-otherwise : goal.returns-in-Err-clause-otherwise
+returns-in-Err-clause-otherwise g c = whatever (making_refusal c.args.config) _ (search rules)
+
+pub returns-in-Err-between-clause-refused : goal.returns-in-Err-between-clause-refused
+returns-in-Err-between-clause-refused g c = none_if_ok (making_refusal c.args.config) c.in_ok-flow.flow _ c.in_ok-flow.ensures.refused
+
+pub returns-in-Err-between-clause-otherwise : goal.returns-in-Err-between-clause-otherwise
+returns-in-Err-between-clause-otherwise g c = whatever (making_refusal c.args.config) _ c.in-Err-between.ensures.refused

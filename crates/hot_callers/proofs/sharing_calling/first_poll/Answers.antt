@@ -1,7 +1,7 @@
 use Rattle.std.proofs.Common.{◌≡◌, refl, ap, Option, None, [], ◌∷◌, true}
 use Rattle.std.proofs.lemmas.Result.{IfOk-weaker}
 use Rattle.cold_flow.specs.declared.cause.Cause.{Cause}
-use Rattle.sharing_upstream.specs.declared.polled.Polled.{Polled}
+use Rattle.sharing_upstream.specs.declared.polling.Polled.{Polled}
 use Rattle.flow_terms.specs.declared.started.Started.{Started}
 use Rattle.flow_terms.specs.declared.started.Started.TheVariants.{Eagerly}
 use Rattle.sharing_upstream.specs.Strategies.{Look}
