@@ -4,5 +4,7 @@ pub mod Collecting
 pub mod CollectingLaws
 pub mod Passing
 pub mod PassingLaws
+pub mod Reading
+pub mod ReadingLaws
 pub mod Waiting
 pub mod WaitingLaws

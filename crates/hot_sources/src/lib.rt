@@ -21,5 +21,6 @@ pub use operators::map::{Changing, map};
 pub use operators::passing::Passing;
 pub use shared_flow::Parker;
 pub use sources::collecting::{CollectingRun, collecting};
+pub use sources::reading::{ReadingRun, reading};
 pub use sources::receiving::{ReceivingRun, receiving};
 pub use waiting::{next_of, take_of};

@@ -1,13 +1,16 @@
 //! A thread that sleeps for a run.
 
 ghost use Rattle.std.specs.Prelude.{◌≡◌, IfOk, IfErr, MatchOption, ◌++◌};
+ghost use Rattle.futures.specs.Poll.{OnPending};
+ghost use Rattle.futures.specs.Task.{IsArmed};
 ghost use Rattle.futures.specs.declared.task.Poll.TheVariants.{Ready};
 ghost use Rattle.flow_terms.specs.declared.refusal.Refusal.TheVariants.{NoMemory};
 ghost use Rattle.cold_flow.specs.Poll.{Narrows, end_of};
 ghost use Rattle.hot_sources.specs.Waiting.{Came, TookSome, TookAll, EndedAfter};
+ghost use Rattle.hot_sources.specs.WaitingLaws.{TookUpTo};
 
 use cold_flow::{Cause, Event, Refusal, Run};
-use futures::task::Poll;
+use futures::task::{Context, Poll};
 use shared_flow::Parker;
 use std::sync::Wait;
 
@@ -42,8 +45,9 @@ pub fn next_of<S: Run>(
 /// Adds the next `count` values of `chain` to `out`, for each of which the thread sleeps: Kotlin's `take(count).toList()`. Where the
 /// run ends before, it answers why, and `out` has the values up to that.
 ///
-/// Nothing behind the last of them is taken, and the run goes on, or `cancel` ends it. Refused as `NoMemory` where `out` has no room
-/// and gets none, before a value is taken for it, or there is none to wait by; `out` has the values that were taken until then.
+/// Values that are there are taken within one turn, so each costs a poll. Nothing behind the last of them is taken, and the run goes on,
+/// or `cancel` ends it. Refused as `NoMemory` where `out` has no room and gets none, before a value is taken for it, or there is none to
+/// wait by; `out` has the values that were taken until then.
 pub fn take_of<S: Run>(
     rt: &impl Wait,
     parker: &mut Parker,
@@ -56,12 +60,48 @@ pub fn take_of<S: Run>(
         (λ cause. EndedAfter S.polled S.may chain.old out.old.items out.new.items cause chain.new)) }
     ensures refused { IfErr result (λ refusal. (refusal ≡ NoMemory) × TookSome S.polled chain.old out.old.items out.new.items chain.new) }
 {
-    'values: for _taken in 0..count {
-        out.reserve(1)?;
-        match next_of(rt, parker, chain)? {
-            Event::Value(value) => out.push_reserved(value),
-            Event::End(cause) => return Ok(Some(cause)),
+    if count == 0 {
+        return Ok(None);
+    }
+    parker.begin()?;
+    let mut left = count;
+    'turns: for _ in rt.forever() {
+        let Some(mut cx) = parker.turn(rt) else {
+            continue;
+        };
+        let polled = take_ready(chain, &mut left, out, &mut cx);
+        cx.end(&polled);
+        if let Poll::Ready(taken) = polled {
+            return taken;
         }
     }
-    Ok(None)
+    unreachable!()
+}
+
+// Adds the values of `chain` that are there to `out`, `left` at most, within one turn. Pending where the chain is, and then `left` tells
+// how many are still to come; ready with the end, with nothing once all `left` are there, or refused where `out` has no room.
+fn take_ready<S: Run>(
+    chain: &mut S,
+    left: &mut usize,
+    out: &mut Vec<S::Item>,
+    cx: &mut Context<'_>,
+) -> Poll<Result<Option<Cause<S::Fault>>, Refusal>>
+    ensures took { TookUpTo S.polled S.may chain.old out.old.items left.old result out.new.items chain.new left.new }
+    ensures armed { OnPending result (IsArmed cx.new) }
+{
+    let most = *left;
+    'values: for taken in 0..most {
+        if out.reserve(1).is_err() {
+            return Poll::Ready(Err(Refusal::NoMemory));
+        }
+        match chain.poll_next(cx) {
+            Poll::Ready(Event::Value(value)) => out.push_reserved(value),
+            Poll::Ready(Event::End(cause)) => return Poll::Ready(Ok(Some(cause))),
+            Poll::Pending => {
+                *left = most - taken;
+                return Poll::Pending;
+            }
+        }
+    }
+    Poll::Ready(Ok(None))
 }

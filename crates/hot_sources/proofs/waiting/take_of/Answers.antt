@@ -1,19 +1,33 @@
-use Rattle.std.proofs.Common.{◌++◌, ◌∷◌, [], ap, ◌∙◌}
-use Rattle.hot_sources.specs.WaitingLaws.{took_none, took_one, ended_after}
+use Rattle.std.proofs.Common.{[], sym, rules}
+use Rattle.std.proofs.lemmas.List.{append-nil}
+use Rattle.std.proofs.lemmas.Result.{err_from_is_err_and}
+use Rattle.cold_flow.specs.Polled.Gave.{nothing}
+use Rattle.hot_sources.specs.WaitingLaws.{took_none, took_some}
+use Rattle.hot_sources.proofs.Turning.{pended_on, took_whole, took_few}
 use Rattle.hot_sources.proofs.waiting.take_of.Goals as goal
 
-pub values-init : goal.values-init
-values-init g c = took_none _ _ _ _
+pub turns-init : goal.turns-init
+turns-init g c = (0, took_none _ _ _ _, search rules)
 
-pub values-preserved : goal.values-preserved
-values-preserved g c =
-    let came = rw c.in-Value.is at c.in_ok-value.ensures.came in
-    let narrows = rw c.in-Value.is at c.in_ok-value.ensures.narrows in
-    took_one g.S.Run.polled g.S.Run.may _ _ _ _ _ _ _ c.in-Value.value c.values.invariant came narrows
-    (c.push_reserved.ensures.items ∙ ap (λ l. l ++ c.in-Value.value ∷ []) c.reserve.ensures.items)
+pub turns-preserved : goal.turns-preserved
+turns-preserved g c =
+    let took = rw c.in_default-polled.is at c.take_ready-polled.ensures.took in
+    pended_on g.S.Run.polled g.S.Run.may _ _ _ _ _ _ _ _ _ _ c.turns.invariant.1 c.turns.invariant.2 took
 
-pub returns-in-End-clause-took : goal.returns-in-End-clause-took
-returns-in-End-clause-took g c =
-    let came = rw c.in-End.is at c.in_ok-value.ensures.came in
-    let could = rw c.in-End.is at c.in_ok-value.ensures.narrows in
-    rw c.reserve.ensures.items (ended_after g.S.Run.polled g.S.Run.may _ _ _ _ _ _ c.in-End.cause c.values.invariant came could)
+pub returns-then-count-eq0-clause-took : goal.returns-then-count-eq0-clause-took
+returns-then-count-eq0-clause-took g c = ([], sym (append-nil _), sym c.if-count-eq0.true, nothing)
+
+pub returns-in_err-begin-clause-refused : goal.returns-in_err-begin-clause-refused
+returns-in_err-begin-clause-refused g c =
+    let p = err_from_is_err_and c.from_residual.result c.from_residual.ensures.1 in
+    rw (p.1, p.2) (c.in_err-begin.ensures, took_some _ _ _ _ _ _ _ (took_none _ g.S.Run.may _ _))
+
+pub returns-in-Ready-clause-took : goal.returns-in-Ready-clause-took
+returns-in-Ready-clause-took g c =
+    let took = rw c.in-Ready.is at c.take_ready-polled.ensures.took in
+    took_whole g.S.Run.polled g.S.Run.may _ _ _ _ _ _ _ _ _ _ c.in-Ready.taken c.turns.invariant.1 c.turns.invariant.2 took
+
+pub returns-in-Ready-clause-refused : goal.returns-in-Ready-clause-refused
+returns-in-Ready-clause-refused g c =
+    let took = rw c.in-Ready.is at c.take_ready-polled.ensures.took in
+    took_few g.S.Run.polled g.S.Run.may _ _ _ _ _ _ _ _ _ c.in-Ready.taken c.turns.invariant.1 took
