@@ -1,6 +1,6 @@
 //! What a soak did so far.
 
-use crate::worker::Record;
+use crate::record::Record;
 
 /// What was done so far.
 #[derive(Clone, Copy)]

@@ -9,9 +9,12 @@
 #![tactic(auto)]
 
 mod counts;
+mod emitting_side;
 mod fault;
 mod places;
 mod random;
+mod receiving_side;
+mod record;
 mod rounds;
 mod soak;
 mod state_side;

@@ -2,7 +2,8 @@
 
 use crate::fault::Fault;
 use crate::random::Random;
-use crate::worker::{Record, Worker};
+use crate::record::Record;
+use crate::worker::Worker;
 use shared_core::{Config, Policy};
 use shared_flow::SharedFlow;
 use state_flow::{StateFlow, StateSeat};
@@ -97,7 +98,7 @@ where
     R: AllocGlobal + RandomSource + Wait,
 {
     for id in 1..=THREADS {
-        let Ok(worker) = Worker::new(rt, flow, state, id as u32, random.split()) else {
+        let Ok(worker) = Worker::new(rt, flow, state, id as u32, random) else {
             break;
         };
         if let Err(refused) = workers.push(worker) {

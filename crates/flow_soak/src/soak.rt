@@ -17,18 +17,10 @@ pub(crate) fn soak_for<R>(rt: &R, minutes: u64) -> Result<(), Fault>
 where
     R: Clock + Print + AllocGlobal + RandomSource + Threads + Wait + Sync,
 {
-    let start = Instant::now(rt)?;
-    let mut random = Random::new(rt)?;
     let mut counts = Counts::none();
-    for _ in rt.forever() {
-        if start.elapsed(rt)?.as_secs() / 60 >= minutes {
-            break;
-        }
-        let records = round(rt, &mut random)?;
-        check_places(rt.alloc(), &records)?;
-        counts.add_round(&records);
-    }
-    write_counts(rt, counts)
+    let mut random = Random::new(rt)?;
+    rounds_for(rt, minutes, &mut random, &mut counts)?;
+    write_counts(rt, &counts)
 }
 
 /// Makes one round, and writes what never varies.
@@ -36,26 +28,41 @@ pub(crate) fn soak_once<R>(rt: &R) -> Result<(), Fault>
 where
     R: Print + AllocGlobal + RandomSource + Threads + Wait + Sync,
 {
-    let mut random = Random::new(rt)?;
     let mut counts = Counts::none();
-    let records = round(rt, &mut random)?;
+    let mut random = Random::new(rt)?;
+    let threads = checked_round(rt, &mut random, &mut counts)?;
+    write_kinds(rt, threads, &counts)
+}
+
+/// Makes rounds until so many minutes have passed, and adds what was done.
+fn rounds_for<R>(
+    rt: &R,
+    minutes: u64,
+    random: &mut Random,
+    counts: &mut Counts,
+) -> Result<(), Fault>
+where
+    R: Clock + AllocGlobal + RandomSource + Threads + Wait + Sync,
+{
+    let start = Instant::now(rt)?;
+    for _ in rt.forever() {
+        if start.elapsed(rt)?.as_secs() / 60 >= minutes {
+            break;
+        }
+        checked_round(rt, random, counts)?;
+    }
+    Ok(())
+}
+
+/// Makes a round, checks the place of every value, and adds what was done. Gives how many threads there were.
+fn checked_round<R>(rt: &R, random: &mut Random, counts: &mut Counts) -> Result<usize, Fault>
+where
+    R: AllocGlobal + RandomSource + Threads + Wait + Sync,
+{
+    let records = round(rt, random)?;
     check_places(rt.alloc(), &records)?;
     counts.add_round(&records);
-    println!(rt; "threads\t{}", records.len())?;
-    println!(rt;
-        "accepted in blocks\t{}",
-        some_or_none(counts.accepted_in_blocks)
-    )?;
-    println!(rt; "values received\t{}", some_or_none(counts.received))?;
-    println!(rt;
-        "received in blocks\t{}",
-        some_or_none(counts.received_in_blocks)
-    )?;
-    println!(rt;
-        "values collected of the state\t{}",
-        some_or_none(counts.given)
-    )?;
-    write_end(rt)
+    Ok(records.len())
 }
 
 /// A word for a count that varies.
@@ -63,16 +70,34 @@ fn some_or_none(count: u64) -> &'static str {
     if count == 0 { "none" } else { "some" }
 }
 
-fn write_counts(rt: &impl Print, counts: Counts) -> Result<(), Fault> {
-    println!(rt; "rounds\t{}", counts.rounds)?;
-    println!(rt; "emissions accepted\t{}", counts.accepted)?;
-    println!(rt; "accepted in blocks\t{}", counts.accepted_in_blocks)?;
-    println!(rt; "subscriptions\t{}", counts.subscriptions)?;
-    println!(rt; "values received\t{}", counts.received)?;
-    println!(rt; "received in blocks\t{}", counts.received_in_blocks)?;
-    println!(rt; "values dropped by the policy\t{}", counts.dropped)?;
-    println!(rt; "sets of the state\t{}", counts.sets)?;
-    println!(rt; "values collected of the state\t{}", counts.given)?;
+/// Writes what never varies: how many threads there were, and of what there was any.
+fn write_kinds(rt: &impl Print, threads: usize, counts: &Counts) -> Result<(), Fault> {
+    println!(rt; "threads\t{threads}")?;
+    for (name, count) in [
+        ("accepted in blocks", counts.accepted_in_blocks),
+        ("values received", counts.received),
+        ("received in blocks", counts.received_in_blocks),
+        ("values collected of the state", counts.given),
+    ] {
+        println!(rt; "{name}\t{}", some_or_none(count))?;
+    }
+    write_end(rt)
+}
+
+fn write_counts(rt: &impl Print, counts: &Counts) -> Result<(), Fault> {
+    for (name, count) in [
+        ("rounds", counts.rounds),
+        ("emissions accepted", counts.accepted),
+        ("accepted in blocks", counts.accepted_in_blocks),
+        ("subscriptions", counts.subscriptions),
+        ("values received", counts.received),
+        ("received in blocks", counts.received_in_blocks),
+        ("values dropped by the policy", counts.dropped),
+        ("sets of the state", counts.sets),
+        ("values collected of the state", counts.given),
+    ] {
+        println!(rt; "{name}\t{count}")?;
+    }
     write_end(rt)
 }
 

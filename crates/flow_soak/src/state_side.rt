@@ -1,7 +1,7 @@
 //! A thread's side of a state in a soak: a seat by which it sets, and a collector that comes and leaves.
 
 use crate::fault::Fault;
-use crate::worker::Record;
+use crate::record::Record;
 use state_flow::{Collector, StateSeat};
 
 /// Where the values of the next thread begin, as a shift.
@@ -98,7 +98,7 @@ impl StateSide {
         }
         record.sets = sets;
         record.given = given;
-        record.is_right = record.is_right && is_right;
+        record.expect(is_right);
     }
 }
 
