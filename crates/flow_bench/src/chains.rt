@@ -78,8 +78,17 @@ fn chain<R>(rt: &R, elements: u64) -> Result<Figure, Fault>
 where
     R: Clock + AllocGlobal + RandomSource,
 {
-    let flow = filter(map(range::<u64>(0, elements), OneMore), IsEven);
-    folded(rt, "cold-chain", flow, elements)
+    even_of(rt, map(range::<u64>(0, elements), OneMore), elements)
+}
+
+// A function adds an operator or two to a flow of any shape, since a proof costs more the more operators a shape has.
+/// The sum of those values that are even.
+fn even_of<R, F>(rt: &R, values: F, elements: u64) -> Result<Figure, Fault>
+where
+    R: Clock + AllocGlobal + RandomSource,
+    F: Flow<Item = u64, Fault = u64>,
+{
+    folded(rt, "cold-chain", filter(values, IsEven), elements)
 }
 
 /// The sum of two ranges' pairs.
@@ -88,7 +97,17 @@ where
     R: Clock + AllocGlobal + RandomSource,
 {
     let numbers = range::<u64>(0, elements);
-    folded(rt, "cold-zip", zip(numbers, numbers, Sum), elements)
+    pairs_of(rt, numbers, numbers, elements)
+}
+
+/// The sum of two flows' pairs.
+fn pairs_of<R, A, B>(rt: &R, left: A, right: B, elements: u64) -> Result<Figure, Fault>
+where
+    R: Clock + AllocGlobal + RandomSource,
+    A: Flow<Item = u64, Fault = u64>,
+    B: Flow<Item = u64, Fault = u64>,
+{
+    folded(rt, "cold-zip", zip(left, right, Sum), elements)
 }
 
 /// Adds up all that the flow gives.

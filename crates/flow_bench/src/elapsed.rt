@@ -12,5 +12,5 @@ pub(crate) fn now(rt: &impl Clock) -> Option<Instant> {
 /// The nanoseconds since a moment.
 pub(crate) fn nanoseconds_since(rt: &impl Clock, start: Option<Instant>) -> Result<u64, Fault> {
     let passed = start.ok_or(Fault::Host)?.elapsed(rt)?;
-    u64::try_from(passed.as_nanos()).map_err(|_| Fault::Host)
+    u64::try_from(passed.as_nanos()).ok().ok_or(Fault::Host)
 }

@@ -14,7 +14,8 @@ use std::alloc::AllocGlobal;
 use std::random::RandomSource;
 use std::rt::Clock;
 use std::sync::Wait;
-use std::thread::{Threads, for_each_mut, join_mut};
+use std::thread;
+use std::thread::{Threads, for_each_mut};
 
 /// Each scenario, with its number of readers.
 const SCENARIOS: [(&'static str, u32); 5] = [
@@ -44,6 +45,11 @@ pub(crate) trait Drains<U> {
 pub(crate) trait ReadsBlocks {
     /// Takes what is there, as far as the block has room.
     fn read_block<R: Wait>(&mut self, rt: &R, block: &mut Vec<u64>);
+}
+
+/// Who works in a thread of its own, while readers take.
+pub(crate) trait Works {
+    fn work<R: Clock + Wait>(&mut self, rt: &R);
 }
 
 pub(crate) trait InOrder {
@@ -149,6 +155,19 @@ where
     Ok(())
 }
 
+/// Who emits so many values.
+#[derive(Drop)]
+struct Feeding<'a, E> {
+    emitter: &'a mut E,
+    values: u64,
+}
+
+impl<E: Feeds> Works for Feeding<'_, E> {
+    fn work<R: Clock + Wait>(&mut self, rt: &R) {
+        feed(rt, self.emitter, self.values);
+    }
+}
+
 /// Emits so many values, while each reader takes them.
 pub(crate) fn fan_out<R, E, L>(
     rt: &R,
@@ -162,16 +181,23 @@ where
     L: Drains<u64> + InOrder + Send,
 {
     let start = now(rt);
-    join_mut(
-        rt,
-        &mut || feed(rt, emitter, values),
-        &mut || drain_all(rt, readers, values),
-    );
+    work_beside(rt, &mut Feeding { emitter, values }, readers, values);
     let nanoseconds = nanoseconds_since(rt, start)?;
     Ok(FannedOut {
         total: sum_in_order(readers.as_slice()),
         nanoseconds,
     })
+}
+
+/// One works, while each reader takes values up to this end.
+pub(crate) fn work_beside<R, W, L, U>(rt: &R, worker: &mut W, readers: &mut Vec<L>, end: U)
+where
+    R: Clock + Threads + Wait + Sync,
+    W: Works + Send,
+    L: Drains<U> + Send,
+    U: Copy + Sync,
+{
+    thread::join(rt, || worker.work(rt), || drain_all(rt, readers, end));
 }
 
 /// Emits the numbers from 0 to below `values`. Where there is no room it doesn't sleep, but tries again.
@@ -194,7 +220,7 @@ fn feed<R: Wait, E: Feeds>(rt: &R, emitter: &mut E, values: u64) {
 }
 
 /// Each reader takes the values in a thread of its own.
-pub(crate) fn drain_all<R, L, U>(rt: &R, readers: &mut Vec<L>, end: U)
+fn drain_all<R, L, U>(rt: &R, readers: &mut Vec<L>, end: U)
 where
     R: Clock + Threads + Wait + Sync,
     L: Drains<U> + Send,

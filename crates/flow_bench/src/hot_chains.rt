@@ -131,23 +131,34 @@ fn by_takes<R>(rt: &R, blocks: u64) -> Result<Receipts, Fault>
 where
     R: Clock + AllocGlobal + RandomSource + Wait,
 {
-    let parker = Parker::new(rt)?;
-    let taken = Vec::with_capacity(rt.alloc(), BLOCK / 2)?;
     let mut flow = new_flow(rt)?;
     let mut news = flow.subscribe(rt)?;
-    let chain = map(
-        filter(receiving::<(), _, _>(&mut news, rt), IsEven),
-        OneMore,
-    );
+    let source = receiving::<(), _, _>(&mut news, rt);
+    let receipts = by_takes_of(rt, &mut flow, source, blocks);
+    news.cancel(rt);
+    receipts
+}
+
+/// The same with what the subscription receives.
+fn by_takes_of<R, S>(
+    rt: &R,
+    flow: &mut SharedFlow<u64>,
+    source: S,
+    blocks: u64,
+) -> Result<Receipts, Fault>
+where
+    R: Clock + AllocGlobal + RandomSource + Wait,
+    S: Run<Item = u64>,
+{
+    let parker = Parker::new(rt)?;
+    let taken = Vec::with_capacity(rt.alloc(), BLOCK / 2)?;
+    let chain = map(filter(source, IsEven), OneMore);
     let mut takes = Takes {
         chain,
         parker,
         taken,
     };
-    let receipts = timed(rt, &mut flow, &mut takes, blocks);
-    drop(takes);
-    news.cancel(rt);
-    receipts
+    timed(rt, flow, &mut takes, blocks)
 }
 
 /// Emits so many blocks, each of which is received before the next one, from a new emitter to its close.

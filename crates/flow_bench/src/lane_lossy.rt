@@ -3,7 +3,7 @@
 
 use crate::config::config_of;
 use crate::elapsed::{nanoseconds_since, now};
-use crate::fan_out::{Drains, drain_all};
+use crate::fan_out::{Drains, Works, work_beside};
 use crate::fault::Fault;
 use crate::lane_ends::{LaneReader, LaneSequencer};
 use crate::pause::Pause;
@@ -18,7 +18,7 @@ use std::random::RandomSource;
 use std::rt::Clock;
 use std::sync::Wait;
 use std::sync::atomic::{AtomicBool, Ordering};
-use std::thread::{Threads, join_mut};
+use std::thread::Threads;
 
 /// How many values are emitted.
 const VALUES: u64 = 2_000_000;
@@ -131,6 +131,22 @@ impl Drains<&AtomicBool> for LaneReader<'_> {
     }
 }
 
+/// Who emits so many values, and then says that it is over.
+#[derive(Drop)]
+struct Flooding<'a, 'l> {
+    sequencer: &'a mut LaneSequencer<'l>,
+    values: u64,
+    over: &'a AtomicBool,
+    /// The nanoseconds of it.
+    took: Result<u64, Fault>,
+}
+
+impl Works for Flooding<'_, '_> {
+    fn work<R: Clock + Wait>(&mut self, rt: &R) {
+        self.took = feed(rt, self.sequencer, self.values, self.over);
+    }
+}
+
 /// Emits while the readers take, and counts.
 fn run<R>(
     rt: &R,
@@ -141,15 +157,31 @@ fn run<R>(
 where
     R: Clock + Threads + Wait + Sync,
 {
-    let over = AtomicBool::new(false);
     let start = now(rt);
-    let (emission, ()) = join_mut(
-        rt,
-        &mut || feed(rt, sequencer, values, &over),
-        &mut || drain_all(rt, readers, &over),
-    );
+    let emission = flood(rt, sequencer, readers, values);
     let nanoseconds = nanoseconds_since(rt, start)?;
     Ok(counts_of(sequencer, readers, emission?, nanoseconds))
+}
+
+/// Emits while the readers take. Gives the nanoseconds of the emissions.
+fn flood<R>(
+    rt: &R,
+    sequencer: &mut LaneSequencer<'_>,
+    readers: &mut Vec<LaneReader<'_>>,
+    values: u64,
+) -> Result<u64, Fault>
+where
+    R: Clock + Threads + Wait + Sync,
+{
+    let over = AtomicBool::new(false);
+    let mut flooding = Flooding {
+        sequencer,
+        values,
+        over: &over,
+        took: Ok(0),
+    };
+    work_beside(rt, &mut flooding, readers, &over);
+    flooding.took
 }
 
 /// What was emitted and taken, with the nanoseconds of the emissions and of all.

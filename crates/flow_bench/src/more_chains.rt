@@ -7,7 +7,7 @@ use crate::elapsed::{nanoseconds_since, now};
 use crate::fault::Fault;
 use crate::report::report;
 use bench_figures::{Figure, Size, Subject, Unit};
-use cold_flow::{Apply, range};
+use cold_flow::{Apply, Flow, range};
 use more_operators::{filter_map, scan, take_while};
 use std::alloc::AllocGlobal;
 use std::random::RandomSource;
@@ -82,10 +82,31 @@ fn chain<R>(rt: &R, elements: u64) -> Result<Figure, Fault>
 where
     R: Clock + AllocGlobal + RandomSource,
 {
-    let states = filter_map(scan(range::<u64>(0, elements), 0, Sum), Half);
+    halves_of(rt, scan(range::<u64>(0, elements), 0, Sum), elements)
+}
+
+/// Half of each of these states that is even.
+fn halves_of<R, F>(rt: &R, states: F, elements: u64) -> Result<Figure, Fault>
+where
+    R: Clock + AllocGlobal + RandomSource,
+    F: Flow<Item = u64, Fault = u64>,
+{
+    below_limit(rt, filter_map(states, Half), elements)
+}
+
+/// Those of these halves that are below the limit.
+fn below_limit<R, F>(rt: &R, halves: F, elements: u64) -> Result<Figure, Fault>
+where
+    R: Clock + AllocGlobal + RandomSource,
+    F: Flow<Item = u64, Fault = u64>,
+{
     let limit = limit_of(elements);
-    let flow = take_while(states, IsBelow { limit });
-    folded(rt, "cold-more", flow, elements)
+    folded(
+        rt,
+        "cold-more",
+        take_while(halves, IsBelow { limit }),
+        elements,
+    )
 }
 
 /// The same by a loop.

@@ -4,7 +4,7 @@ use crate::elapsed::{nanoseconds_since, now};
 use crate::fault::Fault;
 use crate::report::report;
 use bench_figures::{Figure, Size, Subject, Unit};
-use cold_flow::{Event, Policy, Run, range};
+use cold_flow::{EndingRun, Event, Numbers, Policy, Run, range};
 use flow_buffer::{Drain, Feed, Fill, split};
 use futures::task::{Doorbell, Solo};
 use std::alloc::AllocGlobal;
@@ -59,6 +59,14 @@ where
     R: Clock + AllocGlobal + RandomSource + Threads + Wait + Sync,
 {
     let task = Solo::new(rt, Doorbell::spinning())?;
+    through(rt, &task, capacity, values)
+}
+
+/// The same in this task.
+fn through<R>(rt: &R, task: &Solo, capacity: u64, values: u64) -> Result<(u64, u64), Fault>
+where
+    R: Clock + AllocGlobal + Threads + Wait + Sync,
+{
     let start = now(rt);
     let (mut feed, mut drain) = split(
         rt.alloc(),
@@ -66,13 +74,23 @@ where
         capacity,
         Policy::Suspend,
     )?;
-    let ((), total) = thread::join(
-        rt,
-        || feed_all(rt, &task, &mut feed),
-        || drain_all(rt, &mut drain),
-    );
+    let total = hand_over(rt, task, &mut feed, &mut drain);
     feed.cancel(rt);
     Ok((total, nanoseconds_since(rt, start)?))
+}
+
+/// One thread feeds, another drains.
+fn hand_over<R>(
+    rt: &R,
+    task: &Solo,
+    feed: &mut Feed<EndingRun<Numbers<u64>, u64>>,
+    drain: &mut Drain<u64, u64>,
+) -> u64
+where
+    R: Threads + Wait + Sync,
+{
+    let ((), total) = thread::join(rt, || feed_all(rt, task, feed), || drain_all(rt, drain));
+    total
 }
 
 /// Pumps until the end.

@@ -1,7 +1,7 @@
 //! A state flow between threads: one sets without pause, and one or two others ask without pause.
 
 use crate::elapsed::{nanoseconds_since, now};
-use crate::fan_out::{Drains, drain_all};
+use crate::fan_out::{Drains, Works, work_beside};
 use crate::fault::Fault;
 use crate::report::report;
 use crate::sides::{Admits, Ends, admit_all};
@@ -12,7 +12,7 @@ use std::alloc::AllocGlobal;
 use std::random::RandomSource;
 use std::rt::Clock;
 use std::sync::Wait;
-use std::thread::{Threads, join_mut};
+use std::thread::Threads;
 
 /// How many values are set.
 const SETS: u64 = 2_000_000;
@@ -32,6 +32,14 @@ struct Given {
     asks: u64,
     /// The last value, or nothing where one wasn't above the one before.
     last: Option<u64>,
+}
+
+/// The thread that sets the numbers from 1 to `sets`.
+#[derive(Drop)]
+struct Writing<'a> {
+    seat: &'a mut StateSeat<u64>,
+    sets: u64,
+    set: Result<Work, Fault>,
 }
 
 /// A collector's thread.
@@ -78,12 +86,19 @@ fn set_and_ask<R>(
 where
     R: Clock + Threads + Wait + Sync,
 {
-    let (set, ()) = join_mut(
-        rt,
-        &mut || write(rt, writer, sets),
-        &mut || drain_all(rt, asking, sets),
-    );
-    set
+    let mut writing = Writing {
+        seat: writer,
+        sets,
+        set: Err(Fault::Host),
+    };
+    work_beside(rt, &mut writing, asking, sets);
+    writing.set
+}
+
+impl Works for Writing<'_> {
+    fn work<R: Clock + Wait>(&mut self, rt: &R) {
+        self.set = write(rt, self.seat, self.sets);
+    }
 }
 
 impl Admits<Asking> for StateSeat<u64> {
@@ -182,10 +197,10 @@ fn ask_up_to(rt: &impl Wait, seat: StateSeat<u64>, last: u64) -> Given {
     for _ in rt.forever() {
         given.asks = given.asks.wrapping_add(1);
         if let Some(value) = collector.try_next() {
-            given.last = given
-                .last
-                .filter(|before| *before <= value)
-                .and(Some(value));
+            given.last = match given.last {
+                Some(before) if before <= value => Some(value),
+                _ => None,
+            };
             newest = value;
         }
         if newest == last {
