@@ -1,12 +1,12 @@
 //! Two states, by which two threads answer each other: each sleeps until the other has set its state.
 
+use crate::acting::{Acts, both};
 use crate::course::{Course, Emitters};
 use crate::fault::Fault;
 use cold_flow::Refusal;
 use state_waiting::{Collected, WatchedSeat, Watcher};
 use std::alloc::{AllocGlobal, Global};
 use std::sync::Wait;
-use std::thread;
 use std::thread::Threads;
 use workload_inputs::Digest;
 
@@ -17,11 +17,44 @@ fn seats(alloc: Global) -> Result<(WatchedSeat<u64>, WatchedSeat<u64>), Refusal>
     Ok((seat, other))
 }
 
-/// A watcher, which passes over the first value of its state.
-fn watch(watched: WatchedSeat<u64>) -> Watcher<u64> {
-    let mut watcher = watched.collect();
-    drop(watcher.try_next());
-    watcher
+/// One of two who answer each other so many times: the state that it sets, and the one that it watches. It must be ended.
+struct Side {
+    seat: WatchedSeat<u64>,
+    watcher: Watcher<u64>,
+    turns: u64,
+    /// The values that it answered.
+    values: Course,
+}
+
+impl Side {
+    /// A side that passes over the first value of the state that it watches.
+    fn new(seat: WatchedSeat<u64>, watched: WatchedSeat<u64>, turns: u64) -> Side {
+        let mut watcher = watched.collect();
+        drop(watcher.try_next());
+        Side {
+            seat,
+            watcher,
+            turns,
+            values: Course::new(),
+        }
+    }
+
+    fn end(self, digest: &mut Digest) {
+        let Side {
+            seat: _,
+            watcher,
+            turns: _,
+            values,
+        } = self;
+        drop(watcher.cancel());
+        values.told(digest, Emitters::One);
+    }
+}
+
+impl Acts for Side {
+    fn act<R: Wait>(&mut self, rt: &R) {
+        self.values = answer(rt, &mut self.seat, &mut self.watcher, self.turns);
+    }
 }
 
 /// Answers so many values of the one state, each by the number after it, which it sets the other to. Gives what they were.
@@ -44,48 +77,18 @@ fn answer(
     values
 }
 
-/// Both answer so many times, each in a thread of its own, after the second has said this value.
-fn both_answer<R>(
-    rt: &R,
-    seat: &mut WatchedSeat<u64>,
-    watcher: &mut Watcher<u64>,
-    other_seat: &mut WatchedSeat<u64>,
-    other_watcher: &mut Watcher<u64>,
-    (value, turns): (u64, u64),
-    digest: &mut Digest,
-)
-where
-    R: Threads + Wait + Sync,
-{
-    other_seat.set(value);
-    let (answered, also_answered) = thread::join(
-        rt,
-        || answer(rt, seat, watcher, turns),
-        || answer(rt, other_seat, other_watcher, turns),
-    );
-    answered.told(digest, Emitters::One);
-    also_answered.told(digest, Emitters::One);
-}
-
-/// Two threads answer each other so many times by two new states, from this value on.
-pub(crate) fn run<R>(rt: &R, work: (u64, u64), digest: &mut Digest) -> Result<(), Fault>
+/// Two threads answer each other so many times by two new states, after the second has said this value.
+pub(crate) fn run<R>(rt: &R, (value, turns): (u64, u64), digest: &mut Digest) -> Result<(), Fault>
 where
     R: AllocGlobal + Threads + Wait + Sync,
 {
-    let (mut seat, watched) = seats(rt.alloc())?;
-    let (mut other_seat, other_watched) = seats(rt.alloc())?;
-    let mut watcher = watch(other_watched);
-    let mut other_watcher = watch(watched);
-    both_answer(
-        rt,
-        &mut seat,
-        &mut watcher,
-        &mut other_seat,
-        &mut other_watcher,
-        work,
-        digest,
-    );
-    drop(watcher.cancel());
-    drop(other_watcher.cancel());
+    let (seat, watched) = seats(rt.alloc())?;
+    let (other_seat, other_watched) = seats(rt.alloc())?;
+    let mut one = Side::new(seat, other_watched, turns);
+    let mut other = Side::new(other_seat, watched, turns);
+    other.seat.set(value);
+    both(rt, &mut one, &mut other);
+    one.end(digest);
+    other.end(digest);
     Ok(())
 }

@@ -171,6 +171,14 @@ fn caught_list(
     values: u64,
 ) -> Result<(), Fault> {
     let values = failing_values(alloc, random, values)?;
+    fold_halves_caught(task, digest, values)
+}
+
+/// Folds the halves of these values, and where they fail, the fault as the last one.
+fn fold_halves_caught<F>(task: &Solo, digest: &mut Digest, values: F) -> Result<(), Fault>
+where
+    F: Flow<Item = u64, Fault = u64>,
+{
     fold_caught(task, digest, map(values, Halves))
 }
 

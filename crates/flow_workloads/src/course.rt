@@ -11,6 +11,24 @@ pub(crate) enum Emitters {
     Two,
 }
 
+impl Emitters {
+    /// How many values come where each emits so many.
+    pub(crate) fn together(self, values: u64) -> u64 {
+        match self {
+            Emitters::One => values,
+            Emitters::Two => values.saturating_mul(2),
+        }
+    }
+
+    /// How many they are.
+    pub(crate) fn count(self) -> u32 {
+        match self {
+            Emitters::One => 1,
+            Emitters::Two => 2,
+        }
+    }
+}
+
 /// Numbers that come one after another.
 #[derive(Clone, Copy)]
 pub(crate) struct Course {

@@ -169,7 +169,7 @@ where
     R: AllocGlobal + RandomSource + Wait,
 {
     let places = Vec::with_capacity(rt.alloc(), count as usize)?;
-    let others = listen(rt, flow, places, count);
+    let others = listen(rt, flow, places, count, 0);
     let gone = come_and_go(rt, flow, rounds, digest);
     cancel_all(rt, others);
     gone

@@ -1,5 +1,6 @@
 //! A buffer between two threads, whose ends are of unequal pace.
 
+use crate::acting::{Acts, both};
 use crate::actions::Adds;
 use crate::fault::Fault;
 use crate::tally::ended;
@@ -9,7 +10,6 @@ use futures::task::{Doorbell, Solo};
 use std::alloc::AllocGlobal;
 use std::random::RandomSource;
 use std::sync::Wait;
-use std::thread;
 use std::thread::Threads;
 use workload_inputs::{Digest, Random, Scale};
 
@@ -45,20 +45,51 @@ fn drain_all(rt: &impl Wait, drain: &mut Drain<u64, u64>) -> Digest {
 }
 
 /// What goes into a buffer: the numbers of a range, each with an amount added.
-type Numbered = Mapped<EndingRun<Numbers<u64>, u64>, Adds>;
+type Numbered = Mapped<Numbers<u64>, Adds>;
 
-/// One thread feeds, another drains, and the digest of all that it took is given.
-fn hand_over<R>(
-    rt: &R,
-    task: &Solo,
-    feed: &mut Feed<Numbered>,
-    drain: &mut Drain<u64, u64>,
-) -> Digest
+/// A run of it.
+type NumberedRun = Mapped<EndingRun<Numbers<u64>, u64>, Adds>;
+
+/// The end that feeds, which must be cancelled.
+struct Feeding<'a> {
+    task: &'a Solo,
+    feed: Feed<NumberedRun>,
+}
+
+/// The end that drains, and the digest of all that it took.
+#[derive(Drop)]
+struct Draining {
+    drain: Drain<u64, u64>,
+    taken: Digest,
+}
+
+impl Acts for Feeding<'_> {
+    fn act<R: Wait>(&mut self, rt: &R) {
+        feed_all(rt, self.task, &mut self.feed);
+    }
+}
+
+impl Acts for Draining {
+    fn act<R: Wait>(&mut self, rt: &R) {
+        self.taken = drain_all(rt, &mut self.drain);
+    }
+}
+
+/// What goes into a buffer of this capacity goes through. Gives the digest of all that was taken.
+fn hand_over<R>(rt: &R, task: &Solo, source: Numbered, capacity: u64) -> Result<Digest, Fault>
 where
-    R: Threads + Wait + Sync,
+    R: AllocGlobal + RandomSource + Threads + Wait + Sync,
 {
-    let ((), taken) = thread::join(rt, || feed_all(rt, task, feed), || drain_all(rt, drain));
-    taken
+    let (feed, drain) = split(rt.alloc(), source, capacity, Policy::Suspend)?;
+    let mut feeding = Feeding { task, feed };
+    let mut draining = Draining {
+        drain,
+        taken: Digest::new(),
+    };
+    both(rt, &mut feeding, &mut draining);
+    let Feeding { task: _, feed } = feeding;
+    feed.cancel(rt);
+    Ok(draining.taken)
 }
 
 /// So many values go through a buffer of this capacity.
@@ -73,14 +104,9 @@ where
 {
     let task = Solo::new(rt, Doorbell::spinning())?;
     let from = random.next() >> 20;
-    let source = map(
-        range::<u64>(from, from.saturating_add(values)),
-        Adds(random.next()),
-    );
-    let (mut feed, mut drain) = split(rt.alloc(), source, capacity, Policy::Suspend)?;
-    let taken = hand_over(rt, &task, &mut feed, &mut drain);
-    feed.cancel(rt);
-    digest.number(taken.value());
+    let numbers = range::<u64>(from, from.saturating_add(values));
+    let source = map(numbers, Adds(random.next()));
+    digest.number(hand_over(rt, &task, source, capacity)?.value());
     Ok(())
 }
 

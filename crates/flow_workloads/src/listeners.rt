@@ -1,25 +1,27 @@
 //! Subscriptions of a shared flow on threads of their own.
 
+use crate::acting::Acts;
 use crate::course::{Course, Emitters};
 use crate::fault::Fault;
 use shared_flow::{Parker, SharedFlow, Subscription};
 use std::alloc::AllocGlobal;
 use std::random::RandomSource;
 use std::sync::Wait;
-use std::thread::{Threads, for_each_mut};
 use workload_inputs::Digest;
 
 /// A subscription with what its thread sleeps by. It must be cancelled.
 pub(crate) struct Listener {
     subscription: Subscription<u64>,
     parker: Parker,
+    /// How many values it is to take.
+    values: u64,
     received: Course,
     // Between two listeners in a list, so that those of two threads share no cache line.
     _apart: [u64; 16],
 }
 
 impl Listener {
-    fn new<R>(rt: &R, flow: &mut SharedFlow<u64>) -> Result<Listener, Fault>
+    fn new<R>(rt: &R, flow: &mut SharedFlow<u64>, values: u64) -> Result<Listener, Fault>
     where
         R: AllocGlobal + RandomSource + Wait,
     {
@@ -28,6 +30,7 @@ impl Listener {
         Ok(Listener {
             subscription,
             parker,
+            values,
             received: Course::new(),
             _apart: [0; 16],
         })
@@ -48,6 +51,7 @@ impl Listener {
         let Listener {
             subscription,
             parker: _,
+            values: _,
             received: _,
             _apart: _,
         } = self;
@@ -55,18 +59,26 @@ impl Listener {
     }
 }
 
-/// So many listeners, or fewer where one is refused.
+impl Acts for Listener {
+    fn act<R: Wait>(&mut self, rt: &R) {
+        let values = self.values;
+        self.take(rt, values);
+    }
+}
+
+/// So many listeners, or fewer where one is refused. Each is to take so many values.
 pub(crate) fn listen<R>(
     rt: &R,
     flow: &mut SharedFlow<u64>,
     mut listeners: Vec<Listener>,
     count: u32,
+    values: u64,
 ) -> Vec<Listener>
 where
     R: AllocGlobal + RandomSource + Wait,
 {
     for _ in 0..count {
-        let Ok(listener) = Listener::new(rt, flow) else {
+        let Ok(listener) = Listener::new(rt, flow, values) else {
             break;
         };
         if let Err(refused) = listeners.push(listener) {
@@ -74,20 +86,6 @@ where
         }
     }
     listeners
-}
-
-/// Each listener takes so many values in a thread of its own.
-pub(crate) fn take_all<R>(rt: &R, listeners: &mut Vec<Listener>, values: u64)
-where
-    R: Threads + Wait + Sync,
-{
-    let threads = listeners.len().max(1);
-    for_each_mut(
-        rt,
-        listeners.as_mut_slice(),
-        threads,
-        &|_, listener: &mut Listener| listener.take(rt, values),
-    );
 }
 
 /// What came to each listener is taken in, as far as so many emitters fix it.

@@ -10,12 +10,6 @@ use workload_inputs::Digest;
 /// How many values are there to be taken, in each round of `front_gap`.
 const VALUES: u64 = 60_000;
 
-/// Two subscriptions come. Gives the second.
-fn second_of_two(flow: &mut SharedState<u64>) -> Result<SubId, Fault> {
-    let _first = subscribe(flow)?;
-    subscribe(flow)
-}
-
 /// Of so many the second one has gone. The third, fifth, seventh and ninth take what is there, the last of these first.
 pub(crate) fn front_gap(
     alloc: Global,
@@ -23,12 +17,7 @@ pub(crate) fn front_gap(
     (value, count): (u64, u32),
     digest: &mut Digest,
 ) -> Result<(), Fault> {
-    let second = second_of_two(flow)?;
-    let third = subscribe(flow)?;
-    let fifth = second_of_two(flow)?;
-    let seventh = second_of_two(flow)?;
-    let ninth = second_of_two(flow)?;
-    drop(subscribe_all(alloc, flow, count.saturating_sub(9))?);
+    let (second, third, fifth, seventh, ninth) = at_the_front(alloc, flow, count)?;
     cancelled(digest, flow.cancel(second));
     attempt_all(flow, value, digest, VALUES)?;
     for _ in 0..VALUES {
@@ -40,10 +29,18 @@ pub(crate) fn front_gap(
     Ok(())
 }
 
-/// These subscriptions go.
-fn leave_all(flow: &mut SharedState<u64>, ids: &[SubId], digest: &mut Digest) {
-    for id in ids {
-        cancelled(digest, flow.cancel(*id));
+/// So many subscriptions come. Gives the second, third, fifth, seventh and ninth.
+fn at_the_front(
+    alloc: Global,
+    flow: &mut SharedState<u64>,
+    count: u32,
+) -> Result<(SubId, SubId, SubId, SubId, SubId), Fault> {
+    let ids = subscribe_all(alloc, flow, count)?;
+    match ids.as_slice() {
+        [_, second, third, _, fifth, _, seventh, _, ninth, ..] => {
+            Ok((*second, *third, *fifth, *seventh, *ninth))
+        }
+        _ => Err(Fault::Otherwise),
     }
 }
 
@@ -53,14 +50,21 @@ fn three_of_ten(
     flow: &mut SharedState<u64>,
     digest: &mut Digest,
 ) -> Result<(SubId, SubId, SubId), Fault> {
-    let first = subscribe(flow)?;
-    let before = subscribe_all(alloc, flow, 4)?;
-    let sixth = subscribe(flow)?;
-    let after = subscribe_all(alloc, flow, 3)?;
-    let last = subscribe(flow)?;
-    leave_all(flow, &before, digest);
-    leave_all(flow, &after, digest);
-    Ok((first, sixth, last))
+    let ids = subscribe_all(alloc, flow, 10)?;
+    leave_but_three(flow, ids.as_slice(), digest);
+    match ids.as_slice() {
+        [first, _, _, _, _, sixth, _, _, _, last] => Ok((*first, *sixth, *last)),
+        _ => Err(Fault::Otherwise),
+    }
+}
+
+/// All of these go but the first, the sixth and the last of ten.
+fn leave_but_three(flow: &mut SharedState<u64>, ids: &[SubId], digest: &mut Digest) {
+    for (place, id) in ids.iter().enumerate() {
+        if !matches!(place, 0 | 5 | 9) {
+            cancelled(digest, flow.cancel(*id));
+        }
+    }
 }
 
 /// Of ten three are left, who take each value, the last of them first.
@@ -122,12 +126,22 @@ fn ask_all(flow: &mut SharedState<u64>, ticket: Ticket, digest: &mut Digest, cou
 pub(crate) fn front_tickets(
     alloc: Global,
     flow: &mut SharedState<u64>,
-    (value, rounds): (u64, u64),
+    work: (u64, u64),
     digest: &mut Digest,
 ) -> Result<(), Fault> {
     let _idle = subscribe(flow)?;
     let mut tickets = Vec::new(alloc);
-    open_gap(flow, &mut tickets, value, digest)?;
+    ask_behind_gap(flow, &mut tickets, work, digest)
+}
+
+/// The same, with a list for the tickets.
+fn ask_behind_gap(
+    flow: &mut SharedState<u64>,
+    tickets: &mut Vec<Ticket>,
+    (value, rounds): (u64, u64),
+    digest: &mut Digest,
+) -> Result<(), Fault> {
+    open_gap(flow, tickets, value, digest)?;
     let Some(second) = tickets.get(512) else {
         return Err(Fault::Otherwise);
     };

@@ -5,6 +5,7 @@
 //! named on standard error, and 2, with nothing written, for any other command line.
 #![tactic(auto)]
 
+mod acting;
 mod actions;
 mod answering;
 mod chains;
@@ -26,6 +27,7 @@ mod pending;
 mod repeated;
 mod rows;
 mod sharing;
+mod speakers;
 mod states;
 mod tally;
 mod threads;

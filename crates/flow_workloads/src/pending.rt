@@ -1,9 +1,10 @@
 //! Cold flows over sources that answer pending often.
 
-use crate::actions::{Adds, IsSeldom};
+use crate::actions::Adds;
 use crate::fault::Fault;
-use crate::values::{fold_combined, fold_zipped, list_all};
-use cold_flow::{Finite, Flow, Step, Stepped, distinct, filter, map, range, scripted};
+use crate::merges::fold_zipped_seldom;
+use crate::values::{fold_combined, list_all};
+use cold_flow::{Finite, Flow, Step, Stepped, distinct, map, range, scripted};
 use futures::task::Solo;
 use std::alloc::Global;
 use workload_inputs::{Digest, Random, Scale};
@@ -41,6 +42,20 @@ fn source(
     Ok(scripted(script))
 }
 
+/// Lists those of the values after these that differ from the one before.
+fn list_changes_after<F>(
+    alloc: Global,
+    task: &Solo,
+    digest: &mut Digest,
+    values: F,
+) -> Result<(), Fault>
+where
+    F: Flow<Item = u64, Fault = u64>,
+    F::Running: Finite,
+{
+    list_changes(alloc, task, digest, map(values, Adds(5)))
+}
+
 /// Lists those of the values that differ from the one before.
 fn list_changes<F>(alloc: Global, task: &Solo, digest: &mut Digest, values: F) -> Result<(), Fault>
 where
@@ -67,14 +82,13 @@ impl Sources<'_> {
     /// One through two operators, listed.
     fn listed(&mut self, task: &Solo, digest: &mut Digest) -> Result<(), Fault> {
         let plain = self.next(true)?;
-        list_changes(self.alloc, task, digest, map(plain, Adds(5)))
+        list_changes_after(self.alloc, task, digest, plain)
     }
 
     /// One with a range, pair by pair.
     fn zipped(&mut self, task: &Solo, digest: &mut Digest) -> Result<(), Fault> {
         let left = self.next(false)?;
-        let right = filter(range::<u64>(0, self.steps), IsSeldom);
-        fold_zipped(task, digest, left, right)
+        fold_zipped_seldom(task, digest, left, range::<u64>(0, self.steps))
     }
 
     /// The latest values of two.

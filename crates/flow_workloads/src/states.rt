@@ -1,11 +1,11 @@
 //! States: bursts of sets that collectors ask for now and then, and two threads that count up one state.
 
+use crate::acting::{Acts, both};
 use crate::fault::Fault;
 use crate::tally::given;
 use state_flow::{Collector, StateFlow, StateSeat};
 use std::alloc::{AllocGlobal, Global};
 use std::sync::Wait;
-use std::thread;
 use std::thread::Threads;
 use workload_inputs::{Digest, Random, Scale};
 
@@ -87,19 +87,33 @@ fn count_up(rt: &impl Wait, seat: &mut StateSeat<u64>, counts: u64) {
     }
 }
 
+/// Who counts a state up so many times.
+#[derive(Drop)]
+struct Counter {
+    seat: StateSeat<u64>,
+    counts: u64,
+}
+
+impl Acts for Counter {
+    fn act<R: Wait>(&mut self, rt: &R) {
+        count_up(rt, &mut self.seat, self.counts);
+    }
+}
+
 /// Two threads count up one state that begins at a number.
 fn counted<R>(rt: &R, from: u64, counts: u64) -> Result<u64, Fault>
 where
     R: AllocGlobal + Threads + Wait + Sync,
 {
-    let mut one = StateFlow::new(rt.alloc(), from, 2)?;
-    let mut other = one.take_seat(0)?;
-    thread::join(
-        rt,
-        || count_up(rt, &mut one, counts),
-        || count_up(rt, &mut other, counts),
-    );
-    Ok(one.value())
+    let mut seat = StateFlow::new(rt.alloc(), from, 2)?;
+    let other_seat = seat.take_seat(0)?;
+    let mut one = Counter { seat, counts };
+    let mut other = Counter {
+        seat: other_seat,
+        counts,
+    };
+    both(rt, &mut one, &mut other);
+    Ok(one.seat.value())
 }
 
 /// Bursts on a new state.

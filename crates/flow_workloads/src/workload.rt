@@ -7,7 +7,7 @@ use std::alloc::AllocGlobal;
 use std::random::RandomSource;
 use std::sync::Wait;
 use std::thread::Threads;
-use workload_inputs::{Digest, Scale};
+use workload_inputs::{Digest, Scale, seed_in};
 
 /// A workload.
 #[derive(Clone, Copy)]
@@ -63,7 +63,7 @@ impl Workload {
             "chains" => Some(Workload::Chains),
             "waits" => Some(Workload::Waits),
             "edges" => Some(Workload::Edges),
-            _ => Edge::named(name).map(Workload::Edge),
+            _ => Some(Workload::Edge(Edge::named(name)?)),
         }
     }
 
@@ -86,13 +86,9 @@ impl Workload {
 impl Order {
     /// What these two words ask for.
     pub(crate) fn of(name: &str, seed: &str) -> Option<Order> {
-        let workload = Workload::named(name)?;
-        match seed.parse::<u32>() {
-            Ok(seed) => Some(Order {
-                workload,
-                seed: u64::from(seed),
-            }),
-            Err(_) => None,
-        }
+        Some(Order {
+            workload: Workload::named(name)?,
+            seed: seed_in(seed)?,
+        })
     }
 }

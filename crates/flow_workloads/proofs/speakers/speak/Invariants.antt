@@ -1,5 +1,5 @@
 use Rattle.std.proofs.Common.{◌≡◌, None}
-use Rattle.flow_workloads.proofs.fan_out.speak.Given as goal
+use Rattle.flow_workloads.proofs.speakers.speak.Given as goal
 
 abbrev pub invariant-loop : goal.invariant-loop
 invariant-loop g l = l.emitter.ticket ≡ None
