@@ -1,1 +1,2 @@
+pub mod Digits
 pub mod Uncancelled

@@ -180,7 +180,7 @@ fn buffered<F: Flow>(alloc: Global, flow: F, keeps: &Keeps) -> Result<Buffer<F>,
 }
 
 /// Makes the row's commands on a buffer behind its steps.
-fn compare_row(trial: &mut Trial, row: &Row<'_>) -> Result<(), Fail> {
+fn compare_row(trial: &mut Trial, row: &Row<'_>) -> Result<(), Refusal> {
     let counts = Counts::new(NEVER);
     let source = Source {
         steps: row.steps,
@@ -189,7 +189,8 @@ fn compare_row(trial: &mut Trial, row: &Row<'_>) -> Result<(), Fail> {
     let mut buffered = buffered(trial.alloc, source, &row.keeps)?.start()?;
     let lines = answered(&trial.task, &mut buffered, row.lines);
     let found = (lines, buffered.taken_count(), buffered.dropped_count());
-    trial.compare(row.name, found, (row.lines.len(), row.taken, row.dropped))
+    trial.compare(row.name, found, (row.lines.len(), row.taken, row.dropped));
+    Ok(())
 }
 
 #[test]
@@ -354,13 +355,14 @@ fn compare_split<R: Threads + Wait + RandomSource + AllocGlobal + Sync>(
 ) -> Result<(), Fail> {
     let (dropped, all) = split_numbers(rt, row.bound, row.policy)?;
     let whole = (all.rising, all.end, all.count.saturating_add(dropped));
-    trial.compare(row.name, whole, (true, Some(Cause::Finished), row.bound))?;
+    trial.compare(row.name, whole, (true, Some(Cause::Finished), row.bound));
     let found = (
         told(row.dropped, dropped),
         told(row.first, all.first),
         told(row.last, all.last),
     );
-    trial.compare(row.name, found, (row.dropped, row.first, row.last))
+    trial.compare(row.name, found, (row.dropped, row.first, row.last));
+    Ok(())
 }
 
 #[test]
@@ -625,7 +627,7 @@ fn rest_of(rt: &impl Wait, drain: &mut Drain<u64, u64>, events: &[Event<u64, u64
     events.len()
 }
 
-fn compare_turns(rt: &impl Wait, trial: &mut Trial, row: &Turns<'_>) -> Result<(), Fail> {
+fn compare_turns(rt: &impl Wait, trial: &mut Trial, row: &Turns<'_>) -> Result<(), Refusal> {
     let counts = Counts::new(NEVER);
     let source = Source {
         steps: row.steps,
@@ -638,7 +640,8 @@ fn compare_turns(rt: &impl Wait, trial: &mut Trial, row: &Turns<'_>) -> Result<(
     let rest = rest_of(rt, &mut drain, row.rest);
     let found = (turns, rest, dropped, drain.taken_count());
     let wanted = (row.turns.len(), row.rest.len(), row.dropped, row.taken);
-    trial.compare(row.name, found, wanted)
+    trial.compare(row.name, found, wanted);
+    Ok(())
 }
 
 #[test]

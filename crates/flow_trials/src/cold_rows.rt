@@ -5,8 +5,8 @@ use crate::sources::{Counts, NEVER, Source};
 use crate::tools::{Add, CANCELLED, ENDED, Polling, Sum, Trial};
 use cold_callers::{chain, mapped_list, taken_down};
 use cold_flow::{
-    Apply, Cause, Collected, Collecting, Event, First, Flow, Folding, Run, Step, collect, filter,
-    first, fold, on_completion, range,
+    Apply, Cause, Collected, Collecting, Event, First, Flow, Folding, Refusal, Run, Step, collect,
+    filter, first, fold, on_completion, range,
 };
 use futures::task::Poll;
 use std::alloc::AllocError;
@@ -74,11 +74,12 @@ const SECOND_VALUE: Polling = Poll::Ready(Event::Value(2));
 const LAST_VALUE: Polling = Poll::Ready(Event::Value(9));
 
 // Where nothing is found in 64 values a poll yields, three times for 199.
-fn compare_filter(trial: &mut Trial) -> Result<(), Fail> {
+fn compare_filter(trial: &mut Trial) -> Result<(), Refusal> {
     const FOUND: Polling = Poll::Ready(Event::Value(199));
     const ANSWERS: &[Polling] = &[Poll::Pending, Poll::Pending, Poll::Pending, FOUND, ENDED];
     let mut run = filter(range::<u64>(0, 200), IsAbove(198)).start()?;
-    trial.compare_polls("filter", &mut run, ANSWERS)
+    trial.compare_polls("filter", &mut run, ANSWERS);
+    Ok(())
 }
 
 // How many numbers from 0 up these are, where they are no others.
@@ -93,33 +94,34 @@ fn counted_up(values: &[u64]) -> Option<usize> {
 
 // How many numbers from 0 up one poll of the collection hands out, with the end. None where it waits, and has woken its task.
 fn polled_once<R: Run<Item = u64, Fault = u64>>(
-    trial: &Trial,
+    trial: &mut Trial,
     gathering: &mut Collecting<R>,
-) -> Result<Option<(Option<usize>, Cause<u64>)>, Fail> {
-    match trial.task.enter(|cx| gathering.poll(cx)) {
+) -> Result<Option<(Option<usize>, Cause<u64>)>, Refusal> {
+    let polled = trial.task.enter(|cx| gathering.poll(cx));
+    trial.compare_wake("a collection", &polled);
+    match polled {
         Poll::Ready(list) => {
             let Collected { values, cause } = list?;
             Ok(Some((counted_up(values.as_slice()), cause)))
         }
-        Poll::Pending if trial.task.is_woken() => Ok(None),
-        Poll::Pending => Err(Fail::from("nothing wakes the task")),
+        Poll::Pending => Ok(None),
     }
 }
 
 // A collection of 130 numbers takes 64 of them a poll. Once it has handed them out it has none.
 fn compare_collection<R: Run<Item = u64, Fault = u64>>(
     trial: &mut Trial,
-    mut gathering: Collecting<R>,
-) -> Result<(), Fail> {
+    gathering: &mut Collecting<R>,
+) -> Result<(), Refusal> {
     for (ready, so_far) in [
         (None, 64),
         (None, 128),
         (Some((Some(130), Cause::Finished)), 0),
         (Some((Some(0), Cause::Finished)), 0),
     ] {
-        let polled = polled_once(trial, &mut gathering)?;
+        let polled = polled_once(trial, gathering)?;
         let found = (polled, gathering.so_far().len());
-        trial.compare("a collection", found, (ready, so_far))?;
+        trial.compare("a collection", found, (ready, so_far));
     }
     Ok(())
 }
@@ -129,7 +131,7 @@ fn polls_take_64_values(rt: HostRuntime) -> Result<(), Fail> {
     let mut trial = Trial::new(&rt)?;
     compare_filter(&mut trial)?;
     let run = range::<u64>(0, 130).start()?;
-    compare_collection(&mut trial, collect(rt.alloc(), run))?;
+    compare_collection(&mut trial, &mut collect(rt.alloc(), run))?;
     trial.assert_none(&rt);
     Ok(())
 }
@@ -236,18 +238,17 @@ fn compare_end<R: Run<Item = u64, Fault = u64>>(
     run: &mut R,
     asks: &Cell<u32>,
     row: &Completion<'_>,
-) -> Result<(), Fail> {
+) {
     for _cancel in 0..2 {
         run.cancel();
-        let cancelled = asks.get();
-        let (polled, is_awake) = trial.next(run);
-        let found = (cancelled, &polled, is_awake, asks.get());
-        trial.compare(row.name, found, (1, &row.end, true, 1))?;
+        trial.compare(row.name, asks.get(), 1);
+        let polled = trial.next(row.name, run);
+        trial.compare_poll(row.name, &polled, &row.end);
+        trial.compare(row.name, asks.get(), 1);
     }
-    Ok(())
 }
 
-fn compare_completion(trial: &mut Trial, row: &Completion<'_>) -> Result<(), Fail> {
+fn compare_completion(trial: &mut Trial, row: &Completion<'_>) -> Result<(), Refusal> {
     let counts = Counts::new(NEVER);
     let source = Source {
         steps: row.steps,
@@ -259,12 +260,13 @@ fn compare_completion(trial: &mut Trial, row: &Completion<'_>) -> Result<(), Fai
         last: row.last,
     };
     let mut run = on_completion(source, action).start()?;
-    let at_first = run.noted();
-    trial.compare_polls(row.name, &mut run, row.polls)?;
-    let found = (at_first, run.noted(), asks.get());
-    trial.compare(row.name, found, (None, row.noted, row.asks))?;
-    compare_end(trial, &mut run, &asks, row)?;
-    trial.compare(row.name, run.noted(), row.noted_then)
+    trial.compare(row.name, run.noted(), None);
+    trial.compare_polls(row.name, &mut run, row.polls);
+    trial.compare(row.name, run.noted(), row.noted);
+    trial.compare(row.name, asks.get(), row.asks);
+    compare_end(trial, &mut run, &asks, row);
+    trial.compare(row.name, run.noted(), row.noted_then);
+    Ok(())
 }
 
 #[test]
@@ -280,32 +282,31 @@ fn completion_actions_are_asked_once(rt: HostRuntime) -> Result<(), Fail> {
 // A sum is ready in the second poll, whose first has woken the task, and given again.
 fn compare_sum<R: Run<Item = u64, Fault = u64>>(
     trial: &mut Trial,
-    mut folding: Folding<R, u64, Sum>,
+    folding: &mut Folding<R, u64, Sum>,
     sum: u64,
-) -> Result<(), Fail> {
+) {
     let ready = Some((sum, Cause::Finished));
     for wanted in [None, ready, ready] {
-        let found = match trial.task.enter(|cx| folding.poll(cx)) {
+        let polled = trial.task.enter(|cx| folding.poll(cx));
+        trial.compare_wake("a fold", &polled);
+        let found = match polled {
             Poll::Ready(given) => Some(given),
-            Poll::Pending if trial.task.is_woken() => None,
-            Poll::Pending => return Err(Fail::from("nothing wakes the task")),
+            Poll::Pending => None,
         };
-        trial.compare("a fold", found, wanted)?;
+        trial.compare("a fold", found, wanted);
     }
-    Ok(())
 }
 
 // A first value, or the cause that came instead, is given again.
 fn compare_first<R: Run<Item = u64, Fault = u64>>(
     trial: &mut Trial,
-    mut first: First<R>,
+    first: &mut First<R>,
     answer: Result<u64, Cause<u64>>,
-) -> Result<(), Fail> {
+) {
     for _poll in 0..2 {
         let polled = trial.task.enter(|cx| first.poll(cx));
-        trial.compare("a first value", polled, Poll::Ready(answer))?;
+        trial.compare("a first value", polled, Poll::Ready(answer));
     }
-    Ok(())
 }
 
 #[test]
@@ -316,28 +317,35 @@ fn a_fold_and_first_values(rt: HostRuntime) -> Result<(), Fail> {
     ];
     let mut trial = Trial::new(&rt)?;
     let counts = Counts::new(NEVER);
-    let folding = fold(range::<u64>(1, 101).start()?, 0, Sum);
-    compare_sum(&mut trial, folding, 5050)?;
+    let run = range::<u64>(1, 101).start()?;
+    compare_sum(&mut trial, &mut fold(run, 0, Sum), 5050);
     for (steps, answer) in FIRSTS {
         let source = Source {
             steps,
             counts: &counts,
         };
-        compare_first(&mut trial, first(source.start()?), *answer)?;
+        compare_first(&mut trial, &mut first(source.start()?), *answer);
     }
     trial.assert_none(&rt);
     Ok(())
 }
 
-// What the callers of `take`, over a flow of its own, of five operators and of a map give.
-#[test]
-fn callers_of_operators(rt: HostRuntime) -> Result<(), Fail> {
-    let alloc = rt.alloc();
-    let mut trial = Trial::new(&rt)?;
+fn compare_taken(trial: &mut Trial) -> Result<(), Refusal> {
+    let alloc = trial.alloc;
     let list = trial.task.enter(|cx| taken_down(alloc, 5, 3, cx))?;
-    trial.compare_list("taken_down", &list, &[5, 4, 3], Cause::Finished)?;
+    trial.compare_list("taken_down", &list, &[5, 4, 3], Cause::Finished);
+    Ok(())
+}
+
+fn compare_chain(trial: &mut Trial) -> Result<(), Refusal> {
+    let alloc = trial.alloc;
     let list = trial.task.enter(|cx| chain::<u64, Add, IsAbove>(alloc, 9, Add(2), IsAbove(5), cx))?;
-    trial.compare_list("chain", &list, &[6, 7, 8], Cause::Finished)?;
+    trial.compare_list("chain", &list, &[6, 7, 8], Cause::Finished);
+    Ok(())
+}
+
+fn compare_mapped(trial: &mut Trial) -> Result<(), Refusal> {
+    let alloc = trial.alloc;
     let values = [1, 2].to_vec(alloc)?;
     let list = trial.task.enter(move |cx| mapped_list::<u64, u64, u64, Add>(
         alloc,
@@ -345,7 +353,17 @@ fn callers_of_operators(rt: HostRuntime) -> Result<(), Fail> {
         Add(1),
         cx,
     ))?;
-    trial.compare_list("mapped_list", &list, &[2, 3], Cause::Finished)?;
+    trial.compare_list("mapped_list", &list, &[2, 3], Cause::Finished);
+    Ok(())
+}
+
+// What the callers of `take`, over a flow of its own, of five operators and of a map give.
+#[test]
+fn callers_of_operators(rt: HostRuntime) -> Result<(), Fail> {
+    let mut trial = Trial::new(&rt)?;
+    compare_taken(&mut trial)?;
+    compare_chain(&mut trial)?;
+    compare_mapped(&mut trial)?;
     trial.assert_none(&rt);
     Ok(())
 }

@@ -10,6 +10,12 @@ mod cancel_rows;
 #[cfg(test)]
 mod cold_rows;
 #[cfg(test)]
+mod further;
+#[cfg(test)]
+mod further_rows;
+#[cfg(test)]
+mod list_rows;
+#[cfg(test)]
 mod memory_rows;
 #[cfg(test)]
 mod merge_rows;
@@ -18,7 +24,11 @@ mod operators;
 #[cfg(test)]
 mod refused_rows;
 #[cfg(test)]
+mod side_rows;
+#[cfg(test)]
 mod sources;
+#[cfg(test)]
+mod timed_rows;
 #[cfg(test)]
 mod tools;
 #[cfg(test)]

@@ -12,6 +12,7 @@ use cold_flow::{
 };
 use flow_buffer::{Drain, Feed, Fill, split};
 use futures::task::Poll;
+use more_operators::{debounce, list_at};
 use std::alloc::{AllocError, AllocGlobal, Global};
 use std::process::Abort;
 use std::random::RandomSource;
@@ -116,11 +117,11 @@ fn starts_of_sources_take_memory(rt: HostRuntime) -> Result<(), Fail> {
     let mut trial = Trial::new(&rt)?;
     for row in LISTS {
         let list = list_of(trial.alloc, row.values, row.fault)?;
-        compare_memory(&mut trial, row.name, row.answers, list)?;
+        compare_memory(&mut trial, row.name, row.answers, &list);
     }
     for row in STEPS {
         let steps = steps_of(trial.alloc, row.steps)?;
-        compare_memory(&mut trial, row.name, row.answers, steps)?;
+        compare_memory(&mut trial, row.name, row.answers, &steps);
     }
     trial.assert_none(&rt);
     Ok(())
@@ -136,7 +137,7 @@ struct Row<'a> {
 }
 
 /// Compares an operator over lists, which are lent. The inner flow of a flat map is the other.
-fn compare_row(trial: &mut Trial, row: &Row<'_>) -> Result<(), Fail> {
+fn compare_row(trial: &mut Trial, row: &Row<'_>) -> Result<(), Refusal> {
     let one = list_of(trial.alloc, row.one, None)?;
     let other = list_of(trial.alloc, row.other, None)?;
     let counts = Three {
@@ -261,6 +262,59 @@ fn polls_of_flat_maps_take_memory(rt: HostRuntime) -> Result<(), Fail> {
     assert_rows(&rt, FLAT_MAPS)
 }
 
+/// Flows of `more_merges`: both lists are started one after the other, those of a list take places for their runs, and an inner start
+/// that is refused ends the run. The values of three are by the rules of Kotlin's `merge` and `combine`, in the order in which the
+/// lists are asked.
+const MERGES: &[Row<'_>] = &[
+    Row {
+        name: "merge",
+        operator: Operator::Pair,
+        one: &[1],
+        other: &[10],
+        answers: &[
+            Poll::Ready(Event::Value(1)),
+            Poll::Ready(Event::Value(10)),
+            ENDED,
+        ],
+    },
+    Row {
+        name: "flat_map_latest",
+        operator: Operator::Latest,
+        one: &[1, 2],
+        other: &[10],
+        answers: &[Poll::Ready(Event::Value(10)), ENDED],
+    },
+    Row {
+        name: "merge_all",
+        operator: Operator::All,
+        one: &[1, 2],
+        other: &[10],
+        answers: &[
+            Poll::Ready(Event::Value(1)),
+            Poll::Ready(Event::Value(10)),
+            Poll::Ready(Event::Value(10)),
+            Poll::Ready(Event::Value(2)),
+            ENDED,
+        ],
+    },
+    Row {
+        name: "combine_all",
+        operator: Operator::Digits,
+        one: &[1, 4],
+        other: &[2],
+        answers: &[
+            Poll::Ready(Event::Value(122)),
+            Poll::Ready(Event::Value(422)),
+            ENDED,
+        ],
+    },
+];
+
+#[test]
+fn starts_of_merges_take_memory(rt: HostRuntime) -> Result<(), Fail> {
+    assert_rows(&rt, MERGES)
+}
+
 /// All values of the list and its end.
 fn is_all(list: &Collected<u64, u64>, values: &[u64]) -> bool {
     list.values.as_slice() == values && list.cause == Cause::Finished
@@ -335,9 +389,43 @@ fn ends_take_memory(rt: HostRuntime) -> Result<(), Fail> {
     let mut trial = Trial::new(&rt)?;
     let numbers = range::<u64>(0, 12);
     let collected = gathered(&trial, &numbers, VALUES)?;
-    trial.compare("collect", collected, Some(true))?;
+    trial.compare("collect", collected, Some(true));
     let list = listed_again(&trial, &numbers)?;
-    trial.compare("to_list", is_all(&list, VALUES), true)?;
+    trial.compare("to_list", is_all(&list, VALUES), true);
+    trial.assert_none(&rt);
+    Ok(())
+}
+
+/// When `debounce` is asked of five values, in the example of its documentation: the second and the third come 90 after the one
+/// before, and the others 1010.
+const MOMENTS: &[u64] = &[0, 90, 180, 1_190, 1_190, 2_200, 2_200, 2_200, 2_200];
+
+/// What it gives of them, which is 3, 4 and 5.
+const QUIET: &[(u64, Event<u64, u64>)] = &[
+    (1_190, Event::Value(3)),
+    (2_200, Event::Value(4)),
+    (2_200, Event::Value(5)),
+    (2_200, Event::End(Cause::Finished)),
+];
+
+/// Whether the list of `debounce` is that.
+fn is_quiet(trial: &Trial) -> Result<bool, Refusal> {
+    let alloc = trial.alloc;
+    let run = debounce(range::<u64>(1, 6).start()?, 1_000);
+    let list = trial
+        .task
+        .enter(move |cx| list_at(alloc, run, MOMENTS, cx))?;
+    Ok(list.as_slice() == QUIET)
+}
+
+#[test]
+fn a_list_at_moments_takes_memory(rt: HostRuntime) -> Result<(), Fail> {
+    let mut trial = Trial::new(&rt)?;
+    let list = match is_quiet(&trial) {
+        Err(Refusal::NoMemory) => is_quiet(&trial),
+        list => list,
+    };
+    trial.compare("list_at", list, Ok(true));
     trial.assert_none(&rt);
     Ok(())
 }
@@ -360,13 +448,14 @@ fn compare_split<F: Flow<Item = u64, Fault = u64> + Copy>(
     rt: &impl Wait,
     trial: &mut Trial,
     list: F,
-) -> Result<(), Fail> {
+) -> Result<(), Refusal> {
     let (mut feed, mut drain) = split_again(trial.alloc, list)?;
     let took = trial.task.enter(|cx| feed.pump(rt, cx));
     feed.cancel(rt);
     let gave = (drain.next(rt), drain.next(rt));
     let wanted = (Event::Value(5), Event::End(Cause::Cancelled));
-    trial.compare("split", (took, gave), (Fill::Took, wanted))
+    trial.compare("split", (took, gave), (Fill::Took, wanted));
+    Ok(())
 }
 
 #[test]

@@ -6,7 +6,7 @@ use crate::operators::{Case, Operator, assert_cases};
 use crate::sources::NEVER;
 use crate::tools::{Polling, Same, Sum, Trial, WAIT};
 use cold_callers::{joined_list, zipped_lists};
-use cold_flow::{Cause, Event, Numbers, Step, range};
+use cold_flow::{Cause, Event, Numbers, Refusal, Step, range};
 use flow_merge::{Bound, KnownBound, MAX_WORKERS};
 use futures::task::Poll;
 use std::test::Fail;
@@ -75,19 +75,20 @@ impl KnownBound for Two {
 }
 
 // What the caller of a zip gives.
-fn compare_zipped(trial: &mut Trial) -> Result<(), Fail> {
+fn compare_zipped(trial: &mut Trial) -> Result<(), Refusal> {
     let alloc = trial.alloc;
     let left = [1, 2, 3].to_vec(alloc)?;
     let right = [10, 20].to_vec(alloc)?;
     let sums = trial.task.enter(move |cx| zipped_lists::<u64, u64, u64, u64, Sum>(
         alloc, left, right, Sum, cx,
     ))?;
-    trial.compare_list("zipped_lists", &sums, &[11, 22], Cause::Finished)
+    trial.compare_list("zipped_lists", &sums, &[11, 22], Cause::Finished);
+    Ok(())
 }
 
 // What the caller of a concatenation gives, of two numbers for each value. Where a number bounds the inner runs it is known to end,
 // and so becomes a list.
-fn compare_joined(trial: &mut Trial) -> Result<(), Fail> {
+fn compare_joined(trial: &mut Trial) -> Result<(), Refusal> {
     let alloc = trial.alloc;
     let outer = [10, 20].to_vec(alloc)?;
     let numbers = trial.task.enter(move |cx| {
@@ -98,7 +99,8 @@ fn compare_joined(trial: &mut Trial) -> Result<(), Fail> {
             cx,
         )
     })?;
-    trial.compare_list("joined_list", &numbers, &[0, 1, 0, 1], Cause::Finished)
+    trial.compare_list("joined_list", &numbers, &[0, 1, 0, 1], Cause::Finished);
+    Ok(())
 }
 
 #[test]

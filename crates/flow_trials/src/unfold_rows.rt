@@ -204,11 +204,12 @@ fn compare_gathered<E: Copy + PartialEq + Debug>(
     gathered: Poll<Result<Collected<u64, E>, Refusal>>,
     values: &[u64],
     cause: Cause<E>,
-) -> Result<(), Fail> {
+) -> Result<(), Refusal> {
     match gathered {
         Poll::Ready(list) => trial.compare_list(name, &list?, values, cause),
         Poll::Pending => trial.compare(name, "it waits", "it ends"),
     }
+    Ok(())
 }
 
 // Compares what one poll of a collection of the flow gathers with a whole list.
@@ -218,14 +219,14 @@ fn compare_collected<E: Copy + PartialEq + Debug, F: Flow<Item = u64, Fault = E>
     flow: &F,
     values: &[u64],
     cause: Cause<E>,
-) -> Result<(), Fail> {
+) -> Result<(), Refusal> {
     let mut gathering = collect(trial.alloc, flow.start()?);
     let gathered = trial.task.enter(|cx| gathering.poll(cx));
     compare_gathered(trial, name, gathered, values, cause)
 }
 
 // Two starts of a row's flow. Each begins with its state: both give the same, and ask as often.
-fn compare_row(trial: &mut Trial, row: &Doubled<'_>) -> Result<(), Fail> {
+fn compare_row(trial: &mut Trial, row: &Doubled<'_>) -> Result<(), Refusal> {
     let asked = Cell::new(0);
     let step = Doubling {
         limit: row.limit,
@@ -236,7 +237,7 @@ fn compare_row(trial: &mut Trial, row: &Doubled<'_>) -> Result<(), Fail> {
     for _start in 0..2 {
         asked.set(0);
         compare_collected(trial, row.name, &flow, row.values, row.cause)?;
-        trial.compare(row.name, asked.get(), row.asked)?;
+        trial.compare(row.name, asked.get(), row.asked);
     }
     Ok(())
 }
@@ -258,13 +259,11 @@ fn compare_polls<R: Run<Item = u64, Fault = u64>>(
     run: &mut R,
     asked: &Cell<u32>,
     polls: &[(Polling, u32)],
-) -> Result<(), Fail> {
-    for (answer, count) in polls {
-        let (polled, is_awake) = trial.next(run);
-        let found = (&polled, is_awake, asked.get());
-        trial.compare(name, found, (answer, true, *count))?;
+) {
+    for wanted in polls {
+        let found = (trial.next(name, run), asked.get());
+        trial.compare_counted(name, &found, wanted);
     }
-    Ok(())
 }
 
 // Polls of a run, each with how often its step was asked until then, and the end that it gives once it is cancelled after them.
@@ -280,13 +279,13 @@ fn compare_cancelled<R: Run<Item = u64, Fault = u64>>(
     run: &mut R,
     asked: &Cell<u32>,
     row: &Polled<'_>,
-) -> Result<(), Fail> {
-    compare_polls(trial, row.name, run, asked, row.polls)?;
+) {
+    compare_polls(trial, row.name, run, asked, row.polls);
     run.cancel();
     let count = asked.get();
     let end = Event::End(row.cancelled);
     let polls = [(Poll::Ready(end), count), (Poll::Ready(end), count)];
-    compare_polls(trial, row.name, run, asked, &polls)
+    compare_polls(trial, row.name, run, asked, &polls);
 }
 
 // A doubling of 1: where it ends and how, and the polls of its run.
@@ -346,69 +345,94 @@ fn unfolds_ask_one_step_a_poll(rt: HostRuntime) -> Result<(), Fail> {
             asked: &asked,
         };
         let mut run = unfold(1u64, step).start()?;
-        compare_cancelled(&mut trial, &mut run, &asked, &row.polled)?;
+        compare_cancelled(&mut trial, &mut run, &asked, &row.polled);
     }
     trial.assert_none(&rt);
     Ok(())
 }
 
 // Two runs of one flow, side by side. Each has a state of its own, and a cancel of one leaves the other going.
-fn compare_side_by_side<F: Flow<Item = u64, Fault = u64>>(
+fn compare_side_by_side<R: Run<Item = u64, Fault = u64>>(
     trial: &mut Trial,
-    flow: &F,
+    left: &mut R,
+    right: &mut R,
     asked: &Cell<u32>,
-) -> Result<(), Fail> {
-    let mut left = flow.start()?;
-    let mut right = flow.start()?;
-    compare_polls(trial, "left", &mut left, asked, &[(ONE, 1), (TWO, 2)])?;
-    compare_polls(trial, "right", &mut right, asked, &[(ONE, 3)])?;
+) {
+    compare_polls(trial, "left", left, asked, &[(ONE, 1), (TWO, 2)]);
+    compare_polls(trial, "right", right, asked, &[(ONE, 3)]);
     left.cancel();
     let on = [(TWO, 4), (FOUR, 5), (ENDED, 6)];
-    compare_polls(trial, "right goes on", &mut right, asked, &on)?;
-    compare_polls(trial, "left is over", &mut left, asked, &[(CANCELLED, 6)])
+    compare_polls(trial, "right goes on", right, asked, &on);
+    compare_polls(trial, "left is over", left, asked, &[(CANCELLED, 6)]);
 }
 
 // One poll of a collection takes the 64 powers of two, and waits, with its task woken.
 fn compare_endless<R: Run<Item = u64, Fault = u64>>(
     trial: &mut Trial,
-    mut gathering: Collecting<R>,
+    gathering: &mut Collecting<R>,
     asked: &Cell<u32>,
-) -> Result<(), Fail> {
+) {
     const GREATEST_POWER: u64 = 0x8000_0000_0000_0000;
-    let is_pending = trial.task.enter(|cx| gathering.poll(cx)).is_pending();
-    let waits = is_pending && trial.task.is_woken();
+    let polled = trial.task.enter(|cx| gathering.poll(cx));
+    trial.compare_wake("endless", &polled);
+    trial.compare("endless", polled.is_pending(), true);
     let so_far = gathering.so_far();
-    let found = (waits, so_far.len(), so_far.last().copied(), asked.get());
-    trial.compare("endless", found, (true, 64, Some(GREATEST_POWER), 64))
+    let found = (so_far.len(), so_far.last().copied(), asked.get());
+    trial.compare("endless", found, (64, Some(GREATEST_POWER), 64));
 }
 
-// Doubling without an end: the powers of two that fit, and then 0 for good. One that ends, by two runs.
+const ENDLESS: u64 = u64::MAX;
+
+// Doubling without an end: the powers of two that fit, and then 0 for good.
+fn compare_powers(trial: &mut Trial) -> Result<(), Refusal> {
+    let asked = Cell::new(0);
+    let step = Doubling {
+        limit: ENDLESS,
+        end: FINISH,
+        asked: &asked,
+    };
+    let run = unfold(1u64, step).start()?;
+    compare_endless(trial, &mut collect(trial.alloc, run), &asked);
+    Ok(())
+}
+
+// A take of three asks three steps.
+fn compare_three(trial: &mut Trial) -> Result<(), Refusal> {
+    const NAME: &str = "a take of three";
+    let asked = Cell::new(0);
+    let step = Doubling {
+        limit: ENDLESS,
+        end: FINISH,
+        asked: &asked,
+    };
+    let taken = take(unfold(1u64, step), 3)?;
+    compare_collected(trial, NAME, &taken, &[1, 2, 4], Cause::Finished)?;
+    trial.compare(NAME, asked.get(), 3);
+    Ok(())
+}
+
 #[test]
-fn unfolds_without_an_end_and_side_by_side(rt: HostRuntime) -> Result<(), Fail> {
+fn unfolds_without_an_end(rt: HostRuntime) -> Result<(), Fail> {
+    let mut trial = Trial::new(&rt)?;
+    compare_powers(&mut trial)?;
+    compare_three(&mut trial)?;
+    trial.assert_none(&rt);
+    Ok(())
+}
+
+#[test]
+fn unfolds_side_by_side(rt: HostRuntime) -> Result<(), Fail> {
     let mut trial = Trial::new(&rt)?;
     let asked = Cell::new(0);
-    let mut step = Doubling {
-        limit: u64::MAX,
+    let step = Doubling {
+        limit: 5,
         end: FINISH,
         asked: &asked,
     };
     let flow = unfold(1u64, step);
-    let gathering = collect(trial.alloc, flow.start()?);
-    compare_endless(&mut trial, gathering, &asked)?;
-    asked.set(0);
-    let taken = take(flow, 3)?;
-    let values = &[1, 2, 4];
-    compare_collected(
-        &mut trial,
-        "a take of three",
-        &taken,
-        values,
-        Cause::Finished,
-    )?;
-    trial.compare("steps of them", asked.get(), 3)?;
-    asked.set(0);
-    step.limit = 5;
-    compare_side_by_side(&mut trial, &unfold(1u64, step), &asked)?;
+    let mut left = flow.start()?;
+    let mut right = flow.start()?;
+    compare_side_by_side(&mut trial, &mut left, &mut right, &asked);
     trial.assert_none(&rt);
     Ok(())
 }
@@ -439,31 +463,36 @@ const PAUSES: &[Polled<'_>] = &[
     },
 ];
 
-// `to_list` asks again at once; a collection waits with its task. Both starts begin anew.
-fn compare_waits<F: Flow<Item = u64, Fault = u64>>(
+const PAUSED: &[u64] = &[4, 2, 0];
+
+const OWN_STEPS: &str = "steps of one's own";
+
+// `to_list` asks again at once.
+fn compare_list_of<R: Finite<Item = u64, Fault = u64>>(
     trial: &mut Trial,
-    source: F,
+    run: R,
     asked: &Cell<u32>,
-) -> Result<(), Fail>
-where
-    F::Running: Finite,
-{
-    const VALUES: &[u64] = &[4, 2, 0];
-    const NAME: &str = "steps of one's own";
+) -> Result<(), Refusal> {
     let alloc = trial.alloc;
-    let run = source.start()?;
     let list = trial.task.enter(move |cx| to_list(alloc, run, cx))?;
-    trial.compare_list(NAME, &list, VALUES, Cause::Finished)?;
-    trial.compare(NAME, asked.get(), 6)?;
-    let mut gathering = collect(alloc, source.start()?);
+    trial.compare_list(OWN_STEPS, &list, PAUSED, Cause::Finished);
+    trial.compare(OWN_STEPS, asked.get(), 6);
+    Ok(())
+}
+
+// A collection waits with its task.
+fn compare_waits<R: Run<Item = u64, Fault = u64>>(
+    trial: &mut Trial,
+    gathering: &mut Collecting<R>,
+) -> Result<(), Refusal> {
     for count in [1, 2] {
-        let is_pending = trial.task.enter(|cx| gathering.poll(cx)).is_pending();
-        let waits = is_pending && trial.task.is_woken();
-        let found = (waits, gathering.so_far().len());
-        trial.compare(NAME, found, (true, count))?;
+        let polled = trial.task.enter(|cx| gathering.poll(cx));
+        trial.compare_wake(OWN_STEPS, &polled);
+        trial.compare(OWN_STEPS, polled.is_pending(), true);
+        trial.compare(OWN_STEPS, gathering.so_far().len(), count);
     }
     let gathered = trial.task.enter(|cx| gathering.poll(cx));
-    compare_gathered(trial, NAME, gathered, VALUES, Cause::Finished)
+    compare_gathered(trial, OWN_STEPS, gathered, PAUSED, Cause::Finished)
 }
 
 #[test]
@@ -474,11 +503,13 @@ fn steps_of_ones_own_may_wait(rt: HostRuntime) -> Result<(), Fail> {
         left: 5,
         asked: &asked,
     };
-    compare_waits(&mut trial, source, &asked)?;
+    compare_list_of(&mut trial, source.start()?, &asked)?;
+    let run = source.start()?;
+    compare_waits(&mut trial, &mut collect(rt.alloc(), run))?;
     for row in PAUSES {
         asked.set(0);
         let mut run = source.start()?;
-        compare_cancelled(&mut trial, &mut run, &asked, row)?;
+        compare_cancelled(&mut trial, &mut run, &asked, row);
     }
     trial.assert_none(&rt);
     Ok(())
@@ -520,7 +551,7 @@ const HALVED: &[Halved<'_>] = &[
 ];
 
 // What the callers of `unfold` give.
-fn compare_halves(trial: &mut Trial, row: &Halved<'_>) -> Result<(), Fail> {
+fn compare_halves(trial: &mut Trial, row: &Halved<'_>) -> Result<(), Refusal> {
     let alloc = trial.alloc;
     let gathered = trial
         .task
@@ -531,12 +562,13 @@ fn compare_halves(trial: &mut Trial, row: &Halved<'_>) -> Result<(), Fail> {
 }
 
 // How many halves one poll gathers of a number. None where it waits, and has woken its task.
-fn count_of_halves(trial: &Trial, number: u64) -> Result<Option<usize>, Fail> {
+fn count_of_halves(trial: &mut Trial, number: u64) -> Result<Option<usize>, Refusal> {
     let alloc = trial.alloc;
-    match trial.task.enter(|cx| gathered_halves(alloc, number, cx)) {
+    let gathered = trial.task.enter(|cx| gathered_halves(alloc, number, cx));
+    trial.compare_wake("halves of a great number", &gathered);
+    match gathered {
         Poll::Ready(list) => Ok(Some(list?.values.len())),
-        Poll::Pending if trial.task.is_woken() => Ok(None),
-        Poll::Pending => Err(Fail::from("nothing wakes the task")),
+        Poll::Pending => Ok(None),
     }
 }
 
@@ -550,8 +582,8 @@ fn halves(rt: HostRuntime) -> Result<(), Fail> {
         compare_halves(&mut trial, row)?;
     }
     for (number, wanted) in [(OF_63_BITS, Some(63)), (OF_64_BITS, None)] {
-        let found = count_of_halves(&trial, number)?;
-        trial.compare("halves of a great number", found, wanted)?;
+        let found = count_of_halves(&mut trial, number)?;
+        trial.compare("halves of a great number", found, wanted);
     }
     trial.assert_none(&rt);
     Ok(())
@@ -566,7 +598,7 @@ fn repeated_values(rt: HostRuntime) -> Result<(), Fail> {
         let list = trial
             .task
             .enter(|cx| repeated_list(alloc, 7u64, times, cx))?;
-        trial.compare_list("repeated_list", &list, sevens, Cause::Finished)?;
+        trial.compare_list("repeated_list", &list, sevens, Cause::Finished);
     }
     trial.assert_none(&rt);
     Ok(())
