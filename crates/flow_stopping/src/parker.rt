@@ -8,6 +8,7 @@ use futures::Future;
 use futures::future::{Abortable, Pending, pending};
 use futures::task::{Context, Doorbell, Queue};
 use std::alloc::AllocGlobal;
+use std::mem;
 use std::random::RandomSource;
 use std::sync::Wait;
 
@@ -53,6 +54,8 @@ impl StoppableParker {
         let Ok(queue) = Queue::new(rt, Doorbell::parking()) else {
             return Err(Refusal::NoMemory);
         };
+        // A task is held for good: where none is left, the next one rings, which is a call of the system for each wait.
+        mem::forget(queue.hold()?);
         let parker = StoppableParker {
             queue,
             is_set: false,

@@ -5,6 +5,7 @@ ghost use Rattle.flow_terms.specs.declared.refusal.Refusal.TheVariants.{NoMemory
 use flow_terms::Refusal;
 use futures::task::{Context, Doorbell, Queue};
 use std::alloc::AllocGlobal;
+use std::mem;
 use std::random::RandomSource;
 use std::sync::Wait;
 
@@ -33,13 +34,15 @@ impl Parker {
         R: RandomSource + AllocGlobal,
         ensures { IfErr result (λ refusal. refusal ≡ NoMemory) }
     {
-        match Queue::new(rt, Doorbell::parking()) {
-            Ok(queue) => Ok(Parker {
-                queue,
-                is_set: false,
-            }),
-            Err(_) => Err(Refusal::NoMemory),
-        }
+        let Ok(queue) = Queue::new(rt, Doorbell::parking()) else {
+            return Err(Refusal::NoMemory);
+        };
+        // A task is held for good: where none is left, the next one rings, which is a call of the system for each wait.
+        mem::forget(queue.hold()?);
+        Ok(Parker {
+            queue,
+            is_set: false,
+        })
     }
 
     /// Begins to wait: its first turn comes at once. Refused as `NoMemory`, which the first wait of a parker can be. A wait that
