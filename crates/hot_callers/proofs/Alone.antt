@@ -2,7 +2,7 @@
 use Rattle.std.proofs.Common.{◌≡◌, ◌⊎◌, ⊎_elim, inl, inr, ◌-◌, ℕ, List, [], ◌∷◌, map, take, drop, refl, sym, ap, ◌∙◌, subst}
 use Rattle.std.proofs.lemmas.List.{take-append-drop}
 use Rattle.std.specs.List.{AllByRecursion}
-use Rattle.lane_steps.specs.Law.{Entry}
+use Rattle.shared_lane.specs.Law.{Entry}
 use Rattle.round_lock.specs.declared.log.TakenOwner.{TakenOwner}
 use Rattle.round_lock.specs.History.After.{more as one_more}
 use Rattle.shared_core.specs.Headline.{EndsWith}

@@ -6,7 +6,7 @@ use Rattle.std.proofs.lemmas.Option.{same_Some}
 use Rattle.std.specs.List.{AllByRecursion}
 use Rattle.flow_terms.specs.declared.refusal.Refusal.{Refusal}
 use Rattle.flow_terms.specs.declared.answers.Tried.{Tried}
-use Rattle.lane_steps.specs.Law.{Entry}
+use Rattle.shared_lane.specs.Law.{Entry}
 use Rattle.round_lock.specs.declared.log.TakenOwner.{TakenOwner}
 use Rattle.flow_terms.specs.Lists.{IsPrefix}
 use Rattle.round_lock.specs.History.{Apart, HasAll, MadeEach, Parts, halves, own_of}
@@ -14,8 +14,8 @@ use Rattle.round_lock.specs.History.After.{more as one_more}
 use Rattle.shared_core.specs.declared.config.Config.{Config}
 use Rattle.shared_core.specs.Flow.{values_at}
 use Rattle.shared_core.specs.Story.{Interleaves}
-use Rattle.shared_lane.specs.declared.meeting.Met.{Met}
-use Rattle.lane_steps.specs.declared.view.Shape.{Shape}
+use Rattle.shared_lane.specs.declared.reader.Met.{Met}
+use Rattle.shared_lane.specs.declared.view.Shape.{Shape}
 use Rattle.shared_lane.specs.Caches.{word_of}
 use Rattle.shared_lane.specs.Headline.{cache_then_later, pending}
 use Rattle.shared_lane.specs.Readers.{at}

@@ -7,7 +7,7 @@ use Rattle.flow_terms.specs.declared.answers.Begun.TheVariants as begun
 use Rattle.flow_terms.specs.declared.answers.Emit.TheVariants as emit
 use Rattle.flow_terms.specs.declared.answers.Withdrawn.TheVariants as given_up
 use Rattle.round_lock.specs.History.{own_of}
-use Rattle.lane_steps.specs.Law.{Entry}
+use Rattle.shared_lane.specs.Law.{Entry}
 use Rattle.shared_lane.specs.Blocks.{entries}
 use Rattle.shared_lane.specs.Caches.{word_of}
 use Rattle.shared_lane.specs.Sequencers.{entry_of, seen}

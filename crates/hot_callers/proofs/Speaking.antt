@@ -8,7 +8,7 @@ use lib.ListN.{get_elem?}
 use Rattle.flow_terms.specs.declared.refusal.Refusal.{Refusal}
 use Rattle.flow_terms.specs.declared.answers.Tried.{Tried}
 use Rattle.flow_terms.specs.declared.answers.Tried.TheVariants as tried
-use Rattle.lane_steps.specs.Law.{Entry}
+use Rattle.shared_lane.specs.Law.{Entry}
 use Rattle.round_lock.specs.declared.log.TakenOwner.{TakenOwner}
 use Rattle.round_lock.specs.History.{TakenIn, Parts, MadeEach, own_of}
 use Rattle.shared_core.specs.Story.{Interleaves, none, left, right}

@@ -4,8 +4,8 @@ use Rattle.std.proofs.lemmas.List.{length-map, map-id}
 use Rattle.std.proofs.lemmas.List.Elements.{recursion_from_All}
 use Rattle.std.proofs.lemmas.Option.{same_Some}
 use Rattle.std.specs.List.{AllByRecursion, range_with_len}
-use Rattle.lane_steps.specs.Law.{Entry}
-use Rattle.lane_steps.specs.declared.view.Shape.{Shape}
+use Rattle.shared_lane.specs.Law.{Entry}
+use Rattle.shared_lane.specs.declared.view.Shape.{Shape}
 use Rattle.round_lock.specs.declared.log.TakenOwner.{TakenOwner}
 use Rattle.flow_terms.specs.Lists.{IsPrefix}
 use Rattle.round_lock.specs.History.{HasAll, Parts, halves}
@@ -16,7 +16,7 @@ use Rattle.shared_core.specs.Story.{Interleaves}
 use Rattle.shared_lane.specs.Headline.{pending}
 use Rattle.shared_lane.specs.Sequencers.{shape_of}
 use Rattle.shared_lane.specs.Views.{ReaderSeen, SequencerSeen}
-use Rattle.shared_lane.specs.declared.meeting.Met.{Met}
+use Rattle.shared_lane.specs.declared.reader.Met.{Met}
 use Rattle.shared_rounds.specs.declared.round.Round.{Round}
 use Rattle.shared_rounds.specs.declared.round.Round.TheVariants as round
 use Rattle.shared_rounds.specs.Entering.{IsLeftBy, Made}

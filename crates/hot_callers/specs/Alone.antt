@@ -8,7 +8,7 @@ use Rattle.shared_core.specs.declared.config.Config.{Config}
 use Rattle.shared_core.specs.Headline.{EndsWith}
 use Rattle.shared_lane.specs.Caches.{word_of}
 use Rattle.shared_lane.specs.Sequencers.{seen}
-use Rattle.shared_lane.specs.declared.meeting.Met.{Met}
+use Rattle.shared_lane.specs.declared.reader.Met.{Met}
 use Rattle.shared_rounds.specs.declared.round.Round.{Round}
 use Rattle.shared_rounds.specs.Entering.{Made}
 use Rattle.shared_rounds.specs.Names.{FlowName, IsMadeWith}

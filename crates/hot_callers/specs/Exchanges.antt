@@ -6,7 +6,7 @@ use Rattle.flow_terms.specs.Lists.{IsPrefix}
 use Rattle.round_lock.specs.History.{HasAll, own_of}
 use Rattle.shared_core.specs.declared.config.Config.{Config}
 use Rattle.shared_core.specs.Story.{Interleaves}
-use Rattle.shared_lane.specs.declared.meeting.Met.{Met}
+use Rattle.shared_lane.specs.declared.reader.Met.{Met}
 use Rattle.shared_rounds.specs.declared.round.Round.{Round}
 use Rattle.shared_rounds.specs.declared.round.Round.TheVariants as round
 use Rattle.shared_rounds.specs.Entering.{Made}

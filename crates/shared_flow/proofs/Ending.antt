@@ -3,9 +3,9 @@ use Rattle.std.proofs.Common.{◌≡◌, ◌⊎◌, inl, inr, ⊎_elim, ℕ, suc
 use Rattle.std.proofs.lemmas.List.{length-map, length-drop}
 use Rattle.std.proofs.lemmas.Option.{slice_get-get_or}
 use Rattle.std.specs.List.{AllByRecursion, cons_option}
-use Rattle.lane_steps.specs.Law.{lost, received as received_at}
+use Rattle.shared_lane.specs.Law.{lost, received as received_at}
 use Rattle.shared_core.specs.Flow.{values_at}
-use Rattle.shared_lane.specs.declared.meeting.Met.{Met}
+use Rattle.shared_lane.specs.declared.reader.Met.{Met}
 use Rattle.shared_lane.specs.Caches.{word_of}
 use Rattle.shared_lane.specs.Headline.{words_seen}
 use Rattle.shared_lane.specs.Readers.{at}

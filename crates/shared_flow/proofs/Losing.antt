@@ -12,12 +12,12 @@ use Rattle.flow_terms.specs.declared.answers.Begun.TheVariants as begun
 use Rattle.flow_terms.specs.declared.answers.Emit.TheVariants as emit
 use Rattle.flow_terms.specs.declared.answers.Withdrawn.TheVariants as withdrawn
 use Rattle.flow_terms.specs.declared.ids.Ticket.{Ticket}
-use Rattle.lane_steps.specs.declared.view.Known.{Known}
-use Rattle.lane_steps.specs.declared.view.Sequencing.{Sequencing}
-use Rattle.lane_steps.specs.declared.view.Shape.{Shape}
-use Rattle.lane_steps.specs.declared.view.View.{View}
-use Rattle.lane_steps.specs.Law.{Entry, closed, shut_place}
-use Rattle.lane_steps.specs.Steps.{known_of, known_at, known_over}
+use Rattle.shared_lane.specs.declared.view.Known.{Known}
+use Rattle.shared_lane.specs.declared.view.Sequencing.{Sequencing}
+use Rattle.shared_lane.specs.declared.view.Shape.{Shape}
+use Rattle.shared_lane.specs.declared.view.View.{View}
+use Rattle.shared_lane.specs.Law.{Entry, closed, shut_place}
+use Rattle.shared_lane.specs.Steps.{known_of, known_at, known_over}
 use Rattle.shared_lane.specs.Views.{LaneSeen, SequencerSeen}
 use Rattle.shared_lane.specs.Surveys.{WholePass, Cleared, lost_at, LosesNone}
 use Rattle.shared_lane.specs.Sequencers.{ByCursors, FoundNoRoom, PassedBy, AcceptedOn, TriedOn, BegunOn, RefusedStart, next, seen}

@@ -4,7 +4,7 @@ use Rattle.flow_terms.specs.Lists.{IsPrefix}
 use Rattle.round_lock.specs.History.{KnowsTaken, own_of}
 use Rattle.std.proofs.lemmas.List.{append-nil}
 use Rattle.std.proofs.lemmas.Option.{same_Some}
-use Rattle.shared_lane.specs.declared.meeting.Met.{Met}
+use Rattle.shared_lane.specs.declared.reader.Met.{Met}
 use Rattle.shared_lane.specs.declared.reader.Taken.TheVariants.{Nothing}
 use Rattle.shared_lane.specs.Readers.{at}
 use Rattle.shared_lane.specs.Sequencers.{next}

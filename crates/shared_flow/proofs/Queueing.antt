@@ -8,7 +8,7 @@ use Rattle.flow_terms.specs.declared.answers.Withdrawn.TheVariants as withdrawn
 use Rattle.flow_terms.specs.declared.refusal.Refusal.{Refusal}
 use Rattle.flow_terms.specs.declared.refusal.Refusal.TheVariants as refusals
 use Rattle.round_lock.specs.History.After.{new, more}
-use Rattle.lane_steps.specs.Law.{Entry}
+use Rattle.shared_lane.specs.Law.{Entry}
 use Rattle.shared_lane.specs.Blocks.{entries, AcceptedTogether, AcceptedInTurn, IsTurnedAway, TriedAllOn}
 use Rattle.shared_lane.specs.Views.{LaneSeen, SequencerSeen}
 use Rattle.shared_lane.specs.Sequencers.{OnlyLoaded, LoadedOrMoved, FoundNoRoom, Passed, TriedOn, waited, AcceptedWaiting, RefusedStart, seen}

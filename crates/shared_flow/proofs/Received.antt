@@ -6,17 +6,17 @@ use Rattle.std.proofs.lemmas.List.{append-nil, length-map, map-append, drop-appe
 use Rattle.std.proofs.lemmas.List.Elements.{filter_map-append}
 use Rattle.std.proofs.lemmas.Option.{slice_get-map, slice_get_within}
 use Rattle.std.specs.List.{AllByRecursion, cons_option, range_with_len}
-use Rattle.lane_steps.specs.Law.{Entry, lost, received as received_at}
+use Rattle.shared_lane.specs.Law.{Entry, lost, received as received_at}
 use Rattle.shared_core.specs.Flow.{values_at}
 use Rattle.shared_core.specs.Preludes.{RestSeen}
-use Rattle.shared_core.specs.Story.{Interleaves, none as neither, left as from_left, right as from_right}
+use Rattle.shared_core.specs.Story.{Interleaves}
 use Rattle.shared_core.proofs.Lists.{values_at-range}
 use Rattle.shared_lane.specs.Caches.{word_of}
 use Rattle.shared_lane.specs.Headline.{Went, Lived, given, StartsAtCache, words_seen, pending}
 use Rattle.shared_lane.specs.Readers.{at, story_to, IsKept, WentTo, IsReaderOf, IsSameReader}
 use Rattle.shared_lane.specs.declared.reader.Taken.{Taken}
 use Rattle.shared_lane.specs.declared.reader.Taken.TheVariants.{Value, Nothing, Overtaken}
-use Rattle.shared_lane.proofs.Lives.{took_all_lived}
+use Rattle.shared_lane.proofs.Lives.{took_all_lived, mixed, lost_then}
 use Rattle.shared_rounds.specs.Meeting.{Looked}
 use Rattle.shared_rounds.specs.Names.{FlowName}
 use Rattle.shared_lane.specs.Views.{ReaderSeen}
@@ -40,29 +40,6 @@ received_to k bs = received-append 0 bs (replicate k false) ∙ ap (λ l. receiv
 
 received_then : (bs : List Bool) → received_at 0 (bs ++ true ∷ []) ≡ received_at 0 bs ++ length bs ∷ []
 received_then bs = received-append 0 bs (true ∷ []) ∙ ap (λ k. received_at 0 bs ++ k ∷ []) (zero-add (length bs))
-
-lost_then : (j : ℕ) (bs : List Bool) → lost j (bs ++ true ∷ []) ≡ lost j bs
-lost_then j [] = refl
-lost_then j (true ∷ bs) = lost_then (suc j) bs
-lost_then j (false ∷ bs) = ap (λ l. j ∷ l) (lost_then (suc j) bs)
-
-all_left : (a n : ℕ) → Interleaves (range_with_len a n) [] (range_with_len a n)
-all_left a zero = neither
-all_left a (suc n) = from_left a (all_left (a + 1) n)
-
--- the indexes received and those lost, and then more
-mixed : (n j : ℕ) (bs : List Bool) → Interleaves (received_at j bs ++ range_with_len (j + length bs) n) (lost j bs) (range_with_len j (length bs + n))
-mixed n j [] = let same : j + 0 ≡ j = add-zero j in rw same (rw (zero-add) (all_left j n))
-mixed n j (true ∷ bs) =
-    let here : suc j ≡ j + 1 = omega arith in
-    let there : j + suc (length bs) ≡ suc j + length bs = omega arith in
-    let count : suc (length bs) + n ≡ suc (length bs + n) = omega arith in
-    rw (count, there, sym here) (from_left j (mixed n (suc j) bs))
-mixed n j (false ∷ bs) =
-    let here : suc j ≡ j + 1 = omega arith in
-    let there : j + suc (length bs) ≡ suc j + length bs = omega arith in
-    let count : suc (length bs) + n ≡ suc (length bs + n) = omega arith in
-    rw (count, there, sym here) (from_right j (mixed n (suc j) bs))
 
 -- ---- values at indexes
 

@@ -2,7 +2,7 @@
 use Rattle.std.specs.Prelude.{◌≡◌, ◌⊎◌, ⊤, ℕ, ◌+◌, ◌≤◌, false, List, [], ◌∷◌, ◌++◌, length, map, Option, None, Some, Ok}
 use Rattle.std.specs.List.{range_with_len}
 use Rattle.flow_terms.specs.Lists.{IsPrefix}
-use Rattle.lane_steps.specs.Law.{lost}
+use Rattle.shared_lane.specs.Law.{lost}
 use Rattle.shared_core.specs.Flow.{values_at}
 use Rattle.shared_core.specs.Story.{Interleaves}
 use Rattle.shared_core.specs.Headline.{EndsWith}

@@ -1,6 +1,6 @@
 -- What a subscription was admitted by, and what its looks at the lane came to.
 use Rattle.std.specs.Prelude.{◌≡◌, ◌⊎◌, ◌≤◌, ◌++◌, ℕ, false, length, replicate, Some, Ok}
-use Rattle.shared_lane.specs.declared.meeting.Met.{Met}
+use Rattle.shared_lane.specs.declared.reader.Met.{Met}
 use Rattle.shared_lane.specs.declared.reader.Taken.{Taken}
 use Rattle.shared_lane.specs.declared.reader.Taken.TheVariants.{Value, Nothing, Overtaken}
 use Rattle.shared_lane.specs.Views.{ReaderSeen}

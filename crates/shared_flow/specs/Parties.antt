@@ -4,7 +4,7 @@ use Rattle.std.specs.List.{filter_map}
 use Rattle.flow_terms.specs.declared.refusal.Refusal.{Refusal}
 use Rattle.futures.specs.declared.task.Poll.{Poll}
 use Rattle.futures.specs.declared.task.Poll.TheVariants.{Ready, Pending}
-use Rattle.lane_steps.specs.Law.{received as received_at}
+use Rattle.shared_lane.specs.Law.{received as received_at}
 use Rattle.shared_lane.specs.declared.reader.Taken.{Taken}
 use Rattle.shared_lane.specs.declared.reader.Taken.TheVariants.{Value, Nothing, Overtaken}
 use Rattle.flow_terms.specs.declared.answers.Withdrawn.{Withdrawn}

@@ -5,7 +5,7 @@ use Rattle.shared_core.specs.Story.{Interleaves}
 use Rattle.flow_terms.specs.declared.answers.Tried.TheVariants as tried
 use Rattle.flow_terms.specs.declared.answers.Begun.TheVariants as begun
 use Rattle.flow_terms.specs.declared.answers.Withdrawn.TheVariants as withdrawn
-use Rattle.lane_steps.specs.Law.{Entry}
+use Rattle.shared_lane.specs.Law.{Entry}
 use Rattle.shared_lane.specs.Blocks.{entries}
 use Rattle.shared_lane.specs.Sequencers.{entry_of, seen}
 use Rattle.shared_lane.specs.Views.{SequencerSeen}

@@ -1,14 +1,14 @@
 -- What a subscription has received, in its caller's words, and what that has to do with the flow.
 use Rattle.std.specs.Prelude.{◌≡◌, ◌⊎◌, ℕ, ◌-◌, ◌<◌, ◌≤◌, max, false, List, [], ◌++◌, length, map}
 use Rattle.std.specs.List.{AllByRecursion, range_with_len}
-use Rattle.lane_steps.specs.Law.{lost, received as received_at}
+use Rattle.shared_lane.specs.Law.{lost, received as received_at}
 use Rattle.shared_core.specs.Flow.{values_at}
 use Rattle.shared_core.specs.Preludes.{RestSeen}
 use Rattle.shared_core.specs.Story.{Interleaves}
 use Rattle.shared_lane.specs.Headline.{pending}
 use Rattle.shared_lane.specs.Readers.{IsSameReader}
 use Rattle.shared_lane.specs.Views.{ReaderSeen}
-use Rattle.shared_lane.specs.declared.meeting.Met.{Met}
+use Rattle.shared_lane.specs.declared.reader.Met.{Met}
 use Rattle.shared_flow.specs.Parties.{Subscribed, since_start, words_received, received}
 
 -- What a reader knows of what it received: it began at an emission of its flow; it has seen each emission that it received; and where the

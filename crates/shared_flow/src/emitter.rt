@@ -96,8 +96,8 @@ impl<T: Word> Emitter<T> {
             word: value.to_word(),
         };
         let mut inside = self.access.enter(rt);
-        let answer = inside.guarded.state.try_emit(emission);
-        let tried = inside.guarded.state.tried_with_receipt(emission, answer);
+        let answer = inside.shared.try_emit(emission);
+        let tried = inside.shared.tried_with_receipt(emission, answer);
         self.last = last_tried(self.last, &answer);
         self.access.leave(inside, Round::Try(emission, answer));
         tried
@@ -129,8 +129,8 @@ impl<T: Word> Emitter<T> {
             word: value.to_word(),
         };
         let mut inside = self.access.enter(rt);
-        let answer = inside.guarded.state.start_emit(emission);
-        let begun = inside.guarded.state.begun_with_receipt(emission, answer);
+        let answer = inside.shared.start_emit(emission);
+        let begun = inside.shared.begun_with_receipt(emission, answer);
         self.last = last_begun(self.last, &answer);
         self.ticket = begun_ticket(&answer);
         self.access.leave(inside, Round::Start(emission, answer));
@@ -153,11 +153,10 @@ impl<T: Word> Emitter<T> {
             unreachable!()
         };
         let mut inside = self.access.enter(rt);
-        let Polled { emit, receipt } = inside.guarded.state.poll_emit(ticket, self.id, self.last);
+        let Polled { emit, receipt } = inside.shared.poll_emit(ticket, self.id, self.last);
         let Some(receipt) = receipt else {
             inside
-                .guarded
-                .state
+                .shared
                 .sleep_emission(ticket, emit, &mut self.wait_key, cx);
             let round = polled_without_receipt(ticket, self.id, self.last, emit);
             self.access.leave(inside, round);
@@ -276,10 +275,7 @@ impl<T: Word> Emitter<T> {
             return Withdrawn::Gone;
         };
         let mut inside = self.access.enter(rt);
-        let Released { withdrawn, receipt } = inside
-            .guarded
-            .state
-            .cancel_emit(ticket, self.id, self.last);
+        let Released { withdrawn, receipt } = inside.shared.cancel_emit(ticket, self.id, self.last);
         self.ticket = None;
         let Some(receipt) = receipt else {
             let round = withdrawn_without_receipt(ticket, self.id, self.last, withdrawn);

@@ -205,7 +205,7 @@ impl<T: Word> SharedFlow<T> {
             number,
             looker,
             reader,
-        } = inside.guarded.state.subscribe();
+        } = inside.shared.subscribe();
         match reader {
             Ok(reader) => {
                 self.access.leave(inside, Round::Subscribe(Ok(number)));
@@ -225,7 +225,7 @@ impl<T: Word> SharedFlow<T> {
         ensures made { Made round.Reset self.old.party self.new.party }
     {
         let mut inside = self.access.enter(rt);
-        inside.guarded.state.reset_replay();
+        inside.shared.reset_replay();
         self.access.leave(inside, Round::Reset);
     }
 
@@ -239,7 +239,7 @@ impl<T: Word> SharedFlow<T> {
         ensures unmade { OnErr result (Made (round.Cache (Err NoMemory)) self.old.party self.new.party) }
     {
         let mut inside = self.access.enter(rt);
-        match inside.guarded.state.replay_cache_into(out) {
+        match inside.shared.replay_cache_into(out) {
             Ok(()) => {
                 self.access.leave_cache(inside);
                 Ok(())
@@ -275,7 +275,7 @@ impl<T: Word> SharedFlow<T> {
         ensures made { Made (round.Count result) self.old.party self.new.party }
     {
         let mut inside = self.access.enter(rt);
-        let count = inside.guarded.state.subscription_count();
+        let count = inside.shared.subscription_count();
         self.access.leave(inside, Round::Count(count));
         count
     }

@@ -298,7 +298,7 @@ impl<T: Word> Subscription<T> {
         ensures same { self.new ≡ record self.old { party = self.new.party } }
     {
         let mut inside = self.access.enter(rt);
-        inside.guarded.state.accept_waiting(self.number);
+        inside.shared.accept_waiting(self.number);
         self.access.leave(inside, Round::Next(self.number));
     }
 
@@ -318,15 +318,14 @@ impl<T: Word> Subscription<T> {
         ensures kept { Keeps cx.old cx.new }
     {
         let mut inside = self.access.enter(rt);
-        match inside.guarded.state.look(self.number, &mut self.reader) {
+        match inside.shared.look(self.number, &mut self.reader) {
             Taken::Value(word) => {
                 self.access.leave(inside, Round::Next(self.number));
                 Poll::Ready(T::from_word(word))
             }
             Taken::Nothing => {
                 inside
-                    .guarded
-                    .state
+                    .shared
                     .sleep_subscription(self.number, &mut self.wait_key, cx);
                 self.access.leave(inside, Round::Pending(self.number));
                 Poll::Pending
@@ -444,7 +443,7 @@ impl<T: Word> Subscription<T> {
             marker: _,
         } = self;
         let mut inside = access.enter(rt);
-        let met = inside.guarded.state.cancel(number, reader);
+        let met = inside.shared.cancel(number, reader);
         access.leave(inside, Round::Cancel(number));
         Ended { access, met }
     }

@@ -3,7 +3,7 @@ use Rattle.std.proofs.Common.{◌≡◌, ℕ, zero, suc, ◌+◌, ◌-◌, ◌<�
 use mathlib.Core.Option.{some}
 use lib.ListN.{get_elem?}
 use Rattle.flow_terms.specs.declared.answers.Tried.TheVariants.{Accepted}
-use Rattle.lane_steps.specs.Law.{Entry}
+use Rattle.shared_lane.specs.Law.{Entry}
 use Rattle.shared_lane.specs.Views.{SequencerSeen}
 use Rattle.shared_lane.specs.Places.{IsAccepted}
 use Rattle.shared_lane.specs.Sequencers.{IsSameSequencer, AfterScan, TriedOn, seen, next}

@@ -1,7 +1,7 @@
 -- What an emission began with that is handed over.
 use Rattle.std.proofs.Common.{◌≡◌, ◌⊎◌, ℕ, ◌+◌, false, true, List, [], ◌∷◌, ◌++◌, length, ap, ◌∙◌, subst, sym, inl}
 use Rattle.circular_buffer.specs.Buffer.{keep_last}
-use Rattle.lane_steps.specs.Law.{Entry}
+use Rattle.shared_lane.specs.Law.{Entry}
 use Rattle.flow_terms.specs.declared.policy.Policy.TheVariants.{Suspend}
 use Rattle.shared_lane.specs.Views.{SequencerSeen}
 use Rattle.shared_lane.specs.Sequencers.{LoadedOrMoved, ByCursors, LookedTwice, HasFreeTicket, HasStood}

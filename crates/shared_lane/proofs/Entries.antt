@@ -4,8 +4,8 @@ use lib.ListN.{length-map}
 use Rattle.std.proofs.lemmas.List.{append-nil, map-append, length-take, take_more}
 use Rattle.std.proofs.Math.Seq.{take-add}
 use Rattle.circular_buffer.specs.Buffer.{keep_last}
-use Rattle.lane_steps.specs.Law.{Entry}
-use Rattle.lane_steps.proofs.Lists.{front}
+use Rattle.shared_lane.specs.Law.{Entry}
+use Rattle.shared_lane.proofs.Lists.{front}
 use Rattle.shared_lane.specs.Caches.{word_of, IsLastOf}
 use Rattle.shared_lane.specs.Views.{SequencerSeen}
 use Rattle.shared_lane.specs.Blocks.{entries, joined, AcceptedTogether, AcceptedInTurn}

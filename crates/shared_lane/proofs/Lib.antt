@@ -1,3 +1,9 @@
+pub mod Frames
+pub mod Apart
+pub mod Lists
+pub mod ReaderKept
+pub mod SeatsKept
+pub mod SequencerKept
 pub mod Accepting
 pub mod Beginning
 pub mod Entries

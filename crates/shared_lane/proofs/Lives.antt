@@ -12,8 +12,8 @@ use Rattle.shared_core.specs.Flow.{values_at}
 use Rattle.shared_core.specs.Story.{Interleaves, none as neither, left as from_left, right as from_right}
 use Rattle.shared_core.proofs.Lists.{values_at-range}
 use Rattle.flow_terms.specs.Lists.{IsPrefix}
-use Rattle.lane_steps.specs.Law.{Entry, HasWord, HasWords, received, lost}
-use Rattle.lane_steps.proofs.Lists.{within}
+use Rattle.shared_lane.specs.Law.{Entry, HasWord, HasWords, received, lost}
+use Rattle.shared_lane.proofs.Lists.{within}
 use Rattle.shared_lane.specs.Views.{ReaderSeen}
 use Rattle.shared_lane.specs.Caches.{word_of, IsLastOf}
 use Rattle.shared_lane.specs.declared.reader.Taken.{Taken}
@@ -65,7 +65,7 @@ all_left a zero = neither
 all_left a (suc n) = from_left a (all_left (a + 1) n)
 
 -- the indexes received and those lost, and then those that are pending
-mixed : (n j : ℕ) (bs : List Bool) → Interleaves (received j bs ++ range_with_len (j + length bs) n) (lost j bs) (range_with_len j (length bs + n))
+pub mixed : (n j : ℕ) (bs : List Bool) → Interleaves (received j bs ++ range_with_len (j + length bs) n) (lost j bs) (range_with_len j (length bs + n))
 mixed n j [] = let same : j + 0 ≡ j = add-zero j in rw same (rw (zero-add) (all_left j n))
 mixed n j (true ∷ bs) =
     let here : suc j ≡ j + 1 = omega arith in
@@ -83,10 +83,10 @@ lost_from s j [] = refl
 lost_from s j (true ∷ bs) = lost_from s (suc j) bs ∙ ap (λ a. lost a bs) (omega arith)
 lost_from s j (false ∷ bs) = ap (λ l. (s + j) ∷ l) (lost_from s (suc j) bs ∙ ap (λ a. lost a bs) (omega arith))
 
-lost_one : (j : ℕ) (bs : List Bool) → lost j (bs ++ true ∷ []) ≡ lost j bs
-lost_one j [] = refl
-lost_one j (true ∷ bs) = lost_one (suc j) bs
-lost_one j (false ∷ bs) = ap (λ l. j ∷ l) (lost_one (suc j) bs)
+pub lost_then : (j : ℕ) (bs : List Bool) → lost j (bs ++ true ∷ []) ≡ lost j bs
+lost_then j [] = refl
+lost_then j (true ∷ bs) = lost_then (suc j) bs
+lost_then j (false ∷ bs) = ap (λ l. j ∷ l) (lost_then (suc j) bs)
 
 -- ---- lists of entries
 
@@ -160,7 +160,7 @@ module _ (f k : ℕ) (drops : Bool) where
         start = same.0 ∙ good.start;
         fits = subst (λ bs. Fits (drop k (words_seen m)) 0 bs (ws ++ w ∷ [])) (sym went.3)
             (fits_one _ w 0 (story_to n r) ws (fits_lost _ (n - at r) 0 r.story ws (seen_more r m r.story ws same good.fits)) here);
-        whole = λ keeps. ap (lost 0) went.3 ∙ lost_one 0 (story_to n r) ∙ all_kept n r ws good went.2 keeps;
+        whole = λ keeps. ap (lost 0) went.3 ∙ lost_then 0 (story_to n r) ∙ all_kept n r ws good went.2 keeps;
       }
 
   given_more : (x : Option ℕ) (xs : List (Option ℕ)) (ws : List ℕ) → (ws ++ given (x ∷ [])) ++ given xs ≡ ws ++ given (x ∷ xs)

@@ -6,7 +6,7 @@ use Rattle.std.proofs.lemmas.Bool.{le-leb, leb-true}
 use Rattle.std.proofs.lemmas.List.{map-append, length-map}
 use Rattle.std.proofs.lemmas.Option.{slice_get_within, none-some}
 use Rattle.circular_buffer.proofs.Places.{slice_get-append_left, slice_get-last}
-use Rattle.lane_steps.specs.Law.{Entry}
+use Rattle.shared_lane.specs.Law.{Entry}
 use Rattle.shared_lane.specs.declared.tickets.Standing.{Standing}
 use Rattle.shared_lane.specs.Polls.{IsFirst}
 use Rattle.shared_lane.specs.Caches.{emitter_of, emitter_at, AreAccepted}

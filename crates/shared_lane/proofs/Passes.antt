@@ -3,13 +3,13 @@ use Rattle.std.proofs.Common.{◌≡◌, ◌≢◌, ◌⊎◌, ℕ, zero, suc, �
 use mathlib.Core.Logic.{dite}
 use native.Mathlib.Decide.{ℕ_discrete, dec_le}
 use Rattle.std.proofs.lemmas.List.{append-nil}
-use Rattle.lane_steps.specs.declared.view.Known.{Known}
-use Rattle.lane_steps.specs.declared.view.Sequencing.{Sequencing}
-use Rattle.lane_steps.specs.declared.view.View.{View}
-use Rattle.lane_steps.specs.Layout.{cursor_word}
-use Rattle.lane_steps.specs.Law.{closed, shut_place}
-use Rattle.lane_steps.specs.Steps.{known_of, known_at, known_over, with_known, place_over, next_number, IsRoomy, IsRoomyAt, Surveyed}
-use Rattle.lane_steps.proofs.Lists.{not_both, within, index_is}
+use Rattle.shared_lane.specs.declared.view.Known.{Known}
+use Rattle.shared_lane.specs.declared.view.Sequencing.{Sequencing}
+use Rattle.shared_lane.specs.declared.view.View.{View}
+use Rattle.shared_lane.specs.Layout.{cursor_word}
+use Rattle.shared_lane.specs.Law.{closed, shut_place}
+use Rattle.shared_lane.specs.Steps.{known_of, known_at, known_over, with_known, place_over, next_number, IsRoomy, IsRoomyAt, Surveyed}
+use Rattle.shared_lane.proofs.Lists.{not_both, within, index_is}
 use Rattle.shared_lane.specs.Surveys.{cursor_loads, open_count, opening_at, may_be_open, OpensNone, LosesNone, OnlyPlaces, Visit, Pass, WholePass, FoundAt, Cleared, Behind}
 
 pub loads_more : (p : ℕ) (ns : List ℕ) (n : ℕ) → cursor_loads p (ns ++ n ∷ []) ≡ cursor_loads p ns ++ (cursor_word (p + length ns), n) ∷ []
@@ -196,7 +196,7 @@ behind_more tail lag ns n was now before hit keep why = let longer : length (ns 
       (λ b. (length ns, omega arith, subst (λ (z : ℕ). z ≢ closed) (sym (at_back ns n)) b.0, subst (λ (z : ℕ). z + lag ≤ tail) (sym (at_back ns n)) b.1)) (why e);
   none = λ e p h. dite (ℕ_discrete p (length ns))
       (λ is. subst (λ (z : ℕ). z ≢ closed → tail < z + lag) (sym (ap (λ (z : ℕ). get_or (ns ++ n ∷ []) z 0) is ∙ at_back ns n)) (λ ne. Rattle.std.proofs.Common.lt_of_not-le (λ le. not_both now (hit ne le) e)))
-      (λ ne. subst (λ (z : ℕ). z ≢ closed → tail < z + lag) (sym (at_front ns n p (omega arith))) (before.none (⊎_elim (λ t. not_both now (keep t) e) (λ f. f) (Rattle.lane_steps.proofs.Lists.which was)) p (omega arith)));
+      (λ ne. subst (λ (z : ℕ). z ≢ closed → tail < z + lag) (sym (at_front ns n p (omega arith))) (before.none (⊎_elim (λ t. not_both now (keep t) e) (λ f. f) (Rattle.shared_lane.proofs.Lists.which was)) p (omega arith)));
 }
 
 -- what the sequencer knows of a place whose reader's end it heard

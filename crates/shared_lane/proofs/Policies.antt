@@ -1,7 +1,7 @@
 -- Which policy is left.
 use Rattle.std.proofs.Common.{rules, arith, ◌≡◌, ◌≢◌, ℕ, suc, List, [], ◌∷◌, length, true, false, true≢false, sym, refl}
 use Rattle.std.specs.Bool.{◌==◌}
-use Rattle.lane_steps.specs.declared.view.View.{View}
+use Rattle.shared_lane.specs.declared.view.View.{View}
 use Rattle.flow_terms.specs.declared.policy.Policy.{Policy}
 use Rattle.flow_terms.specs.declared.policy.Policy.TheVariants.{Suspend, DropOldest, DropLatest}
 use Rattle.shared_lane.specs.Views.{SequencerSeen}

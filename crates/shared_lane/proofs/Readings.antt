@@ -1,12 +1,12 @@
 -- A reader that has loaded its own position and the tail.
 use Rattle.std.proofs.Common.{◌≡◌, ℕ, List, ◌-◌, ◌<◌, ◌≤◌, length, sym, ap, subst, ◌∙◌}
 use Rattle.atomic_table.specs.declared.shared.Seat.{Seat}
-use Rattle.lane_steps.specs.declared.view.View.{View}
-use Rattle.lane_steps.specs.declared.view.Reading.{Reading}
-use Rattle.lane_steps.specs.declared.view.Shape.{Shape}
-use Rattle.lane_steps.specs.Law.{Entry, received}
-use Rattle.lane_steps.specs.Layout.{cell_index}
-use Rattle.lane_steps.specs.Steps.{position, found_at}
+use Rattle.shared_lane.specs.declared.view.View.{View}
+use Rattle.shared_lane.specs.declared.view.Reading.{Reading}
+use Rattle.shared_lane.specs.declared.view.Shape.{Shape}
+use Rattle.shared_lane.specs.Law.{Entry, received}
+use Rattle.shared_lane.specs.Layout.{cell_index}
+use Rattle.shared_lane.specs.Steps.{position, found_at}
 use Rattle.shared_lane.specs.Kept.{IsReading}
 use Rattle.shared_lane.specs.Readers.{TookNext}
 use Rattle.shared_lane.specs.Views.{ReaderSeen}

@@ -2,10 +2,10 @@
 use Rattle.std.proofs.Common.{◌≡◌, ◌≢◌, ℕ, ◌+◌, ◌<◌, ◌≤◌, true, false, List, [], ◌∷◌, ◌++◌, length, get_or, sym, refl, subst, inl, inr, arith, length-append}
 use mathlib.Core.Logic.{dite}
 use native.Mathlib.Decide.{ℕ_discrete}
-use Rattle.lane_steps.specs.declared.view.View.{View}
-use Rattle.lane_steps.specs.Law.{closed}
-use Rattle.lane_steps.specs.Steps.{IsRoomyAt}
-use Rattle.lane_steps.proofs.Lists.{not_both}
+use Rattle.shared_lane.specs.declared.view.View.{View}
+use Rattle.shared_lane.specs.Law.{closed}
+use Rattle.shared_lane.specs.Steps.{IsRoomyAt}
+use Rattle.shared_lane.proofs.Lists.{not_both}
 use Rattle.shared_lane.specs.Surveys.{WholePass, FoundAt, Cleared, Behind}
 use Rattle.shared_lane.specs.Blocks.{HasRoom, LeavesRoom}
 use Rattle.shared_lane.proofs.Passes.{at_back, behind_none, behind_more, room_at, room_cleared, roomy_at}

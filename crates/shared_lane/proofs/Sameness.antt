@@ -1,7 +1,7 @@
 -- It stays the same sequencer.
 use Rattle.std.proofs.Common.{ap, ◌∙◌}
 use Rattle.atomic_table.specs.Seated.{TableId}
-use Rattle.lane_steps.specs.declared.view.View.{View}
+use Rattle.shared_lane.specs.declared.view.View.{View}
 use Rattle.shared_lane.specs.Views.{SequencerSeen}
 use Rattle.shared_lane.specs.Sequencers.{IsSameSequencer, OnlyLoaded, LoadedOrMoved}
 

@@ -7,8 +7,8 @@ use Rattle.std.proofs.lemmas.List.{append-nil, nil_from_length}
 use Rattle.shared_lane.proofs.Outstanding.{inside_some}
 use Rattle.shared_lane.proofs.WholePasses.{found_loses_none}
 use Rattle.circular_buffer.specs.Buffer.{keep_last}
-use Rattle.lane_steps.specs.declared.view.Shape.{Shape}
-use Rattle.lane_steps.specs.declared.view.View.{View}
+use Rattle.shared_lane.specs.declared.view.Shape.{Shape}
+use Rattle.shared_lane.specs.declared.view.View.{View}
 use Rattle.flow_terms.specs.Lists.{IsPrefix}
 use Rattle.flow_terms.specs.declared.policy.Policy.{Policy}
 use Rattle.flow_terms.specs.declared.policy.Policy.TheVariants.{Suspend, DropOldest, DropLatest}

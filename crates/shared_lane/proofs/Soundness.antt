@@ -2,11 +2,12 @@
 use Rattle.std.proofs.Common.{◌≡◌, ℕ, zero, suc, Some, refl, ◌+◌, ◌≤◌, ◌<◌, true, List, [], ◌∷◌, ◌++◌, length, map, take, drop, sym, ap, ◌∙◌, subst, arith, length-append}
 use Rattle.std.proofs.lemmas.Grind.{common_steps}
 use Rattle.std.proofs.lemmas.List.{map-append, length-take, length-drop}
+use Rattle.atomic_table.specs.Seated.{TableId}
 use Rattle.circular_buffer.specs.Buffer.{keep_last}
-use Rattle.lane_steps.specs.declared.view.Shape.{Shape}
-use Rattle.lane_steps.specs.declared.view.View.{View}
-use Rattle.lane_steps.specs.Law.{Entry}
-use Rattle.lane_steps.specs.Steps.{next_number}
+use Rattle.shared_lane.specs.declared.view.Shape.{Shape}
+use Rattle.shared_lane.specs.declared.view.View.{View}
+use Rattle.shared_lane.specs.Law.{Entry}
+use Rattle.shared_lane.specs.Steps.{next_number}
 use Rattle.shared_lane.specs.declared.tickets.Waiting.{Waiting}
 use Rattle.shared_lane.specs.declared.tickets.Standing.{Standing}
 use Rattle.shared_lane.specs.Caches.{emitter_at, word_of, IsLastOf, AreAccepted}
@@ -20,6 +21,11 @@ use Rattle.shared_lane.proofs.Entries.{cached_after}
 use Rattle.shared_lane.specs.Ordering.{IsInOrder, StandsLast}
 use Rattle.shared_lane.proofs.Ordering.{order_accepted, order_given_back, order_withdrawn, order_waited, order_used, order_stood, order_left}
 use Rattle.shared_lane.proofs.Outstanding.{stand_on, stand_without}
+
+-- what a sequencer is shown as, where its seat and its cache changed
+pub shown_after : (q : SequencerSeen) {t : TableId} {v w : View} {n m : ℕ} {xs ys : List ℕ} → t ≡ q.table → v ≡ w → n ≡ m → xs ≡ ys
+    → (let s : SequencerSeen = record q { table = t; view = v; replay = n; cache = xs } in s) ≡ record q { view = w; replay = m; cache = ys }
+shown_after q table view replay cache = λ i. record q { table = table i; view = view i; replay = replay i; cache = cache i }
 
 pub sound_accepted_all : (q : SequencerSeen) (es : List Entry) → IsSound q → next q + length es + length q.waiting ≤ 4611686018427387904 → IsSound (accepted_all es q)
 sound_accepted_all q es was below = let longer : length (q.view.seen ++ es) ≡ length q.view.seen + length es = length-append q.view.seen es in record {

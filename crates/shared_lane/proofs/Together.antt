@@ -7,11 +7,11 @@ use Rattle.std.proofs.Math.Seq.{drop-append-add, take-length}
 use Rattle.circular_buffer.specs.Buffer.{keep_last}
 use Rattle.flow_terms.specs.declared.policy.Policy.{Policy}
 use Rattle.flow_terms.specs.declared.policy.Policy.TheVariants.{Suspend, DropOldest, DropLatest}
-use Rattle.lane_steps.specs.declared.view.Known.{Known}
-use Rattle.lane_steps.specs.declared.view.View.{View}
-use Rattle.lane_steps.specs.Law.{Entry, closed}
-use Rattle.lane_steps.specs.Steps.{known_of, known_at}
-use Rattle.lane_steps.proofs.Lists.{front}
+use Rattle.shared_lane.specs.declared.view.Known.{Known}
+use Rattle.shared_lane.specs.declared.view.View.{View}
+use Rattle.shared_lane.specs.Law.{Entry, closed}
+use Rattle.shared_lane.specs.Steps.{known_of, known_at}
+use Rattle.shared_lane.proofs.Lists.{front}
 use Rattle.shared_lane.specs.Caches.{word_of}
 use Rattle.shared_lane.specs.Views.{SequencerSeen}
 use Rattle.shared_lane.specs.Surveys.{cursor_loads, may_be_open, WholePass, FoundAt, Cleared, Behind}

@@ -4,10 +4,10 @@ use mathlib.Core.Logic.{dite}
 use native.Mathlib.Decide.{ℕ_discrete, dec_le}
 use Rattle.std.proofs.lemmas.List.{get_or_append_left, get_or-append_right, get_or-replicate, length-replicate}
 use Rattle.std.proofs.Math.Seq.{take-append_seam}
-use Rattle.lane_steps.specs.declared.view.Known.{Known}
-use Rattle.lane_steps.specs.declared.view.View.{View}
-use Rattle.lane_steps.specs.Law.{closed}
-use Rattle.lane_steps.specs.Steps.{known_of, next_number}
+use Rattle.shared_lane.specs.declared.view.Known.{Known}
+use Rattle.shared_lane.specs.declared.view.View.{View}
+use Rattle.shared_lane.specs.Law.{closed}
+use Rattle.shared_lane.specs.Steps.{known_of, next_number}
 use Rattle.shared_lane.specs.Surveys.{cursor_loads, open_count, ShutFrom, LosesNone, Pass, WholePass, FoundAt, Cleared, Behind}
 use Rattle.shared_lane.specs.Blocks.{HasRoom}
 use Rattle.shared_lane.proofs.Passes.{at_back, same_lost, shut_at}

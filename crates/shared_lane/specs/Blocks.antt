@@ -5,8 +5,8 @@ use Rattle.flow_terms.specs.declared.policy.Policy.{Policy}
 use Rattle.flow_terms.specs.declared.policy.Policy.TheVariants.{Suspend, DropOldest, DropLatest}
 use Rattle.flow_terms.specs.declared.refusal.Refusal.TheVariants.{Spent}
 use Rattle.flow_terms.specs.declared.answers.Tried.TheVariants.{Dropped, Full}
-use Rattle.lane_steps.specs.declared.view.View.{View}
-use Rattle.lane_steps.specs.Law.{Entry, closed}
+use Rattle.shared_lane.specs.declared.view.View.{View}
+use Rattle.shared_lane.specs.Law.{Entry, closed}
 use Rattle.shared_lane.specs.Caches.{word_of}
 use Rattle.shared_lane.specs.Views.{SequencerSeen}
 use Rattle.shared_lane.specs.Surveys.{WholePass, FoundAt, Cleared, Behind}

@@ -4,7 +4,7 @@ use Rattle.std.specs.List.{range_with_len}
 use Rattle.shared_core.specs.Flow.{values_at}
 use Rattle.shared_core.specs.Story.{Interleaves}
 use Rattle.shared_core.specs.Headline.{EndsWith}
-use Rattle.lane_steps.specs.Law.{lost}
+use Rattle.shared_lane.specs.Law.{lost}
 use Rattle.shared_lane.specs.declared.reader.Taken.{Taken}
 use Rattle.shared_lane.specs.declared.reader.Taken.TheVariants.{Value, Nothing, Overtaken}
 use Rattle.shared_lane.specs.Caches.{word_of, IsLastOf}

@@ -1,10 +1,10 @@
 -- What is true of the fields of every reader and sequencer.
 use Rattle.std.specs.Prelude.{◌≡◌, ℕ, ◌+◌, ◌≤◌, ◌<◌, [], length, max, true, false}
 use Rattle.atomic_table.specs.declared.shared.Seat.{Seat}
-use Rattle.lane_steps.specs.declared.view.View.{View}
-use Rattle.lane_steps.specs.Law.{received, lost}
-use Rattle.lane_steps.specs.Layout.{cell_index}
-use Rattle.lane_steps.specs.Steps.{position, next_number}
+use Rattle.shared_lane.specs.declared.view.View.{View}
+use Rattle.shared_lane.specs.Law.{received, lost}
+use Rattle.shared_lane.specs.Layout.{cell_index}
+use Rattle.shared_lane.specs.Steps.{position, next_number}
 use Rattle.shared_lane.specs.Surveys.{ShutFrom, opening_at}
 use Rattle.shared_lane.specs.Views.{SequencerSeen}
 use Rattle.shared_lane.specs.Ordering.{IsInOrder}

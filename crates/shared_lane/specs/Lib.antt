@@ -1,3 +1,8 @@
+pub mod Law
+pub mod Layout
+pub mod Promises
+pub mod Seats
+pub mod Steps
 pub mod Blocks
 pub mod Caches
 pub mod Kept

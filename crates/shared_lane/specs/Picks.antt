@@ -2,11 +2,11 @@
 use Rattle.std.specs.Prelude.{◌≡◌, ℕ, suc, ◌+◌, ◌-◌, ◌<◌, ◌≤◌, min, List, [], ◌∷◌, ◌++◌, length, map, replicate, true}
 use Rattle.std.specs.Vec.{vec_capacity}
 use Rattle.std.specs.declared.vec.Vec.{Vec}
-use Rattle.lane_steps.specs.declared.view.Shape.{Shape}
-use Rattle.lane_steps.specs.declared.view.View.{View}
-use Rattle.lane_steps.specs.Layout.{tail_word, cursor_word, cell_word}
-use Rattle.lane_steps.specs.Law.{HasWords}
-use Rattle.lane_steps.specs.Steps.{position}
+use Rattle.shared_lane.specs.declared.view.Shape.{Shape}
+use Rattle.shared_lane.specs.declared.view.View.{View}
+use Rattle.shared_lane.specs.Layout.{tail_word, cursor_word, cell_word}
+use Rattle.shared_lane.specs.Law.{HasWords}
+use Rattle.shared_lane.specs.Steps.{position}
 use Rattle.shared_lane.specs.Views.{ReaderSeen}
 use Rattle.shared_lane.specs.Readers.{at, IsKept, story_to, TookNext}
 use Rattle.shared_lane.specs.declared.reader.Taken.{Taken}

@@ -4,8 +4,8 @@ use mathlib.Core.Option.{some}
 use lib.ListN.{get_elem?}
 use Rattle.flow_terms.specs.declared.refusal.Refusal.{Refusal}
 use Rattle.flow_terms.specs.declared.refusal.Refusal.TheVariants.{SubscribersFull, Spent}
-use Rattle.lane_steps.specs.Law.{closed}
-use Rattle.lane_steps.specs.Steps.{place_over}
+use Rattle.shared_lane.specs.Law.{closed}
+use Rattle.shared_lane.specs.Steps.{place_over}
 use Rattle.shared_lane.specs.Headline.{StartsAtCache}
 use Rattle.shared_lane.specs.Views.{LaneSeen, ReaderSeen, SequencerSeen}
 use Rattle.shared_lane.specs.Surveys.{WholePass, FoundAt, FoundAllOpen, LosesNone, cursor_loads, open_count, opening_at, lost_at, may_be_open}

@@ -1,8 +1,8 @@
 -- What a reader has seen, and what it takes.
 use Rattle.std.specs.Prelude.{◌≡◌, ℕ, ◌+◌, ◌-◌, ◌<◌, ◌≤◌, List, [], ◌∷◌, ◌++◌, length, replicate, Bool, true, false}
-use Rattle.lane_steps.specs.Layout.{tail_word, cursor_word, cell_word}
+use Rattle.shared_lane.specs.Layout.{tail_word, cursor_word, cell_word}
 use Rattle.flow_terms.specs.Lists.{IsPrefix}
-use Rattle.lane_steps.specs.Law.{HasWord, received, lost}
+use Rattle.shared_lane.specs.Law.{HasWord, received, lost}
 use Rattle.shared_lane.specs.Views.{LaneSeen, ReaderSeen, ClosedSeen, ReceiptSeen}
 use Rattle.shared_lane.specs.declared.reader.Taken.{Taken}
 use Rattle.shared_lane.specs.declared.reader.Taken.TheVariants.{Value, Nothing, Overtaken}

@@ -1,11 +1,11 @@
 -- What a call of the sequencer does.
 use Rattle.std.specs.Prelude.{◌≡◌, ◌≢◌, ◌⊎◌, ℕ, suc, map, take, drop, ◌+◌, ◌<◌, ◌≤◌, List, [], ◌∷◌, ◌++◌, length, not, max, Bool, true, false}
 use Rattle.circular_buffer.specs.Buffer.{keep_last}
-use Rattle.lane_steps.specs.declared.view.Shape.{Shape}
-use Rattle.lane_steps.specs.declared.view.View.{View}
+use Rattle.shared_lane.specs.declared.view.Shape.{Shape}
+use Rattle.shared_lane.specs.declared.view.View.{View}
 use Rattle.flow_terms.specs.Lists.{IsPrefix}
-use Rattle.lane_steps.specs.Law.{Entry}
-use Rattle.lane_steps.specs.Steps.{next_number}
+use Rattle.shared_lane.specs.Law.{Entry}
+use Rattle.shared_lane.specs.Steps.{next_number}
 use Rattle.flow_terms.specs.declared.policy.Policy.{Policy}
 use Rattle.flow_terms.specs.declared.policy.Policy.TheVariants.{Suspend, DropOldest, DropLatest}
 use Rattle.shared_core.specs.declared.config.Config.{Config}

@@ -1,11 +1,11 @@
 -- One pass over the cursors.
 use Rattle.std.specs.Prelude.{◌≡◌, ◌≢◌, ◌⊎◌, ℕ, suc, ◌+◌, ◌<◌, ◌≤◌, List, [], ◌∷◌, ◌++◌, length, take, cond, eqb, slice_index, Bool, true, false}
-use Rattle.lane_steps.specs.declared.view.Shape.{Shape}
-use Rattle.lane_steps.specs.declared.view.Known.{Known}
-use Rattle.lane_steps.specs.declared.view.View.{View}
-use Rattle.lane_steps.specs.Layout.{cursor_word}
-use Rattle.lane_steps.specs.Law.{closed}
-use Rattle.lane_steps.specs.Steps.{next_number, known_of, known_at, known_past}
+use Rattle.shared_lane.specs.declared.view.Shape.{Shape}
+use Rattle.shared_lane.specs.declared.view.Known.{Known}
+use Rattle.shared_lane.specs.declared.view.View.{View}
+use Rattle.shared_lane.specs.Layout.{cursor_word}
+use Rattle.shared_lane.specs.Law.{closed}
+use Rattle.shared_lane.specs.Steps.{next_number, known_of, known_at, known_past}
 use Rattle.shared_lane.specs.declared.sequencer.Survey.{Survey}
 
 -- the loads of the cursors from the place p on, which found these

@@ -3,10 +3,10 @@ use Rattle.std.specs.Prelude.{ℕ, List, Bool}
 use Rattle.atomic_table.specs.Seated.{TableId}
 use Rattle.atomic_table.specs.declared.shared.Seat.{Seat}
 use Rattle.flow_terms.specs.declared.policy.Policy.{Policy}
-use Rattle.lane_steps.specs.declared.view.Shape.{Shape}
-use Rattle.lane_steps.specs.declared.view.View.{View}
-use Rattle.lane_steps.specs.declared.words.Words.{Words}
-use Rattle.lane_steps.specs.Law.{Entry}
+use Rattle.shared_lane.specs.declared.view.Shape.{Shape}
+use Rattle.shared_lane.specs.declared.view.View.{View}
+use Rattle.shared_lane.specs.declared.words.Words.{Words}
+use Rattle.shared_lane.specs.Law.{Entry}
 use Rattle.shared_lane.specs.declared.tickets.Waiting.{Waiting}
 use Rattle.shared_lane.specs.declared.tickets.Standing.{Standing}
 

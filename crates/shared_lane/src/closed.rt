@@ -5,7 +5,7 @@ ghost use Rattle.shared_lane.specs.Kept.{IsEnded};
 ghost use Rattle.shared_lane.specs.Readers.{IsReaderOf, received_count, lost_count};
 
 use crate::lane::Lane;
-use lane_steps::LaneSeat;
+use crate::rule::LaneSeat;
 use std::alloc::Allocator;
 use std::marker::Model;
 

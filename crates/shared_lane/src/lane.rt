@@ -1,10 +1,49 @@
-//! The lane that a sequencer and its readers share.
-ghost use Rattle.std.specs.Prelude.{◌≡◌, ◌<◌};
+//! The lane that a sequencer and its readers share, and one function for each kind of atomic step on its words.
+//!
+//! # The words
+//! ```text
+//!            tail        cursors, one for each subscriber place       cells: value n lies in cell n % cells
+//!          +------+    +------+------+-------+------+    +------+------+------+------+------+------+
+//!          |  42  |    |  40  |  42  | CLOSED |  37 |    |  36  |  37  |  38  |  39  |  40  |  41  |
+//!          +------+    +------+------+-------+------+    +------+------+------+------+------+------+
+//!             |           |      |               |           :      ^                           |
+//!    the next emission    |      nothing is      the slowest :      this reader's next value    the last accepted
+//!    gets number 42       |      pending         reader      :
+//!                         two values are pending             the cell in flight: it takes value 42 next, which is
+//!                                                            allowed since no open cursor stands at 36 any more
+//! ```
+//!
+//! # Who may write what
+//! | Word | Sequencer | Reader of the place |
+//! |---|---|---|
+//! | tail | stores: an emission is accepted | |
+//! | cell | stores, before the tail | |
+//! | cursor | stores, to open a closed one; exchanges, to drop a value | exchanges, to receive; stores, to close |
+//!
+//! Several values may be in flight: the sequencer stores the cells of the next numbers one after another, and accepts them by
+//! one store of the tail. As a reader may load several cells from its position on, and receive them by one exchange.
+//!
+//! Each step's contract says what it did to the view of the seat that made it. `index_of`, `index_from` and `next_index` touch
+//! no word and find the index of a number's cell.
+ghost use Rattle.std.specs.Prelude.{◌≡◌, ◌<◌, ℕ, length, IfOk, ◌+◌, ◌≤◌, ◌≢◌, ◌%◌, [], true, false};
 ghost use Rattle.shared_lane.specs.Views.{lane_of};
+ghost use Rattle.shared_lane.specs.Layout.{cursor_word, cell_index, cell_word};
+ghost use Rattle.shared_lane.specs.Law.{closed, IsShape};
+ghost use Rattle.shared_lane.specs.Seats.{IsNewLane, IsSeatOf, IsMeetingAt, IsSameSeat, IsReaderAt};
+ghost use Rattle.shared_lane.specs.Steps.{next_number, next_to_store, known_of, IsRoomy, IsRoomyAt, MayOpenAt, Surveyed, Filled, FilledNext, Accepted, AcceptedAll};
+ghost use Rattle.shared_lane.specs.Steps.{Dropped, Opened, Met, position, next_to_pick, Noticed, Picked, PickedNext, Took, TookPicked, Looked, HasQuit, witness};
+ghost use Rattle.shared_lane.specs.Steps.{handed_out, new_reader, receipt_of, without_reader, only_reader, telling, joined, end_note, hearing_end};
 
-use lane_steps::Words;
-use std::alloc::Allocator;
-use std::marker::Model;
+use crate::plays::{
+    Accept, AcceptAll, Copied, CopiedAll, CopiedEnd, Enter, Fill, FillNext, HandOut, Hear, HearEnd,
+    Leave, Look, Lose, Meet, Notice, Open, Pick, PickNext, Quit, Survey, Take, TakePicked, Told,
+};
+use crate::rule::{LaneRule, LaneSeat};
+use crate::view::{Shape, View};
+use crate::words::{CLOSED, DISTANCE, Words, lay};
+use atomic_table::Table;
+use std::alloc::{AllocError, Allocator};
+use std::marker::{Brand, Model};
 
 /// The words of a lane: a tail, a cursor for each subscriber place, and the cells. Its sequencer and its readers are lent it
 /// at each call, from as many threads as they are on.
@@ -48,5 +87,402 @@ impl<A: Allocator> Lane<A> {
         ensures { result ≡ self.now.shape.cells }
     {
         self.words.shape.cells as u64
+    }
+}
+
+/// The word of a place's cursor.
+#[tactic(auto, unfolding(crate::specs::Layout::cursor_word))]
+fn cursor_at(place: usize) -> usize
+    requires { place < 1024 }
+    ensures { result ≡ cursor_word place }
+{
+    DISTANCE + DISTANCE * place
+}
+
+/// The word of the cell at an index, which is that of each number with this index.
+#[tactic(auto, unfolding(crate::specs::Layout::cell_word))]
+fn cell_at(shape: &Shape, cell: usize) -> usize
+    requires cell { cell < shape.now.cells }
+    requires sized { (shape.now.cells ≤ 65536) × (shape.now.places ≤ 1024) }
+    ensures { (n : ℕ) → cell ≡ cell_index shape.now n → result ≡ cell_word shape.now n }
+{
+    DISTANCE + DISTANCE * shape.places + cell
+}
+
+/// The index of a number's cell, by a division.
+#[tactic(auto, unfolding(crate::specs::Layout::cell_index))]
+fn index_in(shape: &Shape, number: u64) -> usize
+    requires { (0 < shape.now.cells) × (shape.now.cells ≤ 65536) }
+    ensures { result ≡ cell_index shape.now number }
+{
+    (number % shape.cells as u64) as usize
+}
+
+/// The index after one, which is that of the next number's cell.
+fn index_after(shape: &Shape, cell: usize) -> usize
+    requires { 0 < shape.now.cells }
+    ensures { (n : ℕ) → cell ≡ cell_index shape.now n → result ≡ cell_index shape.now (n + 1) }
+{
+    if cell >= shape.cells - 1 {
+        return 0;
+    }
+    cell + 1
+}
+
+// How a lane's words are made, and the cell of a number is found.
+impl<A: Allocator> Words<A> {
+    /// A lane where each place is closed, and the sequencer's seat.
+    #[tactic(auto, using(crate::proofs::Apart::tail_within))]
+    pub fn new(alloc: A, shape: Shape) -> Result<(Words<A>, LaneSeat), AllocError>
+    where
+        A: Clone,
+        requires { IsShape shape }
+        ensures { IfOk result (λ t. IsNewLane shape t.0 t.1) }
+    {
+        let words = lay(alloc.clone()?, shape)?;
+        let (table, seat): (Table<(), View, Shape, LaneRule, A>, LaneSeat) = Table::of_words(
+            alloc,
+            words.as_slice(),
+            &shape,
+        )?;
+        Ok((Words { table, shape }, seat))
+    }
+
+    /// The index of a number's cell, by a division.
+    #[inline]
+    pub fn index_of(&self, number: u64) -> usize
+        ensures { result ≡ cell_index self.now.shape number }
+    {
+        index_in(&self.shape, number)
+    }
+
+    /// The index of a number's cell, where that of `from` is known: without a division where both numbers are one.
+    #[inline]
+    pub fn index_from(&self, from: u64, cell: usize, number: u64) -> usize
+        requires { cell ≡ cell_index self.now.shape from }
+        ensures { result ≡ cell_index self.now.shape number }
+    {
+        if number == from {
+            return cell;
+        }
+        self.index_of(number)
+    }
+
+    /// The index of the next number's cell, which is counted up.
+    #[inline]
+    pub fn next_index(&self, cell: usize) -> usize
+        ensures { (n : ℕ) → cell ≡ cell_index self.now.shape n → result ≡ cell_index self.now.shape (n + 1) }
+    {
+        index_after(&self.shape, cell)
+    }
+}
+
+// The steps of the sequencer.
+impl<A: Allocator> Words<A> {
+    /// Loads the cursor of a place.
+    pub fn load_cursor(&self, seat: &mut LaneSeat, place: usize) -> u64
+        requires seat { IsSeatOf self.now seat.old × (seat.old.me.0.sequencing.active ≡ true) × (place < self.now.shape.places) }
+        ensures seat { IsSameSeat seat.old seat.new }
+        ensures view { Surveyed place seat.old.me.0 result seat.new.me.0 }
+    {
+        self.table.shared.load::<Survey>(seat, cursor_at(place))
+    }
+
+    fn fill<E: Told>(&self, seat: &mut LaneSeat, cell: usize, emitter: u32, word: u64)
+        requires told { E.number ≡ emitter }
+        requires seat { IsSeatOf self.now seat.old × (seat.old.me.0.sequencing.active ≡ true) }
+        requires cell { cell ≡ cell_index self.now.shape (next_number seat.old.me.0) }
+        requires room { IsRoomy self.now.shape.cells seat.old.me.0 }
+        ensures seat { IsSameSeat seat.old seat.new }
+        ensures view { Filled emitter word seat.old.me.0 seat.new.me.0 }
+    {
+        let _emitter = emitter;
+        let at = cell_at(&self.shape, cell);
+        self.table.shared.store::<Fill<E>>(seat, at, word);
+    }
+
+    /// Stores the word of the next emission in its cell, which has the index `cell`.
+    pub fn store_cell(&self, seat: &mut LaneSeat, cell: usize, emitter: u32, word: u64)
+        requires seat { IsSeatOf self.now seat.old × (seat.old.me.0.sequencing.active ≡ true) }
+        requires cell { cell ≡ cell_index self.now.shape (next_number seat.old.me.0) }
+        requires room { IsRoomy self.now.shape.cells seat.old.me.0 }
+        ensures seat { IsSameSeat seat.old seat.new }
+        ensures view { Filled emitter word seat.old.me.0 seat.new.me.0 }
+    {
+        self.fill::<Brand>(seat, cell, emitter, word);
+    }
+
+    fn fill_next<E: Told>(&self, seat: &mut LaneSeat, cell: usize, emitter: u32, word: u64)
+        requires told { E.number ≡ emitter }
+        requires seat { IsSeatOf self.now seat.old × (seat.old.me.0.sequencing.active ≡ true) }
+        requires cell { cell ≡ cell_index self.now.shape (next_to_store seat.old.me.0) }
+        requires room { IsRoomyAt self.now.shape.cells (next_to_store seat.old.me.0) seat.old.me.0 }
+        requires short { length seat.old.me.0.sequencing.flight < self.now.shape.cells }
+        ensures seat { IsSameSeat seat.old seat.new }
+        ensures view { FilledNext emitter word seat.old.me.0 seat.new.me.0 }
+    {
+        let _emitter = emitter;
+        let at = cell_at(&self.shape, cell);
+        self.table.shared.store::<FillNext<E>>(seat, at, word);
+    }
+
+    /// Stores the word of the emission after those in flight in its cell, which has the index `cell`: it is in flight too,
+    /// and no more may be than there are cells.
+    pub fn store_next_cell(&self, seat: &mut LaneSeat, cell: usize, emitter: u32, word: u64)
+        requires seat { IsSeatOf self.now seat.old × (seat.old.me.0.sequencing.active ≡ true) }
+        requires cell { cell ≡ cell_index self.now.shape (next_to_store seat.old.me.0) }
+        requires room { IsRoomyAt self.now.shape.cells (next_to_store seat.old.me.0) seat.old.me.0 }
+        requires short { length seat.old.me.0.sequencing.flight < self.now.shape.cells }
+        ensures seat { IsSameSeat seat.old seat.new }
+        ensures view { FilledNext emitter word seat.old.me.0 seat.new.me.0 }
+    {
+        self.fill_next::<Brand>(seat, cell, emitter, word);
+    }
+
+    /// Stores the tail, and so accepts the first emission in flight.
+    pub fn store_tail(&self, seat: &mut LaneSeat, tail: u64)
+        requires seat { IsSeatOf self.now seat.old × (seat.old.me.0.sequencing.active ≡ true) × (seat.old.me.0.sequencing.flight ≢ []) }
+        requires tail { (tail ≡ next_number seat.old.me.0 + 1) × (tail ≤ 4611686018427387904) }
+        ensures seat { IsSameSeat seat.old seat.new }
+        ensures view { Accepted seat.old.me.0 seat.new.me.0 }
+    {
+        self.table.shared.store::<Accept>(seat, 0, tail);
+    }
+
+    /// Stores the tail past all emissions in flight, and so accepts them.
+    pub fn store_tail_past(&self, seat: &mut LaneSeat, tail: u64)
+        requires seat { IsSeatOf self.now seat.old × (seat.old.me.0.sequencing.active ≡ true) }
+        requires tail { (tail ≡ next_to_store seat.old.me.0) × (tail ≤ 4611686018427387904) }
+        ensures seat { IsSameSeat seat.old seat.new }
+        ensures view { AcceptedAll seat.old.me.0 seat.new.me.0 }
+    {
+        self.table.shared.store::<AcceptAll>(seat, 0, tail);
+    }
+
+    /// Moves the cursor of a place from `at` up by one, where it still stands there, and returns what it found.
+    pub fn lose(&self, seat: &mut LaneSeat, place: usize, at: u64) -> u64
+        requires seat { IsSeatOf self.now seat.old × (seat.old.me.0.sequencing.active ≡ true) × (place < self.now.shape.places) }
+        requires full { (self.now.shape.drops ≡ true) × (at + self.now.shape.cells ≡ next_number seat.old.me.0) × (at < 18446744073709551615) }
+        ensures seat { IsSameSeat seat.old seat.new }
+        ensures view { Dropped place at seat.old.me.0 result seat.new.me.0 }
+    {
+        self.table
+            .shared
+            .compare_exchange::<Lose>(seat, cursor_at(place), at, at + 1)
+    }
+
+    fn open_as<O: Told>(&self, seat: &mut LaneSeat, place: usize, start: u64, opening: u64)
+        requires told { O.number ≡ opening }
+        requires seat { IsSeatOf self.now seat.old × (seat.old.me.0.sequencing.active ≡ true) × (place < self.now.shape.places) }
+        requires closed { ((known_of seat.old.me.0.sequencing place).is_open ≡ false) × (seat.old.me.0.sequencing.flight ≡ []) }
+        requires start { MayOpenAt self.now.shape seat.old.me.0 start }
+        requires later { (known_of seat.old.me.0.sequencing place).opening < opening }
+        ensures seat { IsSameSeat seat.old seat.new }
+        ensures view { Opened place start opening seat.old.me.0 seat.new.me.0 }
+    {
+        let _opening = opening;
+        self.table
+            .shared
+            .store::<Open<O>>(seat, cursor_at(place), start);
+    }
+
+    /// Opens the cursor of a closed place at `start`, by an opening with a number above that of the place's last one.
+    pub fn open(&self, seat: &mut LaneSeat, place: usize, start: u64, opening: u64)
+        requires seat { IsSeatOf self.now seat.old × (seat.old.me.0.sequencing.active ≡ true) × (place < self.now.shape.places) }
+        requires closed { ((known_of seat.old.me.0.sequencing place).is_open ≡ false) × (seat.old.me.0.sequencing.flight ≡ []) }
+        requires start { MayOpenAt self.now.shape seat.old.me.0 start }
+        requires later { (known_of seat.old.me.0.sequencing place).opening < opening }
+        ensures seat { IsSameSeat seat.old seat.new }
+        ensures view { Opened place start opening seat.old.me.0 seat.new.me.0 }
+    {
+        self.open_as::<Brand>(seat, place, start, opening);
+    }
+
+    /// Loads the cursor of the reader that the seat has taken in.
+    pub fn meet_cursor(&self, seat: &mut LaneSeat, place: usize) -> u64
+        requires seat { IsMeetingAt self.now seat.old place }
+        ensures seat { IsSameSeat seat.old seat.new }
+        ensures view { Met (cursor_word place) seat.old.me.0 result seat.new.me.0 }
+    {
+        self.table.shared.load::<Meet>(seat, cursor_at(place))
+    }
+}
+
+// The steps of a reader.
+impl<A: Allocator> Words<A> {
+    /// Loads the tail.
+    pub fn load_tail(&self, seat: &mut LaneSeat) -> u64
+        requires seat { IsSeatOf self.now seat.old × (seat.old.me.0.reading.active ≡ true) }
+        ensures seat { IsSameSeat seat.old seat.new }
+        ensures view { Noticed seat.old.me.0 result seat.new.me.0 }
+    {
+        self.table.shared.load::<Notice>(seat, 0)
+    }
+
+    /// Loads the cell of the reader's position, which has the index `cell`.
+    pub fn load_cell(&self, seat: &mut LaneSeat, cell: usize) -> u64
+        requires seat { IsSeatOf self.now seat.old × (seat.old.me.0.reading.active ≡ true) }
+        requires cell { cell ≡ cell_index self.now.shape (position seat.old.me.0.reading) }
+        requires position { position seat.old.me.0.reading < next_number seat.old.me.0 }
+        ensures seat { IsSameSeat seat.old seat.new }
+        ensures view { Picked (cell_word self.now.shape (position seat.old.me.0.reading)) seat.old.me.0 result seat.new.me.0 }
+    {
+        let word = cell_at(&self.shape, cell);
+        self.table.shared.load::<Pick>(seat, word)
+    }
+
+    /// Loads the cell of the number after those that the reader has picked, which has the index `cell`.
+    pub fn load_next_cell(&self, seat: &mut LaneSeat, cell: usize) -> u64
+        requires seat { IsSeatOf self.now seat.old × (seat.old.me.0.reading.active ≡ true) }
+        requires cell { cell ≡ cell_index self.now.shape (next_to_pick seat.old.me.0.reading) }
+        requires position { next_to_pick seat.old.me.0.reading < next_number seat.old.me.0 }
+        ensures seat { IsSameSeat seat.old seat.new }
+        ensures view { PickedNext (cell_word self.now.shape (next_to_pick seat.old.me.0.reading)) seat.old.me.0 result seat.new.me.0 }
+    {
+        let index = cell_at(&self.shape, cell);
+        self.table.shared.load::<PickNext>(seat, index)
+    }
+
+    /// Moves the reader's cursor from `at` up by one, where it still stands there, and returns what it found.
+    pub fn receive(&self, seat: &mut LaneSeat, place: usize, at: u64) -> u64
+        requires seat { IsReaderAt self.now seat.old place }
+        requires position { (at ≡ position seat.old.me.0.reading) × (at < next_number seat.old.me.0) × (at < 18446744073709551615) }
+        requires picked { seat.old.me.0.reading.picked ≢ [] }
+        ensures seat { IsSameSeat seat.old seat.new }
+        ensures view { Took at seat.old.me.0 result seat.new.me.0 }
+    {
+        self.table
+            .shared
+            .compare_exchange::<Take>(seat, cursor_at(place), at, at + 1)
+    }
+
+    /// Moves the reader's cursor from `at` past all that it has picked, which are `count` words, where it still stands
+    /// there, and returns what it found.
+    pub fn receive_picked(&self, seat: &mut LaneSeat, place: usize, at: u64, count: u64) -> u64
+        requires seat { IsReaderAt self.now seat.old place }
+        requires position { (at ≡ position seat.old.me.0.reading) × (at + count ≤ next_number seat.old.me.0) × (at + count ≤ 18446744073709551615) }
+        requires picked { length seat.old.me.0.reading.picked ≡ count }
+        ensures seat { IsSameSeat seat.old seat.new }
+        ensures view { TookPicked at seat.old.me.0 result seat.new.me.0 }
+    {
+        self.table
+            .shared
+            .compare_exchange::<TakePicked>(seat, cursor_at(place), at, at + count)
+    }
+
+    /// Loads the reader's cursor.
+    pub fn load_own(&self, seat: &mut LaneSeat, place: usize) -> u64
+        requires seat { IsReaderAt self.now seat.old place }
+        ensures seat { IsSameSeat seat.old seat.new }
+        ensures view { Looked (cursor_word place) seat.old.me.0 result seat.new.me.0 }
+    {
+        self.table.shared.load::<Look>(seat, cursor_at(place))
+    }
+
+    /// Closes the reader's cursor.
+    pub fn quit(&self, seat: &mut LaneSeat, place: usize)
+        requires seat { IsReaderAt self.now seat.old place }
+        ensures seat { IsSameSeat seat.old seat.new }
+        ensures view { HasQuit seat.old.me.0 seat.new.me.0 }
+    {
+        self.table
+            .shared
+            .store::<Quit>(seat, cursor_at(place), CLOSED);
+    }
+}
+
+// Seats are split and joined.
+impl<A: Allocator> Words<A> {
+    fn split_copy<N: Told>(&self, seat: &mut LaneSeat, count: u64) -> LaneSeat
+        requires told { N.number ≡ count }
+        requires seat { IsSeatOf self.now seat.old }
+        ensures seat { IsSameSeat seat.old seat.new × (seat.new.me.0 ≡ seat.old.me.0) }
+        ensures copy { IsSeatOf self.now result × (result.me ≡ (receipt_of count seat.old.me.0, [])) }
+    {
+        let _count = count;
+        self.table.shared.split_seat::<Copied<N>>(seat)
+    }
+
+    /// A seat that knows the first `count` entries.
+    pub fn copy_seen(&self, seat: &mut LaneSeat, count: u64) -> LaneSeat
+        requires { IsSeatOf self.now seat.old }
+        ensures seat { IsSameSeat seat.old seat.new × (seat.new.me.0 ≡ seat.old.me.0) }
+        ensures copy { IsSeatOf self.now result × (result.me ≡ (receipt_of count seat.old.me.0, [])) }
+    {
+        self.split_copy::<Brand>(seat, count)
+    }
+
+    /// A seat that knows the same entries.
+    pub fn copy_all(&self, seat: &mut LaneSeat) -> LaneSeat
+        requires { IsSeatOf self.now seat.old }
+        ensures seat { IsSameSeat seat.old seat.new × (seat.new.me.0 ≡ seat.old.me.0) }
+        ensures copy { IsSeatOf self.now result × (result.me ≡ (witness seat.old.me.0.shape seat.old.me.0.seen, [])) }
+    {
+        self.table.shared.split_seat::<CopiedAll>(seat)
+    }
+
+    /// The seat hears of what another has seen. Its next load compares both.
+    pub fn hear(&self, seat: &mut LaneSeat, other: LaneSeat)
+        requires { IsSeatOf self.now seat.old × IsSeatOf self.now other × (other.me.1 ≡ []) }
+        ensures seat { IsSameSeat seat.old seat.new × (seat.new.me.0 ≡ telling seat.old.me.0 other.me.0) }
+    {
+        self.table.shared.join_seat::<Hear>(seat, other);
+    }
+
+    fn split_reader<P: Told>(&self, seat: &mut LaneSeat, place: usize) -> LaneSeat
+        requires told { P.number ≡ place }
+        requires seat { IsSeatOf self.now seat.old × (seat.old.me.0.sequencing.active ≡ true) × (place < self.now.shape.places) }
+        requires opened { ((known_of seat.old.me.0.sequencing place).is_open ≡ true) × ((known_of seat.old.me.0.sequencing place).unread ≡ true) }
+        ensures seat { IsSameSeat seat.old seat.new × (seat.new.me.0 ≡ handed_out place seat.old.me.0) }
+        ensures reader { IsSeatOf self.now result × (result.me ≡ (new_reader place seat.old.me.0, [])) }
+    {
+        let _place = place;
+        self.table.shared.split_seat::<HandOut<P>>(seat)
+    }
+
+    /// The seat of a reader of an open place that has none yet.
+    pub fn hand_out(&self, seat: &mut LaneSeat, place: usize) -> LaneSeat
+        requires seat { IsSeatOf self.now seat.old × (seat.old.me.0.sequencing.active ≡ true) × (place < self.now.shape.places) }
+        requires opened { ((known_of seat.old.me.0.sequencing place).is_open ≡ true) × ((known_of seat.old.me.0.sequencing place).unread ≡ true) }
+        ensures seat { IsSameSeat seat.old seat.new × (seat.new.me.0 ≡ handed_out place seat.old.me.0) }
+        ensures reader { IsSeatOf self.now result × (result.me ≡ (new_reader place seat.old.me.0, [])) }
+    {
+        self.split_reader::<Brand>(seat, place)
+    }
+
+    /// The reader's part leaves a seat.
+    pub fn split_reading(&self, seat: &mut LaneSeat) -> LaneSeat
+        requires { IsSeatOf self.now seat.old × (seat.old.me.0.reading.active ≡ true) }
+        ensures seat { IsSameSeat seat.old seat.new × (seat.new.me.0 ≡ without_reader seat.old.me.0) }
+        ensures reader { IsSeatOf self.now result × (result.me ≡ (only_reader seat.old.me.0, [])) }
+    {
+        self.table.shared.split_seat::<Leave>(seat)
+    }
+
+    /// The reader's part comes into the sequencer's seat.
+    pub fn join_reading(&self, seat: &mut LaneSeat, reader: LaneSeat)
+        requires seat { IsSeatOf self.now seat.old × (seat.old.me.0.sequencing.active ≡ true) }
+        requires reader { IsSeatOf self.now reader × (reader.me.1 ≡ []) × (reader.me.0.reading.active ≡ true) }
+        ensures { IsSameSeat seat.old seat.new × (seat.new.me.0 ≡ joined seat.old.me.0 reader.me.0) }
+    {
+        self.table.shared.join_seat::<Enter>(seat, reader);
+    }
+
+    /// A seat that knows the end of a reader, as this one does, which closed that reader's cursor.
+    pub fn copy_end(&self, seat: &mut LaneSeat) -> LaneSeat
+        requires { IsSeatOf self.now seat.old × (seat.old.me.0.reading.quit ≡ true) }
+        ensures seat { IsSameSeat seat.old seat.new × (seat.new.me.0 ≡ seat.old.me.0) }
+        ensures copy { IsSeatOf self.now result × (result.me ≡ (end_note seat.old.me.0, [])) }
+    {
+        self.table.shared.split_seat::<CopiedEnd>(seat)
+    }
+
+    /// The sequencer's seat hears of the end of a reader: the reader's place is closed, unless it was opened again.
+    pub fn hear_end(&self, seat: &mut LaneSeat, end: LaneSeat)
+        requires seat { IsSeatOf self.now seat.old × (seat.old.me.0.sequencing.active ≡ true) }
+        requires end { IsSeatOf self.now end × (end.me.1 ≡ []) × (end.me.0.reading.quit ≡ true) }
+        ensures { IsSameSeat seat.old seat.new × (seat.new.me.0 ≡ hearing_end seat.old.me.0 end.me.0) }
+    {
+        self.table.shared.join_seat::<HearEnd>(seat, end);
     }
 }

@@ -58,17 +58,19 @@
 //! parties that never met, fairness, wakes: nobody sleeps here.
 #![tactic(auto)]
 
-mod blocks;
 mod closed;
 mod ends;
 mod headline;
 mod lane;
-mod meeting;
-mod picking;
+mod plays;
+mod promises;
 mod reader;
 mod receipt;
+mod rule;
 mod sequencer;
 mod tickets;
+mod view;
+mod words;
 
 pub use closed::Closed;
 pub use ends::ended_reader_is_counted_no_more;
@@ -77,8 +79,9 @@ pub use headline::{
     taking_all_is_taking_each,
 };
 pub use lane::Lane;
-pub use meeting::{Met, look, meet};
-pub use reader::{Reader, Taken};
+pub use promises::{closed_cursors_stay, unread_values_stay};
+pub use reader::{Met, Reader, Taken, look, meet};
 pub use receipt::Receipt;
 pub use sequencer::Sequencer;
 pub use tickets::{Standing, Waiting};
+pub use view::{Known, Reading, Sequencing, Shape, View};

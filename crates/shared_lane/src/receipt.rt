@@ -4,7 +4,7 @@ ghost use Rattle.shared_lane.specs.Views.{receipt_of};
 ghost use Rattle.shared_lane.specs.Readers.{IsReceiptOf};
 
 use crate::lane::Lane;
-use lane_steps::LaneSeat;
+use crate::rule::LaneSeat;
 use std::alloc::Allocator;
 use std::marker::Model;
 

@@ -5,21 +5,22 @@ ghost use Rattle.flow_terms.specs.declared.policy.Policy.TheVariants.{Suspend, D
 ghost use Rattle.shared_lane.specs.Sequencers.{next, HasNumber, HasTicketNumber, HasFreeTicket, IsSequencerOf, IsSameSequencer, TriedOn, RefusedTry};
 ghost use Rattle.shared_lane.specs.Sequencers.{BegunOn, RefusedStart, AfterScan, LoadedOrMoved, Passed, seen, accepted_on, stood_on};
 ghost use Rattle.shared_lane.specs.Sequencers.{BegunAfterScan, accepted_with_ticket, waited, AcceptedWaiting, IsStuck};
-ghost use Rattle.lane_steps.specs.Steps.{IsRoomy, next_number};
+ghost use Rattle.shared_lane.specs.Steps.{IsRoomy, next_number};
 ghost use Rattle.shared_lane.specs.Ordering.{StandsLast};
 ghost use Rattle.shared_lane.specs.Caches.{emitter_at};
 ghost use Rattle.shared_lane.specs.Places.{IsAccepted};
 ghost use Rattle.shared_lane.specs.Readers.{IsReceiptOf};
-ghost use Rattle.lane_steps.specs.Law.{closed};
-ghost use Rattle.lane_steps.specs.Seats.{IsSeatOf, IsSameSeat};
+ghost use Rattle.shared_lane.specs.Law.{closed};
+ghost use Rattle.shared_lane.specs.Seats.{IsSeatOf, IsSameSeat};
 ghost use Rattle.shared_lane.specs.Surveys.{KnowsPlaces, MayDrop, MayDropAt, IsSurvey, WholePass, FoundAllOpen, FoundClosed, Cleared, Visit, ShutFrom, LosesNone};
 
 use crate::lane::Lane;
 use crate::receipt::Receipt;
+use crate::rule::LaneSeat;
 use crate::tickets::{Standing, Waiting};
+use crate::words::{CLOSED, Words};
 use circular_buffer::HeapCircularBuffer;
 use flow_terms::{Policy, Refusal};
-use lane_steps::{CLOSED, LaneSeat, Words};
 use shared_core::{Begun, Ticket, Tried};
 use std::alloc::Allocator;
 use std::marker::Model;

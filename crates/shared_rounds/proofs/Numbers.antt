@@ -9,7 +9,7 @@ use Rattle.flow_terms.specs.declared.answers.Emit.TheVariants as emit
 use Rattle.flow_terms.specs.declared.answers.Withdrawn.TheVariants as withdrawn
 use Rattle.round_lock.specs.History.{After, own_of}
 use Rattle.round_lock.specs.History.After.{new, more}
-use Rattle.lane_steps.specs.Law.{Entry}
+use Rattle.shared_lane.specs.Law.{Entry}
 use Rattle.shared_lane.specs.Blocks.{entries}
 use Rattle.shared_lane.specs.Views.{LaneSeen, SequencerSeen}
 use Rattle.flow_terms.specs.declared.ids.Ticket.{Ticket}

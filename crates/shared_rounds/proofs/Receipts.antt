@@ -13,7 +13,7 @@ use Rattle.flow_terms.specs.declared.answers.Emit.{Emit}
 use Rattle.flow_terms.specs.declared.answers.Emit.TheVariants as emit
 use Rattle.flow_terms.specs.declared.answers.Withdrawn.{Withdrawn}
 use Rattle.flow_terms.specs.declared.answers.Withdrawn.TheVariants as withdrawn
-use Rattle.lane_steps.specs.Law.{Entry}
+use Rattle.shared_lane.specs.Law.{Entry}
 use Rattle.shared_lane.specs.Views.{LaneSeen, ReceiptSeen, SequencerSeen}
 use Rattle.shared_lane.specs.Sequencers.{IsSequencerOf, AcceptedOn, AfterScan, entry_of, next, seen}
 use Rattle.shared_lane.specs.Places.{IsAccepted}

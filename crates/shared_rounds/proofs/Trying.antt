@@ -2,7 +2,7 @@
 use Rattle.std.proofs.Common.{◌≡◌, ◌≢◌, ◌⊎◌, ⊎_elim, inl, inr, ℕ, suc, ◌+◌, ◌<◌, List, [], ◌∷◌, ◌++◌, length, map, take, refl, sym, ap, ◌∙◌, subst, arith, length-append, append_assoc, zero-add}
 use Rattle.std.proofs.lemmas.List.{append-nil, length-take, map-append, take-take, take_all}
 use Rattle.flow_terms.specs.declared.refusal.Refusal.{Refusal}
-use Rattle.lane_steps.specs.Law.{Entry}
+use Rattle.shared_lane.specs.Law.{Entry}
 use Rattle.shared_lane.specs.Views.{SequencerSeen}
 use Rattle.shared_lane.specs.Sequencers.{LoadedOrMoved, FoundNoRoom, AfterScan, RefusedTry, TriedOn, seen}
 use Rattle.shared_lane.specs.Blocks.{entries, joined, AcceptedTogether, AcceptedInTurn, IsTurnedAway, TriedAllOn}

@@ -1,7 +1,7 @@
 -- A look of a reader at the lane, and what a reader and the sequencer know of each other once they met.
 use Rattle.std.specs.Prelude.{◌≡◌, ◌+◌, ◌≤◌, ℕ, length}
-use Rattle.lane_steps.specs.Law.{lost}
-use Rattle.shared_lane.specs.declared.meeting.Met.{Met}
+use Rattle.shared_lane.specs.Law.{lost}
+use Rattle.shared_lane.specs.declared.reader.Met.{Met}
 use Rattle.shared_lane.specs.Views.{ReaderSeen, SequencerSeen}
 use Rattle.shared_lane.specs.declared.reader.Taken.{Taken}
 use Rattle.shared_lane.specs.Readers.{IsSameReader, TookNext, WentTo, at, received_count, lost_count}

@@ -1,10 +1,10 @@
-//! What every owner of a shared flow holds.
+//! What every owner of a shared flow holds: the lock, and what all share without it, the lane and a flag beside it.
 ghost use Rattle.std.specs.Prelude.{suc, pred, IfErr, true, false, ℕ, ◌≡◌, ◌≢◌, ◌⊎◌, [], Ok, Some, None, length, map, IfOk, IsOkUnless};
 ghost use Rattle.round_lock.specs.History.{own_of};
 ghost use Rattle.shared_lane.specs.Readers.{at};
 ghost use Rattle.shared_lane.specs.Sequencers.{next};
 ghost use Rattle.shared_rounds.specs.declared.round.Round.TheVariants as round;
-ghost use Rattle.shared_rounds.specs.Flags.{looked_at};
+ghost use Rattle.shared_rounds.specs.Flags.{looked_at, number_of};
 ghost use Rattle.shared_rounds.specs.Names.{FoundDown, FoundUp, IsFlagOf, IsNew, KnowsLane, KnowsTrack};
 ghost use Rattle.shared_rounds.specs.Entering.{Found, IsCalled, IsCalledAs, Left, LeftAs};
 ghost use Rattle.shared_rounds.specs.Reach.{party_of, reach_of, with_taken};
@@ -12,15 +12,15 @@ ghost use Rattle.shared_rounds.specs.Rounds.{Below};
 ghost use Rattle.shared_rounds.specs.Sleeping.{NobodySleeps, HasRoomFor};
 ghost use Rattle.shared_rounds.specs.Waking.{AreOutBut, Helps, ended_by as the_ended_by, taken_by as the_taken_by};
 
-use crate::flag::Stands;
+use crate::flag::{Another, FlagRule, FlagView, Loads, Looks, Raises, Sets, Stands};
 use crate::round::Round;
 use crate::shared::Shared;
-use crate::track::{Looker, Track};
 use crate::wait_list::WakeList;
+use atomic_table::{Seat, Table};
 use flow_terms::{Refusal, Word};
 use round_lock::{Guarded, Lock, Made};
 use shared_core::{Config, Emit};
-use shared_lane::{Lane, Reader};
+use shared_lane::{Lane, Reader, Sequencer};
 use state_bell::{LOOKS, pause};
 use std::alloc::{AllocError, Global};
 use std::marker::{Brand, Model};
@@ -72,7 +72,7 @@ impl Drop for Access {
 /// What lies under the lock, for one who has taken it. It has no `Drop`, so that it is given back, by [`Access::leave`].
 pub struct Inside {
     /// What lies there, in its box.
-    pub guarded: Guarded<Box<Shared>>,
+    pub shared: Box<Shared>,
     /// The number that the next emission had as the lock was taken.
     pub before: u64,
 }
@@ -197,23 +197,24 @@ impl Access {
     /// The owner has seen the list of rounds that left it now.
     #[inline(always)]
     pub fn enter(&mut self, rt: &impl Wait) -> Inside
-        ensures taken { self.new ≡ record self.old { held = Some result.guarded.state.value; seen = self.new.seen } }
-        ensures found { Found (party_of self.old) result.guarded.state.value self.new.seen }
-        ensures named { self.old.flow ≡ Some result.guarded.state.value.name }
-        ensures below { Below (next result.guarded.state.value.sequencer) self.old.rounds }
-        ensures before { result.before ≡ next result.guarded.state.value.sequencer }
+        ensures taken { self.new ≡ record self.old { held = Some result.shared.value; seen = self.new.seen } }
+        ensures found { Found (party_of self.old) result.shared.value self.new.seen }
+        ensures named { self.old.flow ≡ Some result.shared.value.name }
+        ensures below { Below (next result.shared.value.sequencer) self.old.rounds }
+        ensures before { result.before ≡ next result.shared.value.sequencer }
     {
         let guarded = self.lock.take(rt);
-        let before = guarded.state.next_number();
-        Inside { guarded, before }
+        let Guarded { state: shared } = guarded;
+        let before = shared.next_number();
+        Inside { shared, before }
     }
 
     // Inlined, so that the round, of which contracts alone speak, is never written.
     /// Helps those whom the round that was made has helped, gives the lock back with that round, and then wakes them.
     #[inline(always)]
     pub fn leave(&mut self, inside: Inside, round: Round)
-        requires round { IsCalled self.old inside.before round inside.guarded.state.value }
-        ensures left { Left round inside.guarded.state.value self.old self.new }
+        requires round { IsCalled self.old inside.before round inside.shared.value }
+        ensures left { Left round inside.shared.value self.old self.new }
     {
         let ended = ended_by(&round);
         let taken = taken_by(&round);
@@ -240,16 +241,16 @@ impl Access {
         answer: Result<u64, Refusal>,
     )
         requires picked { M.entry ≡ Some (round.TryAll emitter (map T.word values.now) answer) }
-        requires round { IsCalled self.old inside.before (round.TryAll emitter (map T.word values.now) answer) inside.guarded.state.value }
-        ensures left { Left (round.TryAll emitter (map T.word values.now) answer) inside.guarded.state.value self.old self.new }
+        requires round { IsCalled self.old inside.before (round.TryAll emitter (map T.word values.now) answer) inside.shared.value }
+        ensures left { Left (round.TryAll emitter (map T.word values.now) answer) inside.shared.value self.old self.new }
     {
         self.leave_as::<M, _>(inside, None, None, &());
     }
 
     /// Leaves as `leave` does, after the replay cache was read: the round has the words that it had.
     pub fn leave_cache(&mut self, inside: Inside)
-        requires round { IsCalled self.old inside.before (round.Cache (Ok inside.guarded.state.value.sequencer.cache)) inside.guarded.state.value }
-        ensures left { Left (round.Cache (Ok inside.guarded.state.value.sequencer.cache)) inside.guarded.state.value self.old self.new }
+        requires round { IsCalled self.old inside.before (round.Cache (Ok inside.shared.value.sequencer.cache)) inside.shared.value }
+        ensures left { Left (round.Cache (Ok inside.shared.value.sequencer.cache)) inside.shared.value self.old self.new }
     {
         self.leave_as::<Brand, _>(inside, None, None, &());
     }
@@ -263,8 +264,8 @@ impl Access {
         taken: Option<u64>,
         _shown: &P,
     )
-        requires round { IsCalledAs self.old inside.before M.entry ended taken inside.guarded.state.value }
-        ensures left { LeftAs M.entry inside.guarded.state.value self.old self.new }
+        requires round { IsCalledAs self.old inside.before M.entry ended taken inside.shared.value }
+        ensures left { LeftAs M.entry inside.shared.value self.old self.new }
     {
         let guarded = helped(&mut self.wakes, inside, ended, taken);
         // Most calls wake nobody, and load nothing for that after the lock was given back.
@@ -274,7 +275,7 @@ impl Access {
     }
 }
 
-// Looks at the flag for a reader of this owner of the lock, after the rounds that it has made.
+// Looks at the flag, where emissions of the flow may wait, for a reader of this owner of the lock, after the rounds that it has made.
 fn looked<M: Stands>(
     track: &Track,
     lock: &Lock<Box<Shared>, Round>,
@@ -288,7 +289,10 @@ fn looked<M: Stands>(
     ensures none { result ≡ false → (track.now.may_wait ≡ false) ⊎ (looker.new ≡ looked_at (at reader.now) (length lock.now.log.own) 0 looker.old) }
     ensures some { result ≡ true → (found : ℕ) × (found ≢ 0) × (looker.new ≡ looked_at (at reader.now) (length lock.now.log.own) found looker.old) }
 {
-    track.has_unfinished::<M>(looker, reader)
+    if !track.may_wait {
+        return false;
+    }
+    track.flag.shared.load::<Looks<M>>(&mut looker.seat, FLAG) != 0
 }
 
 // Takes those whom a round has helped, or ended, out from under the lock.
@@ -300,17 +304,14 @@ fn helped(
     taken: Option<u64>,
 ) -> Guarded<Box<Shared>>
     requires nobody { NobodySleeps wakes.old.subscriptions }
-    requires room { HasRoomFor inside.guarded.state.value.name.config wakes.old }
-    requires out { AreOutBut taken inside.guarded.state.value }
-    ensures helps { Helps inside.before ended inside.guarded.state.value result.state.value }
-    ensures room { HasRoomFor inside.guarded.state.value.name.config wakes.new }
+    requires room { HasRoomFor inside.shared.value.name.config wakes.old }
+    requires out { AreOutBut taken inside.shared.value }
+    ensures helps { Helps inside.before ended inside.shared.value result.state.value }
+    ensures room { HasRoomFor inside.shared.value.name.config wakes.new }
 {
-    let Inside {
-        mut guarded,
-        before,
-    } = inside;
-    guarded.state.help(before, ended, taken, wakes);
-    guarded
+    let Inside { mut shared, before } = inside;
+    shared.help(before, ended, taken, wakes);
+    Guarded { state: shared }
 }
 
 // The subscription that a round ends.
@@ -342,4 +343,149 @@ fn locked(alloc: Global, state: Box<Shared>) -> Result<Lock<Box<Shared>, Round>,
     ensures { IfOk result (λ lock. reach_of (λ s. s.value) lock ≡ record { lock = lock.place; flow = Some state.value.name; held = None; pass = lock.pass; halved = 0; taken = []; rounds = []; seen = [] }) }
 {
     Lock::new(alloc, state)
+}
+
+// What all parties of a flow share without its lock.
+
+// The word of the flag, in a table of its own: it is 1 where the flag is up, and else 0.
+const FLAG: usize = 0;
+
+/// The lane of a flow, and beside it a flag that says whether some emission may have to wait for a receipt. Contracts see which lane
+/// and which flag they are, and whether emissions of the flow may wait.
+#[derive(Drop)]
+pub struct Track {
+    lane: Lane<Global>,
+    // Whether emissions of this flow may wait at all.
+    may_wait: bool,
+    // Written by who holds the lock. It is set before the cursors are looked at a last time and an emission is left waiting; a
+    // reader looks at it after its exchange. Each step is sequentially consistent, so that one of the two sees the other's.
+    flag: Table<(), FlagView, (), FlagRule, Global>,
+}
+
+impl Model for Track {
+    ghost use Rattle.std.specs.Prelude.{◌≡◌};
+    ghost use Rattle.shared_rounds.specs.Names.{TrackSeen};
+
+    ghost Value = { TrackSeen };
+
+    ghost view = { λ t. record { lane = t.lane; flag = t.flag.shared.table_id; may_wait = t.may_wait } };
+
+    ghost invariant = { λ t. t.flag.shared.table_id.words ≡ 1 };
+}
+
+/// Who sets the flag. Contracts see which flag it is, whether it is up, and what the lane's sequencer had loaded as it was raised for an
+/// emission that begins to wait.
+#[derive(Drop)]
+pub(crate) struct Keeper {
+    seat: Seat<(), FlagView>,
+    is_up: bool,
+}
+
+impl Model for Keeper {
+    ghost use Rattle.std.specs.Prelude.{◌≡◌, true};
+    ghost use Rattle.shared_rounds.specs.Flags.{Keeping, number_of};
+
+    ghost Value = { Keeping };
+
+    ghost view = { λ k. record { table = k.seat.table_id; flag = k.seat.me.0.flag; raised = k.seat.me.0.raised } };
+
+    ghost invariant = { λ k. (k.seat.me.0.keeps ≡ true) × (k.seat.me.0.flag ≡ number_of k.is_up) };
+}
+
+/// Who looks at the flag. Contracts see which flag it is, and its looks.
+#[derive(Drop)]
+pub struct Looker {
+    seat: Seat<(), FlagView>,
+}
+
+impl Model for Looker {
+    ghost use Rattle.std.specs.Prelude.{◌≡◌, false};
+    ghost use Rattle.shared_rounds.specs.Flags.{Looking};
+
+    ghost Value = { Looking };
+
+    ghost view = { λ l. record { table = l.seat.table_id; looks = l.seat.me.0.looks } };
+
+    ghost invariant = { λ l. l.seat.me.0.keeps ≡ false };
+}
+
+impl Track {
+    /// A track of this lane, with a flag that is down, and the flag's keeper. Under a policy that lets emissions wait, `may_wait` says
+    /// so.
+    pub(crate) fn new(
+        alloc: Global,
+        lane: Lane<Global>,
+        may_wait: bool,
+    ) -> Result<(Track, Keeper), AllocError>
+        ensures track { IfOk result (λ made. made.0 ≡ record { lane = lane; flag = made.0.flag; may_wait = may_wait }) }
+        ensures keeper { IfOk result (λ made. made.1 ≡ record { table = made.0.flag; flag = 0; raised = 0 }) }
+    {
+        let (flag, seat): (
+            Table<(), FlagView, (), FlagRule, Global>,
+            Seat<(), FlagView>,
+        ) = Table::of_words(alloc, &[0], &())?;
+        let track = Track {
+            lane,
+            may_wait,
+            flag,
+        };
+        let keeper = Keeper { seat, is_up: false };
+        Ok((track, keeper))
+    }
+
+    /// The lane.
+    pub fn lane(&self) -> &Lane<Global>
+        ensures { result.now ≡ self.now.lane }
+    {
+        &self.lane
+    }
+
+    /// One who looks at the flag, and has not looked yet.
+    pub(crate) fn looker(&self, keeper: &mut Keeper) -> Looker
+        requires { keeper.old.table ≡ self.now.flag }
+        ensures looker { result ≡ record { table = self.now.flag; looks = [] } }
+        ensures same { keeper.new ≡ keeper.old }
+    {
+        let seat = self.flag.shared.split_seat::<Another>(&mut keeper.seat);
+        Looker { seat }
+    }
+
+    /// Whether some emission may wait, for one who only passes the time: it tells nothing.
+    fn may_have_unfinished(&self) -> bool {
+        self.may_wait && self.flag.shared.peek(FLAG) != 0
+    }
+
+    /// Raises the flag for an emission that begins to wait, also where it is up, before the cursors are looked at a last time: what the
+    /// sequencer loads from here on it loads after that. Only who holds the lock has the keeper.
+    pub(crate) fn raise_unfinished(&self, keeper: &mut Keeper, sequencer: &Sequencer<Global>)
+        requires { keeper.old.table ≡ self.now.flag }
+        ensures { keeper.new ≡ record keeper.old { flag = 1; raised = length sequencer.now.view.loads } }
+    {
+        self.raise::<Brand>(keeper, sequencer);
+    }
+
+    fn raise<M: Loads>(&self, keeper: &mut Keeper, sequencer: &Sequencer<Global>)
+        requires table { keeper.old.table ≡ self.now.flag }
+        requires loads { M.loads ≡ length sequencer.now.view.loads }
+        ensures { keeper.new ≡ record keeper.old { flag = 1; raised = length sequencer.now.view.loads } }
+    {
+        keeper.is_up = true;
+        self.flag
+            .shared
+            .store::<Raises<M>>(&mut keeper.seat, FLAG, 1);
+    }
+
+    /// Sets the flag where an emission may wait, or takes it back, where it isn't so. Only who holds the lock has the keeper.
+    pub(crate) fn set_unfinished(&self, keeper: &mut Keeper, up: bool)
+        requires { keeper.old.table ≡ self.now.flag }
+        ensures { keeper.new ≡ record keeper.old { flag = number_of up } }
+    {
+        if keeper.is_up == up {
+            return;
+        }
+        keeper.is_up = up;
+        self.flag
+            .shared
+            .store::<Sets>(&mut keeper.seat, FLAG, up as u64);
+    }
 }

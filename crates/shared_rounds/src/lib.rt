@@ -12,16 +12,13 @@
 #![tactic(auto)]
 
 mod access;
-mod emissions;
 mod flag;
 mod round;
 mod shared;
-mod track;
 mod wait_list;
 
-pub use access::{Access, Inside};
+pub use access::{Access, Inside, Looker, Track};
 pub use round::{Emission, Round, begun_ticket};
 pub use shared::{NewReader, Polled, Released, Shared};
 pub use state_bell::{LOOKS, pause};
-pub use track::{Looker, Track};
 pub use wait_list::WaitKey;

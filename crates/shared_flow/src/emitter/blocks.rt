@@ -45,7 +45,7 @@ impl<T: Word> Emitter<T> {
         ensures refused { IfErr result (λ refusal. (refusal ≡ Spent) × (values.now ≢ [])) }
     {
         let mut inside = self.access.enter(rt);
-        let answer = inside.guarded.state.try_emit_all(self.id, values);
+        let answer = inside.shared.try_emit_all(self.id, values);
         self.access
             .leave_block::<T, Brand>(inside, self.id, values, answer);
         answer

@@ -30,7 +30,7 @@ impl Model for Kept {
 
     ghost Value = { Keeping };
 
-    ghost view = { λ k. record { count = k.count; before = k.inside.before; shared = k.inside.guarded.state.value } };
+    ghost view = { λ k. record { count = k.count; before = k.inside.before; shared = k.inside.shared.value } };
 }
 
 /// A flow whose lock is kept: nothing is emitted into it, and nobody is admitted, until it is released. Subscriptions receive on, by
@@ -52,7 +52,7 @@ impl<T: Word> SharedFlow<T> {
         ensures held { KeepsLock result.flow.now result.kept }
     {
         let mut inside = self.access.enter(rt);
-        let count = inside.guarded.state.subscription_count();
+        let count = inside.shared.subscription_count();
         Held {
             flow: self,
             kept: Kept { inside, count },
@@ -73,7 +73,7 @@ impl<T: Word> Held<'_, T> {
         ensures length { result ≡ length self.now.kept.shared.sequencer.cache }
         ensures latest { IsLastOf (seen self.now.kept.shared.sequencer) self.now.kept.shared.sequencer.cache }
     {
-        self.kept.inside.guarded.state.replay_len()
+        self.kept.inside.shared.replay_len()
     }
 
     /// The value of the replay cache with this index, from the oldest on.
@@ -81,7 +81,7 @@ impl<T: Word> Held<'_, T> {
         requires { index < length self.now.kept.shared.sequencer.cache }
         ensures { (word : ℕ) × (slice_get self.now.kept.shared.sequencer.cache index ≡ Some word) × (result ≡ T.read_as word) }
     {
-        T::from_word(self.kept.inside.guarded.state.replay_at(index))
+        T::from_word(self.kept.inside.shared.replay_at(index))
     }
 
     /// Tells a subscription of this flow all that was accepted and all that was dropped for it, and counts it exactly:
@@ -99,7 +99,7 @@ impl<T: Word> Held<'_, T> {
         ensures rest { subscription.new.rest ≡ subscription.old.rest }
         ensures met { HasMet self.new.kept.shared.sequencer subscription.old.reader subscription.new.reader result }
     {
-        subscription.meet(&mut *self.kept.inside.guarded.state)
+        subscription.meet(&mut *self.kept.inside.shared)
     }
 
     /// Tells an emitter of this flow all rounds so far: its own are its part of the list that the owner has seen. No round is made

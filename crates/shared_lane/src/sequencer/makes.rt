@@ -1,18 +1,20 @@
 //! A lane is made.
 ghost use Rattle.std.specs.Prelude.{◌≡◌, ◌≤◌, [], None, max, vec_capacity, IfOk, IfSome, IfNone, IsOkUnless};
 ghost use Rattle.shared_core.specs.Kept.{making_refusal};
-ghost use Rattle.lane_steps.specs.Law.{IsShape, opening_view};
-ghost use Rattle.lane_steps.specs.Layout.{cell_index};
+ghost use Rattle.shared_lane.specs.Law.{IsShape, opening_view};
+ghost use Rattle.shared_lane.specs.Layout.{cell_index};
 ghost use Rattle.shared_lane.specs.Caches.{drops_values};
 ghost use Rattle.shared_lane.specs.Makes.{IsWithinBounds, AreEmpty};
 ghost use Rattle.shared_lane.specs.Sequencers.{IsSequencerOf, IsFresh, shape_of};
 
 use super::Sequencer;
 use crate::lane::Lane;
+use crate::rule::LaneSeat;
 use crate::tickets::{Standing, Waiting};
+use crate::view::Shape;
+use crate::words::Words;
 use circular_buffer::HeapCircularBuffer;
 use flow_terms::{Policy, Refusal};
-use lane_steps::{LaneSeat, Shape, Words};
 use shared_core::Config;
 use std::alloc::{AllocError, Allocator};
 

@@ -1,5 +1,5 @@
 use Rattle.std.proofs.Common.{◌<◌, ℕ, sym, ap, ◌∙◌, subst}
-use Rattle.lane_steps.specs.declared.view.Shape.{Shape}
+use Rattle.shared_lane.specs.declared.view.Shape.{Shape}
 use Rattle.shared_lane.specs.Places.{opening_of}
 use Rattle.shared_lane.specs.Views.{ClosedSeen, ReaderSeen, SequencerSeen}
 use Rattle.hot_callers.proofs.lane_calling.attempted_and_counted.Goals as goal

@@ -1,7 +1,7 @@
 use Rattle.std.proofs.Common.{arith, ℕ, List, lt_of_not-le}
 use mathlib.Core.Logic.{dite}
 use native.Mathlib.Decide.{dec_le}
-use Rattle.lane_steps.proofs.Lists.{not_both}
+use Rattle.shared_lane.proofs.Lists.{not_both}
 use Rattle.shared_lane.specs.Surveys.{may_be_open}
 use Rattle.shared_lane.proofs.Passes.{open_fewer}
 use Rattle.shared_lane.proofs.ends.ended_reader_is_counted_no_more.Goals as goal

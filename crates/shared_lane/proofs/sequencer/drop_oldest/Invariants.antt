@@ -1,5 +1,5 @@
 use Rattle.std.proofs.Common.{◌≡◌, ℕ, List, length}
-use Rattle.lane_steps.specs.Seats.{IsSameSeat}
+use Rattle.shared_lane.specs.Seats.{IsSameSeat}
 use Rattle.shared_lane.specs.Surveys.{Pass, Cleared}
 use Rattle.shared_lane.proofs.WholePasses.{EndsAt}
 use Rattle.shared_lane.proofs.sequencer.drop_oldest.Given as goal

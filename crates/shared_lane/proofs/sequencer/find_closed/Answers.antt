@@ -1,9 +1,9 @@
 use Rattle.std.proofs.Common.{arith, ◌≡◌, ◌≢◌, ℕ, ◌+◌, ◌<◌, List, [], ◌∷◌, ◌++◌, length, sym, ap, ◌∙◌, subst, ⊎_elim, length-append}
-use Rattle.lane_steps.specs.Law.{closed}
-use Rattle.lane_steps.specs.declared.view.Known.{Known}
-use Rattle.lane_steps.specs.Steps.{Surveyed, known_of}
+use Rattle.shared_lane.specs.Law.{closed}
+use Rattle.shared_lane.specs.declared.view.Known.{Known}
+use Rattle.shared_lane.specs.Steps.{Surveyed, known_of}
 use Rattle.shared_lane.specs.Surveys.{Pass, FoundAt, may_be_open}
-use Rattle.lane_steps.proofs.Lists.{which}
+use Rattle.shared_lane.proofs.Lists.{which}
 use Rattle.shared_lane.proofs.Passes.{visited, pass_more, pass_loses_none, all_more, shut_at}
 use Rattle.shared_lane.proofs.sequencer.find_closed.Goals as goal
 

@@ -1,4 +1,4 @@
-use Rattle.lane_steps.specs.Seats.{IsSameSeat}
+use Rattle.shared_lane.specs.Seats.{IsSameSeat}
 use Rattle.shared_lane.specs.Surveys.{FoundAllOpen}
 use Rattle.shared_lane.proofs.sequencer.find_closed.Given as goal
 

@@ -1,6 +1,6 @@
 use Rattle.std.proofs.Common.{arith, ◌≡◌, ℕ, ◌+◌, ◌-◌, ◌≤◌, ◌<◌, List, [], ◌∷◌, ◌++◌, length, cond, eqb, sym, ap, ◌∙◌, subst, length-append}
-use Rattle.lane_steps.specs.Law.{closed}
-use Rattle.lane_steps.specs.Steps.{Surveyed}
+use Rattle.shared_lane.specs.Law.{closed}
+use Rattle.shared_lane.specs.Steps.{Surveyed}
 use Rattle.shared_lane.proofs.Passes.{visited, pass_more, behind_more, open_more, open_few}
 use Rattle.shared_lane.specs.Surveys.{ShutFrom, FoundAt}
 use Rattle.shared_lane.proofs.WholePasses.{all_of, all_long, found_still, found_shut, whole_of, found_loses_none, behind_all, open_all, ends_more, shut_after}

@@ -1,5 +1,5 @@
 use Rattle.std.proofs.Common.{◌≡◌, ℕ, List, length}
-use Rattle.lane_steps.specs.Seats.{IsSameSeat}
+use Rattle.shared_lane.specs.Seats.{IsSameSeat}
 use Rattle.shared_lane.specs.Surveys.{Pass, FoundAt, Behind, open_count}
 use Rattle.shared_lane.proofs.WholePasses.{EndsAt}
 use Rattle.shared_lane.proofs.sequencer.load_cursors.Given as goal

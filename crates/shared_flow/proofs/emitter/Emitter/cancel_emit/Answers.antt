@@ -33,7 +33,7 @@ invariant_of-self-2 g c =
 
 pub leave-requires : goal.leave-requires
 leave-requires g c =
-    let found : SharedSeen = c.enter-inside.result.guarded.state.value in
+    let found : SharedSeen = c.enter-inside.result.shared.value in
     let before : SharedSeen = c.deref_mut.result.now in
     let new : SharedSeen = c.cancel_emit-withdrawn.new.self in
     let ticket = c.in-Some.ticket in
@@ -46,7 +46,7 @@ leave-requires g c =
 
 pub leave-requires-2 : goal.leave-requires-2
 leave-requires-2 g c =
-    let found : SharedSeen = c.enter-inside.result.guarded.state.value in
+    let found : SharedSeen = c.enter-inside.result.shared.value in
     let before : SharedSeen = c.deref_mut.result.now in
     let new : SharedSeen = c.cancel_emit-withdrawn.new.self in
     let ticket = c.in-Some.ticket in
@@ -66,7 +66,7 @@ returns-in_default-receipt-clause-removed g c = λ ticket is.
       c.unless_left.ensures,
       search rules,
       rw (← c.self.view_is, ← c.withdrawn_without_receipt-round.ensures)
-          (made c.withdrawn_without_receipt-round.result c.self.inside.access c.enter-inside.new.self c.leave.new.self c.enter-inside.result.guarded.state.value c.enter-inside.ensures.taken c.enter-inside.ensures.found c.leave.ensures.left),
+          (made c.withdrawn_without_receipt-round.result c.self.inside.access c.enter-inside.new.self c.leave.new.self c.enter-inside.result.shared.value c.enter-inside.ensures.taken c.enter-inside.ensures.found c.leave.ensures.left),
     ))
 
 pub returns-clause-left : goal.returns-clause-left
@@ -76,7 +76,7 @@ returns-clause-left g c =
       search rules,
       search rules,
       rw (← c.self.view_is) (subst (λ w. Made (round.Withdraw c.in-Some.ticket w) (party_of c.self.inside.access) (party_of c.leave-2.new.self)) done.0
-          (made (round.Withdraw c.in-Some.ticket c.cancel_emit-withdrawn.result.withdrawn) c.self.inside.access c.enter-inside.new.self c.leave-2.new.self c.enter-inside.result.guarded.state.value c.enter-inside.ensures.taken c.enter-inside.ensures.found c.leave-2.ensures.left)),
+          (made (round.Withdraw c.in-Some.ticket c.cancel_emit-withdrawn.result.withdrawn) c.self.inside.access c.enter-inside.new.self c.leave-2.new.self c.enter-inside.result.shared.value c.enter-inside.ensures.taken c.enter-inside.ensures.found c.leave-2.ensures.left)),
     )
 
 pub returns-in_default-receipt-clause-has : goal.returns-in_default-receipt-clause-has

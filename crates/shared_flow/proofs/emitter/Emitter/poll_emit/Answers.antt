@@ -29,7 +29,7 @@ returns-in_default-receipt-clause-pending g c = (
   search rules,
   search rules,
   rw (← c.self.view_is, ← c.polled_without_receipt-round.ensures)
-      (made c.polled_without_receipt-round.result c.self.inside.access c.enter-inside.new.self c.leave.new.self c.enter-inside.result.guarded.state.value c.enter-inside.ensures.taken c.enter-inside.ensures.found c.leave.ensures.left),
+      (made c.polled_without_receipt-round.result c.self.inside.access c.enter-inside.new.self c.leave.new.self c.enter-inside.result.shared.value c.enter-inside.ensures.taken c.enter-inside.ensures.found c.leave.ensures.left),
 )
 
 pub returns-clause-ready : goal.returns-clause-ready
@@ -39,7 +39,7 @@ returns-clause-ready g c =
       search rules,
       search rules,
       rw (← c.self.view_is) (subst (λ e. Made (round.Poll c.in-Some.ticket e) (party_of c.self.inside.access) (party_of c.leave-2.new.self)) done.0
-          (made (round.Poll c.in-Some.ticket c.poll_emit-emit.result.emit) c.self.inside.access c.enter-inside.new.self c.leave-2.new.self c.enter-inside.result.guarded.state.value c.enter-inside.ensures.taken c.enter-inside.ensures.found c.leave-2.ensures.left)),
+          (made (round.Poll c.in-Some.ticket c.poll_emit-emit.result.emit) c.self.inside.access c.enter-inside.new.self c.leave-2.new.self c.enter-inside.result.shared.value c.enter-inside.ensures.taken c.enter-inside.ensures.found c.leave-2.ensures.left)),
     )
 
 pub invariant_of-self-2 : goal.invariant_of-self-2
@@ -52,7 +52,7 @@ invariant_of-self-2 g c =
 
 pub leave-requires : goal.leave-requires
 leave-requires g c =
-    let found : SharedSeen = c.enter-inside.result.guarded.state.value in
+    let found : SharedSeen = c.enter-inside.result.shared.value in
     let before : SharedSeen = c.deref_mut.result.now in
     let polled : SharedSeen = c.deref_mut-in_default-receipt.result.now in
     let last : SharedSeen = c.sleep_emission.new.self in
@@ -69,7 +69,7 @@ leave-requires g c =
 
 pub leave-requires-2 : goal.leave-requires-2
 leave-requires-2 g c =
-    let found : SharedSeen = c.enter-inside.result.guarded.state.value in
+    let found : SharedSeen = c.enter-inside.result.shared.value in
     let before : SharedSeen = c.deref_mut.result.now in
     let new : SharedSeen = c.poll_emit-emit.new.self in
     let ticket = c.in-Some.ticket in

@@ -25,7 +25,7 @@ returns g c =
     let told = sym c.begun_with_receipt-begun.ensures.begins.2 in
     let party : Party = party_of c.self.inside.access in
     let old : Emitting = c.args.self.now in
-    let found = c.enter-inside.result.guarded.state.value in
+    let found = c.enter-inside.result.shared.value in
     let later = subst (λ (s : SharedSeen). IfBegun c.start_emit-answer.result (λ n. next s.sequencer ≤ n)) c.deref_mut.ensures.value c.start_emit-answer.ensures.later in
     let rises = subst (λ last. IfBegun begins (λ r. IsAfter last r.number)) (ap (λ (e : Emitting). e.last) c.self.view_is)
     (start_rises begins c.self.inside.last (next found.sequencer) c.self.inside.access.rounds (subst (λ a. IfBegun a (λ n. next found.sequencer ≤ n)) numbers later) c.enter-inside.ensures.below c.self.invariant.1) in
@@ -64,7 +64,7 @@ invariant_of-self g c =
 
 pub leave-requires : goal.leave-requires
 leave-requires g c =
-    let found : SharedSeen = c.enter-inside.result.guarded.state.value in
+    let found : SharedSeen = c.enter-inside.result.shared.value in
     let emission : Emission = record { emitter = c.self.inside.id; word = c.to_word.result } in
     let answer = c.start_emit-answer.result in
     let called = is_called c.enter-inside.new.self found c.deref_mut.result.now c.start_emit-answer.new.self c.enter-inside.result.before (round.Start emission answer) (ap (λ (r : Reach). r.held) c.enter-inside.ensures.taken)

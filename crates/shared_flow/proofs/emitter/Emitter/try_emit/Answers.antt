@@ -20,7 +20,7 @@ use Rattle.shared_flow.proofs.emitter.Emitter.try_emit.Goals as goal
 pub returns-clause-rises : goal.returns-clause-rises
 returns-clause-rises g c =
     let answer = c.tried_with_receipt-tried.result in
-    let found = c.enter-inside.result.guarded.state.value in
+    let found = c.enter-inside.result.shared.value in
     let later = subst (λ (s : SharedSeen). IfTried c.try_emit-answer.result (λ n. next s.sequencer ≤ n)) c.deref_mut.ensures.value c.try_emit-answer.ensures.later in
     subst (λ last. IfTried answer (λ r. IsAfter last r.number)) (ap (λ (e : Emitting). e.last) c.self.view_is)
     (try_rises answer c.self.inside.last (next found.sequencer) c.self.inside.access.rounds (subst (λ a. IfTried a (λ n. next found.sequencer ≤ n)) c.tried_with_receipt-tried.ensures.numbers later) c.enter-inside.ensures.below c.self.invariant.1)
@@ -36,7 +36,7 @@ invariant_of-self g c =
 
 pub leave-requires : goal.leave-requires
 leave-requires g c =
-    let found : SharedSeen = c.enter-inside.result.guarded.state.value in
+    let found : SharedSeen = c.enter-inside.result.shared.value in
     let emission : Emission = record { emitter = c.self.inside.id; word = c.to_word.result } in
     let answer = c.try_emit-answer.result in
     let called = is_called c.enter-inside.new.self found c.deref_mut.result.now c.try_emit-answer.new.self c.enter-inside.result.before (round.Try emission answer) (ap (λ (r : Reach). r.held) c.enter-inside.ensures.taken)
@@ -47,7 +47,7 @@ pub returns-clause-made : goal.returns-clause-made
 returns-clause-made g c =
     let emission : Emission = record { emitter = c.self.inside.id; word = c.to_word.result } in
     let answer = c.tried_with_receipt-tried.result in
-    let it = made (round.Try emission c.try_emit-answer.result) c.self.inside.access c.enter-inside.new.self c.leave.new.self c.enter-inside.result.guarded.state.value c.enter-inside.ensures.taken c.enter-inside.ensures.found c.leave.ensures.left in
+    let it = made (round.Try emission c.try_emit-answer.result) c.self.inside.access c.enter-inside.new.self c.leave.new.self c.enter-inside.result.shared.value c.enter-inside.ensures.taken c.enter-inside.ensures.found c.leave.ensures.left in
     let answered = subst (λ a. Made (round.Try emission a) (party_of c.self.inside.access) (party_of c.leave.new.self)) c.tried_with_receipt-tried.ensures.numbers it in
     let worded = subst (λ word. Made (round.Try (record { emitter = c.self.inside.id; word = word }) (numbers_tried answer)) (party_of c.self.inside.access) (party_of c.leave.new.self)) c.to_word.ensures.word answered in
     subst (λ (e : Emitting). Made (round.Try (emission_by e (g.T.Word.word c.args.value)) (numbers_tried answer)) e.party (party_of c.leave.new.self)) c.self.view_is worded
@@ -56,7 +56,7 @@ pub returns-clause-receipt : goal.returns-clause-receipt
 returns-clause-receipt g c =
     let answer = c.tried_with_receipt-tried.result in
     let party : Party = party_of c.self.inside.access in
-    let found = c.enter-inside.result.guarded.state.value in
+    let found = c.enter-inside.result.shared.value in
     let emission : Emission = record { emitter = c.self.inside.id; word = c.to_word.result } in
     let flow = ap (λ (s : SharedSeen). s.name) c.deref_mut-2.ensures.value ∙ c.try_emit-answer.ensures.does.0 ∙ ap (λ (s : SharedSeen). s.name) c.deref_mut.ensures.value in
     let of_lane = subst (λ name. IfTried answer (IsReceiptFor name.lane emission)) flow c.tried_with_receipt-tried.ensures.receipt in

@@ -20,7 +20,7 @@ invariant_of-self g c =
 
 pub leave_block-requires : goal.leave_block-requires
 leave_block-requires g c =
-    let found : SharedSeen = c.enter-inside.result.guarded.state.value in
+    let found : SharedSeen = c.enter-inside.result.shared.value in
     let tried = round.TryAll c.self.inside.id (map g.T.Word.word c.args.values.now) c.try_emit_all-answer.result in
     record {
       picked = refl;
@@ -31,7 +31,7 @@ leave_block-requires g c =
 pub returns-clause-tried : goal.returns-clause-tried
 returns-clause-tried g c =
     let tried = round.TryAll c.self.inside.id (map g.T.Word.word c.args.values.now) c.try_emit_all-answer.result in
-    let it = made tried c.self.inside.access c.enter-inside.new.self c.leave_block.new.self c.enter-inside.result.guarded.state.value c.enter-inside.ensures.taken c.enter-inside.ensures.found c.leave_block.ensures.left in
+    let it = made tried c.self.inside.access c.enter-inside.new.self c.leave_block.new.self c.enter-inside.result.shared.value c.enter-inside.ensures.taken c.enter-inside.ensures.found c.leave_block.ensures.left in
     rw (← c.self.view_is) (ap (λ (p : Party). let e : Emitting = record { party = p; id = c.self.inside.id; ticket = c.self.inside.ticket; last = c.self.inside.last } in e) (round_is tried (party_of c.self.inside.access) (party_of c.leave_block.new.self) it), it)
 
 pub returns-clause-has : goal.returns-clause-has

@@ -6,7 +6,7 @@ use Rattle.shared_flow.proofs.flow.SharedFlow.hold.Goals as goal
 
 pub returns-clause-held : goal.returns-clause-held
 returns-clause-held g c =
-    let found : SharedSeen = c.enter-inside.result.guarded.state.value in
+    let found : SharedSeen = c.enter-inside.result.shared.value in
     let taken = c.enter-inside.ensures.taken in (
       search rules,
       (

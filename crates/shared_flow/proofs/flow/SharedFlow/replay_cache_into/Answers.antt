@@ -10,7 +10,7 @@ use Rattle.shared_flow.proofs.flow.SharedFlow.replay_cache_into.Goals as goal
 
 pub leave_cache-requires : goal.leave_cache-requires
 leave_cache-requires g c =
-    let found : SharedSeen = c.enter-inside.result.guarded.state.value in
+    let found : SharedSeen = c.enter-inside.result.shared.value in
     let after : SharedSeen = c.replay_cache_into.new.self in
     record {
       round = is_called c.enter-inside.new.self found c.deref_mut.result.now after c.enter-inside.result.before (round.Cache (Ok after.sequencer.cache)) (ap (λ (r : Reach). r.held) c.enter-inside.ensures.taken)
@@ -19,7 +19,7 @@ leave_cache-requires g c =
 
 pub leave-requires : goal.leave-requires
 leave-requires g c =
-    let found : SharedSeen = c.enter-inside.result.guarded.state.value in
+    let found : SharedSeen = c.enter-inside.result.shared.value in
     let after : SharedSeen = c.replay_cache_into.new.self in
     let called = is_called c.enter-inside.new.self found c.deref_mut.result.now after c.enter-inside.result.before (round.Cache (Err NoMemory)) (ap (λ (r : Reach). r.held) c.enter-inside.ensures.taken)
     c.enter-inside.ensures.before c.deref_mut.ensures.value c.in-Err.ensures.unread c.replay_cache_into.ensures.asleep in
@@ -31,9 +31,9 @@ returns-in-Ok-clause-ok g c =
       words,
       c.in-Ok.ensures.ok,
       search rules,
-      rw (← c.self.view_is) (made (round.Cache (Ok words)) c.self.inside.access c.enter-inside.new.self c.leave_cache.new.self c.enter-inside.result.guarded.state.value c.enter-inside.ensures.taken c.enter-inside.ensures.found c.leave_cache.ensures.left),
+      rw (← c.self.view_is) (made (round.Cache (Ok words)) c.self.inside.access c.enter-inside.new.self c.leave_cache.new.self c.enter-inside.result.shared.value c.enter-inside.ensures.taken c.enter-inside.ensures.found c.leave_cache.ensures.left),
     )
 
 pub returns-in-Err-clause-unmade : goal.returns-in-Err-clause-unmade
 returns-in-Err-clause-unmade g c =
-    rw (← c.self.view_is, ← c.in-Err.ensures.memory) (made (round.Cache (Err c.in-Err.refusal)) c.self.inside.access c.enter-inside.new.self c.leave.new.self c.enter-inside.result.guarded.state.value c.enter-inside.ensures.taken c.enter-inside.ensures.found c.leave.ensures.left)
+    rw (← c.self.view_is, ← c.in-Err.ensures.memory) (made (round.Cache (Err c.in-Err.refusal)) c.self.inside.access c.enter-inside.new.self c.leave.new.self c.enter-inside.result.shared.value c.enter-inside.ensures.taken c.enter-inside.ensures.found c.leave.ensures.left)

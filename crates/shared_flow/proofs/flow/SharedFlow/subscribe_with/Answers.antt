@@ -18,15 +18,15 @@ returns-in-Ok-clause-begins g c =
     let after : SharedSeen = c.subscribe-number.new.self in
     let number = c.subscribe-number.result.number in
     let did = subst (λ (s : SharedSeen). IfOk c.subscribe-number.result.reader (λ reader. Comes s (round.Subscribe (Ok number)) after × IsAdmitted s number reader after)) c.deref_mut.ensures.value c.subscribe-number.ensures.ok in
-    let admission = subst (λ r. IfOk r (λ reader. Comes c.enter-inside.result.guarded.state.value (round.Subscribe (Ok number)) after × IsAdmitted c.enter-inside.result.guarded.state.value number reader after)) c.in-Ok.is did in
+    let admission = subst (λ r. IfOk r (λ reader. Comes c.enter-inside.result.shared.value (round.Subscribe (Ok number)) after × IsAdmitted c.enter-inside.result.shared.value number reader after)) c.in-Ok.is did in
     rw (← c.self.view_is, c.new.ensures)
     (subst (λ (r : Reach). WasAdmittedBy number c.in-Ok.reader (party_of r) (party_of c.leave.new.self)) c.in_ok-access.ensures.half
-    (was_admitted number owner c.enter-inside.new.self c.leave.new.self c.enter-inside.result.guarded.state.value after c.in-Ok.reader
+    (was_admitted number owner c.enter-inside.new.self c.leave.new.self c.enter-inside.result.shared.value after c.in-Ok.reader
     c.enter-inside.ensures.taken c.enter-inside.ensures.found c.enter-inside.ensures.named c.leave.ensures.left admission.1))
 
 pub leave-requires : goal.leave-requires
 leave-requires g c =
-    let found : SharedSeen = c.enter-inside.result.guarded.state.value in
+    let found : SharedSeen = c.enter-inside.result.shared.value in
     let after : SharedSeen = c.subscribe-number.new.self in
     let number = c.subscribe-number.result.number in
     let did = subst (λ (s : SharedSeen). IfOk c.subscribe-number.result.reader (λ reader. Comes s (round.Subscribe (Ok number)) after × IsAdmitted s number reader after)) c.deref_mut.ensures.value c.subscribe-number.ensures.ok in
@@ -38,7 +38,7 @@ leave-requires g c =
 
 pub leave-requires-in-Err : goal.leave-requires-in-Err
 leave-requires-in-Err g c =
-    let found : SharedSeen = c.enter-inside.result.guarded.state.value in
+    let found : SharedSeen = c.enter-inside.result.shared.value in
     let after : SharedSeen = c.subscribe-number.new.self in
     let did = subst (λ (s : SharedSeen). IfErr c.subscribe-number.result.reader (λ refusal. Comes s (round.Subscribe (Err refusal)) after × IsAtLimit refusal)) c.deref_mut.ensures.value c.subscribe-number.ensures.err in
     let left_out = subst (λ r. IfErr r (λ refusal. Comes found (round.Subscribe (Err refusal)) after × IsAtLimit refusal)) c.in-Err.is did in
@@ -51,7 +51,7 @@ leave-requires-in-Err g c =
 pub take_back-requires : goal.take_back-requires
 take_back-requires g c =
     let halves = are_halves (round.Subscribe (Err c.in-Err.refusal)) c.self.inside.access c.another.new.self c.enter-inside.new.self c.leave-in-Err.new.self c.in_ok-access.access
-    c.enter-inside.result.guarded.state.value c.in_ok-access.ensures.other c.in_ok-access.ensures.half c.enter-inside.ensures.taken c.leave-in-Err.ensures.left in
+    c.enter-inside.result.shared.value c.in_ok-access.ensures.other c.in_ok-access.ensures.half c.enter-inside.ensures.taken c.leave-in-Err.ensures.left in
     record { lock = halves.lock; half = halves.half; idle = halves.idle }
 
 pub returns-in-Err-clause-kept : goal.returns-in-Err-clause-kept
@@ -61,7 +61,7 @@ returns-in-Err-clause-kept g c =
       search rules,
       rw (← c.self.view_is)
           (made_and_took_back (round.Subscribe (Err c.in-Err.refusal)) c.self.inside.access c.another.new.self c.enter-inside.new.self c.leave-in-Err.new.self c.take_back.new.self
-          c.enter-inside.result.guarded.state.value c.in_ok-access.ensures.half c.enter-inside.ensures.taken c.enter-inside.ensures.found c.leave-in-Err.ensures.left c.take_back.ensures.whole),
+          c.enter-inside.result.shared.value c.in_ok-access.ensures.half c.enter-inside.ensures.taken c.enter-inside.ensures.found c.leave-in-Err.ensures.left c.take_back.ensures.whole),
     )
 
 pub returns-in-Ok-clause-has : goal.returns-in-Ok-clause-has
@@ -69,6 +69,6 @@ returns-in-Ok-clause-has g c =
     let after : SharedSeen = c.subscribe-number.new.self in
     let number = c.subscribe-number.result.number in
     let did = subst (λ (s : SharedSeen). IfOk c.subscribe-number.result.reader (λ reader. Comes s (round.Subscribe (Ok number)) after × IsAdmitted s number reader after)) c.deref_mut.ensures.value c.subscribe-number.ensures.ok in
-    let admission = subst (λ r. IfOk r (λ reader. Comes c.enter-inside.result.guarded.state.value (round.Subscribe (Ok number)) after × IsAdmitted c.enter-inside.result.guarded.state.value number reader after)) c.in-Ok.is did in
+    let admission = subst (λ r. IfOk r (λ reader. Comes c.enter-inside.result.shared.value (round.Subscribe (Ok number)) after × IsAdmitted c.enter-inside.result.shared.value number reader after)) c.in-Ok.is did in
     let nothing = knows_at_start _ c.in-Ok.reader admission.1.5.1.begins in
     rw c.new.ensures ((ap (map g.T.Word.read_as) nothing.1), refl)

@@ -4,4 +4,4 @@ use Rattle.shared_flow.proofs.flow.SharedFlow.subscription_count.Goals as goal
 
 pub returns-clause-made : goal.returns-clause-made
 returns-clause-made g c =
-    rw (← c.self.view_is) (made (round.Count c.subscription_count-count.result) c.self.inside.access c.enter-inside.new.self c.leave.new.self c.enter-inside.result.guarded.state.value c.enter-inside.ensures.taken c.enter-inside.ensures.found c.leave.ensures.left)
+    rw (← c.self.view_is) (made (round.Count c.subscription_count-count.result) c.self.inside.access c.enter-inside.new.self c.leave.new.self c.enter-inside.result.shared.value c.enter-inside.ensures.taken c.enter-inside.ensures.found c.leave.ensures.left)

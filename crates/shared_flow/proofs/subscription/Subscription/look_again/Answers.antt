@@ -18,7 +18,7 @@ use Rattle.shared_flow.proofs.subscription.Subscription.look_again.Goals as goal
 
 pub leave-requires : goal.leave-requires
 leave-requires g c =
-    let found : SharedSeen = c.enter-inside.result.guarded.state.value in
+    let found : SharedSeen = c.enter-inside.result.shared.value in
     let number = c.self.inside.number in
     let came = subst (λ (x : Taken _). Comes c.deref_mut.result.now (look_round number x) c.look.new.self) c.in-Value.is c.look.ensures.does in
     record {
@@ -28,7 +28,7 @@ leave-requires g c =
 
 pub leave-requires-in-Overtaken : goal.leave-requires-in-Overtaken
 leave-requires-in-Overtaken g c =
-    let found : SharedSeen = c.enter-inside.result.guarded.state.value in
+    let found : SharedSeen = c.enter-inside.result.shared.value in
     let number = c.self.inside.number in
     let came = subst (λ (x : Taken _). Comes c.deref_mut.result.now (look_round number x) c.look.new.self) c.in-Overtaken.is c.look.ensures.does in
     record {
@@ -39,7 +39,7 @@ leave-requires-in-Overtaken g c =
 -- the task goes to sleep after the look
 pub leave-requires-in-Nothing : goal.leave-requires-in-Nothing
 leave-requires-in-Nothing g c =
-    let found : SharedSeen = c.enter-inside.result.guarded.state.value in
+    let found : SharedSeen = c.enter-inside.result.shared.value in
     let before : SharedSeen = c.deref_mut.result.now in
     let looked : SharedSeen = c.deref_mut-in-Nothing.result.now in
     let last : SharedSeen = c.sleep_subscription.new.self in
@@ -55,17 +55,17 @@ leave-requires-in-Nothing g c =
 
 pub returns-in-Value-clause-within : goal.returns-in-Value-clause-within
 returns-in-Value-clause-within g c =
-    let found : SharedSeen = c.enter-inside.result.guarded.state.value in
+    let found : SharedSeen = c.enter-inside.result.shared.value in
     let before : SharedSeen = c.deref_mut.result.now in
     let freed = subst (λ (x : Taken _). FreesAfter x before c.look.new.self) c.in-Value.is c.look.ensures.freed in
     rw (← c.self.view_is) (was_made_within c.self.inside.number c.self.inside.access c.enter-inside.new.self c.leave.new.self found c.look.new.self c.enter-inside.ensures.taken c.enter-inside.ensures.found c.leave.ensures.left
     (subst (λ (s : SharedSeen). HasFreed s c.look.new.self) c.deref_mut.ensures.value freed))
 
 pub returns-in-Nothing-clause-round : goal.returns-in-Nothing-clause-round
-returns-in-Nothing-clause-round g c = rw (← c.self.view_is) (made (round.Pending c.self.inside.number) c.self.inside.access c.enter-inside.new.self c.leave-in-Nothing.new.self c.enter-inside.result.guarded.state.value c.enter-inside.ensures.taken c.enter-inside.ensures.found c.leave-in-Nothing.ensures.left)
+returns-in-Nothing-clause-round g c = rw (← c.self.view_is) (made (round.Pending c.self.inside.number) c.self.inside.access c.enter-inside.new.self c.leave-in-Nothing.new.self c.enter-inside.result.shared.value c.enter-inside.ensures.taken c.enter-inside.ensures.found c.leave-in-Nothing.ensures.left)
 
 pub returns-in-Overtaken-clause-round : goal.returns-in-Overtaken-clause-round
-returns-in-Overtaken-clause-round g c = rw (← c.self.view_is) (made (round.Pending c.self.inside.number) c.self.inside.access c.enter-inside.new.self c.leave-in-Overtaken.new.self c.enter-inside.result.guarded.state.value c.enter-inside.ensures.taken c.enter-inside.ensures.found c.leave-in-Overtaken.ensures.left)
+returns-in-Overtaken-clause-round g c = rw (← c.self.view_is) (made (round.Pending c.self.inside.number) c.self.inside.access c.enter-inside.new.self c.leave-in-Overtaken.new.self c.enter-inside.result.shared.value c.enter-inside.ensures.taken c.enter-inside.ensures.found c.leave-in-Overtaken.ensures.left)
 
 pub returns-in-Nothing-clause-pending : goal.returns-in-Nothing-clause-pending
 returns-in-Nothing-clause-pending g c =
@@ -74,7 +74,7 @@ returns-in-Nothing-clause-pending g c =
 
 pub returns-in-Nothing-clause-nothing : goal.returns-in-Nothing-clause-nothing
 returns-in-Nothing-clause-nothing g c =
-    let found : SharedSeen = c.enter-inside.result.guarded.state.value in
+    let found : SharedSeen = c.enter-inside.result.shared.value in
     let last : SharedSeen = c.sleep_subscription.new.self in
     let looked = subst (λ (x : Taken _). Looked c.self.inside.reader x c.look.new.reader) c.in-Nothing.is c.look.ensures.looked in
     let same : last.sequencer ≡ c.look.new.self.sequencer = ap (λ (s : SharedSeen). s.sequencer) c.sleep_subscription.ensures.same ∙ ap (λ (s : SharedSeen). s.sequencer) c.deref_mut-in-Nothing.ensures.value in
@@ -86,7 +86,7 @@ pub returns-in-Overtaken-clause-nothing : goal.returns-in-Overtaken-clause-nothi
 returns-in-Overtaken-clause-nothing g c =
     let looked = subst (λ (x : Taken _). Looked c.self.inside.reader x c.look.new.reader) c.in-Overtaken.is c.look.ensures.looked in
     rw (← c.self.view_is) (record {
-      made = made (round.Pending c.self.inside.number) c.self.inside.access c.enter-inside.new.self c.leave-in-Overtaken.new.self c.enter-inside.result.guarded.state.value c.enter-inside.ensures.taken c.enter-inside.ensures.found c.leave-in-Overtaken.ensures.left;
+      made = made (round.Pending c.self.inside.number) c.self.inside.access c.enter-inside.new.self c.leave-in-Overtaken.new.self c.enter-inside.result.shared.value c.enter-inside.ensures.taken c.enter-inside.ensures.found c.leave-in-Overtaken.ensures.left;
       missed = inr looked;
     })
 

@@ -1,5 +1,5 @@
 use Rattle.std.proofs.Common.{arith, length, ap, ◌≡◌, ◌∙◌, ℕ}
-use Rattle.lane_steps.specs.Law.{received, lost}
+use Rattle.shared_lane.specs.Law.{received, lost}
 use Rattle.shared_lane.proofs.Stories.{each_once}
 use Rattle.shared_lane.proofs.reader.Reader.dropped.Goals as goal
 

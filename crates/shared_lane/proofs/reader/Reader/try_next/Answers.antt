@@ -1,10 +1,10 @@
 use Rattle.std.proofs.Common.{rules, arith, ◌≡◌, ℕ, ◌+◌, ◌-◌, ◌<◌, ◌≤◌, List, [], ◌∷◌, ◌++◌, length, replicate, get_or, Bool, true, false, refl, sym, ap, ◌∙◌, subst, append_assoc, Fits, w64}
-use Rattle.lane_steps.specs.declared.view.View.{View}
-use Rattle.lane_steps.specs.declared.view.Reading.{Reading}
-use Rattle.lane_steps.specs.declared.view.Shape.{Shape}
-use Rattle.lane_steps.specs.Law.{Entry, HasWord, received}
-use Rattle.lane_steps.specs.Layout.{tail_word, cursor_word, cell_word, cell_index}
-use Rattle.lane_steps.specs.Steps.{position, got, found_at, picked_up}
+use Rattle.shared_lane.specs.declared.view.View.{View}
+use Rattle.shared_lane.specs.declared.view.Reading.{Reading}
+use Rattle.shared_lane.specs.declared.view.Shape.{Shape}
+use Rattle.shared_lane.specs.Law.{Entry, HasWord, received}
+use Rattle.shared_lane.specs.Layout.{tail_word, cursor_word, cell_word, cell_index}
+use Rattle.shared_lane.specs.Steps.{position, got, found_at, picked_up}
 use Rattle.shared_lane.specs.Kept.{IsReading}
 use Rattle.shared_lane.specs.Views.{LaneSeen, ReaderSeen}
 use Rattle.shared_lane.proofs.Readings.{found_itself}

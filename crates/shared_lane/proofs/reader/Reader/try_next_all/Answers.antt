@@ -3,12 +3,12 @@ use lib.ListN.{length-replicate}
 use Rattle.std.specs.Vec.{vec_capacity}
 use Rattle.std.proofs.lemmas.List.{append-nil}
 use Rattle.std.proofs.Math.Seq.{take-append_seam}
-use Rattle.lane_steps.specs.declared.view.View.{View}
-use Rattle.lane_steps.specs.declared.view.Reading.{Reading}
-use Rattle.lane_steps.specs.declared.view.Shape.{Shape}
-use Rattle.lane_steps.specs.Law.{Entry, HasWords, received}
-use Rattle.lane_steps.specs.Layout.{tail_word, cursor_word, cell_index}
-use Rattle.lane_steps.specs.Steps.{position, got_picked, found_at}
+use Rattle.shared_lane.specs.declared.view.View.{View}
+use Rattle.shared_lane.specs.declared.view.Reading.{Reading}
+use Rattle.shared_lane.specs.declared.view.Shape.{Shape}
+use Rattle.shared_lane.specs.Law.{Entry, HasWords, received}
+use Rattle.shared_lane.specs.Layout.{tail_word, cursor_word, cell_index}
+use Rattle.shared_lane.specs.Steps.{position, got_picked, found_at}
 use Rattle.shared_lane.specs.Views.{LaneSeen, ReaderSeen}
 use Rattle.shared_lane.specs.Picks.{cell_loads}
 use Rattle.shared_lane.proofs.Readings.{found_itself}

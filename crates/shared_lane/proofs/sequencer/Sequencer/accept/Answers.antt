@@ -1,14 +1,14 @@
 use Rattle.std.proofs.Common.{◌≡◌, ◌<◌, ◌≤◌, List, take, drop, ◌++◌, ◌∷◌, [], ◌∙◌, ap, subst, sym, ◌+◌, arith, length, length-append}
-use Rattle.lane_steps.specs.declared.view.View.{View}
-use Rattle.lane_steps.specs.declared.view.Shape.{Shape}
-use Rattle.lane_steps.specs.Layout.{cell_index}
-use Rattle.lane_steps.specs.Law.{Entry}
-use Rattle.lane_steps.specs.Steps.{next_number}
+use Rattle.shared_lane.specs.declared.view.View.{View}
+use Rattle.shared_lane.specs.declared.view.Shape.{Shape}
+use Rattle.shared_lane.specs.Layout.{cell_index}
+use Rattle.shared_lane.specs.Law.{Entry}
+use Rattle.shared_lane.specs.Steps.{next_number}
 use Rattle.shared_lane.specs.Surveys.{may_be_open}
 use Rattle.shared_lane.specs.Views.{LaneSeen, SequencerSeen, sequencer_of}
 use Rattle.shared_lane.specs.Kept.{IsSound}
 use Rattle.shared_lane.specs.Sequencers.{next, accepted_on}
-use Rattle.shared_lane.proofs.Soundness.{sound_accepted}
+use Rattle.shared_lane.proofs.Soundness.{shown_after, sound_accepted}
 use Rattle.shared_lane.proofs.sequencer.Sequencer.accept.Goals as goal
 
 pub store_cell-requires-clause-cell : goal.store_cell-requires-clause-cell
@@ -23,19 +23,7 @@ invariant_of-self g c = let s = c.self.inside in let inv = c.self.invariant in l
     ∙ ap (λ (v : View). let u : View = record v { seen = v.seen ++ take 1 v.sequencing.flight; sequencing = record v.sequencing { flight = drop 1 v.sequencing.flight } } in u) c.store_cell.ensures.view
     ∙ (λ i. record s.seat.me.0 { seen = s.seat.me.0.seen ++ (c.args.emitter, c.args.word) ∷ []; sequencing = record s.seat.me.0.sequencing { flight = (ap (λ (l : List Entry). drop 1 l) inv.sound.no_flight ∙ sym inv.sound.no_flight) i } }) in
     let now : SequencerSeen = sequencer_of c.store_tail.new.seat s.policy s.capacity c.push_back.new.self.capacity s.emits c.push_back.new.self.items s.waiting.items s.standing.items s.ticket s.subscription in
-    let is : now ≡ accepted_on (c.args.emitter, c.args.word) q = (λ i. record {
-      table = table i;
-      view = view i;
-      policy = s.policy;
-      capacity = s.capacity;
-      replay = (kept i).capacity;
-      emits = s.emits;
-      cache = (kept i).items;
-      waiting = s.waiting.items;
-      standing = s.standing.items;
-      ticket = s.ticket;
-      subscription = s.subscription;
-    }) in
+    let is : now ≡ accepted_on (c.args.emitter, c.args.word) q = shown_after q table view (λ i. (kept i).capacity) (λ i. (kept i).items) in
     let below = subst (λ (z : SequencerSeen). next z + length z.waiting < 4611686018427387904) (sym c.self.view_is) c.requires.number in
     let longer = length-append s.seat.me.0.seen ((c.args.emitter, c.args.word) ∷ []) in let after = ap next_number view in let before = inv.tail_is in
     let of_lane : s.seat.me.0.shape ≡ c.words-words.result.now.shape = ap (λ (z : SequencerSeen). z.view.shape) c.self.view_is ∙ (c.requires.lane.1 ∙ sym (ap (λ (z : LaneSeen). z.shape) c.words-words.ensures)) in record {

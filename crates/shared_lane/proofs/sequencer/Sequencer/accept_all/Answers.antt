@@ -1,17 +1,17 @@
 use Rattle.std.proofs.Common.{◌≡◌, ℕ, ◌<◌, ◌≤◌, List, [], ◌++◌, ◌∙◌, ap, subst, sym, ◌+◌, arith, length, length-append}
 use Rattle.circular_buffer.specs.Buffer.{keep_last}
-use Rattle.lane_steps.specs.declared.view.View.{View}
-use Rattle.lane_steps.specs.declared.view.Shape.{Shape}
-use Rattle.lane_steps.specs.Law.{Entry}
-use Rattle.lane_steps.specs.Layout.{cell_index}
-use Rattle.lane_steps.specs.Steps.{next_number, IsRoomyAt}
+use Rattle.shared_lane.specs.declared.view.View.{View}
+use Rattle.shared_lane.specs.declared.view.Shape.{Shape}
+use Rattle.shared_lane.specs.Law.{Entry}
+use Rattle.shared_lane.specs.Layout.{cell_index}
+use Rattle.shared_lane.specs.Steps.{next_number, IsRoomyAt}
 use Rattle.shared_lane.specs.Surveys.{may_be_open}
 use Rattle.shared_lane.specs.Views.{LaneSeen, SequencerSeen, sequencer_of}
 use Rattle.shared_lane.specs.Kept.{IsSound}
 use Rattle.shared_lane.specs.Sequencers.{next}
 use Rattle.shared_lane.specs.Blocks.{entries, accepted_all, with_flight}
 use Rattle.shared_lane.proofs.Entries.{entries_length, entries_words}
-use Rattle.shared_lane.proofs.Soundness.{sound_accepted_all}
+use Rattle.shared_lane.proofs.Soundness.{shown_after, sound_accepted_all}
 use Rattle.shared_lane.proofs.sequencer.Sequencer.accept_all.Goals as goal
 
 -- what was in flight is accepted, where nothing had been in flight before
@@ -33,19 +33,7 @@ invariant_of-self g c = let s = c.self.inside in let inv = c.self.invariant in l
     let table = tail.seat.0 ∙ cells.seat.0 in let view = view_after s.seat.me.0 c.store_cells-cell.new.seat.me.0 c.store_tail_past.new.seat.me.0 es inv.sound.no_flight cells.view tail.view in
     let now : SequencerSeen = sequencer_of c.store_tail_past.new.seat s.policy s.capacity c.extend_from_slice.new.self.capacity s.emits c.extend_from_slice.new.self.items s.waiting.items s.standing.items s.ticket s.subscription in
     let words = entries_words c.args.emitter c.args.block.now in
-    let is : now ≡ accepted_all es q = (λ i. record {
-      table = table i;
-      view = view i;
-      policy = s.policy;
-      capacity = s.capacity;
-      replay = (kept i).capacity;
-      emits = s.emits;
-      cache = (kept i).items;
-      waiting = s.waiting.items;
-      standing = s.standing.items;
-      ticket = s.ticket;
-      subscription = s.subscription;
-    }) ∙ (λ i. record (accepted_all es q) { cache = keep_last s.cache.capacity (s.cache.items ++ sym words i) }) in
+    let is : now ≡ accepted_all es q = shown_after q table view (λ i. (kept i).capacity) (λ i. (kept i).items) ∙ (λ i. record (accepted_all es q) { cache = keep_last s.cache.capacity (s.cache.items ++ sym words i) }) in
     let count = entries_length c.args.emitter c.args.block.now in
     let below = subst (λ (z : SequencerSeen). next z + length c.args.block.now + length z.waiting ≤ 4611686018427387904) (sym c.self.view_is) c.requires.number in
     let longer = length-append s.seat.me.0.seen es in let after = ap next_number view in let before = inv.tail_is in
@@ -65,16 +53,4 @@ returns g c = let s = c.self.inside in let inv = c.self.invariant in let q : Seq
     let es : List Entry = entries c.args.emitter c.args.block.now in let cells = c.store_cells-cell.ensures in let tail = c.store_tail_past.ensures in let kept = c.extend_from_slice.ensures in
     let table = tail.seat.0 ∙ cells.seat.0 in let view = view_after s.seat.me.0 c.store_cells-cell.new.seat.me.0 c.store_tail_past.new.seat.me.0 es inv.sound.no_flight cells.view tail.view in
     let words = entries_words c.args.emitter c.args.block.now in
-    (λ i. record {
-      table = table i;
-      view = view i;
-      policy = s.policy;
-      capacity = s.capacity;
-      replay = (kept i).capacity;
-      emits = s.emits;
-      cache = (kept i).items;
-      waiting = s.waiting.items;
-      standing = s.standing.items;
-      ticket = s.ticket;
-      subscription = s.subscription;
-    }) ∙ ((λ i. record (accepted_all es q) { cache = keep_last s.cache.capacity (s.cache.items ++ sym words i) }) ∙ ap (accepted_all es) c.self.view_is)
+    shown_after q table view (λ i. (kept i).capacity) (λ i. (kept i).items) ∙ ((λ i. record (accepted_all es q) { cache = keep_last s.cache.capacity (s.cache.items ++ sym words i) }) ∙ ap (accepted_all es) c.self.view_is)

@@ -1,5 +1,5 @@
 use Rattle.std.proofs.Common.{◌≡◌, ◌-◌, ◌≤◌, List, [], ◌++◌, length, take}
-use Rattle.lane_steps.specs.Law.{Entry}
+use Rattle.shared_lane.specs.Law.{Entry}
 use Rattle.shared_lane.specs.Sequencers.{IsSequencerOf, IsSameSequencer, seen}
 use Rattle.shared_lane.specs.Blocks.{entries, joined, AcceptedInTurn}
 use Rattle.shared_lane.proofs.sequencer.Sequencer.accept_blocks.Given as goal

@@ -2,7 +2,7 @@ use Rattle.std.proofs.Common.{◌≡◌, ◌≤◌, ◌<◌, ℕ, None, Some, le
 use Rattle.std.proofs.lemmas.Option.{slice_get_read}
 use Rattle.std.specs.List.Sorted.{IsPartitionedBy}
 use Rattle.std.proofs.lemmas.List.Sorted.{IsPartitionPoint-from_clause, IsPartitionedBy-ltb}
-use Rattle.lane_steps.specs.Steps.{next_number}
+use Rattle.shared_lane.specs.Steps.{next_number}
 use Rattle.shared_lane.specs.Ordering.{FirstUnfinished}
 use Rattle.shared_lane.specs.Views.{SequencerSeen, sequencer_of}
 use Rattle.shared_lane.specs.declared.tickets.Standing.{Standing}

@@ -1,6 +1,6 @@
 use Rattle.std.proofs.Common.{arith, ap}
-use Rattle.lane_steps.specs.Steps.{next_number}
-use Rattle.lane_steps.proofs.Lists.{within}
+use Rattle.shared_lane.specs.Steps.{next_number}
+use Rattle.shared_lane.proofs.Lists.{within}
 use Rattle.shared_lane.specs.Views.{SequencerSeen}
 use Rattle.shared_lane.proofs.sequencer.Sequencer.receipt.Goals as goal
 

@@ -1,6 +1,6 @@
 use Rattle.std.proofs.Common.{◌≡◌, ◌<◌, Some, arith, sym, subst}
 use Rattle.std.proofs.lemmas.Grind.{common_steps}
-use Rattle.lane_steps.specs.Steps.{next_number}
+use Rattle.shared_lane.specs.Steps.{next_number}
 use Rattle.shared_lane.specs.Caches.{emitter_at}
 use Rattle.shared_lane.specs.Ordering.{StandsLast}
 use Rattle.shared_lane.specs.Sequencers.{HasFreeTicket}

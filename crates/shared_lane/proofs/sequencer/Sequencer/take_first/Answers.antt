@@ -4,7 +4,7 @@ use Rattle.shared_lane.specs.Views.{SequencerSeen, sequencer_of}
 use Rattle.shared_lane.specs.Kept.{IsSound}
 use Rattle.shared_lane.proofs.Ordering.{left_stands_last}
 use Rattle.shared_lane.specs.Ordering.{StandsLast}
-use Rattle.lane_steps.specs.Steps.{next_number}
+use Rattle.shared_lane.specs.Steps.{next_number}
 use Rattle.shared_lane.proofs.Soundness.{sound_left}
 use Rattle.shared_lane.proofs.sequencer.Sequencer.take_first.Goals as goal
 

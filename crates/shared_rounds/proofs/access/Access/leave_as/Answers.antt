@@ -19,7 +19,7 @@ pub returns : goal.returns
 returns g c =
     let asked = c.requires.round in
     let call = asked.4 in
-    let came : SharedSeen = c.args.inside.guarded.state.value in
+    let came : SharedSeen = c.args.inside.shared.value in
     let helped : SharedSeen = c.helped-guarded.result.state.value in
     let helps = helped_by c.args.inside.before call.0 came helped asked.0 c.args.ended call.4 asked.2 c.helped-guarded.ensures.helps in
     let given = subst (λ e. c.put_as.new.self ≡ record c.self.inside.lock { log = called c.self.inside.lock.log (turn_of c.self.inside.lock.pass e c.helped-guarded.result.state) }) asked.1 c.put_as.ensures.given in
@@ -38,7 +38,7 @@ pub put_as-requires : goal.put_as-requires
 put_as-requires g c =
     let asked = c.requires.round in
     let call = asked.4 in
-    let came : SharedSeen = c.args.inside.guarded.state.value in
+    let came : SharedSeen = c.args.inside.shared.value in
     let helped : SharedSeen = c.helped-guarded.result.state.value in
     let helps = helped_by c.args.inside.before call.0 came helped asked.0 c.args.ended call.4 asked.2 c.helped-guarded.ensures.helps in
     let holds = seen_is (λ s. s.value) c.self.inside.lock.log.held call.0 (ap (λ (r : Reach). r.held) c.self.view_is ∙ call.1) in
@@ -57,7 +57,7 @@ pub helped-guarded-requires-clause-out : goal.helped-guarded-requires-clause-out
 helped-guarded-requires-clause-out g c =
     let asked = c.requires.round in
     let call = asked.4 in
-    let came : SharedSeen = c.args.inside.guarded.state.value in
+    let came : SharedSeen = c.args.inside.shared.value in
     let out = subst AreOutWhereHeld (ap (λ (r : Reach). r.held) c.self.view_is ∙ call.1) c.self.invariant.3 in
     asleep_out call.0 came asked.0 c.args.taken asked.3 out call.2 call.3
 
@@ -65,7 +65,7 @@ pub invariant_of-self : goal.invariant_of-self
 invariant_of-self g c =
     let asked = c.requires.round in
     let given = subst (λ e. c.put_as.new.self ≡ record c.self.inside.lock { log = called c.self.inside.lock.log (turn_of c.self.inside.lock.pass e c.helped-guarded.result.state) }) asked.1 c.put_as.ensures.given in
-    let config = config_is c.self.inside.config _ _ _ c.args.inside.guarded.state.value asked.0 c.self.invariant.0.0 c.self.invariant.5 (ap (λ (r : Reach). r.held) c.self.view_is ∙ asked.4.1) asked.4.2 in
+    let config = config_is c.self.inside.config _ _ _ c.args.inside.shared.value asked.0 c.self.invariant.0.0 c.self.invariant.5 (ap (λ (r : Reach). r.held) c.self.view_is ∙ asked.4.1) asked.4.2 in
     let back = gave_back (λ s. s.value) c.self.inside.lock c.put_as.new.self asked.0 _ given in (
       subst (λ (r : Reach). KnowsFlow c.self.inside.config r.flow (arc_value c.self.inside.track)) (sym back) c.self.invariant.0,
       c.fire_unless.ensures.none.0,
@@ -78,5 +78,5 @@ invariant_of-self g c =
 pub helped-guarded-requires-clause-room : goal.helped-guarded-requires-clause-room
 helped-guarded-requires-clause-room g c =
     let asked = c.requires.round in
-    let config = config_is c.self.inside.config _ _ _ c.args.inside.guarded.state.value asked.0 c.self.invariant.0.0 c.self.invariant.5 (ap (λ (r : Reach). r.held) c.self.view_is ∙ asked.4.1) asked.4.2 in
+    let config = config_is c.self.inside.config _ _ _ c.args.inside.shared.value asked.0 c.self.invariant.0.0 c.self.invariant.5 (ap (λ (r : Reach). r.held) c.self.view_is ∙ asked.4.1) asked.4.2 in
     subst (λ (z : Config). HasRoomFor z c.self.inside.wakes) config c.self.invariant.4

@@ -1,5 +1,5 @@
 use Rattle.std.proofs.Common.{rules, arith, ◌≡◌, ◌≤◌, length, ap, sym}
-use Rattle.lane_steps.specs.declared.view.Shape.{Shape}
+use Rattle.shared_lane.specs.declared.view.Shape.{Shape}
 use Rattle.shared_lane.specs.Readers.{at}
 use Rattle.shared_lane.specs.Sequencers.{next}
 use Rattle.shared_rounds.proofs.shared.Shared.meet.Goals as goal

@@ -1,4 +1,0 @@
-use Rattle.lane_steps.proofs.words.Words.open.Given as goal
-
-abbrev pub ghosts-open_as : goal.ghosts-open_as
-ghosts-open_as g a = record { number = a.opening }

@@ -1,8 +1,0 @@
-use Rattle.std.proofs.Common.{rules, ℕ, sym, ap, ◌∙◌}
-use Rattle.lane_steps.specs.Layout.{cursor_word}
-use Rattle.lane_steps.proofs.Apart.{cursor_inside}
-use Rattle.lane_steps.proofs.ReaderKept.{quits}
-use Rattle.lane_steps.proofs.words.Words.quit.Goals as goal
-
-pub store-requires : goal.store-requires
-store-requires g c = (search rules, cursor_inside c.args.self.now.shape _ _ c.args.place c.args.self.now.shaped.1 c.cursor_at.ensures c.requires.seat.3 c.args.self.now.shaped.2.0, quits _ _ _ _ _ (search rules) (c.cursor_at.ensures ∙ ap (λ (z : ℕ). cursor_word z) (sym c.requires.seat.2)))

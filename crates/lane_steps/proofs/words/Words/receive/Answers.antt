@@ -1,8 +1,0 @@
-use Rattle.std.proofs.Common.{rules, ℕ, sym, ap, ◌∙◌, refl}
-use Rattle.lane_steps.specs.Layout.{cursor_word}
-use Rattle.lane_steps.proofs.Apart.{cursor_inside}
-use Rattle.lane_steps.proofs.ReaderKept.{takes}
-use Rattle.lane_steps.proofs.words.Words.receive.Goals as goal
-
-pub compare_exchange-requires : goal.compare_exchange-requires
-compare_exchange-requires g c = (search rules, cursor_inside c.args.self.now.shape _ _ c.args.place c.args.self.now.shaped.1 c.cursor_at.ensures c.requires.seat.3 c.args.self.now.shaped.2.0, takes _ _ _ _ _ _ _ (search rules) (c.cursor_at.ensures ∙ ap (λ (z : ℕ). cursor_word z) (sym c.requires.seat.2)) c.requires.position.0 refl c.requires.position.1 c.requires.picked)

@@ -1,6 +1,0 @@
-use Rattle.std.proofs.Common.{rules}
-use Rattle.lane_steps.proofs.SequencerKept.{accepts_all}
-use Rattle.lane_steps.proofs.words.Words.store_tail_past.Goals as goal
-
-pub store-requires : goal.store-requires
-store-requires g c = (search rules, search rules, accepts_all _ _ _ _ _ (search rules) c.requires.tail.0 c.requires.tail.1)

@@ -1,0 +1,6 @@
+use Rattle.std.proofs.Common.{rules}
+use Rattle.shared_lane.proofs.SeatsKept.{copies_end}
+use Rattle.shared_lane.proofs.words.Words.copy_end.Goals as goal
+
+pub split_seat-requires : goal.split_seat-requires
+split_seat-requires g c = (search rules, search rules, copies_end _ _ _ c.requires.1)

@@ -1,5 +1,0 @@
-use Rattle.std.proofs.Common.{length}
-use Rattle.shared_rounds.proofs.track.Track.raise_unfinished.Given as goal
-
-abbrev pub ghosts-raise : goal.ghosts-raise
-ghosts-raise a = record { loads = length a.sequencer.now.view.loads }
