@@ -23,5 +23,7 @@ pub mod FoldLaws
 pub mod Polled
 pub mod PolledLaws
 pub mod LoopLaws
+pub mod Passing
+pub mod PassingLaws
 pub mod CompletingRuns
 pub mod Ends

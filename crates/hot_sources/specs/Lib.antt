@@ -1,9 +1,8 @@
+pub mod Ended
 pub mod Receiving
 pub mod ReceivingLaws
 pub mod Collecting
 pub mod CollectingLaws
-pub mod Passing
-pub mod PassingLaws
 pub mod Reading
 pub mod ReadingLaws
 pub mod Waiting

@@ -15,7 +15,7 @@ use Rattle.cold_flow.specs.Gather.{Gathered}
 use Rattle.cold_flow.specs.GatherLaws.{gathers_value, gathers_end, gathers_none, gathers_within}
 use Rattle.cold_flow.specs.Polled.{Gave}
 use Rattle.cold_flow.specs.Polled.Gave.{nothing, one_more, waited}
-use Rattle.hot_sources.specs.PassingLaws.{gave_on, gave_still}
+use Rattle.cold_flow.specs.PassingLaws.{gave_on, gave_still}
 use Rattle.hot_sources.specs.Waiting.{Came, TookSome, TookAll, EndedAfter}
 
 module _ {R A E : Type 0} (polled : R → Poll (Event A E) → R → Type 0) (may : R → Trace A E → Type 0) where

@@ -15,10 +15,9 @@ mod operators;
 mod sources;
 mod waiting;
 
-pub use cold_flow::{Apply, Cause, Event, Refusal, Run, Sift, Word};
-pub use operators::filter::{Testing, filter};
+pub use cold_flow::{Apply, Cause, Event, Refusal, Run, Sift, Sifted, Testing, Word};
+pub use operators::filter::filter;
 pub use operators::map::{Changing, map};
-pub use operators::passing::Passing;
 pub use shared_flow::Parker;
 pub use sources::collecting::{CollectingRun, collecting};
 pub use sources::reading::{ReadingRun, reading};

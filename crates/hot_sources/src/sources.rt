@@ -1,5 +1,6 @@
 //! What a run is made of that borrows what it receives from.
 
 pub mod collecting;
+pub mod ended;
 pub mod reading;
 pub mod receiving;

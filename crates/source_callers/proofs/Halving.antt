@@ -12,7 +12,7 @@ use Rattle.shared_flow.specs.Parties.{Subscribed}
 use Rattle.cold_flow.specs.Laws.{ended-begins}
 use Rattle.hot_sources.specs.Receiving.{Unended, Receives}
 use Rattle.hot_sources.specs.Waiting.{Came}
-use Rattle.hot_sources.specs.Passing.{PassesAll}
+use Rattle.cold_flow.specs.Passing.{PassesAll}
 use Rattle.source_callers.specs.Halves.{even, half}
 
 -- what passes of the numbers, where nothing comes behind them

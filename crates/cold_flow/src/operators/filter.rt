@@ -15,6 +15,15 @@ pub struct Testing<G> {
     test: G,
 }
 
+impl<G> Testing<G> {
+    /// What passes a value on where `test` answers true. Never refused.
+    pub fn new(test: G) -> Testing<G>
+        ensures { result ≡ record { test = test } }
+    {
+        Testing { test }
+    }
+}
+
 impl<G: Copy> Clone for Testing<G> {
     ghost is_clone = { λ value copy. copy ≡ value };
 

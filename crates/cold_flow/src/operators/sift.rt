@@ -3,6 +3,7 @@
 ghost use Rattle.std.specs.Prelude.{◌⊎◌, ◌≡◌, List, [], ◌∷◌, Option, IsTrue};
 ghost use Rattle.std.specs.List.{cons_option};
 ghost use Rattle.futures.specs.Poll.{OnPending};
+ghost use Rattle.cold_flow.specs.Passing.{PassesOn};
 ghost use Rattle.cold_flow.specs.Polled.{HasWaited, IsNearer, Rests};
 ghost use Rattle.cold_flow.specs.Trace.{on_values};
 ghost use Rattle.cold_flow.specs.Poll.{Through, Makes, MakesExactly, IsWithinPolls, Unless};
@@ -16,7 +17,9 @@ use flow_terms::Refusal;
 use futures::task::{Context, Poll};
 
 /// Which values an operator passes on, and as what.
-pub trait Sift<T>: Copy {
+///
+/// A `Flow` needs one that is `Copy` too, since each start takes one of its own.
+pub trait Sift<T>: Drop {
     /// What passes.
     type Out: Copy;
 
@@ -46,7 +49,7 @@ pub struct Sifted<S, M> {
     sift: M,
 }
 
-impl<F: Flow, M: Sift<F::Item>> Sifted<F, M> {
+impl<F: Flow, M: Sift<F::Item> + Copy> Sifted<F, M> {
     /// What `sift` passes of each value of `source`.
     pub fn new(source: F, sift: M) -> Sifted<F, M>
         ensures gives { Makes (on_values (M.passes sift)) (F.may source) (⟦<Sifted<F, M> as Flow>⟧.may result) }
@@ -58,7 +61,7 @@ impl<F: Flow, M: Sift<F::Item>> Sifted<F, M> {
     }
 }
 
-impl<F: Flow, M: Sift<F::Item>> Flow for Sifted<F, M> {
+impl<F: Flow, M: Sift<F::Item> + Copy> Flow for Sifted<F, M> {
     ghost use Rattle.cold_flow.specs.Laws.{Through-uncancelled};
 
     type Item = M::Out;
@@ -83,6 +86,15 @@ impl<F: Flow, M: Sift<F::Item>> Flow for Sifted<F, M> {
     ghost uncancelled = { λ f. Through-uncancelled _ _ (λ _ _ e. e) (F.uncancelled f.source) };
 }
 
+impl<S: Run, M: Sift<S::Item>> Sifted<S, M> {
+    /// What `sift` passes of each value of the run `source` from now on.
+    pub fn over_run(source: S, sift: M) -> Sifted<S, M>
+        ensures { (result.source ≡ source) × (result.sift ≡ sift) }
+    {
+        Sifted { source, sift }
+    }
+}
+
 impl<S: Run, M: Sift<S::Item>> Run for Sifted<S, M> {
     type Item = M::Out;
 
@@ -96,9 +108,13 @@ impl<S: Run, M: Sift<S::Item>> Run for Sifted<S, M> {
 
     ghost polls = { λ r. S.polls r.source };
 
-    // Pending only where the source answered so, or 64 of its values gave nothing.
-    ghost polled = { λ old answer new. OnPending answer (HasWaited S.polled new.source
-        ⊎ IsNearer 64 (S.polls old.source) (S.polls new.source)) × Rests (S.ended old.source) old.source new.source };
+    // The answer is what passes of the values that the source gave in this poll. Pending only where the source answered so, or 64 of
+    // its values gave nothing.
+    ghost polled = { λ old answer new. PassesOn S.polled M.passes old.sift old.source answer new.sift new.source
+        × OnPending answer (HasWaited S.polled new.source ⊎ IsNearer 64 (S.polls old.source) (S.polls new.source))
+        × Rests (S.ended old.source) old.source new.source };
+
+    ghost cancelled = { λ old new. S.cancelled old.source new.source × (new.sift ≡ old.sift) };
 
     fn poll_next(&mut self, cx: &mut Context<'_>) -> Poll<Event<M::Out, S::Fault>> {
         if let Some(cause) = self.source.end() {

@@ -2,8 +2,7 @@
 
 ghost use Rattle.std.specs.Prelude.{◌≡◌, Some, map as mapped_values, refl, ⊤};
 
-use crate::operators::passing::Passing;
-use cold_flow::{Apply, Run, Sift};
+use cold_flow::{Apply, Run, Sift, Sifted};
 use std::alloc::AllocError;
 
 /// Passes on what the function answers of each value.
@@ -26,10 +25,10 @@ impl<G: Copy> Clone for Changing<G> {
 pub fn map<S: Run, U: Copy, G: Apply<S::Item, Out = U>>(
     source: S,
     function: G,
-) -> Passing<S, Changing<G>>
+) -> Sifted<S, Changing<G>>
     ensures { (result.source ≡ source) × (result.sift ≡ record { function = function }) }
 {
-    Passing::new(source, Changing { function })
+    Sifted::over_run(source, Changing { function })
 }
 
 impl<T: Copy, U: Copy, G: Apply<T, Out = U>> Sift<T> for Changing<G> {

@@ -1,12 +1,13 @@
 //! A collector of a state flow as a run.
 
-ghost use Rattle.std.specs.Prelude.{◌≡◌, None, is_some};
-ghost use Rattle.cold_flow.specs.Poll.{Unless};
-ghost use Rattle.hot_sources.specs.Receiving.{Unended};
+ghost use Rattle.std.specs.Prelude.{◌≡◌, None};
+ghost use Rattle.hot_sources.specs.Ended.{Lasting, is_over};
 ghost use Rattle.hot_sources.specs.Collecting.{Asked};
 
+use crate::sources::ended::Ended;
 use cold_flow::{Cause, Event, Run};
 use flow_terms::Word;
+use futures::ready;
 use futures::task::{Context, Poll};
 use state_flow::Collector;
 use std::alloc::{Allocator, Global};
@@ -15,8 +16,7 @@ use std::alloc::{Allocator, Global};
 #[derive(Drop)]
 pub struct CollectingRun<'a, T: Word, E, A: Allocator = Global> {
     collector: &'a mut Collector<T, A>,
-    // Once it was cancelled.
-    ended: Option<Cause<E>>,
+    ended: Ended<E>,
 }
 
 /// What `collector` is given from now on, as a run: Kotlin's `StateFlow` in a chain. Each poll is one ask, by one load.
@@ -28,27 +28,26 @@ pub fn collecting<'a, E: Copy, T: Word, A: Allocator>(
 ) -> CollectingRun<'a, T, E, A>
     ensures same_reference { result.collector.ghost_name ≡ collector.entry.ghost_name }
     ensures collector { result.collector.now ≡ collector.old }
-    ensures fresh { result.ended ≡ None }
+    ensures fresh { result.ended.cause ≡ None }
 {
     CollectingRun {
         collector,
-        ended: None,
+        ended: Ended::not_yet(),
     }
 }
 
 impl<'a, T: Word, E: Copy, A: Allocator> Run for CollectingRun<'a, T, E, A> {
-    ghost use Rattle.cold_flow.specs.Laws.{Unless-begins, Unless-over, some-stops};
-    ghost use Rattle.std.specs.Prelude.{refl};
+    ghost use Rattle.hot_sources.specs.Ended.{over_halts, lasting_begins, lasting_over};
 
     type Item = T;
 
     type Fault = E;
 
-    ghost may = { λ r. Unless r.ended Unended };
+    ghost may = { λ r. Lasting r.ended };
 
-    ghost ended = { λ r. r.ended };
+    ghost ended = { λ r. r.ended.cause };
 
-    ghost stopped = { λ r. is_some r.ended };
+    ghost stopped = { λ r. is_over r.ended };
 
     // It is the same collector, and the answer is what that was given.
     ghost polled = { λ old answer new. (new.collector.ghost_name ≡ old.collector.ghost_name)
@@ -57,28 +56,24 @@ impl<'a, T: Word, E: Copy, A: Allocator> Run for CollectingRun<'a, T, E, A> {
     ghost cancelled = { λ old new. new.collector ≡ old.collector };
 
     fn poll_next(&mut self, cx: &mut Context<'_>) -> Poll<Event<T, E>> {
-        if let Some(cause) = self.ended {
+        if let Some(cause) = self.ended.cause() {
             return Poll::Ready(Event::End(cause));
         }
-        match self.collector.poll_next(cx) {
-            Poll::Ready(value) => Poll::Ready(Event::Value(value)),
-            Poll::Pending => Poll::Pending,
-        }
+        let value = ready!(self.collector.poll_next(cx));
+        Poll::Ready(Event::Value(value))
     }
 
     fn end(&self) -> Option<Cause<E>> {
-        self.ended
+        self.ended.cause()
     }
 
     fn cancel(&mut self) {
-        if self.ended.is_none() {
-            self.ended = Some(Cause::Cancelled);
-        }
+        self.ended.cancel();
     }
 
-    ghost halts = { λ r. some-stops r.ended };
+    ghost halts = { λ r. over_halts r.ended };
 
-    ghost begins = { λ r. Unless-begins r.ended Unended refl };
+    ghost begins = { λ r. lasting_begins _ r.ended };
 
-    ghost over = { λ r. Unless-over r.ended Unended };
+    ghost over = { λ r. lasting_over r.ended };
 }

@@ -1,11 +1,11 @@
 //! A reader of a lane as a run.
 
-ghost use Rattle.std.specs.Prelude.{◌≡◌, None, is_some};
-ghost use Rattle.cold_flow.specs.Poll.{Unless};
+ghost use Rattle.std.specs.Prelude.{◌≡◌, None};
 ghost use Rattle.shared_lane.specs.Readers.{IsReaderOf};
-ghost use Rattle.hot_sources.specs.Receiving.{Unended};
+ghost use Rattle.hot_sources.specs.Ended.{Lasting, is_over};
 ghost use Rattle.hot_sources.specs.Reading.{Read};
 
+use crate::sources::ended::Ended;
 use cold_flow::{Cause, Event, Run};
 use futures::task::{Context, Poll};
 use shared_lane::{Lane, Reader, Taken};
@@ -16,8 +16,7 @@ use std::alloc::Allocator;
 pub struct ReadingRun<'a, A: Allocator, E> {
     reader: &'a mut Reader,
     lane: &'a Lane<A>,
-    // Once it was cancelled.
-    ended: Option<Cause<E>>,
+    ended: Ended<E>,
     ghost fits: { IsReaderOf lane.now reader.now },
 }
 
@@ -33,28 +32,27 @@ pub fn reading<'a, E: Copy, A: Allocator>(
     ensures same_reference { result.reader.ghost_name ≡ reader.entry.ghost_name }
     ensures reader { result.reader.now ≡ reader.old }
     ensures lane { result.lane.now ≡ lane.now }
-    ensures fresh { result.ended ≡ None }
+    ensures fresh { result.ended.cause ≡ None }
 {
     ReadingRun {
         reader,
         lane,
-        ended: None,
+        ended: Ended::not_yet(),
     }
 }
 
 impl<'a, A: Allocator, E: Copy> Run for ReadingRun<'a, A, E> {
-    ghost use Rattle.cold_flow.specs.Laws.{Unless-begins, Unless-over, some-stops};
-    ghost use Rattle.std.specs.Prelude.{refl};
+    ghost use Rattle.hot_sources.specs.Ended.{over_halts, lasting_begins, lasting_over};
 
     type Item = u64;
 
     type Fault = E;
 
-    ghost may = { λ r. Unless r.ended Unended };
+    ghost may = { λ r. Lasting r.ended };
 
-    ghost ended = { λ r. r.ended };
+    ghost ended = { λ r. r.ended.cause };
 
-    ghost stopped = { λ r. is_some r.ended };
+    ghost stopped = { λ r. is_over r.ended };
 
     // It is the same reader of the same lane, and the answer is what that took.
     ghost polled = { λ old answer new. (new.reader.ghost_name ≡ old.reader.ghost_name)
@@ -63,7 +61,7 @@ impl<'a, A: Allocator, E: Copy> Run for ReadingRun<'a, A, E> {
     ghost cancelled = { λ old new. new.reader ≡ old.reader };
 
     fn poll_next(&mut self, cx: &mut Context<'_>) -> Poll<Event<u64, E>> {
-        if let Some(cause) = self.ended {
+        if let Some(cause) = self.ended.cause() {
             return Poll::Ready(Event::End(cause));
         }
         match self.reader.try_next(self.lane) {
@@ -73,18 +71,16 @@ impl<'a, A: Allocator, E: Copy> Run for ReadingRun<'a, A, E> {
     }
 
     fn end(&self) -> Option<Cause<E>> {
-        self.ended
+        self.ended.cause()
     }
 
     fn cancel(&mut self) {
-        if self.ended.is_none() {
-            self.ended = Some(Cause::Cancelled);
-        }
+        self.ended.cancel();
     }
 
-    ghost halts = { λ r. some-stops r.ended };
+    ghost halts = { λ r. over_halts r.ended };
 
-    ghost begins = { λ r. Unless-begins r.ended Unended refl };
+    ghost begins = { λ r. lasting_begins _ r.ended };
 
-    ghost over = { λ r. Unless-over r.ended Unended };
+    ghost over = { λ r. lasting_over r.ended };
 }

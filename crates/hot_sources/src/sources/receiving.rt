@@ -1,11 +1,13 @@
 //! A subscription of a shared flow as a run.
 
-ghost use Rattle.std.specs.Prelude.{◌≡◌, None, is_some};
-ghost use Rattle.cold_flow.specs.Poll.{Unless};
-ghost use Rattle.hot_sources.specs.Receiving.{Unended, Received};
+ghost use Rattle.std.specs.Prelude.{◌≡◌, None};
+ghost use Rattle.hot_sources.specs.Ended.{Lasting, is_over};
+ghost use Rattle.hot_sources.specs.Receiving.{Received};
 
+use crate::sources::ended::Ended;
 use cold_flow::{Cause, Event, Run};
 use flow_terms::Word;
+use futures::ready;
 use futures::task::{Context, Poll};
 use shared_flow::Subscription;
 use std::sync::Wait;
@@ -15,8 +17,7 @@ use std::sync::Wait;
 pub struct ReceivingRun<'a, T: Word, W, E> {
     subscription: &'a mut Subscription<T>,
     rt: &'a W,
-    // Once it was cancelled.
-    ended: Option<Cause<E>>,
+    ended: Ended<E>,
 }
 
 /// What `subscription` receives from now on, as a run: Kotlin's `SharedFlow` in a chain.
@@ -29,28 +30,27 @@ pub fn receiving<'a, E: Copy, T: Word, W: Wait>(
 ) -> ReceivingRun<'a, T, W, E>
     ensures same_reference { result.subscription.ghost_name ≡ subscription.entry.ghost_name }
     ensures subscription { result.subscription.now ≡ subscription.old }
-    ensures fresh { result.ended ≡ None }
+    ensures fresh { result.ended.cause ≡ None }
 {
     ReceivingRun {
         subscription,
         rt,
-        ended: None,
+        ended: Ended::not_yet(),
     }
 }
 
 impl<'a, T: Word, W: Wait, E: Copy> Run for ReceivingRun<'a, T, W, E> {
-    ghost use Rattle.cold_flow.specs.Laws.{Unless-begins, Unless-over, some-stops};
-    ghost use Rattle.std.specs.Prelude.{refl};
+    ghost use Rattle.hot_sources.specs.Ended.{over_halts, lasting_begins, lasting_over};
 
     type Item = T;
 
     type Fault = E;
 
-    ghost may = { λ r. Unless r.ended Unended };
+    ghost may = { λ r. Lasting r.ended };
 
-    ghost ended = { λ r. r.ended };
+    ghost ended = { λ r. r.ended.cause };
 
-    ghost stopped = { λ r. is_some r.ended };
+    ghost stopped = { λ r. is_over r.ended };
 
     // It is the same subscription, and the answer is what that received.
     ghost polled = { λ old answer new. (new.subscription.ghost_name ≡ old.subscription.ghost_name)
@@ -59,28 +59,24 @@ impl<'a, T: Word, W: Wait, E: Copy> Run for ReceivingRun<'a, T, W, E> {
     ghost cancelled = { λ old new. new.subscription ≡ old.subscription };
 
     fn poll_next(&mut self, cx: &mut Context<'_>) -> Poll<Event<T, E>> {
-        if let Some(cause) = self.ended {
+        if let Some(cause) = self.ended.cause() {
             return Poll::Ready(Event::End(cause));
         }
-        match self.subscription.poll_next(self.rt, cx) {
-            Poll::Ready(value) => Poll::Ready(Event::Value(value)),
-            Poll::Pending => Poll::Pending,
-        }
+        let value = ready!(self.subscription.poll_next(self.rt, cx));
+        Poll::Ready(Event::Value(value))
     }
 
     fn end(&self) -> Option<Cause<E>> {
-        self.ended
+        self.ended.cause()
     }
 
     fn cancel(&mut self) {
-        if self.ended.is_none() {
-            self.ended = Some(Cause::Cancelled);
-        }
+        self.ended.cancel();
     }
 
-    ghost halts = { λ r. some-stops r.ended };
+    ghost halts = { λ r. over_halts r.ended };
 
-    ghost begins = { λ r. Unless-begins r.ended Unended refl };
+    ghost begins = { λ r. lasting_begins _ r.ended };
 
-    ghost over = { λ r. Unless-over r.ended Unended };
+    ghost over = { λ r. lasting_over r.ended };
 }

@@ -1,5 +1,5 @@
 use Rattle.std.proofs.Common.{List, ℕ, ◌++◌, length, refl, ap, sym, ◌∙◌}
-use Rattle.hot_sources.specs.PassingLaws.{passed_all}
+use Rattle.cold_flow.specs.PassingLaws.{passed_all}
 use Rattle.hot_sources.specs.ReceivingLaws.{received_all}
 use Rattle.source_callers.proofs.Halving.{halved, never-ended, at_none, at_some, inside, received_from, received_to}
 use Rattle.source_callers.proofs.receiving_calling.five_halves.Goals as goal
@@ -28,6 +28,6 @@ pub unreachable-requires : goal.unreachable-requires
 unreachable-requires g c =
     let took = at_some _ _ _ _ c.in-Some.is c.in_ok-take_of.ensures.took in
     let going =
-    inside c.map-chain.result c.filter.result c.receiving.result (λ q. q.source) (λ r. r.source) (λ s. s.ended) _
+    inside c.map-chain.result c.filter.result c.receiving.result (λ q. q.source) (λ r. r.source) (λ s. s.ended.cause) _
     c.map-chain.ensures.0 c.filter.ensures.0 c.receiving.ensures.fresh in
     never-ended _ going _ _ took.0 _ took.5

@@ -3,6 +3,7 @@ use Rattle.cold_flow.specs.Trace.{on_values}
 use Rattle.cold_flow.specs.Laws.{Through-within, told-some}
 use Rattle.cold_flow.specs.LoopLaws.{asked_more, asked_last, asked_all, asked_fewer, going_no_end, going_rests}
 use Rattle.cold_flow.specs.SiftLaws.{sift_gives, sift_ends, sift_skips}
+use Rattle.cold_flow.specs.PassingLaws.{left_out_none, left_out_more, passes_value, passes_end, passes_pending, passes_nothing, passes_again}
 use Rattle.cold_flow.proofs.operators.sift.SiftedRun.poll_next.Goals as goal
 
 pub returns-in-Some-clause-narrows : goal.returns-in-Some-clause-narrows
@@ -25,6 +26,7 @@ loop-asked-init g c =
       begun = going;
       going = going;
       approaches = λ h. (h, omega arith);
+      left_out = left_out_none _ _ _ _;
       kept = λ fact h. h;
     }
 
@@ -54,12 +56,6 @@ returns-in-Ready-End-clause-narrows g c =
 pub returns-in-Ready-End-clause-stays : goal.returns-in-Ready-End-clause-stays
 returns-in-Ready-End-clause-stays g c k e = absurd (going_no_end _ k c.loop-asked.invariant.begun e)
 
-pub returns-in-Ready-End-clause-polled : goal.returns-in-Ready-End-clause-polled
-returns-in-Ready-End-clause-polled g c = (tt, going_rests _ _ _ c.loop-asked.invariant.begun)
-
-pub returns-in-Some-sift-clause-polled : goal.returns-in-Some-sift-clause-polled
-returns-in-Some-sift-clause-polled g c = (tt, going_rests _ _ _ c.loop-asked.invariant.begun)
-
 pub returns-in-Pending-clause-narrows : goal.returns-in-Pending-clause-narrows
 returns-in-Pending-clause-narrows g c =
     rw (c.loop-asked.invariant.begun, c.in-Pending.ensures.ends)
@@ -74,10 +70,6 @@ returns-in-Pending-clause-approaches g c =
     asked_last (g.S.Run.polls c.args.self.now.source) (g.S.Run.polls c.loop-asked.self.source) (g.S.Run.polls c.poll_next.new.self) c.loop-asked._asked
     c.loop-asked.invariant.approaches c.in-Pending.ensures.approaches
 
-pub returns-in-Pending-clause-polled : goal.returns-in-Pending-clause-polled
-returns-in-Pending-clause-polled g c =
-    (inl (c.loop-asked.self.source, c.in-Pending.ensures.polled), going_rests _ _ _ c.loop-asked.invariant.begun)
-
 pub returns-clause-narrows : goal.returns-clause-narrows
 returns-clause-narrows g c =
     rw (c.yield_now.ensures.pending, c.loop-asked.invariant.begun, c.loop-asked.invariant.going) c.loop-asked.invariant.narrows
@@ -91,19 +83,12 @@ returns-clause-approaches g c =
     (asked_fewer (g.S.Run.polls c.args.self.now.source) (g.S.Run.polls c.loop-asked.self.source) c.loop-asked._asked c.loop-asked.invariant.approaches
     c.loop-asked-test.false)
 
-pub returns-clause-polled : goal.returns-clause-polled
-returns-clause-polled g c =
-    rw c.yield_now.ensures.pending (
-      inr (asked_all (g.S.Run.polls c.args.self.now.source) (g.S.Run.polls c.loop-asked.self.source) c.loop-asked._asked
-          c.loop-asked.invariant.approaches c.loop-asked-test.false),
-      going_rests _ _ _ c.loop-asked.invariant.begun,
-    )
-
 pub loop-asked-preserved : goal.loop-asked-preserved
 loop-asked-preserved g c =
     let came = rw c.in-Ready-Value.field-0-is at c.in-Ready-Value.ensures.narrows in
     let going = rw c.in-Ready-Value.field-0-is at c.in-Ready-Value.ensures.ends in
     let fewer = rw c.in-Ready-Value.field-0-is at c.in-Ready-Value.ensures.approaches in
+    let polled = rw c.in-Ready-Value.field-0-is at c.in-Ready-Value.ensures.polled in
     let law = g.met.M.Sift.step in
     record {
       narrows = λ t h. c.loop-asked.invariant.narrows _
@@ -113,5 +98,41 @@ loop-asked-preserved g c =
       approaches =
           asked_more (g.S.Run.polls c.args.self.now.source) (g.S.Run.polls c.loop-asked.self.source) (g.S.Run.polls c.poll_next.new.self)
           c.loop-asked._asked c.loop-asked.invariant.approaches fewer;
+      left_out = left_out_more _ g.M.Sift.passes g.M.Sift.keeps g.M.Sift.after g.met.M.Sift.step _ _ _ _ _ _ _ _ _ c.loop-asked.invariant.left_out polled
+          c.sift.ensures.keeps c.in_default-sift.is c.sift.ensures.after;
       kept = λ fact h. c.poll_next.ensures.kept fact (c.loop-asked.invariant.kept fact h);
     }
+
+pub returns-in-Some-clause-polled : goal.returns-in-Some-clause-polled
+returns-in-Some-clause-polled g c = (passes_again _ _ _ _ _, tt, λ _ _. refl)
+
+pub returns-in-Some-sift-clause-polled : goal.returns-in-Some-sift-clause-polled
+returns-in-Some-sift-clause-polled g c =
+    let polled = rw c.in-Ready-Value.field-0-is at c.in-Ready-Value.ensures.polled in
+    let before = c.loop-asked.invariant.left_out in (
+      passes_value _ g.M.Sift.passes g.M.Sift.keeps g.M.Sift.after g.met.M.Sift.step _ _ _ _ _ _ _ _ _ _ before polled c.sift.ensures.keeps
+          c.in-Some-sift.is c.sift.ensures.after,
+      tt,
+      going_rests _ _ _ c.loop-asked.invariant.begun,
+    )
+
+pub returns-in-Ready-End-clause-polled : goal.returns-in-Ready-End-clause-polled
+returns-in-Ready-End-clause-polled g c =
+    let polled = rw c.in-Ready-End.field-0-is at c.in-Ready-End.ensures.polled in
+    (passes_end _ _ _ _ _ _ _ _ _ c.loop-asked.invariant.left_out polled, tt, going_rests _ _ _ c.loop-asked.invariant.begun)
+
+pub returns-in-Pending-clause-polled : goal.returns-in-Pending-clause-polled
+returns-in-Pending-clause-polled g c = (
+  passes_pending _ _ _ _ _ _ _ _ c.loop-asked.invariant.left_out c.in-Pending.ensures.polled,
+  inl (c.loop-asked.self.source, c.in-Pending.ensures.polled),
+  going_rests _ _ _ c.loop-asked.invariant.begun,
+)
+
+pub returns-clause-polled : goal.returns-clause-polled
+returns-clause-polled g c =
+    rw c.yield_now.ensures.pending (
+      passes_nothing _ _ _ _ _ _ _ c.loop-asked.invariant.left_out (omega arith),
+      inr (asked_all (g.S.Run.polls c.args.self.now.source) (g.S.Run.polls c.loop-asked.self.source) c.loop-asked._asked
+          c.loop-asked.invariant.approaches c.loop-asked-test.false),
+      going_rests _ _ _ c.loop-asked.invariant.begun,
+    )

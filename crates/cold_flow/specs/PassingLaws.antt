@@ -1,4 +1,4 @@
--- Laws of what an operator over a run passes on.
+-- Laws of what an operator that sifts passes on.
 use Rattle.std.specs.Prelude.{◌≡◌, ◌+◌, ℕ, List, [], ◌∷◌, ◌++◌, length, Option, Some, None, refl}
 use Rattle.std.specs.List.{cons_option}
 use Rattle.std.proofs.Common.{sym, ◌∙◌, ap, subst, inl, inr, append_assoc, length-append}
@@ -10,7 +10,7 @@ use Rattle.cold_flow.specs.declared.event.Event.{Event}
 use Rattle.cold_flow.specs.declared.event.Event.TheVariants.{Value, End}
 use Rattle.cold_flow.specs.Polled.{Gave, Pauses}
 use Rattle.cold_flow.specs.Polled.Gave.{nothing, one_more, waited}
-use Rattle.hot_sources.specs.Passing.{PassesOn, PassesAll}
+use Rattle.cold_flow.specs.Passing.{PassesOn, PassesAll}
 
 module _ {R A E : Type 0} (polled : R → Poll (Event A E) → R → Type 0) where
   -- polls, and then more polls
