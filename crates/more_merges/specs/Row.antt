@@ -2,6 +2,11 @@
 use Rattle.std.specs.Prelude.{ℕ, List, [], ◌∷◌, Option, Some, None, option_map, slice_set}
 use Rattle.std.specs.List.{cons_option}
 
+-- what a row holds: the latest value of each source, where it has given one, and the function of them
+pub record Latest (A G : Type 0) : Type 0 where
+  pub latest : List (Option A)
+  pub function : G
+
 -- all of them, where each is there
 abbrev pub whole : {A : Type 0} → List (Option A) → Option (List A)
 whole [] = Some []

@@ -1,9 +1,8 @@
 -- Laws of the latest values of several sources.
 use Rattle.std.specs.Prelude.{◌≡◌, ℕ, ◌+◌, ◌-◌, ◌<◌, ◌≤◌, List, [], ◌∷◌, ◌++◌, Option, Some, None, option_map, refl, length, take, replicate, slice_set, slice_index_or}
-use Rattle.std.specs.List.{cons_option}
 use Rattle.std.proofs.Common.{zero, suc, sym, ◌∙◌, ap, arith}
 use Rattle.std.proofs.lemmas.List.{take_more}
-use Rattle.more_merges.specs.Row.{whole, latest_after, row_of, combined}
+use Rattle.more_merges.specs.Row.{whole, latest_after}
 
 module _ {A : Type 0} where
   onto : (w x : A) (ys : List A) (o p : Option (List A)) → option_map (λ zs. w ∷ zs) o ≡ Some ys
@@ -51,11 +50,3 @@ module _ {X : Type 0} where
   fills n x =
       let same : n - 0 ≡ n = omega arith in
       ap (λ (ys : List X). ys ++ replicate (n - 0) x) (take-none n) ∙ ap (λ (m : ℕ). replicate m x) same
-
-module _ {A C : Type 0} (g : List A → C) where
-  pub combined_none : (latest : List (Option A)) → combined g latest [] ≡ []
-  combined_none latest = refl
-
-  pub combined_step : (latest : List (Option A)) (v : ℕ × A) (vs : List (ℕ × A))
-      → combined g latest (v ∷ vs) ≡ cons_option (row_of g (latest_after latest v)) (combined g (latest_after latest v) vs)
-  combined_step latest v vs = refl

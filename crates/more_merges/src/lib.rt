@@ -3,9 +3,9 @@
 
 mod flows;
 
-pub use flows::combine_all::{CombinedAll, CombinedAllRun, combine_all};
+pub use flows::combine_all::{CombinedAll, combine_all};
 pub use flows::flat_map_latest::{Switched, SwitchedRun, flat_map_latest};
 pub use flows::merge::{Interleaved, InterleavedRun, merge};
 pub use flows::merge_all::{ValueAlone, merge_all};
 pub use flows::merge_indexed::{Indexed, IndexedRun, merge_indexed};
-pub use flows::row::ApplyAll;
+pub use flows::row::{ApplyAll, Row};

@@ -1,7 +1,12 @@
 //! The latest values of several flows, and what they come to.
 
-ghost use Rattle.std.specs.Prelude.{◌≡◌, ◌≤◌, List, None, Some, IsTrue, false, length, vec_len, vec_capacity};
-ghost use Rattle.more_merges.specs.Row.{whole, latest_after, row_of};
+ghost use Rattle.std.specs.Prelude.{◌≡◌, ◌≤◌, List, None, Some, IsTrue, IfOk, IfErr, false, refl, length, replicate, vec_len, vec_capacity};
+ghost use Rattle.flow_terms.specs.declared.refusal.Refusal.TheVariants.{NoMemory};
+ghost use Rattle.more_merges.specs.Row.{whole, latest_after, row_of, combined};
+
+use cold_flow::{Refusal, Sift};
+use std::alloc::Global;
+use std::marker::Model;
 
 /// A function of a list of values, as a value: what `combine_all` is given in place of Kotlin's lambda of an array.
 ///
@@ -18,14 +23,24 @@ pub trait ApplyAll<T>: Copy {
         ensures { result ≡ gives self.now values.now };
 }
 
-// The latest value of each flow, if it has given one, and the function of them.
+/// The latest value of each flow, where it has given one, and the function of them.
 #[derive(Drop)]
 pub struct Row<T, G> {
-    pub(crate) latest: Vec<Option<T>>,
+    latest: Vec<Option<T>>,
     // Has room for all of them.
-    pub(crate) values: Vec<T>,
-    pub(crate) function: G,
-    ghost room: { vec_len latest ≤ vec_capacity values },
+    values: Vec<T>,
+    function: G,
+}
+
+impl<T, G> Model for Row<T, G> {
+    ghost use Rattle.std.specs.Prelude.{◌≤◌, vec_len, vec_capacity};
+    ghost use Rattle.more_merges.specs.Row.{Latest};
+
+    ghost Value = { Latest T G };
+
+    ghost view = { λ r. record { latest = r.latest.items; function = r.function } };
+
+    ghost invariant = { λ r. vec_len r.latest ≤ vec_capacity r.values };
 }
 
 // Keeps a value as the latest one of the flow at a place.
@@ -56,12 +71,32 @@ fn list_all<T: Copy>(latest: &[Option<T>], values: &mut Vec<T>) -> bool
 }
 
 impl<T: Copy, G: ApplyAll<T>> Row<T, G> {
-    // Keeps the next value. The answer is the function of the latest ones, where each flow has given one.
-    pub(crate) fn take_in(&mut self, value: (usize, T)) -> Option<G::Out>
-        ensures answer { result ≡ row_of (G.gives self.old.function) (latest_after self.old.latest.items value) }
-        ensures latest { self.new.latest.items ≡ latest_after self.old.latest.items value }
-        ensures function { self.new.function ≡ self.old.function }
+    // A row of `count` flows that have given nothing yet.
+    pub(crate) fn new(alloc: Global, count: usize, function: G) -> Result<Row<T, G>, Refusal>
+        ensures fresh { IfOk result (λ r. r ≡ record { latest = replicate count None; function = function }) }
+        ensures refused { IfErr result (λ e. e ≡ NoMemory) }
     {
+        let mut latest = Vec::new(alloc);
+        latest.resize(count, None)?;
+        Ok(Row {
+            latest,
+            values: Vec::with_capacity(alloc, count)?,
+            function,
+        })
+    }
+}
+
+impl<T: Copy, G: ApplyAll<T>> Sift<(usize, T)> for Row<T, G> {
+    type Out = G::Out;
+
+    ghost passes = { λ r. combined (G.gives r.function) r.latest };
+
+    ghost keeps = { λ r value. row_of (G.gives r.function) (latest_after r.latest value) };
+
+    ghost after = { λ r value. record { latest = latest_after r.latest value; function = r.function } };
+
+    // Keeps the value. What passes is the function of the latest ones, where each flow has given one.
+    fn sift(&mut self, value: (usize, T)) -> Option<G::Out> {
         let (place, latest) = value;
         keep_latest(&mut self.latest, place, latest);
         if list_all(self.latest.as_slice(), &mut self.values) {
@@ -69,4 +104,8 @@ impl<T: Copy, G: ApplyAll<T>> Row<T, G> {
         }
         None
     }
+
+    ghost none = { λ _. refl };
+
+    ghost step = { λ _ _ _. refl };
 }
