@@ -112,14 +112,13 @@ impl<A: Copy, S: Run, G: Apply<(A, S::Item), Out = A>> Run for ScannedRun<S, A, 
             self.is_first = false;
             return Poll::Ready(Event::Value(self.state));
         }
-        match self.source.poll_next(cx) {
-            Poll::Ready(Event::Value(value)) => {
-                self.state = self.function.apply((self.state, value));
-                Poll::Ready(Event::Value(self.state))
-            }
-            Poll::Ready(Event::End(cause)) => Poll::Ready(Event::End(cause)),
-            Poll::Pending => Poll::Pending,
-        }
+        let value = match self.source.poll_next(cx) {
+            Poll::Ready(Event::Value(value)) => value,
+            Poll::Ready(Event::End(cause)) => return Poll::Ready(Event::End(cause)),
+            Poll::Pending => return Poll::Pending,
+        };
+        self.state = self.function.apply((self.state, value));
+        Poll::Ready(Event::Value(self.state))
     }
 
     fn end(&self) -> Option<Cause<S::Fault>> {

@@ -33,8 +33,8 @@ pub returns-then-self-clause-approaches : goal.returns-then-self-clause-approach
 returns-then-self-clause-approaches g c = rw c.if-self.true (λ h. (h, omega arith))
 
 -- a value
-pub returns-in-Ready-Value-clause-narrows : goal.returns-in-Ready-Value-clause-narrows
-returns-in-Ready-Value-clause-narrows g c =
+pub returns-clause-narrows : goal.returns-clause-narrows
+returns-clause-narrows g c =
     let was = c.args.self.now in
     let came = rw c.in-Ready-Value.field-0-is at c.in-Ready-Value.ensures.narrows in
     let going = rw c.in-Ready-Value.field-0-is at c.in-Ready-Value.ensures.ends in
@@ -42,15 +42,15 @@ returns-in-Ready-Value-clause-narrows g c =
     (scan_gives (g.G.Apply.gives was.function) (g.S.Run.may was.source) (g.S.Run.may c.poll_next.new.self) was.state c.apply-self.result
     c.in-Ready-Value.value c.apply-self.ensures came)
 
-pub returns-in-Ready-Value-clause-stays : goal.returns-in-Ready-Value-clause-stays
-returns-in-Ready-Value-clause-stays g c k e = absurd (going_no_end _ k (sym c.end.ensures ∙ c.in_default.is) e)
+pub returns-clause-stays : goal.returns-clause-stays
+returns-clause-stays g c k e = absurd (going_no_end _ k (sym c.end.ensures ∙ c.in_default.is) e)
 
-pub returns-in-Ready-Value-clause-approaches : goal.returns-in-Ready-Value-clause-approaches
-returns-in-Ready-Value-clause-approaches g c =
+pub returns-clause-approaches : goal.returns-clause-approaches
+returns-clause-approaches g c =
     rw c.if-self.false (rw c.in-Ready-Value.field-0-is at c.in-Ready-Value.ensures.approaches)
 
-pub returns-in-Ready-Value-clause-polled : goal.returns-in-Ready-Value-clause-polled
-returns-in-Ready-Value-clause-polled g c =
+pub returns-clause-polled : goal.returns-clause-polled
+returns-clause-polled g c =
     (tt, not_first _ c.if-self.false, going_rests _ _ _ (sym c.end.ensures ∙ c.in_default.is))
 
 -- the end
