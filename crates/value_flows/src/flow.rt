@@ -12,9 +12,9 @@ ghost use Rattle.value_flows.specs.Calls.{Makes, Opens, WasFull};
 ghost use Rattle.value_flows.specs.Emitting.{Emits, Tries, TriesOnce};
 
 use crate::bells::Bells;
+use crate::boxed::BoxedRing;
 use crate::config::Config;
 use crate::received::{Emitted, Offered, Tried};
-use crate::ring::Ring;
 use crate::round::Round;
 use crate::rounds::{begin, enter, offer};
 use crate::subscription::Subscription;
@@ -31,7 +31,7 @@ use std::sync::Wait;
 /// A call with `rt` takes the flow's lock, and may wait for it. Contracts see which flow it is, the owner's number, the calls that it
 /// made, and the one list of all calls as far as it has seen it; `accepted` is the list of the values.
 pub struct ValueFlow<T: Drop> {
-    lock: Lock<Ring<T>, Round>,
+    lock: Lock<BoxedRing<T>, Round>,
     bells: Bells,
 }
 
@@ -68,12 +68,12 @@ impl<T: Drop> ValueFlow<T> {
             return Err(refusal);
         }
         let bells = Bells::new(alloc)?;
-        let ring = Ring::new(alloc, config)?;
+        let ring = BoxedRing::new(alloc, config)?;
         let lock = Lock::new(alloc, ring)?;
         Ok(ValueFlow { lock, bells })
     }
 
-    pub(crate) fn over(lock: Lock<Ring<T>, Round>, bells: Bells) -> ValueFlow<T>
+    pub(crate) fn over(lock: Lock<BoxedRing<T>, Round>, bells: Bells) -> ValueFlow<T>
         ensures { result ≡ lock }
     {
         ValueFlow { lock, bells }
@@ -205,7 +205,7 @@ impl<T: Drop> ValueFlow<T> {
         ensures { Makes round.Forget (λ ring. record ring { forgotten = ring.next }) self.old self.new }
     {
         let mut guarded = enter(&mut self.lock, rt);
-        guarded.state.forgotten = guarded.state.next;
+        guarded.state.forget();
         self.lock.put(guarded, Round::Forget);
     }
 

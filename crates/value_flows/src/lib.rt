@@ -2,6 +2,7 @@
 #![tactic(auto)]
 
 mod bells;
+mod boxed;
 mod config;
 mod cursors;
 mod flow;

@@ -1,6 +1,6 @@
 //! What an emission comes to, and an ask for the next value of a subscription.
 
-use crate::ring::Ring;
+use crate::boxed::BoxedRing;
 use round_lock::Guarded;
 
 /// The answer to one who emits. A value that wasn't accepted is handed back.
@@ -51,7 +51,7 @@ pub enum Received<T> {
 /// What one ask came to.
 pub(crate) enum Looked<T> {
     /// The next value is there. The lock is taken for it.
-    There(Guarded<Ring<T>>),
+    There(Guarded<BoxedRing<T>>),
     /// So many were missed.
     Missed(u64),
     /// There is none.
@@ -61,7 +61,7 @@ pub(crate) enum Looked<T> {
 /// What a wait came to.
 pub(crate) enum Awaited<T> {
     /// The next value is there. The lock is taken for it.
-    There(Guarded<Ring<T>>),
+    There(Guarded<BoxedRing<T>>),
     /// So many were missed.
     Missed(u64),
     /// It was let go, and there is none.

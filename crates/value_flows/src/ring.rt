@@ -2,14 +2,12 @@
 ghost use Rattle.std.specs.Prelude.{◌≡◌, ◌+◌, ◌-◌, ◌<◌, ◌≤◌, [], length, slice_get, Some, IfOk, IsTrue, ◌↔◌, is_none};
 ghost use Rattle.std.specs.List.{position};
 ghost use Rattle.value_flows.specs.Making.{places};
-ghost use Rattle.value_flows.specs.Does.{IsFirst, Does, IsMadeWith, Enters, HaveRoom, Stands, moved, cache_start, oldest_of, with_value};
+ghost use Rattle.value_flows.specs.Does.{IsMadeWith, Enters, HaveRoom, Stands, moved, cache_start, oldest_of, with_value};
 
 use crate::config::Config;
 use crate::cursors::Cursors;
-use crate::round::Round;
 use circular_buffer::HeapCircularBuffer;
 use flow_terms::Policy;
-use round_lock::Called;
 use std::alloc::{AllocError, Global};
 
 /// The latest accepted values of a flow. Each is kept once, whoever has still to receive it, and is let go as a later one needs its
@@ -62,12 +60,6 @@ pub(crate) enum Standing {
     Behind(u64),
     /// Its next value isn't accepted yet.
     Nothing,
-}
-
-impl<T> Called<Round> for Ring<T> {
-    ghost first = { IsFirst };
-
-    ghost step = { Does };
 }
 
 impl<T> Ring<T> {
@@ -177,6 +169,13 @@ impl<T> Ring<T> {
         ensures { self.new ≡ moved place cursor self.old }
     {
         self.cursors.move_to(place, cursor);
+    }
+
+    /// Empties the replay cache: it begins at the next value.
+    pub(crate) fn forget(&mut self)
+        ensures { self.new ≡ record self.old { forgotten = self.old.next } }
+    {
+        self.forgotten = self.next;
     }
 
     /// Keeps the next value, and hands back the oldest one where its place was needed.

@@ -4,14 +4,18 @@ ghost use Rattle.value_flows.specs.Calls.{FindsFull, Holds, Opens, giving};
 ghost use Rattle.value_flows.specs.Emitting.{Offers};
 ghost use Rattle.value_flows.specs.declared.round.Round.TheVariants as round;
 
+use crate::boxed::BoxedRing;
 use crate::received::Offered;
-use crate::ring::{Entrance, Ring};
+use crate::ring::Entrance;
 use crate::round::Round;
 use round_lock::{Guarded, Lock};
 use std::sync::Wait;
 
 /// Takes the lock, and has the ring.
-pub(crate) fn enter<T: Drop>(lock: &mut Lock<Ring<T>, Round>, rt: &impl Wait) -> Guarded<Ring<T>>
+pub(crate) fn enter<T: Drop>(
+    lock: &mut Lock<BoxedRing<T>, Round>,
+    rt: &impl Wait,
+) -> Guarded<BoxedRing<T>>
     ensures holds { Holds lock.old result.state lock.new }
     ensures count { length result.state.values.items ≤ result.state.next }
 {
@@ -19,7 +23,7 @@ pub(crate) fn enter<T: Drop>(lock: &mut Lock<Ring<T>, Round>, rt: &impl Wait) ->
 }
 
 /// Gives the lock up, with the ring as it was.
-pub(crate) fn leave<T: Drop>(lock: &mut Lock<Ring<T>, Round>, guarded: Guarded<Ring<T>>)
+pub(crate) fn leave<T: Drop>(lock: &mut Lock<BoxedRing<T>, Round>, guarded: Guarded<BoxedRing<T>>)
     requires { lock.old.log.held ≡ Some guarded.state }
     ensures { lock.new ≡ giving round.Look guarded.state lock.old }
 {
@@ -28,7 +32,7 @@ pub(crate) fn leave<T: Drop>(lock: &mut Lock<Ring<T>, Round>, guarded: Guarded<R
 
 /// Tries to have the flow accept a value.
 pub(crate) fn offer<T: Drop>(
-    lock: &mut Lock<Ring<T>, Round>,
+    lock: &mut Lock<BoxedRing<T>, Round>,
     rt: &impl Wait,
     value: T,
 ) -> Offered<T>
@@ -37,7 +41,7 @@ pub(crate) fn offer<T: Drop>(
     let mut guarded = enter(lock, rt);
     match guarded.state.entrance() {
         Entrance::Open => {
-            let number = guarded.state.next;
+            let number = guarded.state.next();
             let next = number_after(rt, number);
             let old = guarded.state.accept(value, next);
             lock.put(guarded, Round::Emit);
@@ -56,7 +60,7 @@ pub(crate) fn offer<T: Drop>(
 
 /// Begins a subscription: answers its place and the number of its first value, or nothing where each place is taken.
 pub(crate) fn begin<T: Drop>(
-    lock: &mut Lock<Ring<T>, Round>,
+    lock: &mut Lock<BoxedRing<T>, Round>,
     rt: &impl Wait,
 ) -> Option<(usize, u64)>
     ensures begun { IfSome result (λ seat. Opens lock.old seat.0 seat.1 lock.new) }

@@ -4,9 +4,10 @@ ghost use Rattle.value_flows.specs.Receiving.{AfterNone, Comes, ComesTo, Ends, F
 ghost use Rattle.value_flows.specs.Waits.{Asks, Awaits, AwaitsWithin, Fails, FailsLate};
 
 use crate::bells::Bells;
+use crate::boxed::BoxedRing;
 use crate::flow::ValueFlow;
 use crate::received::{Attempt, Awaited, Looked, Received};
-use crate::ring::{Ring, Standing};
+use crate::ring::Standing;
 use crate::round::Round;
 use crate::rounds::{enter, leave};
 use round_lock::{Guarded, Lock};
@@ -22,7 +23,7 @@ use std::time::{Clock, Duration};
 ///
 /// Contracts see what they see of a [`ValueFlow`](crate::ValueFlow).
 pub struct Subscription<T: Drop> {
-    lock: Lock<Ring<T>, Round>,
+    lock: Lock<BoxedRing<T>, Round>,
     bells: Bells,
     // Its place under the lock.
     place: usize,
@@ -47,7 +48,7 @@ impl<T: Drop> Model for Subscription<T> {
 
 impl<T: Drop> Subscription<T> {
     pub(crate) fn over(
-        lock: Lock<Ring<T>, Round>,
+        lock: Lock<BoxedRing<T>, Round>,
         bells: Bells,
         place: usize,
         start: u64,
@@ -167,14 +168,7 @@ impl<T: Drop> Subscription<T> {
     fn look(&mut self, rt: &impl Wait) -> Looked<T>
         ensures { Looks self.old result self.new }
     {
-        match find(&mut self.lock, rt, self.place, &mut self.next) {
-            Looked::There(guarded) => Looked::There(guarded),
-            Looked::Missed(count) => {
-                self.bells.room.ring();
-                Looked::Missed(count)
-            }
-            Looked::Nothing => Looked::Nothing,
-        }
+        find(&mut self.lock, rt, &self.bells, self.place, &mut self.next)
     }
 
     // Waits until there is something to answer, or it was let go.
@@ -285,7 +279,7 @@ impl<T: Drop> Subscription<T> {
 
     // Gives a clone of the value that the lock was taken for, and gives the lock up. Where there is no memory for the clone the value
     // wasn't given.
-    fn give_clone(&mut self, guarded: Guarded<Ring<T>>) -> Result<T, AllocError>
+    fn give_clone(&mut self, guarded: Guarded<BoxedRing<T>>) -> Result<T, AllocError>
     where
         T: Clone,
         requires { (before : _) × (value : T) × Takes before guarded.state value self.old }
@@ -305,12 +299,13 @@ impl<T: Drop> Subscription<T> {
     }
 
     // Gives the lock up, with the value that it was taken for as received.
-    fn give(&mut self, mut guarded: Guarded<Ring<T>>)
+    fn give(&mut self, mut guarded: Guarded<BoxedRing<T>>)
         requires { (before : _) × (value : T) × Takes before guarded.state value self.old }
         ensures { (before : _) → (value : T) → Takes before guarded.state value self.old → Gives before value self.new }
     {
         let number = self.next;
-        let next = number_within(number, guarded.state.next);
+        let end = guarded.state.next();
+        let next = number_within(number, end);
         guarded.state.move_to(self.place, Some(next));
         self.lock
             .put(guarded, Round::Give(self.place as u64, number));
@@ -319,7 +314,7 @@ impl<T: Drop> Subscription<T> {
     }
 
     // Gives the lock up, with the value that it was taken for as not received.
-    fn pass(&mut self, guarded: Guarded<Ring<T>>)
+    fn pass(&mut self, guarded: Guarded<BoxedRing<T>>)
         requires { (before : _) × (value : T) × Takes before guarded.state value self.old }
         ensures { (before : _) → (value : T) → Takes before guarded.state value self.old → LeavesIt before value self.new }
     {
@@ -335,10 +330,12 @@ fn number_within(number: u64, end: u64) -> u64
     number + 1
 }
 
-/// Asks once: takes the lock where the next value is kept, else gives it up. Who missed values goes on with the oldest that is kept.
+/// Asks once: takes the lock where the next value is kept, else gives it up. Who missed values goes on with the oldest that is kept, and
+/// wakes the emissions that wait for room.
 fn find<T: Drop>(
-    lock: &mut Lock<Ring<T>, Round>,
+    lock: &mut Lock<BoxedRing<T>, Round>,
     rt: &impl Wait,
+    bells: &Bells,
     place: usize,
     next: &mut u64,
 ) -> Looked<T>
@@ -355,6 +352,7 @@ fn find<T: Drop>(
             *next = oldest;
             guarded.state.move_to(place, Some(oldest));
             lock.put(guarded, Round::Miss(place as u64, from, count));
+            bells.room.ring();
             Looked::Missed(count)
         }
         Standing::Nothing => {
@@ -365,7 +363,7 @@ fn find<T: Drop>(
 }
 
 /// Frees the place of a subscription.
-fn end<T: Drop>(lock: &mut Lock<Ring<T>, Round>, rt: &impl Wait, place: usize)
+fn end<T: Drop>(lock: &mut Lock<BoxedRing<T>, Round>, rt: &impl Wait, place: usize)
     requires { (next : ℕ) × Keeps lock.old place next }
     ensures { Ends lock.old lock.new }
 {

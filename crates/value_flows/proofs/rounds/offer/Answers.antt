@@ -1,7 +1,7 @@
-use Rattle.std.proofs.Common.{◌≡◌, refl, subst}
+use Rattle.std.proofs.Common.{◌≡◌, refl, subst, sym}
 use Rattle.flow_terms.specs.declared.policy.Policy.TheVariants as policy
 use Rattle.value_flows.specs.declared.round.Round.TheVariants as round
-use Rattle.value_flows.specs.Calls.{giving}
+use Rattle.value_flows.specs.Calls.{Accepts, giving}
 use Rattle.value_flows.proofs.Calling.{accepts, held_is, refuses}
 use Rattle.value_flows.proofs.rounds.offer.Goals as goal
 
@@ -23,7 +23,8 @@ leave-requires-in-Full g c = held_is c.args.lock.now c.enter-guarded.result.stat
 pub returns-in-Open : goal.returns-in-Open
 returns-in-Open g c =
     let given = subst (λ ring. c.put.new.self ≡ giving round.Emit ring c.enter-guarded.new.lock) c.accept-old.ensures c.put.ensures.given in
-    accepts c.args.lock.now c.enter-guarded.result.state c.enter-guarded.new.lock c.put.new.self c.args.value c.in-Open.ensures c.enter-guarded.ensures.holds given
+    subst (λ number. Accepts c.args.lock.now number c.args.value c.put.new.self) (sym c.next-number.ensures)
+    (accepts c.args.lock.now c.enter-guarded.result.state c.enter-guarded.new.lock c.put.new.self c.args.value c.in-Open.ensures c.enter-guarded.ensures.holds given)
 
 pub returns-in-Dropped : goal.returns-in-Dropped
 returns-in-Dropped g c = (

@@ -1,4 +1,4 @@
-use Rattle.std.proofs.Common.{◌≡◌, Some, subst, sym}
+use Rattle.std.proofs.Common.{◌≡◌, ◌<◌, Some, subst, sym}
 use Rattle.value_flows.specs.declared.round.Round.TheVariants as round
 use Rattle.value_flows.specs.Calls.{giving}
 use Rattle.value_flows.specs.Does.{moved}
@@ -11,7 +11,8 @@ pub number_within-next-requires : goal.number_within-next-requires
 number_within-next-requires g c =
     let before = c.requires.0 in
     let took = subst (λ o. Takes before c.args.guarded.state c.requires.1 o) (sym c.self.view_is) c.requires.2 in
-    (kept_is before c.self.inside.lock c.args.guarded.state c.requires.1 c.self.inside.place c.self.inside.next c.self.invariant took).1
+    let kept = kept_is before c.self.inside.lock c.args.guarded.state c.requires.1 c.self.inside.place c.self.inside.next c.self.invariant took in
+    subst (λ end. c.self.inside.next < end) (sym c.next-end.ensures) kept.1
 
 pub put-requires : goal.put-requires
 put-requires g c =
