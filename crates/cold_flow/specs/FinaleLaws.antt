@@ -58,32 +58,32 @@ module _ {A E : Type 0} where
   catching_last g Cancelled v j e = let never : None ≡ Some v = ap (λ (f : Finale A E). f.0) e in absurd (cc)
   catching_last g (Refused r) v j e = let never : None ≡ Some v = ap (λ (f : Finale A E). f.0) e in absurd (cc)
 
-  pub completing_last : (g : Cause E → Option A) (k : Cause E) (v : A) → completing g k ≡ (Some v, k) → k ≡ Finished
-  completing_last g Finished v e = refl
-  completing_last g (Failed f) v e = let never : None ≡ Some v = ap (λ (f : Finale A E). f.0) e in absurd (cc)
-  completing_last g Cancelled v e = let never : None ≡ Some v = ap (λ (f : Finale A E). f.0) e in absurd (cc)
-  completing_last g (Refused r) v e = let never : None ≡ Some v = ap (λ (f : Finale A E). f.0) e in absurd (cc)
+  pub completing_last : (g : Cause E → Option A) (k : Cause E) (v : A) (j : Cause E) → completing g k ≡ (Some v, j) → j ≡ Finished
+  completing_last g Finished v j e = sym (ap (λ (f : Finale A E). f.1) e)
+  completing_last g (Failed f) v j e = let never : None ≡ Some v = ap (λ (f : Finale A E). f.0) e in absurd (cc)
+  completing_last g Cancelled v j e = let never : None ≡ Some v = ap (λ (f : Finale A E). f.0) e in absurd (cc)
+  completing_last g (Refused r) v j e = let never : None ≡ Some v = ap (λ (f : Finale A E). f.0) e in absurd (cc)
 
-caught-cause : {A E : Type 0} (c : Caught A E) → (caught_by c).1 ≡ Cancelled → ⊥
-caught-cause End e = cc
-caught-cause (Last v) e = cc
-caught-cause (Fault f) e = cc
+  caught-cause : (c : Caught A E) → (caught_by c).1 ≡ Cancelled → ⊥
+  caught-cause End e = cc
+  caught-cause (Last v) e = cc
+  caught-cause (Fault f) e = cc
 
-some-cause : {E : Type 0} (j k : Cause E) → Some j ≡ Some k → j ≡ k
-some-cause j k e = cc
+  -- neither makes a cancellation of another end
+  pub catching_cancels : (g : E → Caught A E) (k : Cause E) → (catching g k).1 ≡ Cancelled → k ≡ Cancelled
+  catching_cancels g Finished e = cc
+  catching_cancels g (Failed f) e = absurd (caught-cause (g f) e)
+  catching_cancels g Cancelled e = refl
+  catching_cancels g (Refused r) e = cc
 
-pub catching-cause : {A E : Type 0} (g : E → Caught A E) (t : Trace A E) (k : Option (Cause E))
-    → (with_finale (catching g) t).1 ≡ Some Cancelled → t.1 ≡ Some Cancelled
-catching-cause g (xs, None) k e = cc
-catching-cause g (xs, Some Finished) k e = cc
-catching-cause g (xs, Some (Failed f)) k e = absurd (caught-cause (g f) (some-cause _ _ e))
-catching-cause g (xs, Some Cancelled) k e = refl
-catching-cause g (xs, Some (Refused r)) k e = cc
+  pub completing_cancels : (g : Cause E → Option A) (k : Cause E) → (completing g k).1 ≡ Cancelled → k ≡ Cancelled
+  completing_cancels g Finished e = cc
+  completing_cancels g (Failed f) e = cc
+  completing_cancels g Cancelled e = refl
+  completing_cancels g (Refused r) e = cc
 
-pub completing-cause : {A E : Type 0} (g : Cause E → Option A) (t : Trace A E) (k : Option (Cause E))
-    → (with_finale (completing g) t).1 ≡ Some Cancelled → t.1 ≡ Some Cancelled
-completing-cause g (xs, None) k e = cc
-completing-cause g (xs, Some Finished) k e = cc
-completing-cause g (xs, Some (Failed f)) k e = cc
-completing-cause g (xs, Some Cancelled) k e = refl
-completing-cause g (xs, Some (Refused r)) k e = cc
+module _ {A E : Type 0} (finale : Cause E → Finale A E) (cancels : (k : Cause E) → (finale k).1 ≡ Cancelled → k ≡ Cancelled) where
+  -- where a finale makes a cancellation of no other end, the operator ends so only where its source does
+  pub finale-cause : (t : Trace A E) (k : Option (Cause E)) → (with_finale finale t).1 ≡ Some Cancelled → t.1 ≡ Some Cancelled
+  finale-cause (xs, None) k e = cc
+  finale-cause (xs, Some j) k e = let same : (finale j).1 ≡ Cancelled = cc in ap Some (cancels j same)

@@ -4,12 +4,20 @@ use Rattle.std.specs.List.{fold}
 use Rattle.futures.specs.declared.task.Poll.{Poll}
 use Rattle.futures.specs.declared.task.Poll.TheVariants.{Ready, Pending}
 use Rattle.cold_flow.specs.declared.cause.Cause.{Cause}
+use Rattle.cold_flow.specs.declared.event.Event.{Event}
+use Rattle.cold_flow.specs.declared.event.Event.TheVariants.{Value, End}
 use Rattle.cold_flow.specs.Trace.{ended_by}
 use Rattle.cold_flow.specs.Poll.{Traces, Within}
 
 -- what g makes of a state and some values, one after another
 abbrev pub folded : {A S : Type 0} → (S × A → S) → S → List A → S
 folded g state values = fold (λ s x. g (s, x)) state values
+
+-- the state after a poll: g takes a value in
+abbrev pub state_after : {A E S : Type 0} → (S × A → S) → S → Poll (Event A E) → S
+state_after g state (Ready (Value x)) = g (state, x)
+state_after g state (Ready (End k)) = state
+state_after g state Pending = state
 
 -- what old may give, once these values were given
 abbrev pub Past : {A E : Type 0} → List A → Traces A E → Traces A E

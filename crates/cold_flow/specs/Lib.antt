@@ -25,5 +25,5 @@ pub mod PolledLaws
 pub mod LoopLaws
 pub mod Passing
 pub mod PassingLaws
-pub mod CompletingRuns
+pub mod ConcludedRuns
 pub mod Ends

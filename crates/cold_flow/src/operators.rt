@@ -5,6 +5,7 @@ pub mod closing;
 pub mod distinct;
 pub mod drop_first;
 pub mod filter;
+pub mod finale;
 pub mod map;
 pub mod on_completion;
 pub mod sift;

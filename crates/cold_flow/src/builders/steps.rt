@@ -88,6 +88,8 @@ impl<E: Copy, S: Steps<Fault = E>> Run for EndingRun<S, E> {
 
     ghost polled = { λ old _ new. Rests old.ended old.source new.source };
 
+    // Inlined, so that a chain of operators becomes one loop.
+    #[inline(always)]
     fn poll_next(&mut self, cx: &mut Context<'_>) -> Poll<Event<S::Item, E>> {
         if let Some(cause) = self.ended {
             return Poll::Ready(Event::End(cause));
@@ -102,6 +104,7 @@ impl<E: Copy, S: Steps<Fault = E>> Run for EndingRun<S, E> {
         Poll::Ready(Event::End(cause))
     }
 
+    #[inline(always)]
     fn end(&self) -> Option<Cause<E>> {
         self.ended
     }

@@ -116,24 +116,26 @@ impl<S: Run, M: Sift<S::Item>> Run for Sifted<S, M> {
 
     ghost cancelled = { λ old new. S.cancelled old.source new.source × (new.sift ≡ old.sift) };
 
+    // Inlined, so that a chain of operators becomes one loop.
+    #[inline(always)]
     fn poll_next(&mut self, cx: &mut Context<'_>) -> Poll<Event<M::Out, S::Fault>> {
         if let Some(cause) = self.source.end() {
             return Poll::Ready(Event::End(cause));
         }
         for _asked in 0..BUDGET {
-            match self.source.poll_next(cx) {
-                Poll::Ready(Event::Value(value)) => {
-                    if let Some(kept) = self.sift.sift(value) {
-                        return Poll::Ready(Event::Value(kept));
-                    }
-                }
+            let value = match self.source.poll_next(cx) {
+                Poll::Ready(Event::Value(value)) => value,
                 Poll::Ready(Event::End(cause)) => return Poll::Ready(Event::End(cause)),
                 Poll::Pending => return Poll::Pending,
+            };
+            if let Some(kept) = self.sift.sift(value) {
+                return Poll::Ready(Event::Value(kept));
             }
         }
         cx.yield_now()
     }
 
+    #[inline(always)]
     fn end(&self) -> Option<Cause<S::Fault>> {
         self.source.end()
     }
