@@ -123,6 +123,8 @@ impl<C: Copy, A: Run, B: Run<Fault = A::Fault>, G: Apply<(A::Item, B::Item), Out
         (count_add (side_polls new.left.finished (A.polls new.left.run)) (side_polls new.right.finished (B.polls new.right.run))))
         × Rests old.ended old.left.run new.left.run × Rests old.ended old.right.run new.right.run };
 
+    // Inlined, so that a chain of operators becomes one loop.
+    #[inline(always)]
     fn poll_next(&mut self, cx: &mut Context<'_>) -> Poll<Event<C, A::Fault>> {
         if let Some(cause) = self.ended {
             return Poll::Ready(Event::End(cause));

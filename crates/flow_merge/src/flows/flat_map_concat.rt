@@ -154,6 +154,8 @@ impl<
         (count_add (rounds (O.polls new.outer) N.most) (standing_polls F.Running.polls new.inner)))
         × Rests old.ended old.outer new.outer × Rests old.ended old.inner new.inner };
 
+    // Inlined, so that a chain of operators becomes one loop.
+    #[inline(always)]
     fn poll_next(&mut self, cx: &mut Context<'_>) -> Poll<Event<B, E>> {
         if let Some(cause) = self.ended {
             return Poll::Ready(Event::End(cause));

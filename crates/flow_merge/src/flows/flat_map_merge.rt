@@ -137,6 +137,8 @@ impl<
 
     ghost stopped = { λ r. O.stopped r.outer && all_stopped F.Running.stopped r.runs.items };
 
+    // Inlined, so that a chain of operators becomes one loop.
+    #[inline(always)]
     fn poll_next(&mut self, cx: &mut Context<'_>) -> Poll<Event<B, E>> {
         if let Some(cause) = self.ended {
             return Poll::Ready(Event::End(cause));

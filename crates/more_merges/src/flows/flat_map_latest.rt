@@ -14,6 +14,7 @@ ghost use Rattle.more_merges.specs.Standing.{HasStandingWaited, OnNothing};
 
 use crate::flows::standing::{ask_standing, cancel_standing, stand_instead};
 use cold_flow::{Apply, BUDGET, Cause, Event, Flow, Refusal, Run};
+use futures::ready;
 use futures::task::{Context, Poll};
 
 /// The flow of `flat_map_latest`.
@@ -190,16 +191,15 @@ impl<
             return Poll::Ready(Event::End(cause));
         }
         for _asked in 0..BUDGET {
-            match self.ask(cx) {
-                Poll::Ready(Some(Event::Value(value))) => return Poll::Ready(Event::Value(value)),
-                Poll::Ready(Some(Event::End(cause))) => {
+            match ready!(self.ask(cx)) {
+                Some(Event::Value(value)) => return Poll::Ready(Event::Value(value)),
+                Some(Event::End(cause)) => {
                     self.outer.cancel();
                     cancel_standing(&mut self.inner);
                     self.ended = Some(cause);
                     return Poll::Ready(Event::End(cause));
                 }
-                Poll::Ready(None) => {}
-                Poll::Pending => return Poll::Pending,
+                None => {}
             }
         }
         cx.yield_now()

@@ -1,6 +1,6 @@
 //! `scan`: the states that a function goes through.
 
-ghost use Rattle.std.specs.Prelude.{◌≡◌, true, IsTrue};
+ghost use Rattle.std.specs.Prelude.{◌≡◌, true, false, not, IsTrue};
 ghost use Rattle.std.specs.Iterator.{count_map};
 ghost use Rattle.futures.specs.Poll.{OnPending};
 ghost use Rattle.futures.specs.declared.task.Poll.TheVariants.{Pending};
@@ -64,7 +64,7 @@ impl<A: Copy, F: Flow, G: Apply<(A, F::Item), Out = A>> Flow for Scanned<F, A, G
             source: self.source.start()?,
             state: self.first,
             function: self.function,
-            is_first: true,
+            has_begun: false,
         })
     }
 
@@ -78,8 +78,8 @@ pub struct ScannedRun<S, A, G> {
     // The state that was given last, or the first one.
     state: A,
     function: G,
-    // Whether the first state is still to be given.
-    is_first: bool,
+    // Whether the first state was given.
+    has_begun: bool,
 }
 
 impl<A: Copy, S: Run, G: Apply<(A, S::Item), Out = A>> Run for ScannedRun<S, A, G> {
@@ -90,26 +90,28 @@ impl<A: Copy, S: Run, G: Apply<(A, S::Item), Out = A>> Run for ScannedRun<S, A, 
     type Fault = S::Fault;
 
     ghost may = { λ r. Unless (S.ended r.source)
-        (Through (scan_from (G.gives r.function) r.is_first r.state) (S.may r.source)) };
+        (Through (scan_from (G.gives r.function) (not r.has_begun) r.state) (S.may r.source)) };
 
     ghost ended = { λ r. S.ended r.source };
 
     ghost stopped = { λ r. S.stopped r.source };
 
-    ghost polls = { λ r. count_map (polls_from r.is_first) (S.polls r.source) };
+    ghost polls = { λ r. count_map (polls_from (not r.has_begun)) (S.polls r.source) };
 
     ghost prompt = { λ r. S.prompt r.source };
 
     // The first state is given, and an end again, without a question to the source.
     ghost polled = { λ old answer new. OnPending answer (S.polled old.source Pending new.source)
-        × (old.is_first ≡ true → new.source ≡ old.source) × Rests (S.ended old.source) old.source new.source };
+        × (old.has_begun ≡ false → new.source ≡ old.source) × Rests (S.ended old.source) old.source new.source };
 
+    // Inlined, so that a chain of operators becomes one loop.
+    #[inline(always)]
     fn poll_next(&mut self, cx: &mut Context<'_>) -> Poll<Event<A, S::Fault>> {
         if let Some(cause) = self.source.end() {
             return Poll::Ready(Event::End(cause));
         }
-        if self.is_first {
-            self.is_first = false;
+        if !self.has_begun {
+            self.has_begun = true;
             return Poll::Ready(Event::Value(self.state));
         }
         let value = match self.source.poll_next(cx) {
@@ -121,6 +123,7 @@ impl<A: Copy, S: Run, G: Apply<(A, S::Item), Out = A>> Run for ScannedRun<S, A, 
         Poll::Ready(Event::Value(self.state))
     }
 
+    #[inline(always)]
     fn end(&self) -> Option<Cause<S::Fault>> {
         self.source.end()
     }

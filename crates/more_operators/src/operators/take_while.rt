@@ -91,6 +91,8 @@ impl<E: Copy, S: Run<Fault = E>, G: Apply<S::Item, Out = bool>> Run for PassingR
 
     ghost cancelled = { λ _ new. IsTrue (S.stopped new.source) };
 
+    // Inlined, so that a chain of operators becomes one loop.
+    #[inline(always)]
     fn poll_next(&mut self, cx: &mut Context<'_>) -> Poll<Event<S::Item, E>> {
         if let Some(cause) = self.ended {
             return Poll::Ready(Event::End(cause));
@@ -112,6 +114,7 @@ impl<E: Copy, S: Run<Fault = E>, G: Apply<S::Item, Out = bool>> Run for PassingR
         }
     }
 
+    #[inline(always)]
     fn end(&self) -> Option<Cause<E>> {
         self.ended
     }
