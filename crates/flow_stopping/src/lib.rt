@@ -25,8 +25,6 @@ mod emitting;
 mod parker;
 mod receiving;
 mod stopper;
-#[cfg(test)]
-mod tests;
 
 pub use answers::{Emitted, Received};
 pub use parker::StoppableParker;

@@ -81,7 +81,7 @@ impl StoppableParker {
         Ok(())
     }
 
-    /// Sleeps until the thread has to ask again, or is let go. Nothing only where it doesn't wait.
+    /// Sleeps until the thread has to ask again, or is let go. Nothing only where it can't sleep.
     pub(crate) fn turn(&mut self, rt: &impl Wait) -> Option<Attempt<'_>> {
         let StoppableParker {
             queue,

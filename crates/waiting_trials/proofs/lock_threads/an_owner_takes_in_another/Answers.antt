@@ -1,5 +1,5 @@
 use Rattle.std.proofs.Common.{ap}
-use Rattle.round_lock.proofs.tests.an_owner_takes_in_another.Goals as goal
+use Rattle.waiting_trials.proofs.lock_threads.an_owner_takes_in_another.Goals as goal
 
 -- what was taken is given back, and each step is allowed
 pub put-requires : goal.put-requires

@@ -1,5 +1,5 @@
 use Rattle.std.proofs.Common.{ap}
-use Rattle.round_lock.proofs.tests.count_by_another.Goals as goal
+use Rattle.waiting_trials.proofs.lock_threads.count_once.Goals as goal
 
 -- what was taken is given back, and each step is allowed
 pub put-requires : goal.put-requires

@@ -1,6 +1,6 @@
 //! Waits that are let go: before they begin, between two of them, while they last, and at any moment while the other side goes on.
 
-use crate::{Emitted, Received, StoppableParker, Stopper};
+use flow_stopping::{Emitted, Received, StoppableParker, Stopper};
 use shared_core::{Config, Policy};
 use shared_flow::{Emitter, SharedFlow, Subscription, Taken};
 use std::alloc::AllocGlobal;
