@@ -58,7 +58,8 @@ impl Parker {
         Ok(())
     }
 
-    /// Sleeps until the thread has to ask again. Nothing only where it doesn't wait. That a turn comes isn't claimed.
+    /// Sleeps until the thread has to ask again; where no [`begin`](Parker::begin) stands before it, for good. Nothing only where the
+    /// thread can't sleep. That a turn comes isn't claimed.
     pub fn turn(&mut self, rt: &impl Wait) -> Option<Context<'_>> {
         self.is_set = false;
         self.queue.next(rt)
