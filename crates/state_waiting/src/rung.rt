@@ -69,6 +69,14 @@ impl<T: Word> RungSeat<T> {
         was_equal
     }
 
+    /// From now on who sleeps by this bell is let go, and who will: each that watches is given first what was set before, as by
+    /// [`WatchedSeat::stop`](crate::WatchedSeat::stop). In Kotlin the scope of the coroutines that collect is cancelled. It is for good.
+    ///
+    /// It takes no lock and no memory. That a wake arrives isn't claimed.
+    pub fn stop(&self) {
+        self.bell.let_go();
+    }
+
     // The seat, and the bell that it rang.
     pub(crate) fn into_parts(self) -> (StateSeat<T>, Arc<Bell>)
         ensures { result.0 ≡ self }
