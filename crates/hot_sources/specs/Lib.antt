@@ -3,6 +3,8 @@ pub mod Receiving
 pub mod ReceivingLaws
 pub mod Collecting
 pub mod CollectingLaws
+pub mod Combining
+pub mod CombiningLaws
 pub mod Reading
 pub mod ReadingLaws
 pub mod Waiting

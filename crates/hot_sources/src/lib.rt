@@ -3,7 +3,7 @@
 //!
 //! ```text
 //! let mut chain = map(filter(receiving::<(), _, _>(&mut subscription, rt), Even), Half);
-//! take_of(rt, &mut parker, &mut chain, 5, &mut out)?;      // sleeps until there are five
+//! let list = take_list(rt, &mut chain, 5)?;                 // sleeps until there are five
 //! chain.cancel();                                           // the subscription is as it was, and goes on
 //! ```
 //!
@@ -11,15 +11,21 @@
 //! It ends by `cancel` alone, which leaves what it borrowed as it is.
 #![tactic(auto)]
 
+mod opening;
 mod operators;
+mod ringing;
 mod sources;
 mod waiting;
 
 pub use cold_flow::{Apply, Cause, Event, Refusal, Run, Sift, Sifted, Testing, Word};
+pub use opening::emitter_and_subscription;
+pub use operators::distinct::{Unequal, distinct};
 pub use operators::filter::filter;
 pub use operators::map::{Changing, map};
+pub use ringing::{OverStates, collect_list, next_rung};
 pub use shared_flow::Parker;
 pub use sources::collecting::{CollectingRun, collecting};
+pub use sources::combining::{CollectingBothRun, LatestOfTwo, combining};
 pub use sources::reading::{ReadingRun, reading};
 pub use sources::receiving::{ReceivingRun, receiving};
-pub use waiting::{next_of, take_of};
+pub use waiting::{next_of, take_list, take_of};

@@ -1,4 +1,5 @@
 //! Operators over a run.
 
+pub mod distinct;
 pub mod filter;
 pub mod map;

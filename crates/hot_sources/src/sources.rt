@@ -1,6 +1,7 @@
 //! What a run is made of that borrows what it receives from.
 
 pub mod collecting;
+pub mod combining;
 pub mod ended;
 pub mod reading;
 pub mod receiving;

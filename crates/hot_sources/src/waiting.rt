@@ -1,17 +1,20 @@
 //! A thread that sleeps for a run.
 
-ghost use Rattle.std.specs.Prelude.{◌≡◌, IfOk, IfErr, MatchOption, ◌++◌};
+ghost use Rattle.std.specs.Prelude.{◌≡◌, ◌⊎◌, [], IfOk, IfErr, MatchOption, ◌++◌};
 ghost use Rattle.futures.specs.Poll.{OnPending};
 ghost use Rattle.futures.specs.Task.{IsArmed};
 ghost use Rattle.futures.specs.declared.task.Poll.TheVariants.{Ready};
 ghost use Rattle.flow_terms.specs.declared.refusal.Refusal.TheVariants.{NoMemory};
 ghost use Rattle.cold_flow.specs.Poll.{Narrows, end_of};
+ghost use Rattle.cold_flow.specs.Polled.{Gave};
 ghost use Rattle.hot_sources.specs.Waiting.{Came, TookSome, TookAll, EndedAfter};
 ghost use Rattle.hot_sources.specs.WaitingLaws.{TookUpTo};
 
 use cold_flow::{Cause, Event, Refusal, Run};
 use futures::task::{Context, Poll};
 use shared_flow::Parker;
+use std::alloc::AllocGlobal;
+use std::random::RandomSource;
 use std::sync::Wait;
 
 /// The next value of `chain`, or its end, for which the thread sleeps: one turn of Kotlin's `collect`.
@@ -76,6 +79,24 @@ pub fn take_of<S: Run>(
         }
     }
     unreachable!()
+}
+
+/// The next `count` values of `chain` as a list, for each of which the thread sleeps: Kotlin's `take(count).toList()`. It is shorter
+/// where the run ended before; [`end`](Run::end) tells why.
+///
+/// It takes by [`take_of`], with a parker and a list of its own: so nothing behind the last value is taken, and the run goes on. Refused
+/// as `NoMemory`, and then the values that were taken are let go: who has to keep them calls `take_of`.
+pub fn take_list<R, S: Run>(rt: &R, chain: &mut S, count: usize) -> Result<Vec<S::Item>, Refusal>
+where
+    R: Wait + RandomSource + AllocGlobal,
+    ensures took { IfOk result (λ list. TookAll S.polled count chain.old [] list.items chain.new
+        ⊎ ((cause : _) × EndedAfter S.polled S.may chain.old [] list.items cause chain.new)) }
+    ensures refused { IfErr result (λ refusal. (refusal ≡ NoMemory) × ((xs : _) × Gave S.polled chain.old xs chain.new)) }
+{
+    let mut parker = Parker::new(rt)?;
+    let mut list = Vec::new(rt.alloc());
+    take_of(rt, &mut parker, chain, count, &mut list)?;
+    Ok(list)
 }
 
 // Adds the values of `chain` that are there to `out`, `left` at most, within one turn. Pending where the chain is, and then `left` tells
