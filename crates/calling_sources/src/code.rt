@@ -52,6 +52,7 @@ impl<C: Copy> Clone for Called<C> {
 /// again. It calls it in its polls alone, and no more once it has a value or a fault. No poll is pending where the code is always done
 /// (`prompt`). A start takes no memory and calls nothing. That two calls answer alike isn't claimed.
 pub fn calling<C: Call>(code: C) -> Called<C>
+    ensures made { result ≡ record { code = code; is_done = false } }
     ensures gives { Within (GivesOnce (C.answers code)) (⟦<Called<C> as Flow>⟧.may result) }
     ensures prompt { IsTrue (C.prompt code) → IsTrue (⟦<Called<C> as Flow>⟧.prompt result) }
     ensures starts { IsTrue (⟦<Called<C> as Flow>⟧.starts result) }

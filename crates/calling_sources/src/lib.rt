@@ -9,6 +9,8 @@
 #![tactic(auto)]
 
 mod code;
+mod hand;
 
 pub use code::{Call, Called, calling};
 pub use cold_flow::{Flow, Step};
+pub use hand::{HandedValues, handed};
