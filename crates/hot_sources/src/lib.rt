@@ -17,9 +17,9 @@ mod ringing;
 mod sources;
 mod waiting;
 
-pub use cold_flow::{Apply, Cause, Event, Refusal, Run, Sift, Sifted, Testing, Word};
+pub use cold_flow::{Apply, Cause, Differing, Event, Refusal, Run, Sift, Sifted, Testing, Word};
 pub use opening::emitter_and_subscription;
-pub use operators::distinct::{Unequal, distinct};
+pub use operators::distinct::distinct;
 pub use operators::filter::filter;
 pub use operators::map::{Changing, map};
 pub use ringing::{OverStates, collect_list, next_rung};

@@ -16,6 +16,15 @@ pub struct Differing<T> {
     last: Option<T>,
 }
 
+impl<T: Copy> Differing<T> {
+    /// One that has seen no value yet, and so leaves the first one in.
+    pub fn new() -> Differing<T>
+        ensures { result ≡ record { last = None } }
+    {
+        Differing { last: None }
+    }
+}
+
 impl<T: Copy> Clone for Differing<T> {
     ghost is_clone = { λ value copy. copy ≡ value };
 
@@ -37,7 +46,7 @@ pub fn distinct<T: Copy + Eq, F: Flow<Item = T>>(source: F) -> Sifted<F, Differi
     ensures lasts { IsWithinPolls (F.polls source) (⟦<Sifted<F, Differing<T>> as Flow>⟧.polls result) }
     ensures starts { IsTrue (F.starts source) → IsTrue (⟦<Sifted<F, Differing<T>> as Flow>⟧.starts result) }
 {
-    Sifted::new(source, Differing { last: None })
+    Sifted::new(source, Differing::new())
 }
 
 impl<T: Copy + Eq> Sift<T> for Differing<T> {
