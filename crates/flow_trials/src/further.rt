@@ -2,14 +2,15 @@
 ghost use Rattle.std.specs.Prelude.{◌≡◌, ◌+◌, ◌*◌, ◌/◌, ◌%◌, ◌^◌, ◌==◌, ◌&&◌, Some, None, nat_lt, if◌then◌else◌};
 ghost use Rattle.flow_terms.specs.declared.few.Few.TheVariants as few;
 ghost use Rattle.more_operators.specs.declared.operators.onward.Onward.TheVariants.{More, Stop};
+ghost use Rattle.flow_trials.specs.Digits.{next_digit, mark_of};
 
 use crate::operators::Answer;
 use crate::operators::checks::{Judged, compare_flow};
 use crate::tools::{Sum, Trial};
 use cold_flow::{Apply, Caught, Few, Flow, Refusal, catch_with, map};
 use more_operators::{
-    Act, Again, Onward, distinct_by, drop_while, filter_map, on_each, on_empty, on_start, retry,
-    retry_when, running_reduce, scan, take_while, transform_while, with_index,
+    Act, Again, Chunk, Onward, chunked, distinct_by, drop_while, filter_map, on_each, on_empty,
+    on_start, retry, retry_when, running_reduce, scan, take_while, transform_while, with_index,
 };
 
 /// An operator of `more_operators`.
@@ -39,6 +40,8 @@ pub(crate) enum Further {
     OnEmpty,
     /// Nothing for 0, twice each value below 4, and once the first that is 4 or more.
     TransformWhile,
+    /// Chunks of so many values, each as its length and three digits.
+    Chunked(u32),
 }
 
 /// Below a number.
@@ -133,6 +136,31 @@ impl Apply<u64> for Twice {
     }
 }
 
+// A number, and one more digit.
+fn with_digit(number: u64, digit: Option<u64>) -> u64
+    ensures { result ≡ next_digit number digit }
+{
+    number.wrapping_mul(10).wrapping_add(digit.unwrap_or(0))
+}
+
+/// How many values a chunk has, and the first three as digits behind that.
+#[derive(Clone, Copy)]
+struct Marked;
+
+impl Apply<Chunk<u64>> for Marked {
+    type Out = u64;
+
+    ghost gives = { λ _ values. mark_of values };
+
+    fn apply(&self, argument: Chunk<u64>) -> u64 {
+        let two = with_digit(
+            with_digit(u64::from(argument.len()), argument.get(0)),
+            argument.get(1),
+        );
+        with_digit(two, argument.get(2))
+    }
+}
+
 /// Counts how often it acts.
 #[derive(Clone, Copy)]
 struct Tally(u64);
@@ -183,6 +211,7 @@ pub(crate) fn compare_further<F: Flow<Item = u64, Fault = u64> + Copy>(
         Further::OnStart => compare_flow(trial, judged, on_start(one, Few::Two(8, 9))),
         Further::OnEmpty => compare_flow(trial, judged, on_empty(one, Few::Two(8, 9))),
         Further::TransformWhile => compare_flow(trial, judged, transform_while(one, Twice)),
+        Further::Chunked(size) => compare_flow(trial, judged, map(chunked(one, *size)?, Marked)),
         _ => compare_each(trial, operator, one, judged),
     }
 }

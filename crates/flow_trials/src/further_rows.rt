@@ -223,6 +223,79 @@ const CASES: &[Case<'_>] = &[
         check: Check::Asks(&[(Poll::Pending, (64, 0, 0)), (ENDED, (71, 0, 0))]),
     },
     Case {
+        name: "chunked, the last chunk shorter",
+        operator: Operator::More(Further::Chunked(2)),
+        sources: [STEPS, &[], &[]],
+        before: (NEVER, NEVER, NEVER),
+        check: Check::Asks(&[
+            (Poll::Pending, (2, 0, 0)),
+            (Poll::Ready(Event::Value(2_230)), (3, 0, 0)),
+            (Poll::Ready(Event::Value(1_400)), (5, 0, 0)),
+            (ENDED, (5, 0, 0)),
+            (ENDED, (5, 0, 0)),
+        ]),
+    },
+    Case {
+        name: "chunked, the last chunk full",
+        operator: Operator::More(Further::Chunked(3)),
+        sources: [STEPS, &[], &[]],
+        before: (NEVER, NEVER, NEVER),
+        check: Check::Asks(&[
+            (Poll::Pending, (2, 0, 0)),
+            (Poll::Ready(Event::Value(3_234)), (4, 0, 0)),
+            (ENDED, (5, 0, 0)),
+        ]),
+    },
+    Case {
+        name: "chunked by one",
+        operator: Operator::More(Further::Chunked(1)),
+        sources: [&[Step::Value(2), Step::Value(3)], &[], &[]],
+        before: (NEVER, NEVER, NEVER),
+        check: Check::Asks(&[
+            (Poll::Ready(Event::Value(1_200)), (1, 0, 0)),
+            (Poll::Ready(Event::Value(1_300)), (2, 0, 0)),
+            (ENDED, (3, 0, 0)),
+        ]),
+    },
+    Case {
+        name: "chunked by 16",
+        operator: Operator::More(Further::Chunked(16)),
+        sources: [&[Step::Value(7); 17], &[], &[]],
+        before: (NEVER, NEVER, NEVER),
+        check: Check::Asks(&[
+            (Poll::Ready(Event::Value(16_777)), (16, 0, 0)),
+            (Poll::Ready(Event::Value(1_700)), (18, 0, 0)),
+            (ENDED, (18, 0, 0)),
+        ]),
+    },
+    Case {
+        name: "chunked where it fails",
+        operator: Operator::More(Further::Chunked(2)),
+        sources: [
+            &[
+                Step::Value(2),
+                Step::Value(3),
+                Step::Value(4),
+                Step::Fail(7),
+            ],
+            &[],
+            &[],
+        ],
+        before: (NEVER, NEVER, NEVER),
+        check: Check::Asks(&[
+            (Poll::Ready(Event::Value(2_230)), (2, 0, 0)),
+            (FAILED, (4, 0, 0)),
+            (FAILED, (4, 0, 0)),
+        ]),
+    },
+    Case {
+        name: "chunked where there is none",
+        operator: Operator::More(Further::Chunked(2)),
+        sources: [&[], &[], &[]],
+        before: (NEVER, NEVER, NEVER),
+        check: Check::Asks(&[(ENDED, (1, 0, 0))]),
+    },
+    Case {
         name: "retry",
         operator: Operator::More(Further::Retry),
         sources: [&[Step::Value(2), Step::Fail(7)], &[], &[]],
@@ -383,6 +456,13 @@ const CANCELLED: &[Case<'_>] = &[
     Case {
         name: "transform_while",
         operator: Operator::More(Further::TransformWhile),
+        sources: [STEPS, &[], &[]],
+        before: (NEVER, NEVER, NEVER),
+        check: Check::Cancelled,
+    },
+    Case {
+        name: "chunked",
+        operator: Operator::More(Further::Chunked(2)),
         sources: [STEPS, &[], &[]],
         before: (NEVER, NEVER, NEVER),
         check: Check::Cancelled,

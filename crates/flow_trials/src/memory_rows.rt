@@ -12,7 +12,7 @@ use cold_flow::{
 };
 use flow_buffer::{Drain, Feed, Fill, split};
 use futures::task::Poll;
-use more_operators::{debounce, list_at};
+use more_operators::{Chunk, chunked, debounce, list_at};
 use std::alloc::{AllocError, AllocGlobal, Global};
 use std::process::Abort;
 use std::random::RandomSource;
@@ -426,6 +426,44 @@ fn a_list_at_moments_takes_memory(rt: HostRuntime) -> Result<(), Fail> {
         list => list,
     };
     trial.compare("list_at", list, Ok(true));
+    trial.assert_none(&rt);
+    Ok(())
+}
+
+/// Appends the chunks of a flow to a list, each once more where memory is refused, and compares the list after each.
+fn compare_appended<F: Flow<Item = Chunk<u64>>>(
+    trial: &mut Trial,
+    flow: F,
+    wanted: &[&[u64]],
+) -> Result<(), Refusal> {
+    let mut run = flow.start()?;
+    let mut values = Vec::new(trial.alloc);
+    for list in wanted {
+        if let Poll::Ready(Event::Value(chunk)) = trial.task.enter(|cx| run.poll_next(cx))
+            && chunk.append_to(&mut values).is_err()
+        {
+            chunk.append_to(&mut values)?;
+        }
+        trial.compare("append_to", values.as_slice(), *list);
+    }
+    Ok(())
+}
+
+/// The same of the values of a flow, in chunks of so many.
+fn compare_chunks<F: Flow<Item = u64>>(
+    trial: &mut Trial,
+    source: F,
+    size: u32,
+    wanted: &[&[u64]],
+) -> Result<(), Refusal> {
+    compare_appended(trial, chunked(source, size)?, wanted)
+}
+
+#[test]
+fn appended_chunks_take_memory(rt: HostRuntime) -> Result<(), Fail> {
+    let mut trial = Trial::new(&rt)?;
+    let wanted: &[&[u64]] = &[&[0, 1, 2, 3, 4], &[0, 1, 2, 3, 4, 5, 6]];
+    compare_chunks(&mut trial, range::<u64>(0, 7), 5, wanted)?;
     trial.assert_none(&rt);
     Ok(())
 }

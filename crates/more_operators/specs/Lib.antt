@@ -15,6 +15,10 @@ pub mod HeldLaws
 pub mod Relayed
 pub mod RelayedLaws
 pub mod Empty
+pub mod ChunkLaws
+pub mod Chunked
+pub mod Gathers
+pub mod ChunkedLaws
 pub mod TransformWhile
 pub mod Decided
 pub mod DecidedLaws

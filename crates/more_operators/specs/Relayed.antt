@@ -1,8 +1,8 @@
 -- What an operator makes of a source that gives up to four values for each value, and may finish before its source.
-use Rattle.std.specs.Prelude.{List, [], ◌∷◌, Option, Some, None}
+use Rattle.std.specs.Prelude.{ℕ, ◌<◌, ◌⊎◌, IsSome, List, [], ◌∷◌, Option, Some, None}
 use Rattle.flow_terms.specs.declared.few.Few.{Few}
 use Rattle.flow_terms.specs.declared.few.Few.TheVariants.{Zero}
-use Rattle.flow_terms.specs.Few.{values_of}
+use Rattle.flow_terms.specs.Few.{values_of, split}
 use Rattle.cold_flow.specs.declared.cause.Cause.{Cause}
 use Rattle.cold_flow.specs.declared.cause.Cause.TheVariants.{Finished, Failed, Cancelled, Refused}
 use Rattle.cold_flow.specs.declared.operators.closing.Closing.{Closing}
@@ -46,6 +46,10 @@ closing_by (Stop few) = Last
 abbrev pub relayed_on : {B E : Type 0} → Onward B → Trace B E → Trace B E
 relayed_on (More few) rest = behind (values_of few) rest
 relayed_on (Stop few) rest = ended_by (values_of few) Finished
+
+-- Something is given, or fewer values than before may give nothing from here on. Within 64 values one poll gives something.
+abbrev pub GivesSoon : {B : Type 0} → ℕ → Few B → ℕ → Type 0
+GivesSoon before given later = (before < 64) × (IsSome (split given) ⊎ (later < before))
 
 module _ {M A B : Type 0} (takes : M → A → Onward B) (after : M → A → M) (closes : M → Few B) where
   -- where takes says what a value gives, after how it stands then, and closes what `Finished` gives

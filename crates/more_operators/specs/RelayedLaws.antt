@@ -1,5 +1,5 @@
 -- Laws of operators that give up to four values for each value of their source.
-use Rattle.std.specs.Prelude.{◌≡◌, ◌+◌, ◌*◌, ◌<◌, ◌≤◌, ◌&&◌, ◌||◌, Bool, true, false, IsTrue, IsSome, List, [], ◌∷◌, ◌++◌, Option, Some, None, refl}
+use Rattle.std.specs.Prelude.{◌≡◌, ℕ, zero, suc, ◌+◌, ◌<◌, ◌&&◌, ◌||◌, Bool, true, false, IsTrue, IsSome, List, [], ◌∷◌, ◌++◌, Option, Some, None, refl}
 use Rattle.std.specs.Iterator.{Count, IsFinite, size}
 use Rattle.std.proofs.Common.{ap, sym, subst, inl, inr, arith}
 use Rattle.flow_terms.specs.declared.few.Few.{Few}
@@ -7,6 +7,7 @@ use Rattle.flow_terms.specs.declared.few.Few.TheVariants.{Zero}
 use Rattle.flow_terms.specs.Few.{values_of, split}
 use Rattle.cold_flow.specs.declared.cause.Cause.{Cause}
 use Rattle.cold_flow.specs.declared.cause.Cause.TheVariants.{Finished, Failed, Cancelled, Refused}
+use Rattle.cold_flow.specs.declared.operators.closing.Closing.{Closing}
 use Rattle.cold_flow.specs.declared.operators.closing.Closing.TheVariants.{Open, Last}
 use Rattle.cold_flow.specs.Trace.{Trace, ◌⊑◌, so_far, ended_by, led_by}
 use Rattle.cold_flow.specs.Poll.{Traces, Within, After, Through, Makes, MakesExactly, Fixes, IsWithinPolls}
@@ -17,9 +18,9 @@ use Rattle.more_operators.specs.declared.operators.onward.Onward.{Onward}
 use Rattle.more_operators.specs.declared.operators.onward.Onward.TheVariants.{More, Stop}
 use Rattle.more_operators.specs.Retry.{behind}
 use Rattle.more_operators.specs.RetryLaws.{behind-begins}
-use Rattle.more_operators.specs.Held.{Holds, held_polls}
-use Rattle.more_operators.specs.HeldLaws.{len-four}
-use Rattle.more_operators.specs.Relayed.{relayed, relayed_on, relayed_end, relayed_trace, given_by, held_at_end, closing_at_end}
+use Rattle.more_operators.specs.Held.{Holds, held_polls, first_event}
+use Rattle.more_operators.specs.HeldLaws.{len-four, gives_some}
+use Rattle.more_operators.specs.Relayed.{relayed, relayed_on, relayed_end, relayed_trace, given_by, held_at_end, closing_at_end, GivesSoon}
 
 module _ {B E : Type 0} where
   on-grows : (given : Onward B) (t u : Trace B E) → t ⊑ u → relayed_on given t ⊑ relayed_on given u
@@ -140,7 +141,7 @@ nearer_one old new fewer h = let now = fewer h in (now.0, omega arith)
 pub never_true : {X : Type 0} → IsTrue false → X
 never_true h = absurd (let wrong : false ≡ true = h in cc)
 
-both-true : (a b : Bool) → IsTrue a → IsTrue b → IsTrue (a && b)
+pub both-true : (a b : Bool) → IsTrue a → IsTrue b → IsTrue (a && b)
 both-true true b h k = k
 both-true false b h k = h
 
@@ -152,11 +153,26 @@ pub second-true : (a b : Bool) → IsTrue (a && b) → IsTrue b
 second-true true b h = h
 second-true false b h = absurd (cc)
 
--- one that gives something for each value of a source that never answers pending
-pub more_prompt : {B Ready : Type 0} (held : Few B) (given : Onward B) (steady prompt next later : Bool) → More held ≡ given
-    → (IsTrue steady → IsSome (split (given_by given)) × IsTrue next) → (IsTrue prompt → Ready × IsTrue later)
-    → IsTrue (steady && prompt) → IsSome (split held) × IsTrue (next && later)
-more_prompt {B} held given steady prompt next later is each once h =
+-- what gives something for each value
+pub gives_at_once : {B : Type 0} (given : Few B) → IsSome (split given) → GivesSoon 0 given 0
+gives_at_once given some = (omega arith, inl some)
+
+-- where nothing was given
+pub gives_later : {B E : Type 0} (closing : Closing E) (held : Few B) (before later : ℕ) → first_event closing (split held) ≡ None
+    → GivesSoon before held later → (before < 64) × (later < before)
+gives_later closing held before later none (soon, inl some) = absurd (gives_some closing (split held) none some)
+gives_later closing held before later none (soon, inr fewer) = (soon, fewer)
+
+-- after one more value that gave nothing
+pub still_soon : (asked before later : ℕ) → (0 < asked → asked + before < 64) → before < 64 → later < before → asked + 1 + later < 64
+still_soon zero before later within soon fewer = omega arith
+still_soon (suc asked) before later within soon fewer = let now = within (omega arith) in omega arith
+
+-- one that gives something soon, over a source that never answers pending
+pub more_prompt : {B Ready : Type 0} (before after : ℕ) (held : Few B) (given : Onward B) (steady prompt next later : Bool) → More held ≡ given
+    → (IsTrue steady → GivesSoon before (given_by given) after × IsTrue next) → (IsTrue prompt → Ready × IsTrue later)
+    → IsTrue (steady && prompt) → GivesSoon before held after × IsTrue (next && later)
+more_prompt {B} before after held given steady prompt next later is each once h =
     let gave = each (first-true steady prompt h) in
     let later_too = once (second-true steady prompt h) in
-    (subst (λ (o : Onward B). IsSome (split (given_by o))) (sym is) gave.0, both-true next later gave.1 later_too.1)
+    (subst (λ (o : Onward B). GivesSoon before (given_by o) after) (sym is) gave.0, both-true next later gave.1 later_too.1)

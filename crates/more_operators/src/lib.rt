@@ -15,6 +15,8 @@ pub use ends::reduce::{Joining, reduce};
 pub use ends::single::{Lone, Only, single};
 pub use operators::act::Act;
 pub use operators::again::Again;
+pub use operators::chunk::Chunk;
+pub use operators::chunked::{Gathering, chunked};
 pub use operators::debounce::{Quiet, debounce};
 pub use operators::distinct_by::{DifferingBy, distinct_by};
 pub use operators::drop_while::{Dropping, drop_while};

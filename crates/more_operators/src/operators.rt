@@ -3,6 +3,8 @@
 
 pub mod act;
 pub mod again;
+pub mod chunk;
+pub mod chunked;
 pub mod debounce;
 pub mod distinct_by;
 pub mod drop_while;

@@ -57,6 +57,8 @@ pub fn on_empty<F: Flow>(
 }
 
 impl<T: Copy> Relay<T> for Defaulting<T> {
+    ghost use Rattle.more_operators.specs.RelayedLaws.{gives_at_once};
+
     type Out = T;
 
     ghost takes = { λ _ x. More (One x) };
@@ -83,5 +85,5 @@ impl<T: Copy> Relay<T> for Defaulting<T> {
         }
     }
 
-    ghost gives_each = { λ _ _ _. (refl, refl) };
+    ghost gives_soon = { λ _ x _. (gives_at_once (One x) refl, refl) };
 }

@@ -33,6 +33,8 @@ pub fn on_start<F: Flow>(source: F, first: Few<F::Item>) -> Relayed<F, Unchanged
 }
 
 impl<T: Copy> Relay<T> for Unchanged {
+    ghost use Rattle.more_operators.specs.RelayedLaws.{gives_at_once};
+
     type Out = T;
 
     ghost takes = { λ _ x. More (One x) };
@@ -51,5 +53,5 @@ impl<T: Copy> Relay<T> for Unchanged {
         Few::Zero
     }
 
-    ghost gives_each = { λ _ _ _. (refl, refl) };
+    ghost gives_soon = { λ _ x _. (gives_at_once (One x) refl, refl) };
 }

@@ -1,7 +1,7 @@
 //! What `on_start`, `on_empty` and `transform_while` have in common: up to four values for each value of the source, and an
 //! end that may come before its.
 
-ghost use Rattle.std.specs.Prelude.{◌≡◌, ◌⊎◌, ◌&&◌, ◌||◌, Bool, false, IsTrue, IsSome, IfSome, IfNone};
+ghost use Rattle.std.specs.Prelude.{◌≡◌, ℕ, ◌⊎◌, ◌&&◌, ◌||◌, Bool, false, IsTrue, IsSome, IfSome, IfNone};
 ghost use Rattle.futures.specs.Poll.{OnPending};
 ghost use Rattle.futures.specs.Task.{IsArmed, Keeps};
 ghost use Rattle.futures.specs.declared.task.Poll.TheVariants.{Pending};
@@ -13,7 +13,7 @@ ghost use Rattle.cold_flow.specs.Closing.{given_cause, is_open, is_prompt, answe
 ghost use Rattle.cold_flow.specs.Poll.{Through, Within, Makes, MakesExactly, IsWithinPolls};
 ghost use Rattle.cold_flow.specs.Polled.{HasWaited, IsNearer, Rests};
 ghost use Rattle.more_operators.specs.Held.{Holds, held_polls};
-ghost use Rattle.more_operators.specs.Relayed.{given_by, relayed_trace, held_at_end, closing_at_end};
+ghost use Rattle.more_operators.specs.Relayed.{given_by, relayed_trace, held_at_end, closing_at_end, GivesSoon};
 ghost use Rattle.more_operators.specs.declared.operators.onward.Onward.{Onward};
 ghost use Rattle.more_operators.specs.Retry.{behind};
 
@@ -36,8 +36,11 @@ pub trait Relay<T>: Copy {
     // What it gives where the source has finished, before that end.
     ghost closes: { Self → Few Self.Out };
 
-    // Each value of the source gives something.
+    // One poll of a source that never answers pending gives something.
     ghost steady: { Self → Bool } = { λ _. false };
+
+    // At most so many values in a row give nothing from here on.
+    ghost silent: { Self → ℕ } = { λ _. 0 };
 
     /// What is given for the next value of the source.
     fn take(&mut self, value: T) -> Onward<Self::Out>
@@ -48,7 +51,8 @@ pub trait Relay<T>: Copy {
     fn close(&self) -> Few<Self::Out>
         ensures { result ≡ closes self.now };
 
-    ghost gives_each: { (s : Self) (x : T) → IsTrue (steady s) → IsSome (split (given_by (takes s x))) × IsTrue (steady (after s x)) };
+    ghost gives_soon: { (s : Self) (x : T) → IsTrue (steady s)
+        → GivesSoon (silent s) (given_by (takes s x)) (silent (after s x)) × IsTrue (steady (after s x)) };
 }
 
 /// The flow of an operator that gives up to four values before its source, for each value of it, and where it has finished.
@@ -135,7 +139,8 @@ fn ask<U: Copy, S: Run, M: Relay<S::Item, Out = U>>(
     ensures nearer { IfSome result (λ h. h.closing ≡ Open → IsNearer 1 (S.polls source.old) (S.polls source.new)) }
     ensures later { IfNone result (IsNearer 1 (S.polls source.old) (S.polls source.new)) }
     ensures prompt { IsTrue (M.steady relay.old && S.prompt source.old) → IsSome result
-        × IfSome result (λ h. h.closing ≡ Open → IsSome (split h.held) × IsTrue (M.steady relay.new && S.prompt source.new)) }
+        × IfSome result (λ h. h.closing ≡ Open
+        → GivesSoon (M.silent relay.old) h.held (M.silent relay.new) × IsTrue (M.steady relay.new && S.prompt source.new)) }
     ensures stops { IfSome result (λ h. IsTrue (is_open h.closing || S.stopped source.new)) }
     ensures polled { IfNone result (S.polled source.old Pending source.new) }
     ensures armed { IfNone result (IsArmed cx.new) }

@@ -67,5 +67,5 @@ impl<T: Copy, U: Copy, G: Apply<T, Out = Onward<U>>> Relay<T> for Halting<G> {
         Few::Zero
     }
 
-    ghost gives_each = { λ _ _ never. never_true never };
+    ghost gives_soon = { λ _ _ never. never_true never };
 }

@@ -3,7 +3,6 @@ use Rattle.cold_flow.specs.declared.cause.Cause.TheVariants.{Finished}
 use Rattle.cold_flow.specs.Laws.{Through-within}
 use Rattle.more_operators.specs.RelayedLaws.{relay_more, relay_stops, relay_ends, more_within, stop_within, end_within, end_closed, end_stops}
 use Rattle.more_operators.specs.RelayedLaws.{nearer_one, second-true, more_prompt}
-use Rattle.more_operators.specs.Relayed.{relayed_trace}
 use Rattle.more_operators.proofs.operators.relay.ask.Goals as goal
 
 -- values, after which it goes on
@@ -26,8 +25,8 @@ returns-in-More-clause-prompt g c on =
     let was = c.args.relay.now in (
       refl,
       λ going. rw c.take.ensures.after
-          (more_prompt c.in-More.held _ (relay.steady was) _ _ _ (sym c.in-More.is ∙ c.take.ensures.takes)
-          (g.met.M.Relay.gives_each was c.in-Ready-Value.value) c.in-Ready-Value.ensures.prompt on),
+          (more_prompt (relay.silent was) _ c.in-More.held _ (relay.steady was) _ _ _ (sym c.in-More.is ∙ c.take.ensures.takes)
+          (g.met.M.Relay.gives_soon was c.in-Ready-Value.value) c.in-Ready-Value.ensures.prompt on),
     )
 
 -- the last values

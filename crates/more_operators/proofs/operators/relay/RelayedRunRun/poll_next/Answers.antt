@@ -3,8 +3,8 @@ use Rattle.flow_terms.specs.Few.{split}
 use Rattle.cold_flow.specs.ClosingLaws.{open_gave, open_rests}
 use Rattle.more_operators.specs.HeldLaws.{settled_narrows, settled_approaches, asks_open, asks_empty, asked_narrows, asked_approaches, asked_none, pends_narrows}
 use Rattle.more_operators.specs.HeldLaws.{pends_approaches}
-use Rattle.more_operators.specs.HeldLaws.{ends_by, stops_by, stays_by, prompt_by, prompt_once, stopped_by, gives_some, holds_none, nearer_more, nearer_enough}
-use Rattle.more_operators.specs.RelayedLaws.{never_true}
+use Rattle.more_operators.specs.HeldLaws.{ends_by, stops_by, stays_by, prompt_by, prompt_once, stopped_by, holds_none, nearer_more, nearer_enough}
+use Rattle.more_operators.specs.RelayedLaws.{never_true, gives_later, still_soon}
 use Rattle.more_operators.proofs.operators.relay.RelayedRunRun.poll_next.Goals as goal
 
 -- what was held, or the end
@@ -60,7 +60,7 @@ loop-asked-init g c =
       holds = rw (c.settle.ensures.held, follows, empty) refl;
       narrows = λ t h. h;
       nearer = λ known. (known, omega arith);
-      prompt = λ on. (refl, on);
+      prompt = λ on. ((λ none. absurd (omega (arith, none))), on);
       kept = λ fact h. h;
     }
 
@@ -127,7 +127,11 @@ loop-asked-preserved g c =
       holds = rw (c.settle-in-loop-asked.ensures.held, follows, empty) refl;
       narrows = λ t h. before.narrows t (asked_none _ _ _ _ _ follows empty c.in-Some-ask.ensures.narrows t h);
       nearer = nearer_more _ _ _ _ before.nearer (c.in-Some-ask.ensures.nearer follows);
-      prompt = λ on. absurd (gives_some now.closing (split now.held) none ((c.in-Some-ask.ensures.prompt (before.prompt on).1).1 follows).0);
+      prompt = λ on.
+          let was = before.prompt on in
+          let came = (c.in-Some-ask.ensures.prompt was.1).1 follows in
+          let fewer = gives_later now.closing now.held _ _ none came.0 in
+          ((λ _. still_soon _ _ _ was.0 fewer.0 fewer.1), came.1);
       kept = λ fact h. c.ask.ensures.kept fact (before.kept fact h);
     }
 
@@ -184,8 +188,8 @@ pub returns-clause-prompt : goal.returns-clause-prompt
 returns-clause-prompt g c on =
     let before = c.loop-asked.invariant in
     let source = rw before.was at on in
-    let first = (before.prompt source).0 in
-    absurd (omega (arith, c.loop-asked-test.false))
+    let few = (before.prompt source).0 (omega (arith, c.loop-asked-test.false)) in
+    absurd (omega (arith, few, c.loop-asked-test.false))
 
 pub returns-clause-polled : goal.returns-clause-polled
 returns-clause-polled g c =

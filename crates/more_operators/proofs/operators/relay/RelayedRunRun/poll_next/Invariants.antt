@@ -1,4 +1,4 @@
-use Rattle.std.proofs.Common.{◌≡◌, ◌&&◌, IsTrue}
+use Rattle.std.proofs.Common.{◌≡◌, ◌+◌, ◌<◌, ◌&&◌, IsTrue}
 use Rattle.futures.specs.Task.{Keeps}
 use Rattle.flow_terms.specs.declared.few.Few.TheVariants.{Zero}
 use Rattle.cold_flow.specs.declared.operators.closing.Closing.TheVariants.{Open}
@@ -17,6 +17,6 @@ invariant-loop-asked g l = record {
       (Through (relayed_trace g.M.Relay.takes g.M.Relay.after g.M.Relay.closes l.self.relay) (g.S.Run.may l.self.source));
   nearer : IsNearer l._asked (g.S.Run.polls l.fn.self.source) (g.S.Run.polls l.self.source);
   prompt : IsTrue (g.M.Relay.steady l.fn.self.relay && g.S.Run.prompt l.fn.self.source)
-      → (l._asked ≡ 0) × IsTrue (g.M.Relay.steady l.self.relay && g.S.Run.prompt l.self.source);
+      → (0 < l._asked → l._asked + g.M.Relay.silent l.self.relay < 64) × IsTrue (g.M.Relay.steady l.self.relay && g.S.Run.prompt l.self.source);
   kept : Keeps l.fn.cx l.cx;
 }
