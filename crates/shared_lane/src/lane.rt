@@ -1,4 +1,5 @@
-//! The lane that a sequencer and its readers share, and one function for each kind of atomic step on its words.
+//! The lane that a sequencer and its readers share, and one function for each kind of atomic step that the sequencer makes on its
+//! words. Those of a reader are in `reader.rt`.
 //!
 //! # The words
 //! ```text
@@ -23,24 +24,21 @@
 //! Several values may be in flight: the sequencer stores the cells of the next numbers one after another, and accepts them by
 //! one store of the tail. As a reader may load several cells from its position on, and receive them by one exchange.
 //!
-//! Each step's contract says what it did to the view of the seat that made it. `index_of`, `index_from` and `next_index` touch
-//! no word and find the index of a number's cell.
-ghost use Rattle.std.specs.Prelude.{◌≡◌, ◌<◌, ℕ, length, IfOk, ◌+◌, ◌≤◌, ◌≢◌, ◌%◌, [], true, false};
+//! Each step's contract says what it did to the view of the seat that made it.
+ghost use Rattle.std.specs.Prelude.{◌≡◌, ◌<◌, length, IfOk, ◌+◌, ◌≤◌, ◌≢◌, [], true, false};
 ghost use Rattle.shared_lane.specs.Views.{lane_of};
-ghost use Rattle.shared_lane.specs.Layout.{cursor_word, cell_index, cell_word};
-ghost use Rattle.shared_lane.specs.Law.{closed, IsShape};
-ghost use Rattle.shared_lane.specs.Seats.{IsNewLane, IsSeatOf, IsMeetingAt, IsSameSeat, IsReaderAt};
+ghost use Rattle.shared_lane.specs.Layout.{cursor_word, cell_index};
+ghost use Rattle.shared_lane.specs.Law.{IsShape};
+ghost use Rattle.shared_lane.specs.Seats.{IsNewLane, IsSeatOf, IsMeetingAt, IsSameSeat};
 ghost use Rattle.shared_lane.specs.Steps.{next_number, next_to_store, known_of, IsRoomy, IsRoomyAt, MayOpenAt, Surveyed, Filled, FilledNext, Accepted, AcceptedAll};
-ghost use Rattle.shared_lane.specs.Steps.{Dropped, Opened, Met, position, next_to_pick, Noticed, Picked, PickedNext, Took, TookPicked, Looked, HasQuit, witness};
-ghost use Rattle.shared_lane.specs.Steps.{handed_out, new_reader, receipt_of, without_reader, only_reader, telling, joined, end_note, hearing_end};
+ghost use Rattle.shared_lane.specs.Steps.{Dropped, Opened, Met, handed_out, new_reader, receipt_of, hearing_end};
 
 use crate::plays::{
-    Accept, AcceptAll, Copied, CopiedAll, CopiedEnd, Enter, Fill, FillNext, HandOut, Hear, HearEnd,
-    Leave, Look, Lose, Meet, Notice, Open, Pick, PickNext, Quit, Survey, Take, TakePicked, Told,
+    Accept, AcceptAll, Copied, Fill, FillNext, HandOut, HearEnd, Lose, Meet, Open, Survey, Told,
 };
 use crate::rule::{LaneRule, LaneSeat};
 use crate::view::{Shape, View};
-use crate::words::{CLOSED, DISTANCE, Words, lay};
+use crate::words::{Words, cell_at, cursor_at, lay};
 use atomic_table::Table;
 use std::alloc::{AllocError, Allocator};
 use std::marker::{Brand, Model};
@@ -90,46 +88,7 @@ impl<A: Allocator> Lane<A> {
     }
 }
 
-/// The word of a place's cursor.
-#[tactic(auto, unfolding(crate::specs::Layout::cursor_word))]
-fn cursor_at(place: usize) -> usize
-    requires { place < 1024 }
-    ensures { result ≡ cursor_word place }
-{
-    DISTANCE + DISTANCE * place
-}
-
-/// The word of the cell at an index, which is that of each number with this index.
-#[tactic(auto, unfolding(crate::specs::Layout::cell_word))]
-fn cell_at(shape: &Shape, cell: usize) -> usize
-    requires cell { cell < shape.now.cells }
-    requires sized { (shape.now.cells ≤ 65536) × (shape.now.places ≤ 1024) }
-    ensures { (n : ℕ) → cell ≡ cell_index shape.now n → result ≡ cell_word shape.now n }
-{
-    DISTANCE + DISTANCE * shape.places + cell
-}
-
-/// The index of a number's cell, by a division.
-#[tactic(auto, unfolding(crate::specs::Layout::cell_index))]
-fn index_in(shape: &Shape, number: u64) -> usize
-    requires { (0 < shape.now.cells) × (shape.now.cells ≤ 65536) }
-    ensures { result ≡ cell_index shape.now number }
-{
-    (number % shape.cells as u64) as usize
-}
-
-/// The index after one, which is that of the next number's cell.
-fn index_after(shape: &Shape, cell: usize) -> usize
-    requires { 0 < shape.now.cells }
-    ensures { (n : ℕ) → cell ≡ cell_index shape.now n → result ≡ cell_index shape.now (n + 1) }
-{
-    if cell >= shape.cells - 1 {
-        return 0;
-    }
-    cell + 1
-}
-
-// How a lane's words are made, and the cell of a number is found.
+// How a lane's words are made.
 impl<A: Allocator> Words<A> {
     /// A lane where each place is closed, and the sequencer's seat.
     #[tactic(auto, using(crate::proofs::Apart::tail_within))]
@@ -146,34 +105,6 @@ impl<A: Allocator> Words<A> {
             &shape,
         )?;
         Ok((Words { table, shape }, seat))
-    }
-
-    /// The index of a number's cell, by a division.
-    #[inline]
-    pub fn index_of(&self, number: u64) -> usize
-        ensures { result ≡ cell_index self.now.shape number }
-    {
-        index_in(&self.shape, number)
-    }
-
-    /// The index of a number's cell, where that of `from` is known: without a division where both numbers are one.
-    #[inline]
-    pub fn index_from(&self, from: u64, cell: usize, number: u64) -> usize
-        requires { cell ≡ cell_index self.now.shape from }
-        ensures { result ≡ cell_index self.now.shape number }
-    {
-        if number == from {
-            return cell;
-        }
-        self.index_of(number)
-    }
-
-    /// The index of the next number's cell, which is counted up.
-    #[inline]
-    pub fn next_index(&self, cell: usize) -> usize
-        ensures { (n : ℕ) → cell ≡ cell_index self.now.shape n → result ≡ cell_index self.now.shape (n + 1) }
-    {
-        index_after(&self.shape, cell)
     }
 }
 
@@ -308,89 +239,6 @@ impl<A: Allocator> Words<A> {
     }
 }
 
-// The steps of a reader.
-impl<A: Allocator> Words<A> {
-    /// Loads the tail.
-    pub fn load_tail(&self, seat: &mut LaneSeat) -> u64
-        requires seat { IsSeatOf self.now seat.old × (seat.old.me.0.reading.active ≡ true) }
-        ensures seat { IsSameSeat seat.old seat.new }
-        ensures view { Noticed seat.old.me.0 result seat.new.me.0 }
-    {
-        self.table.shared.load::<Notice>(seat, 0)
-    }
-
-    /// Loads the cell of the reader's position, which has the index `cell`.
-    pub fn load_cell(&self, seat: &mut LaneSeat, cell: usize) -> u64
-        requires seat { IsSeatOf self.now seat.old × (seat.old.me.0.reading.active ≡ true) }
-        requires cell { cell ≡ cell_index self.now.shape (position seat.old.me.0.reading) }
-        requires position { position seat.old.me.0.reading < next_number seat.old.me.0 }
-        ensures seat { IsSameSeat seat.old seat.new }
-        ensures view { Picked (cell_word self.now.shape (position seat.old.me.0.reading)) seat.old.me.0 result seat.new.me.0 }
-    {
-        let word = cell_at(&self.shape, cell);
-        self.table.shared.load::<Pick>(seat, word)
-    }
-
-    /// Loads the cell of the number after those that the reader has picked, which has the index `cell`.
-    pub fn load_next_cell(&self, seat: &mut LaneSeat, cell: usize) -> u64
-        requires seat { IsSeatOf self.now seat.old × (seat.old.me.0.reading.active ≡ true) }
-        requires cell { cell ≡ cell_index self.now.shape (next_to_pick seat.old.me.0.reading) }
-        requires position { next_to_pick seat.old.me.0.reading < next_number seat.old.me.0 }
-        ensures seat { IsSameSeat seat.old seat.new }
-        ensures view { PickedNext (cell_word self.now.shape (next_to_pick seat.old.me.0.reading)) seat.old.me.0 result seat.new.me.0 }
-    {
-        let index = cell_at(&self.shape, cell);
-        self.table.shared.load::<PickNext>(seat, index)
-    }
-
-    /// Moves the reader's cursor from `at` up by one, where it still stands there, and returns what it found.
-    pub fn receive(&self, seat: &mut LaneSeat, place: usize, at: u64) -> u64
-        requires seat { IsReaderAt self.now seat.old place }
-        requires position { (at ≡ position seat.old.me.0.reading) × (at < next_number seat.old.me.0) × (at < 18446744073709551615) }
-        requires picked { seat.old.me.0.reading.picked ≢ [] }
-        ensures seat { IsSameSeat seat.old seat.new }
-        ensures view { Took at seat.old.me.0 result seat.new.me.0 }
-    {
-        self.table
-            .shared
-            .compare_exchange::<Take>(seat, cursor_at(place), at, at + 1)
-    }
-
-    /// Moves the reader's cursor from `at` past all that it has picked, which are `count` words, where it still stands
-    /// there, and returns what it found.
-    pub fn receive_picked(&self, seat: &mut LaneSeat, place: usize, at: u64, count: u64) -> u64
-        requires seat { IsReaderAt self.now seat.old place }
-        requires position { (at ≡ position seat.old.me.0.reading) × (at + count ≤ next_number seat.old.me.0) × (at + count ≤ 18446744073709551615) }
-        requires picked { length seat.old.me.0.reading.picked ≡ count }
-        ensures seat { IsSameSeat seat.old seat.new }
-        ensures view { TookPicked at seat.old.me.0 result seat.new.me.0 }
-    {
-        self.table
-            .shared
-            .compare_exchange::<TakePicked>(seat, cursor_at(place), at, at + count)
-    }
-
-    /// Loads the reader's cursor.
-    pub fn load_own(&self, seat: &mut LaneSeat, place: usize) -> u64
-        requires seat { IsReaderAt self.now seat.old place }
-        ensures seat { IsSameSeat seat.old seat.new }
-        ensures view { Looked (cursor_word place) seat.old.me.0 result seat.new.me.0 }
-    {
-        self.table.shared.load::<Look>(seat, cursor_at(place))
-    }
-
-    /// Closes the reader's cursor.
-    pub fn quit(&self, seat: &mut LaneSeat, place: usize)
-        requires seat { IsReaderAt self.now seat.old place }
-        ensures seat { IsSameSeat seat.old seat.new }
-        ensures view { HasQuit seat.old.me.0 seat.new.me.0 }
-    {
-        self.table
-            .shared
-            .store::<Quit>(seat, cursor_at(place), CLOSED);
-    }
-}
-
 // Seats are split and joined.
 impl<A: Allocator> Words<A> {
     fn split_copy<N: Told>(&self, seat: &mut LaneSeat, count: u64) -> LaneSeat
@@ -412,23 +260,6 @@ impl<A: Allocator> Words<A> {
         self.split_copy::<Brand>(seat, count)
     }
 
-    /// A seat that knows the same entries.
-    pub fn copy_all(&self, seat: &mut LaneSeat) -> LaneSeat
-        requires { IsSeatOf self.now seat.old }
-        ensures seat { IsSameSeat seat.old seat.new × (seat.new.me.0 ≡ seat.old.me.0) }
-        ensures copy { IsSeatOf self.now result × (result.me ≡ (witness seat.old.me.0.shape seat.old.me.0.seen, [])) }
-    {
-        self.table.shared.split_seat::<CopiedAll>(seat)
-    }
-
-    /// The seat hears of what another has seen. Its next load compares both.
-    pub fn hear(&self, seat: &mut LaneSeat, other: LaneSeat)
-        requires { IsSeatOf self.now seat.old × IsSeatOf self.now other × (other.me.1 ≡ []) }
-        ensures seat { IsSameSeat seat.old seat.new × (seat.new.me.0 ≡ telling seat.old.me.0 other.me.0) }
-    {
-        self.table.shared.join_seat::<Hear>(seat, other);
-    }
-
     fn split_reader<P: Told>(&self, seat: &mut LaneSeat, place: usize) -> LaneSeat
         requires told { P.number ≡ place }
         requires seat { IsSeatOf self.now seat.old × (seat.old.me.0.sequencing.active ≡ true) × (place < self.now.shape.places) }
@@ -448,33 +279,6 @@ impl<A: Allocator> Words<A> {
         ensures reader { IsSeatOf self.now result × (result.me ≡ (new_reader place seat.old.me.0, [])) }
     {
         self.split_reader::<Brand>(seat, place)
-    }
-
-    /// The reader's part leaves a seat.
-    pub fn split_reading(&self, seat: &mut LaneSeat) -> LaneSeat
-        requires { IsSeatOf self.now seat.old × (seat.old.me.0.reading.active ≡ true) }
-        ensures seat { IsSameSeat seat.old seat.new × (seat.new.me.0 ≡ without_reader seat.old.me.0) }
-        ensures reader { IsSeatOf self.now result × (result.me ≡ (only_reader seat.old.me.0, [])) }
-    {
-        self.table.shared.split_seat::<Leave>(seat)
-    }
-
-    /// The reader's part comes into the sequencer's seat.
-    pub fn join_reading(&self, seat: &mut LaneSeat, reader: LaneSeat)
-        requires seat { IsSeatOf self.now seat.old × (seat.old.me.0.sequencing.active ≡ true) }
-        requires reader { IsSeatOf self.now reader × (reader.me.1 ≡ []) × (reader.me.0.reading.active ≡ true) }
-        ensures { IsSameSeat seat.old seat.new × (seat.new.me.0 ≡ joined seat.old.me.0 reader.me.0) }
-    {
-        self.table.shared.join_seat::<Enter>(seat, reader);
-    }
-
-    /// A seat that knows the end of a reader, as this one does, which closed that reader's cursor.
-    pub fn copy_end(&self, seat: &mut LaneSeat) -> LaneSeat
-        requires { IsSeatOf self.now seat.old × (seat.old.me.0.reading.quit ≡ true) }
-        ensures seat { IsSameSeat seat.old seat.new × (seat.new.me.0 ≡ seat.old.me.0) }
-        ensures copy { IsSeatOf self.now result × (result.me ≡ (end_note seat.old.me.0, [])) }
-    {
-        self.table.shared.split_seat::<CopiedEnd>(seat)
     }
 
     /// The sequencer's seat hears of the end of a reader: the reader's place is closed, unless it was opened again.

@@ -1,19 +1,27 @@
-//! A reader: one subscriber's end of the lane.
-ghost use Rattle.std.specs.Prelude.{◌≡◌, ◌+◌, ◌<◌, ◌≤◌};
+//! A reader: one subscriber's end of the lane, and one function for each kind of atomic step that it makes on the lane's words.
+ghost use Rattle.std.specs.Prelude.{◌≡◌, ◌≢◌, ◌+◌, ◌<◌, ◌≤◌, [], true, length};
 ghost use Rattle.flow_terms.specs.Lists.{IsPrefix};
 ghost use Rattle.shared_lane.specs.Views.{reader_of};
 ghost use Rattle.shared_lane.specs.declared.reader.Taken.TheVariants.{Nothing};
 ghost use Rattle.shared_lane.specs.Kept.{IsReading};
 ghost use Rattle.shared_lane.specs.Readers.{IsReaderOf, IsReceiptOf, IsSameReader, TookNext, at, received_count, lost_count, end_of, WentTo};
 ghost use Rattle.shared_lane.specs.Law.{lost};
+ghost use Rattle.shared_lane.specs.Layout.{cursor_word, cell_index, cell_word};
+ghost use Rattle.shared_lane.specs.Seats.{IsSeatOf, IsSameSeat, IsReaderAt};
+ghost use Rattle.shared_lane.specs.Steps.{next_number, position, next_to_pick, Noticed, Picked, PickedNext, Took, TookPicked, Looked, HasQuit, witness};
+ghost use Rattle.shared_lane.specs.Steps.{without_reader, only_reader, telling, joined, end_note};
 ghost use Rattle.shared_lane.specs.Sequencers.{IsSequencerOf, OnlyLoaded, seen, next};
 ghost use Rattle.shared_lane.specs.Places.{lost_by, LosesNothing};
 
 use crate::closed::Closed;
 use crate::lane::Lane;
+use crate::plays::{
+    CopiedAll, CopiedEnd, Enter, Hear, Leave, Look, Notice, Pick, PickNext, Quit, Take, TakePicked,
+};
 use crate::receipt::Receipt;
 use crate::rule::LaneSeat;
 use crate::sequencer::Sequencer;
+use crate::words::{CLOSED, Words, cell_at, cursor_at};
 use std::alloc::Allocator;
 use std::marker::Model;
 
@@ -240,4 +248,134 @@ pub fn look<A: Allocator, B: Allocator>(
     let accepted = words.copy_all(&mut sequencer.seat);
     words.hear(&mut reader.seat, accepted);
     reader.try_next(lane)
+}
+
+// The steps of a reader.
+impl<A: Allocator> Words<A> {
+    /// Loads the tail.
+    pub fn load_tail(&self, seat: &mut LaneSeat) -> u64
+        requires seat { IsSeatOf self.now seat.old × (seat.old.me.0.reading.active ≡ true) }
+        ensures seat { IsSameSeat seat.old seat.new }
+        ensures view { Noticed seat.old.me.0 result seat.new.me.0 }
+    {
+        self.table.shared.load::<Notice>(seat, 0)
+    }
+
+    /// Loads the cell of the reader's position, which has the index `cell`.
+    pub fn load_cell(&self, seat: &mut LaneSeat, cell: usize) -> u64
+        requires seat { IsSeatOf self.now seat.old × (seat.old.me.0.reading.active ≡ true) }
+        requires cell { cell ≡ cell_index self.now.shape (position seat.old.me.0.reading) }
+        requires position { position seat.old.me.0.reading < next_number seat.old.me.0 }
+        ensures seat { IsSameSeat seat.old seat.new }
+        ensures view { Picked (cell_word self.now.shape (position seat.old.me.0.reading)) seat.old.me.0 result seat.new.me.0 }
+    {
+        let word = cell_at(&self.shape, cell);
+        self.table.shared.load::<Pick>(seat, word)
+    }
+
+    /// Loads the cell of the number after those that the reader has picked, which has the index `cell`.
+    pub fn load_next_cell(&self, seat: &mut LaneSeat, cell: usize) -> u64
+        requires seat { IsSeatOf self.now seat.old × (seat.old.me.0.reading.active ≡ true) }
+        requires cell { cell ≡ cell_index self.now.shape (next_to_pick seat.old.me.0.reading) }
+        requires position { next_to_pick seat.old.me.0.reading < next_number seat.old.me.0 }
+        ensures seat { IsSameSeat seat.old seat.new }
+        ensures view { PickedNext (cell_word self.now.shape (next_to_pick seat.old.me.0.reading)) seat.old.me.0 result seat.new.me.0 }
+    {
+        let index = cell_at(&self.shape, cell);
+        self.table.shared.load::<PickNext>(seat, index)
+    }
+
+    /// Moves the reader's cursor from `at` up by one, where it still stands there, and returns what it found.
+    pub fn receive(&self, seat: &mut LaneSeat, place: usize, at: u64) -> u64
+        requires seat { IsReaderAt self.now seat.old place }
+        requires position { (at ≡ position seat.old.me.0.reading) × (at < next_number seat.old.me.0) × (at < 18446744073709551615) }
+        requires picked { seat.old.me.0.reading.picked ≢ [] }
+        ensures seat { IsSameSeat seat.old seat.new }
+        ensures view { Took at seat.old.me.0 result seat.new.me.0 }
+    {
+        self.table
+            .shared
+            .compare_exchange::<Take>(seat, cursor_at(place), at, at + 1)
+    }
+
+    /// Moves the reader's cursor from `at` past all that it has picked, which are `count` words, where it still stands
+    /// there, and returns what it found.
+    pub fn receive_picked(&self, seat: &mut LaneSeat, place: usize, at: u64, count: u64) -> u64
+        requires seat { IsReaderAt self.now seat.old place }
+        requires position { (at ≡ position seat.old.me.0.reading) × (at + count ≤ next_number seat.old.me.0) × (at + count ≤ 18446744073709551615) }
+        requires picked { length seat.old.me.0.reading.picked ≡ count }
+        ensures seat { IsSameSeat seat.old seat.new }
+        ensures view { TookPicked at seat.old.me.0 result seat.new.me.0 }
+    {
+        self.table
+            .shared
+            .compare_exchange::<TakePicked>(seat, cursor_at(place), at, at + count)
+    }
+
+    /// Loads the reader's cursor.
+    pub fn load_own(&self, seat: &mut LaneSeat, place: usize) -> u64
+        requires seat { IsReaderAt self.now seat.old place }
+        ensures seat { IsSameSeat seat.old seat.new }
+        ensures view { Looked (cursor_word place) seat.old.me.0 result seat.new.me.0 }
+    {
+        self.table.shared.load::<Look>(seat, cursor_at(place))
+    }
+
+    /// Closes the reader's cursor.
+    pub fn quit(&self, seat: &mut LaneSeat, place: usize)
+        requires seat { IsReaderAt self.now seat.old place }
+        ensures seat { IsSameSeat seat.old seat.new }
+        ensures view { HasQuit seat.old.me.0 seat.new.me.0 }
+    {
+        self.table
+            .shared
+            .store::<Quit>(seat, cursor_at(place), CLOSED);
+    }
+}
+
+// The seats of a reader are split and joined.
+impl<A: Allocator> Words<A> {
+    /// A seat that knows the same entries.
+    pub fn copy_all(&self, seat: &mut LaneSeat) -> LaneSeat
+        requires { IsSeatOf self.now seat.old }
+        ensures seat { IsSameSeat seat.old seat.new × (seat.new.me.0 ≡ seat.old.me.0) }
+        ensures copy { IsSeatOf self.now result × (result.me ≡ (witness seat.old.me.0.shape seat.old.me.0.seen, [])) }
+    {
+        self.table.shared.split_seat::<CopiedAll>(seat)
+    }
+
+    /// The seat hears of what another has seen. Its next load compares both.
+    pub fn hear(&self, seat: &mut LaneSeat, other: LaneSeat)
+        requires { IsSeatOf self.now seat.old × IsSeatOf self.now other × (other.me.1 ≡ []) }
+        ensures seat { IsSameSeat seat.old seat.new × (seat.new.me.0 ≡ telling seat.old.me.0 other.me.0) }
+    {
+        self.table.shared.join_seat::<Hear>(seat, other);
+    }
+
+    /// The reader's part leaves a seat.
+    pub fn split_reading(&self, seat: &mut LaneSeat) -> LaneSeat
+        requires { IsSeatOf self.now seat.old × (seat.old.me.0.reading.active ≡ true) }
+        ensures seat { IsSameSeat seat.old seat.new × (seat.new.me.0 ≡ without_reader seat.old.me.0) }
+        ensures reader { IsSeatOf self.now result × (result.me ≡ (only_reader seat.old.me.0, [])) }
+    {
+        self.table.shared.split_seat::<Leave>(seat)
+    }
+
+    /// The reader's part comes into the sequencer's seat.
+    pub fn join_reading(&self, seat: &mut LaneSeat, reader: LaneSeat)
+        requires seat { IsSeatOf self.now seat.old × (seat.old.me.0.sequencing.active ≡ true) }
+        requires reader { IsSeatOf self.now reader × (reader.me.1 ≡ []) × (reader.me.0.reading.active ≡ true) }
+        ensures { IsSameSeat seat.old seat.new × (seat.new.me.0 ≡ joined seat.old.me.0 reader.me.0) }
+    {
+        self.table.shared.join_seat::<Enter>(seat, reader);
+    }
+
+    /// A seat that knows the end of a reader, as this one does, which closed that reader's cursor.
+    pub fn copy_end(&self, seat: &mut LaneSeat) -> LaneSeat
+        requires { IsSeatOf self.now seat.old × (seat.old.me.0.reading.quit ≡ true) }
+        ensures seat { IsSameSeat seat.old seat.new × (seat.new.me.0 ≡ seat.old.me.0) }
+        ensures copy { IsSeatOf self.now result × (result.me ≡ (end_note seat.old.me.0, [])) }
+    {
+        self.table.shared.split_seat::<CopiedEnd>(seat)
+    }
 }
