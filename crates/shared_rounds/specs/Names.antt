@@ -17,8 +17,9 @@ pub record FlowName : Type 0 where
   pub lane : LaneSeen
   pub flag : TableId
 
--- what the parties of a flow share without its lock: its lane, its flag, and whether emissions of it may wait
+-- what the parties of a flow share without its lock: what it was made with, its lane, its flag, and whether emissions of it may wait
 pub record TrackSeen : Type 0 where
+  pub config : Config
   pub lane : LaneSeen
   pub flag : TableId
   pub may_wait : Bool
@@ -59,12 +60,12 @@ abbrev pub KnowsLane : Option FlowName → LaneSeen → Type 0
 KnowsLane known lane = (name : FlowName) × (known ≡ Some name) × (lane ≡ name.lane)
 
 -- where emissions of the flow may wait, its parties look at the flag
-abbrev pub MayWait : Config → TrackSeen → Type 0
-MayWait config track = config.policy ≡ Suspend → track.may_wait ≡ true
+abbrev pub MayWait : TrackSeen → Type 0
+MayWait track = track.config.policy ≡ Suspend → track.may_wait ≡ true
 
--- the lane and the flag are that flow's
+-- the lane and the flag are that flow's, and so is what it was made with
 abbrev pub IsTrackOf : FlowName → TrackSeen → Type 0
-IsTrackOf name track = (track.lane ≡ name.lane) × (track.flag ≡ name.flag) × MayWait name.config track
+IsTrackOf name track = (track.lane ≡ name.lane) × (track.flag ≡ name.flag) × MayWait track × (track.config ≡ name.config)
 
 -- an owner knows its flow, and the lane and the flag are that flow's
 abbrev pub KnowsTrack : Option FlowName → TrackSeen → Type 0
@@ -73,9 +74,6 @@ KnowsTrack known track = (name : FlowName) × (known ≡ Some name) × IsTrackOf
 -- an owner knows what its flow was made with, and so how many one call may have to wake
 abbrev pub KnowsConfig : Config → Option FlowName → Type 0
 KnowsConfig config known = (name : FlowName) → known ≡ Some name → config ≡ name.config
-
-abbrev pub KnowsFlow : Config → Option FlowName → TrackSeen → Type 0
-KnowsFlow config known track = KnowsConfig config known × KnowsTrack known track
 
 -- what one looks at is the flow's flag
 abbrev pub IsFlagOf : Option FlowName → TableId → Type 0

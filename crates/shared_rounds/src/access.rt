@@ -1,10 +1,10 @@
-//! What every owner of a shared flow holds: the lock, and what all share without it, the lane and a flag beside it.
+//! What every owner of a shared flow holds: the lock, and what all share without it.
 ghost use Rattle.std.specs.Prelude.{suc, pred, IfErr, true, false, ℕ, ◌≡◌, ◌≢◌, ◌⊎◌, [], Ok, Some, None, length, map, IfOk, IsOkUnless};
 ghost use Rattle.round_lock.specs.History.{own_of};
 ghost use Rattle.shared_lane.specs.Readers.{at};
 ghost use Rattle.shared_lane.specs.Sequencers.{next};
 ghost use Rattle.shared_rounds.specs.declared.round.Round.TheVariants as round;
-ghost use Rattle.shared_rounds.specs.Flags.{looked_at, number_of};
+ghost use Rattle.shared_rounds.specs.Flags.{looked_at};
 ghost use Rattle.shared_rounds.specs.Names.{FoundDown, FoundUp, IsFlagOf, IsNew, KnowsLane, KnowsTrack};
 ghost use Rattle.shared_rounds.specs.Entering.{Found, IsCalled, IsCalledAs, Left, LeftAs};
 ghost use Rattle.shared_rounds.specs.Reach.{party_of, reach_of, with_taken};
@@ -12,15 +12,14 @@ ghost use Rattle.shared_rounds.specs.Rounds.{Below};
 ghost use Rattle.shared_rounds.specs.Sleeping.{NobodySleeps, HasRoomFor};
 ghost use Rattle.shared_rounds.specs.Waking.{AreOutBut, Helps, ended_by as the_ended_by, taken_by as the_taken_by};
 
-use crate::flag::{Another, FlagRule, FlagView, Loads, Looks, Raises, Sets, Stands};
+use crate::flag::{Looker, Looks, Stands};
 use crate::round::Round;
-use crate::shared::Shared;
+use crate::shared::{FLAG, Shared, Track, Unheld};
 use crate::wait_list::WakeList;
-use atomic_table::{Seat, Table};
 use flow_terms::{Refusal, Word};
 use round_lock::{Guarded, Lock, Made};
 use shared_core::{Config, Emit};
-use shared_lane::{Lane, Reader, Sequencer};
+use shared_lane::{Lane, Reader};
 use state_bell::{LOOKS, pause};
 use std::alloc::{AllocError, Global};
 use std::marker::{Brand, Model};
@@ -30,42 +29,36 @@ use std::sync::{Arc, Wait};
 /// see which lock it is, the flow, what the owner holds while it has the lock, its number, its own rounds, and the one list of rounds
 /// as far as it has seen it.
 pub struct Access {
-    lock: Lock<Box<Shared>, Round>,
+    lock: Lock<Unheld, Round>,
     track: Arc<Track, Global>,
     wakes: WakeList,
     alloc: Global,
-    // What the flow was made with.
-    config: Config,
 }
 
 impl Model for Access {
     ghost use Rattle.std.specs.Prelude.{◌≡◌, []};
     ghost use Rattle.std.specs.Arc.{arc_value};
     ghost use Rattle.shared_rounds.specs.Reach.{Reach, reach_of};
-    ghost use Rattle.shared_rounds.specs.Names.{KnowsFlow};
+    ghost use Rattle.shared_rounds.specs.Names.{KnowsTrack};
     ghost use Rattle.shared_rounds.specs.Sleeping.{NobodySleeps, HasRoomFor};
     ghost use Rattle.shared_rounds.specs.Waking.{AreOutWhereHeld, HoldsItsFlow};
 
     ghost Value = { Reach };
 
-    ghost view = { λ a. reach_of (λ s. s.value) a.lock };
+    ghost view = { λ a. reach_of (λ s. s) a.lock };
 
-    ghost invariant = { λ a. KnowsFlow a.config (reach_of (λ s. s.value) a.lock).flow (arc_value a.track) × NobodySleeps a.wakes.subscriptions × (a.wakes.wakers.items ≡ []) × AreOutWhereHeld (reach_of (λ s. s.value) a.lock).held × HasRoomFor a.config a.wakes × HoldsItsFlow (reach_of (λ s. s.value) a.lock).flow (reach_of (λ s. s.value) a.lock).held };
+    ghost invariant = { λ a. KnowsTrack (reach_of (λ s. s) a.lock).flow (arc_value a.track) × NobodySleeps a.wakes.subscriptions × (a.wakes.wakers.items ≡ []) × AreOutWhereHeld (reach_of (λ s. s) a.lock).held × HasRoomFor (arc_value a.track).config a.wakes × HoldsItsFlow (reach_of (λ s. s) a.lock).flow (reach_of (λ s. s) a.lock).held };
 }
 
 // By hand: who lets one go proves this call alone, and nothing of what it is made of.
 impl Drop for Access {
     fn drop(self) {
         let Access {
-            lock,
-            track,
-            wakes,
+            lock: _lock,
+            track: _track,
+            wakes: _wakes,
             alloc: _,
-            config: _,
         } = self;
-        drop(lock);
-        drop(track);
-        drop(wakes);
     }
 }
 
@@ -84,16 +77,15 @@ impl Access {
         ensures made { IfOk result (λ made. (made.flow ≡ Some shared.name) × (made.held ≡ None) × (made.rounds ≡ []) × (made.halved ≡ 0) × (made.taken ≡ []) × (made.seen ≡ [])) }
         ensures memory { IsOkUnless result Refusal.NoMemory }
     {
-        let state = Box::new(alloc, shared)?;
-        let track = state.track()?;
+        let shared = Box::new(alloc, shared)?;
+        let track = shared.track()?;
         let wakes = WakeList::new(alloc, &config)?;
-        let lock = locked(alloc, state)?;
+        let lock = locked(alloc, Unheld::of(shared))?;
         Ok(Access {
             lock,
             track,
             wakes,
             alloc,
-            config,
         })
     }
 
@@ -104,7 +96,7 @@ impl Access {
         ensures memory { IsOkUnless result Refusal.NoMemory }
         ensures same { IfErr result (λ _. self.new ≡ self.old) }
     {
-        let wakes = WakeList::new(self.alloc, &self.config)?;
+        let wakes = WakeList::new(self.alloc, &self.track.config)?;
         let track = Arc::try_clone(&self.track)?;
         let lock = self.lock.dup()?;
         Ok(Access {
@@ -112,7 +104,6 @@ impl Access {
             track,
             wakes,
             alloc: self.alloc,
-            config: self.config,
         })
     }
 
@@ -129,7 +120,6 @@ impl Access {
             track,
             wakes,
             alloc: _,
-            config: _,
         } = other;
         self.lock.take_back(lock);
         drop(track);
@@ -148,7 +138,6 @@ impl Access {
             track,
             wakes,
             alloc: _,
-            config: _,
         } = other;
         self.lock.take_in(lock);
         drop(track);
@@ -204,8 +193,8 @@ impl Access {
         ensures before { result.before ≡ next result.shared.value.sequencer }
     {
         let guarded = self.lock.take(rt);
-        let Guarded { state: shared } = guarded;
-        let before = shared.next_number();
+        let Guarded { state } = guarded;
+        let Unheld { shared, before } = state;
         Inside { shared, before }
     }
 
@@ -278,7 +267,7 @@ impl Access {
 // Looks at the flag, where emissions of the flow may wait, for a reader of this owner of the lock, after the rounds that it has made.
 fn looked<M: Stands>(
     track: &Track,
-    lock: &Lock<Box<Shared>, Round>,
+    lock: &Lock<Unheld, Round>,
     looker: &mut Looker,
     reader: &Reader,
 ) -> bool
@@ -302,16 +291,18 @@ fn helped(
     inside: Inside,
     ended: Option<u64>,
     taken: Option<u64>,
-) -> Guarded<Box<Shared>>
+) -> Guarded<Unheld>
     requires nobody { NobodySleeps wakes.old.subscriptions }
     requires room { HasRoomFor inside.shared.value.name.config wakes.old }
     requires out { AreOutBut taken inside.shared.value }
-    ensures helps { Helps inside.before ended inside.shared.value result.state.value }
+    ensures helps { Helps inside.before ended inside.shared.value result.state }
     ensures room { HasRoomFor inside.shared.value.name.config wakes.new }
 {
     let Inside { mut shared, before } = inside;
     shared.help(before, ended, taken, wakes);
-    Guarded { state: shared }
+    Guarded {
+        state: Unheld::of(shared),
+    }
 }
 
 // The subscription that a round ends.
@@ -338,154 +329,9 @@ fn taken_by(round: &Round) -> Option<u64>
 }
 
 // Puts it under a lock, whose first owner has made no call.
-fn locked(alloc: Global, state: Box<Shared>) -> Result<Lock<Box<Shared>, Round>, AllocError>
-    requires { IsNew state.value }
-    ensures { IfOk result (λ lock. reach_of (λ s. s.value) lock ≡ record { lock = lock.place; flow = Some state.value.name; held = None; pass = lock.pass; halved = 0; taken = []; rounds = []; seen = [] }) }
+fn locked(alloc: Global, state: Unheld) -> Result<Lock<Unheld, Round>, AllocError>
+    requires { IsNew state }
+    ensures { IfOk result (λ lock. reach_of (λ s. s) lock ≡ record { lock = lock.place; flow = Some state.name; held = None; pass = lock.pass; halved = 0; taken = []; rounds = []; seen = [] }) }
 {
     Lock::new(alloc, state)
-}
-
-// What all parties of a flow share without its lock.
-
-// The word of the flag, in a table of its own: it is 1 where the flag is up, and else 0.
-const FLAG: usize = 0;
-
-/// The lane of a flow, and beside it a flag that says whether some emission may have to wait for a receipt. Contracts see which lane
-/// and which flag they are, and whether emissions of the flow may wait.
-#[derive(Drop)]
-pub struct Track {
-    lane: Lane<Global>,
-    // Whether emissions of this flow may wait at all.
-    may_wait: bool,
-    // Written by who holds the lock. It is set before the cursors are looked at a last time and an emission is left waiting; a
-    // reader looks at it after its exchange. Each step is sequentially consistent, so that one of the two sees the other's.
-    flag: Table<(), FlagView, (), FlagRule, Global>,
-}
-
-impl Model for Track {
-    ghost use Rattle.std.specs.Prelude.{◌≡◌};
-    ghost use Rattle.shared_rounds.specs.Names.{TrackSeen};
-
-    ghost Value = { TrackSeen };
-
-    ghost view = { λ t. record { lane = t.lane; flag = t.flag.shared.table_id; may_wait = t.may_wait } };
-
-    ghost invariant = { λ t. t.flag.shared.table_id.words ≡ 1 };
-}
-
-/// Who sets the flag. Contracts see which flag it is, whether it is up, and what the lane's sequencer had loaded as it was raised for an
-/// emission that begins to wait.
-#[derive(Drop)]
-pub(crate) struct Keeper {
-    seat: Seat<(), FlagView>,
-    is_up: bool,
-}
-
-impl Model for Keeper {
-    ghost use Rattle.std.specs.Prelude.{◌≡◌, true};
-    ghost use Rattle.shared_rounds.specs.Flags.{Keeping, number_of};
-
-    ghost Value = { Keeping };
-
-    ghost view = { λ k. record { table = k.seat.table_id; flag = k.seat.me.0.flag; raised = k.seat.me.0.raised } };
-
-    ghost invariant = { λ k. (k.seat.me.0.keeps ≡ true) × (k.seat.me.0.flag ≡ number_of k.is_up) };
-}
-
-/// Who looks at the flag. Contracts see which flag it is, and its looks.
-#[derive(Drop)]
-pub struct Looker {
-    seat: Seat<(), FlagView>,
-}
-
-impl Model for Looker {
-    ghost use Rattle.std.specs.Prelude.{◌≡◌, false};
-    ghost use Rattle.shared_rounds.specs.Flags.{Looking};
-
-    ghost Value = { Looking };
-
-    ghost view = { λ l. record { table = l.seat.table_id; looks = l.seat.me.0.looks } };
-
-    ghost invariant = { λ l. l.seat.me.0.keeps ≡ false };
-}
-
-impl Track {
-    /// A track of this lane, with a flag that is down, and the flag's keeper. Under a policy that lets emissions wait, `may_wait` says
-    /// so.
-    pub(crate) fn new(
-        alloc: Global,
-        lane: Lane<Global>,
-        may_wait: bool,
-    ) -> Result<(Track, Keeper), AllocError>
-        ensures track { IfOk result (λ made. made.0 ≡ record { lane = lane; flag = made.0.flag; may_wait = may_wait }) }
-        ensures keeper { IfOk result (λ made. made.1 ≡ record { table = made.0.flag; flag = 0; raised = 0 }) }
-    {
-        let (flag, seat): (
-            Table<(), FlagView, (), FlagRule, Global>,
-            Seat<(), FlagView>,
-        ) = Table::of_words(alloc, &[0], &())?;
-        let track = Track {
-            lane,
-            may_wait,
-            flag,
-        };
-        let keeper = Keeper { seat, is_up: false };
-        Ok((track, keeper))
-    }
-
-    /// The lane.
-    pub fn lane(&self) -> &Lane<Global>
-        ensures { result.now ≡ self.now.lane }
-    {
-        &self.lane
-    }
-
-    /// One who looks at the flag, and has not looked yet.
-    pub(crate) fn looker(&self, keeper: &mut Keeper) -> Looker
-        requires { keeper.old.table ≡ self.now.flag }
-        ensures looker { result ≡ record { table = self.now.flag; looks = [] } }
-        ensures same { keeper.new ≡ keeper.old }
-    {
-        let seat = self.flag.shared.split_seat::<Another>(&mut keeper.seat);
-        Looker { seat }
-    }
-
-    /// Whether some emission may wait, for one who only passes the time: it tells nothing.
-    fn may_have_unfinished(&self) -> bool {
-        self.may_wait && self.flag.shared.peek(FLAG) != 0
-    }
-
-    /// Raises the flag for an emission that begins to wait, also where it is up, before the cursors are looked at a last time: what the
-    /// sequencer loads from here on it loads after that. Only who holds the lock has the keeper.
-    pub(crate) fn raise_unfinished(&self, keeper: &mut Keeper, sequencer: &Sequencer<Global>)
-        requires { keeper.old.table ≡ self.now.flag }
-        ensures { keeper.new ≡ record keeper.old { flag = 1; raised = length sequencer.now.view.loads } }
-    {
-        self.raise::<Brand>(keeper, sequencer);
-    }
-
-    fn raise<M: Loads>(&self, keeper: &mut Keeper, sequencer: &Sequencer<Global>)
-        requires table { keeper.old.table ≡ self.now.flag }
-        requires loads { M.loads ≡ length sequencer.now.view.loads }
-        ensures { keeper.new ≡ record keeper.old { flag = 1; raised = length sequencer.now.view.loads } }
-    {
-        keeper.is_up = true;
-        self.flag
-            .shared
-            .store::<Raises<M>>(&mut keeper.seat, FLAG, 1);
-    }
-
-    /// Sets the flag where an emission may wait, or takes it back, where it isn't so. Only who holds the lock has the keeper.
-    pub(crate) fn set_unfinished(&self, keeper: &mut Keeper, up: bool)
-        requires { keeper.old.table ≡ self.now.flag }
-        ensures { keeper.new ≡ record keeper.old { flag = number_of up } }
-    {
-        if keeper.is_up == up {
-            return;
-        }
-        keeper.is_up = up;
-        self.flag
-            .shared
-            .store::<Sets>(&mut keeper.seat, FLAG, up as u64);
-    }
 }

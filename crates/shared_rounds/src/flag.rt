@@ -2,8 +2,8 @@
 ghost use Rattle.std.specs.Prelude.{ℕ};
 ghost use Rattle.shared_rounds.specs.Flags.{FlagLaw, SetFlag, RaisedAfter, LookedAt, keeper_first, looker_first};
 
-use atomic_table::{Play, Split, TableRule};
-use std::marker::{Brand, PhantomData};
+use atomic_table::{Play, Seat, Split, TableRule};
+use std::marker::{Brand, Model, PhantomData};
 
 mod view;
 
@@ -73,4 +73,40 @@ impl Split<FlagView> for Another {
     ghost left = { λ v. v };
 
     ghost right = { λ _. looker_first };
+}
+
+/// Who sets the flag. Contracts see which flag it is, whether it is up, and what the lane's sequencer had loaded as it was raised for an
+/// emission that begins to wait.
+#[derive(Drop)]
+pub(crate) struct Keeper {
+    pub(crate) seat: Seat<(), FlagView>,
+    pub(crate) is_up: bool,
+}
+
+impl Model for Keeper {
+    ghost use Rattle.std.specs.Prelude.{◌≡◌, true};
+    ghost use Rattle.shared_rounds.specs.Flags.{Keeping, number_of};
+
+    ghost Value = { Keeping };
+
+    ghost view = { λ k. record { table = k.seat.table_id; flag = k.seat.me.0.flag; raised = k.seat.me.0.raised } };
+
+    ghost invariant = { λ k. (k.seat.me.0.keeps ≡ true) × (k.seat.me.0.flag ≡ number_of k.is_up) };
+}
+
+/// Who looks at the flag. Contracts see which flag it is, and its looks.
+#[derive(Drop)]
+pub struct Looker {
+    pub(crate) seat: Seat<(), FlagView>,
+}
+
+impl Model for Looker {
+    ghost use Rattle.std.specs.Prelude.{◌≡◌, false};
+    ghost use Rattle.shared_rounds.specs.Flags.{Looking};
+
+    ghost Value = { Looking };
+
+    ghost view = { λ l. record { table = l.seat.table_id; looks = l.seat.me.0.looks } };
+
+    ghost invariant = { λ l. l.seat.me.0.keeps ≡ false };
 }

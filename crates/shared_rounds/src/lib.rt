@@ -17,8 +17,9 @@ mod round;
 mod shared;
 mod wait_list;
 
-pub use access::{Access, Inside, Looker, Track};
+pub use access::{Access, Inside};
+pub use flag::Looker;
 pub use round::{Emission, Round, begun_ticket};
-pub use shared::{NewReader, Polled, Released, Shared};
+pub use shared::{NewReader, Polled, Released, Shared, Track};
 pub use state_bell::{LOOKS, pause};
 pub use wait_list::WaitKey;

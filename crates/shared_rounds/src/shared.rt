@@ -1,8 +1,9 @@
-//! What lies under the lock.
+//! What lies under the lock, and what all parties share without it: the lane, and a flag beside it.
 ghost use Rattle.std.specs.Prelude.{◌≡◌, ◌≤◌, ◌<◌, ◌≢◌, Some, MatchOption, IfOk, IfSome, IfNone, IsOkUnless, ◌⊎◌, ℕ, IfErr, true, false, [], ◌++◌, Ok, Err, length, map};
 ghost use Rattle.std.specs.Prelude.{slice_get, OnOk, OnErr};
 ghost use Rattle.shared_core.specs.Kept.{making_refusal};
 ghost use Rattle.shared_lane.specs.Sequencers.{IsFresh, IsSameSequencer, IsSequencerOf, OnlyLoaded, next, seen};
+ghost use Rattle.shared_rounds.specs.Flags.{number_of};
 ghost use Rattle.shared_rounds.specs.Names.{HasRoom, IsNew, IsTrackOf};
 ghost use Rattle.shared_rounds.specs.Rounds.{Does, Comes, MakesAfterScan, RaisedFor, AcceptsFor, IsAfter, IsNotAfter, IsReceiptAfter, HasSeenUpTo, HasReceipt};
 ghost use Rattle.shared_rounds.specs.Rounds.{IsLastAccepted, IsReceiptFor, IsReceiptOfOne, numbers_tried, poll_round, withdraw_round, number_done as the_number_done};
@@ -24,16 +25,17 @@ ghost use Rattle.flow_terms.specs.declared.answers.Emit.TheVariants as emit;
 ghost use Rattle.flow_terms.specs.declared.answers.Withdrawn.TheVariants as withdrawn;
 ghost use Rattle.shared_rounds.specs.declared.round.Round.TheVariants as round;
 
-use crate::access::{Keeper, Looker, Track};
+use crate::flag::{Another, FlagRule, FlagView, Keeper, Loads, Looker, Raises, Sets};
 use crate::round::{Emission, Round, begun_ticket};
 use crate::wait_list::{SleepingEmissions, WaitKey, WaitList, WakeList};
+use atomic_table::{Seat, Table};
 use flow_terms::{Policy, Refusal, Word};
 use futures::task::{Context, Poll};
 use round_lock::Called;
 use shared_core::{Begun, Config, Emit, Ticket, Tried, Withdrawn};
 use shared_lane::{Lane, Met, Reader, Receipt, Sequencer, Taken, look, meet};
 use std::alloc::{AllocError, Global};
-use std::marker::Model;
+use std::marker::{Brand, Model};
 use std::sync::Arc;
 
 mod blocks;
@@ -62,14 +64,43 @@ impl Model for Shared {
 
     ghost view = { λ s. record { name = record { config = s.config; lane = (arc_value s.track).lane; flag = (arc_value s.track).flag }; sequencer = s.sequencer; flag = s.keeper.flag; raised = s.keeper.raised; subscriptions = s.subscriptions.sleeping; emissions = s.emissions } };
 
-    ghost invariant = { λ s. IsGuarded s.config (arc_value s.track).lane s.sequencer × (s.keeper.table ≡ (arc_value s.track).flag) × MayWait s.config (arc_value s.track) × HaveRoomForAll s.config s.subscriptions.sleeping s.emissions };
+    ghost invariant = { λ s. IsGuarded s.config (arc_value s.track).lane s.sequencer × (s.keeper.table ≡ (arc_value s.track).flag) × ((arc_value s.track).config ≡ s.config) × MayWait (arc_value s.track) × HaveRoomForAll s.config s.subscriptions.sleeping s.emissions };
 }
 
-// It lies under the lock in a box, so that a call moves no more than a pointer.
-impl Called<Round> for Box<Shared> {
-    ghost first = { λ s. IsNew s.value };
+/// What lies under the lock while nobody holds it: in a box, so that a call moves a pointer, and beside it the number that the next
+/// emission has, so that who takes the lock finds it there. Contracts see what lies in the box.
+#[derive(Drop)]
+pub(crate) struct Unheld {
+    pub(crate) shared: Box<Shared>,
+    pub(crate) before: u64,
+}
 
-    ghost step = { λ s r t. Does s.value r t.value };
+impl Model for Unheld {
+    ghost use Rattle.std.specs.Prelude.{◌≡◌};
+    ghost use Rattle.shared_lane.specs.Sequencers.{next};
+    ghost use Rattle.shared_rounds.specs.Names.{SharedSeen};
+
+    ghost Value = { SharedSeen };
+
+    ghost view = { λ s. s.shared.value };
+
+    ghost invariant = { λ s. s.before ≡ next s.shared.value.sequencer };
+}
+
+impl Called<Round> for Unheld {
+    ghost first = { IsNew };
+
+    ghost step = { Does };
+}
+
+impl Unheld {
+    /// What a call leaves there.
+    pub fn of(shared: Box<Shared>) -> Unheld
+        ensures { result ≡ shared.value }
+    {
+        let before = shared.next_number();
+        Unheld { shared, before }
+    }
 }
 
 impl Shared {
@@ -94,7 +125,7 @@ impl Shared {
         ensures { IfOk result (λ made. (made.name.config ≡ config) × IsNew made × HasRoom made) }
     {
         let may_wait = matches!(config.policy, Policy::Suspend);
-        let (track, keeper) = Track::new(alloc, lane, may_wait)?;
+        let (track, keeper) = Track::new(alloc, config, lane, may_wait)?;
         let track = Arc::new(alloc, track)?;
         let subscriptions = WaitList::new(alloc, config.subscribers as usize)?;
         let emissions = SleepingEmissions::new(alloc, config.emits as usize)?;
@@ -623,5 +654,118 @@ impl Shared {
         ensures met { HasMet self.new.sequencer reader.old reader.new result }
     {
         meet(self.track.lane(), &mut self.sequencer, reader)
+    }
+}
+
+// What all parties of a flow share without its lock.
+
+// The word of the flag, in a table of its own: it is 1 where the flag is up, and else 0.
+pub(crate) const FLAG: usize = 0;
+
+/// The lane of a flow, and beside it a flag that says whether some emission may have to wait for a receipt. Contracts see what the
+/// flow was made with, which lane and which flag they are, and whether emissions of the flow may wait.
+#[derive(Drop)]
+pub struct Track {
+    // What the flow was made with.
+    pub(crate) config: Config,
+    lane: Lane<Global>,
+    // Whether emissions of this flow may wait at all.
+    pub(crate) may_wait: bool,
+    // Written by who holds the lock. It is set before the cursors are looked at a last time and an emission is left waiting; a
+    // reader looks at it after its exchange. Each step is sequentially consistent, so that one of the two sees the other's.
+    pub(crate) flag: Table<(), FlagView, (), FlagRule, Global>,
+}
+
+impl Model for Track {
+    ghost use Rattle.std.specs.Prelude.{◌≡◌};
+    ghost use Rattle.shared_rounds.specs.Names.{TrackSeen};
+
+    ghost Value = { TrackSeen };
+
+    ghost view = { λ t. record { config = t.config; lane = t.lane; flag = t.flag.shared.table_id; may_wait = t.may_wait } };
+
+    ghost invariant = { λ t. t.flag.shared.table_id.words ≡ 1 };
+}
+
+impl Track {
+    /// A track of this lane of a flow with this config, with a flag that is down, and the flag's keeper. Under a policy that lets emissions wait, `may_wait` says
+    /// so.
+    pub(crate) fn new(
+        alloc: Global,
+        config: Config,
+        lane: Lane<Global>,
+        may_wait: bool,
+    ) -> Result<(Track, Keeper), AllocError>
+        ensures track { IfOk result (λ made. made.0 ≡ record { config = config; lane = lane; flag = made.0.flag; may_wait = may_wait }) }
+        ensures keeper { IfOk result (λ made. made.1 ≡ record { table = made.0.flag; flag = 0; raised = 0 }) }
+    {
+        let (flag, seat): (
+            Table<(), FlagView, (), FlagRule, Global>,
+            Seat<(), FlagView>,
+        ) = Table::of_words(alloc, &[0], &())?;
+        let track = Track {
+            config,
+            lane,
+            may_wait,
+            flag,
+        };
+        let keeper = Keeper { seat, is_up: false };
+        Ok((track, keeper))
+    }
+
+    /// The lane.
+    pub fn lane(&self) -> &Lane<Global>
+        ensures { result.now ≡ self.now.lane }
+    {
+        &self.lane
+    }
+
+    /// One who looks at the flag, and has not looked yet.
+    pub(crate) fn looker(&self, keeper: &mut Keeper) -> Looker
+        requires { keeper.old.table ≡ self.now.flag }
+        ensures looker { result ≡ record { table = self.now.flag; looks = [] } }
+        ensures same { keeper.new ≡ keeper.old }
+    {
+        let seat = self.flag.shared.split_seat::<Another>(&mut keeper.seat);
+        Looker { seat }
+    }
+
+    /// Whether some emission may wait, for one who only passes the time: it tells nothing.
+    pub(crate) fn may_have_unfinished(&self) -> bool {
+        self.may_wait && self.flag.shared.peek(FLAG) != 0
+    }
+
+    /// Raises the flag for an emission that begins to wait, also where it is up, before the cursors are looked at a last time: what the
+    /// sequencer loads from here on it loads after that. Only who holds the lock has the keeper.
+    pub(crate) fn raise_unfinished(&self, keeper: &mut Keeper, sequencer: &Sequencer<Global>)
+        requires { keeper.old.table ≡ self.now.flag }
+        ensures { keeper.new ≡ record keeper.old { flag = 1; raised = length sequencer.now.view.loads } }
+    {
+        self.raise::<Brand>(keeper, sequencer);
+    }
+
+    fn raise<M: Loads>(&self, keeper: &mut Keeper, sequencer: &Sequencer<Global>)
+        requires table { keeper.old.table ≡ self.now.flag }
+        requires loads { M.loads ≡ length sequencer.now.view.loads }
+        ensures { keeper.new ≡ record keeper.old { flag = 1; raised = length sequencer.now.view.loads } }
+    {
+        keeper.is_up = true;
+        self.flag
+            .shared
+            .store::<Raises<M>>(&mut keeper.seat, FLAG, 1);
+    }
+
+    /// Sets the flag where an emission may wait, or takes it back, where it isn't so. Only who holds the lock has the keeper.
+    pub(crate) fn set_unfinished(&self, keeper: &mut Keeper, up: bool)
+        requires { keeper.old.table ≡ self.now.flag }
+        ensures { keeper.new ≡ record keeper.old { flag = number_of up } }
+    {
+        if keeper.is_up == up {
+            return;
+        }
+        keeper.is_up = up;
+        self.flag
+            .shared
+            .store::<Sets>(&mut keeper.seat, FLAG, up as u64);
     }
 }

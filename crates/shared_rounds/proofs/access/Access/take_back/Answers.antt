@@ -13,11 +13,11 @@ take_back-requires c = record {
   );
   idle = (
     ap (λ (r : Reach). r.rounds) c.other.view_is ∙ c.requires.idle.0,
-    nothing_held (λ s. s.value) c.other.inside.lock.log.held (ap (λ (r : Reach). r.held) c.other.view_is ∙ c.requires.idle.1),
+    nothing_held (λ s. s) c.other.inside.lock.log.held (ap (λ (r : Reach). r.held) c.other.view_is ∙ c.requires.idle.1),
   );
 }
 
 pub returns : goal.returns
 returns c = record {
-  whole = ap (reach_of (λ s. s.value)) c.take_back.ensures.whole ∙ ap (λ (r : Reach). record r { halved = pred r.halved }) c.self.view_is;
+  whole = ap (reach_of (λ s. s)) c.take_back.ensures.whole ∙ ap (λ (r : Reach). record r { halved = pred r.halved }) c.self.view_is;
 }
