@@ -5,6 +5,15 @@ use std::sync::atomic::{AtomicBool, AtomicU64, Ordering};
 use std::sync::{Arc, Wait};
 use std::time::Duration;
 
+/// What who changes a state rings. That a wake arrives isn't claimed.
+pub trait Ring {
+    /// Wakes all who sleep, after a change of what they sleep for.
+    fn ring(&self);
+
+    /// Lets go all who sleep, and who will.
+    fn let_go(&self);
+}
+
 /// What all seats and watchers of a state share beside it. Who sleeps and who is woken is no part of contracts.
 ///
 /// Why none that sleeps is forgotten: who changes the state first changes it and then loads the number of sleepers, while who is
@@ -82,5 +91,15 @@ impl Bell {
     /// The same, for no longer than `time`.
     pub fn sleep_for(&self, rt: &impl Wait, turn: u32, time: Duration) {
         self.turn.park_timeout(rt, turn, time);
+    }
+}
+
+impl Ring for Bell {
+    fn ring(&self) {
+        self.ring();
+    }
+
+    fn let_go(&self) {
+        self.let_go();
     }
 }

@@ -10,7 +10,7 @@ mod limit;
 mod looking;
 mod stopper;
 
-pub use bell::Bell;
+pub use bell::{Bell, Ring};
 pub use limit::Limit;
 pub use looking::{LOOKS, pause};
 pub use stopper::Stopper;

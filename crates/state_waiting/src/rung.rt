@@ -3,18 +3,18 @@ ghost use Rattle.std.specs.Prelude.{◌≡◌};
 ghost use Rattle.state_flow.specs.Calls.{Reads, Sets, Compares};
 
 use flow_terms::Word;
-use state_bell::Bell;
+use state_bell::{Bell, Ring};
 use state_flow::StateSeat;
 use std::marker::Model;
 use std::sync::Arc;
 
-/// A seat at a state, which wakes those that sleep by its bell. Contracts see it as the seat.
-pub struct RungSeat<T: Word> {
+/// A seat at a state, which wakes those that sleep by its bell: threads by a [`Bell`]. Contracts see it as the seat.
+pub struct RungSeat<T: Word, B: Ring + Drop = Bell> {
     pub(crate) seat: StateSeat<T>,
-    pub(crate) bell: Arc<Bell>,
+    pub(crate) bell: Arc<B>,
 }
 
-impl<T: Word> Model for RungSeat<T> {
+impl<T: Word, B: Ring + Drop> Model for RungSeat<T, B> {
     ghost use Rattle.state_flow.specs.Views.{SeatSeen};
 
     ghost Value = { SeatSeen T };
@@ -23,7 +23,7 @@ impl<T: Word> Model for RungSeat<T> {
 }
 
 // By hand: who lets one go proves this call alone, and nothing of what it is made of.
-impl<T: Word> Drop for RungSeat<T> {
+impl<T: Word, B: Ring + Drop> Drop for RungSeat<T, B> {
     fn drop(self) {
         let RungSeat { seat, bell } = self;
         drop(seat);
@@ -31,9 +31,9 @@ impl<T: Word> Drop for RungSeat<T> {
     }
 }
 
-impl<T: Word> RungSeat<T> {
+impl<T: Word, B: Ring + Drop> RungSeat<T, B> {
     /// The seat, with the bell that it rings from now on.
-    pub fn over(seat: StateSeat<T>, bell: Arc<Bell>) -> RungSeat<T>
+    pub fn over(seat: StateSeat<T>, bell: Arc<B>) -> RungSeat<T, B>
         ensures { result ≡ seat }
     {
         RungSeat { seat, bell }
@@ -72,13 +72,13 @@ impl<T: Word> RungSeat<T> {
     /// From now on who sleeps by this bell is let go, and who will: each that watches is given first what was set before, as by
     /// [`WatchedSeat::stop`](crate::WatchedSeat::stop). In Kotlin the scope of the coroutines that collect is cancelled. It is for good.
     ///
-    /// It takes no lock and no memory. That a wake arrives isn't claimed.
+    /// It takes no memory, and by a [`Bell`] no lock. That a wake arrives isn't claimed.
     pub fn stop(&self) {
         self.bell.let_go();
     }
 
     // The seat, and the bell that it rang.
-    pub(crate) fn into_parts(self) -> (StateSeat<T>, Arc<Bell>)
+    pub(crate) fn into_parts(self) -> (StateSeat<T>, Arc<B>)
         ensures { result.0 ≡ self }
     {
         let RungSeat { seat, bell } = self;
