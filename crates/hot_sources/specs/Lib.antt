@@ -5,6 +5,11 @@ pub mod Collecting
 pub mod CollectingLaws
 pub mod Combining
 pub mod CombiningLaws
+pub mod Watching
+pub mod SoFar
+pub mod SoFarLaws
+pub mod Both
+pub mod BothLaws
 pub mod Reading
 pub mod ReadingLaws
 pub mod Waiting

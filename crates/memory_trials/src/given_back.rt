@@ -16,6 +16,7 @@ use std::sync::{Arc, Wait};
 use std::test::Fail;
 use value_flows::ValueFlow;
 use value_states::ValueState;
+use waking_states::{TaskBell, WakingSeat};
 
 /// How often something is made and let go between two counts. Where 32 bytes were forgotten each time, the process would have to ask
 /// the system for more in between.
@@ -61,6 +62,8 @@ enum Made {
     FlowOfAnyType,
     /// A seat that rings a bell, rings it no more, and rings it again.
     RungSeat,
+    /// The same, where the bell wakes a task.
+    WakingSeat,
 }
 
 /// The same, with a name.
@@ -101,6 +104,10 @@ const ROWS: &[Row<'_>] = &[
     Row {
         name: "a seat that rings",
         made: Made::RungSeat,
+    },
+    Row {
+        name: "a seat that wakes a task",
+        made: Made::WakingSeat,
     },
 ];
 
@@ -199,6 +206,15 @@ fn rung_seat(rt: &impl Abort, alloc: Global) {
     let _rung = RungSeat::over(seat, bell);
 }
 
+fn waking_seat(rt: &impl Abort, alloc: Global) {
+    let seat = StateFlow::new(alloc, 0u64, 1).expect(rt, "a state");
+    let bell = TaskBell::new(alloc).expect(rt, "a bell");
+    let mut waking = WakingSeat::over(seat, Arc::try_clone(&bell).expect(rt, "a bell"));
+    waking.set(1);
+    let seat = waking.into_seat();
+    let _waking = WakingSeat::over(seat, bell);
+}
+
 impl Made {
     fn make<R: Wait + Abort + RandomSource + AllocGlobal>(self, rt: &R) {
         match self {
@@ -210,6 +226,7 @@ impl Made {
             Made::StateOfAnyType => state_of_any_type(rt, rt.alloc()),
             Made::FlowOfAnyType => flow_of_any_type(rt, rt.alloc()),
             Made::RungSeat => rung_seat(rt, rt.alloc()),
+            Made::WakingSeat => waking_seat(rt, rt.alloc()),
         }
     }
 

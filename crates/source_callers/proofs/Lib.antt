@@ -1,3 +1,4 @@
 pub mod Loading
 pub mod Halving
+pub mod Costing
 pub mod Counting

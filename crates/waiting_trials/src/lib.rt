@@ -2,6 +2,8 @@
 #![tactic(auto)]
 
 #[cfg(test)]
+mod combined_waits;
+#[cfg(test)]
 mod lock_threads;
 #[cfg(test)]
 mod stopped_waits;

@@ -18,13 +18,13 @@ pub struct CollectingBothRun<'a, T: Word, U: Word> {
     ended: Ended<()>,
 }
 
-/// Makes values of the latest one of each state.
+/// Makes values of the latest one of each side.
 #[derive(Drop)]
 pub struct LatestOfTwo<T, U, G> {
     // The last value that came of each.
-    first: Option<T>,
-    second: Option<U>,
-    function: G,
+    pub(crate) first: Option<T>,
+    pub(crate) second: Option<U>,
+    pub(crate) function: G,
 }
 
 /// At each change of either state, from now on, `function` of the latest value of each, as a run: Kotlin's

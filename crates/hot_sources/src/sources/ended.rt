@@ -26,6 +26,13 @@ impl<E: Copy> Ended<E> {
         self.cause
     }
 
+    /// Ends the run by this cause.
+    pub fn end(&mut self, cause: Cause<E>)
+        ensures { self.new.cause ≡ Some cause }
+    {
+        self.cause = Some(cause);
+    }
+
     /// Ends the run by `Cause::Cancelled`, unless it has ended.
     pub fn cancel(&mut self)
         ensures { self.new.cause ≡ Some (after_cancel self.old.cause) }
