@@ -2,20 +2,14 @@
 
 ghost use Rattle.std.specs.Prelude.{◌+◌, ◌%◌, ◌^◌, nat_lt};
 
-use crate::elapsed::{nanoseconds_since, now};
 use crate::fault::Fault;
-use crate::report::report;
-use crate::sums::sum_to;
-use bench_figures::{Figure, Size, Subject, Unit};
-use cold_flow::{Apply, Cause, Flow, Folding, Run, filter, fold, map, range};
+use crate::measured::{Measured, now};
+use cold_flow::{Apply, Cause, Flow, Folding, Refusal, Run, filter, fold, map, range};
 use flow_merge::zip;
 use futures::task::{Doorbell, Poll, Solo};
 use std::alloc::AllocGlobal;
 use std::random::RandomSource;
 use std::rt::Clock;
-
-/// How many elements the source has.
-const ELEMENTS: u64 = 10_000_000;
 
 /// One more, modulo 2^64.
 #[derive(Clone, Copy)]
@@ -59,90 +53,62 @@ impl Apply<(u64, u64)> for Sum {
     }
 }
 
-/// Makes both measurements.
-pub(crate) fn measure<R>(rt: &R, size: Size) -> Result<(), Fault>
-where
-    R: Clock + Print + AllocGlobal + RandomSource,
-{
-    let elements = size.of(ELEMENTS);
-    // The even ones of 1 to `elements`: twice the numbers up to half of them.
-    let sum_of_chain = sum_to(elements / 2).wrapping_mul(2);
-    report(rt, chain(rt, elements)?, sum_of_chain, size)?;
-    // Both sides have the numbers from 0 to below `elements`.
-    let sum_of_pairs = sum_to(elements.saturating_sub(1)).wrapping_mul(2);
-    report(rt, pairs(rt, elements)?, sum_of_pairs, size)
-}
-
 /// The sum of a range's numbers, each one more, that are even.
-fn chain<R>(rt: &R, elements: u64) -> Result<Figure, Fault>
+pub(crate) fn chain<R>(rt: &R, elements: u64) -> Result<Measured, Fault>
 where
     R: Clock + AllocGlobal + RandomSource,
 {
-    even_of(rt, map(range::<u64>(0, elements), OneMore), elements)
+    even_of(rt, map(range::<u64>(0, elements), OneMore))
 }
 
 // A function adds an operator or two to a flow of any shape, since a proof costs more the more operators a shape has.
 /// The sum of those values that are even.
-fn even_of<R, F>(rt: &R, values: F, elements: u64) -> Result<Figure, Fault>
+fn even_of<R, F>(rt: &R, values: F) -> Result<Measured, Fault>
 where
     R: Clock + AllocGlobal + RandomSource,
     F: Flow<Item = u64, Fault = u64>,
 {
-    folded(rt, "cold-chain", filter(values, IsEven), elements)
+    folded(rt, filter(values, IsEven))
 }
 
 /// The sum of two ranges' pairs.
-fn pairs<R>(rt: &R, elements: u64) -> Result<Figure, Fault>
+pub(crate) fn pairs<R>(rt: &R, elements: u64) -> Result<Measured, Fault>
 where
     R: Clock + AllocGlobal + RandomSource,
 {
     let numbers = range::<u64>(0, elements);
-    pairs_of(rt, numbers, numbers, elements)
+    pairs_of(rt, numbers, numbers)
 }
 
 /// The sum of two flows' pairs.
-fn pairs_of<R, A, B>(rt: &R, left: A, right: B, elements: u64) -> Result<Figure, Fault>
+fn pairs_of<R, A, B>(rt: &R, left: A, right: B) -> Result<Measured, Fault>
 where
     R: Clock + AllocGlobal + RandomSource,
     A: Flow<Item = u64, Fault = u64>,
     B: Flow<Item = u64, Fault = u64>,
 {
-    folded(rt, "cold-zip", zip(left, right, Sum), elements)
+    folded(rt, zip(left, right, Sum))
 }
 
-/// Adds up all that the flow gives.
-pub(crate) fn folded<R, F>(
-    rt: &R,
-    scenario: &'static str,
-    flow: F,
-    elements: u64,
-) -> Result<Figure, Fault>
+/// The sum of all that the flow gives.
+pub(crate) fn folded<R, F>(rt: &R, flow: F) -> Result<Measured, Fault>
 where
     R: Clock + AllocGlobal + RandomSource,
     F: Flow<Item = u64, Fault = u64>,
 {
     let task = Solo::new(rt, Doorbell::spinning())?;
-    let (total, nanoseconds) = timed_sum(rt, &task, flow)?;
-    Ok(Figure {
-        subject: Subject::Cold,
-        scenario,
-        name: "element",
-        unit: Unit::Nanoseconds,
-        operations: elements,
-        nanoseconds,
-        total: total.ok_or(Fault::WrongTotal(scenario))?,
-    })
+    Ok(timed_sum(rt, &task, flow)?)
 }
 
-/// Starts the flow and adds up all that it gives. The sum, where it finished, and the nanoseconds of it.
+/// Starts the flow and adds up all that it gives. The total is 0 where it didn't finish.
 fn timed_sum<R: Clock, F: Flow<Item = u64, Fault = u64>>(
     rt: &R,
     task: &Solo,
     flow: F,
-) -> Result<(Option<u64>, u64), Fault> {
+) -> Result<Measured, Refusal> {
     let start = now(rt);
-    let total = sum_of(task, fold(flow.start()?, 0, Sum));
-    Ok((total, nanoseconds_since(rt, start)?))
+    let sum = sum_of(task, fold(flow.start()?, 0, Sum));
+    Ok(Measured::since(rt, start, sum.unwrap_or(0)))
 }
 
 // Kept apart, as each measured loop: so the code of one doesn't move that of another.

@@ -2,7 +2,8 @@
 
 use crate::blocks::{ByBlock, places};
 use crate::fault::Fault;
-use crate::receipts::{BLOCK, Receipts, Received, Takes, TakesBlocks, receipts_of};
+use crate::measured::Measured;
+use crate::receipts::{Received, Takes, TakesBlocks, receipts_of};
 use crate::sides::{Admits, Emits, EmitsBlocks, Ends};
 use shared_core::{Config, Next, SharedState, SubId, Tried};
 use std::alloc::AllocGlobal;
@@ -53,7 +54,7 @@ impl Admits<SubId> for SharedState<u64> {
 }
 
 /// The receipts of a new flow.
-pub(crate) fn receipts<R>(rt: &R, config: Config, values: u64) -> Result<Receipts, Fault>
+pub(crate) fn receipts<R>(rt: &R, config: Config, values: u64) -> Result<Measured, Fault>
 where
     R: Clock + AllocGlobal + RandomSource + Wait,
 {
@@ -61,12 +62,17 @@ where
     receipts_of(rt, &mut flow, config.subscribers, values)
 }
 
-/// The same, by so many blocks.
-pub(crate) fn receipts_by_block<R>(rt: &R, config: Config, blocks: u64) -> Result<Receipts, Fault>
+/// The same, by so many blocks of this size.
+pub(crate) fn receipts_by_block<R>(
+    rt: &R,
+    config: Config,
+    block: usize,
+    blocks: u64,
+) -> Result<Measured, Fault>
 where
     R: Clock + AllocGlobal + RandomSource + Wait,
 {
-    let flow = SharedState::<u64>::new(rt.alloc(), config)?;
-    let mut flow = ByBlock::of(flow, places(rt, BLOCK)?);
+    let block = places(rt, block)?;
+    let mut flow = ByBlock::of(SharedState::<u64>::new(rt.alloc(), config)?, block);
     receipts_of(rt, &mut flow, config.subscribers, blocks)
 }

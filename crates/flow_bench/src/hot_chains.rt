@@ -3,15 +3,11 @@
 use crate::blocks::{ByBlock, places};
 use crate::chains::{IsEven, OneMore};
 use crate::config::config_of;
-use crate::elapsed::now;
 use crate::fault::Fault;
-use crate::receipts::Receipts;
-use crate::report::report;
+use crate::measured::{Measured, now};
 use crate::shared_blocks::close;
 use crate::shared_ends::IdleEmitter;
 use crate::sides::Emits;
-use crate::sums::sum_to;
-use bench_figures::{Figure, Size, Subject, Unit};
 use cold_flow::{Policy, Run};
 use hot_sources::{Parker, filter, map, receiving, take_of};
 use shared_flow::{SharedFlow, Subscription};
@@ -19,9 +15,6 @@ use std::alloc::AllocGlobal;
 use std::random::RandomSource;
 use std::rt::Clock;
 use std::sync::Wait;
-
-/// How many values are emitted.
-const VALUES: u64 = 6_400_000;
 
 /// How many are emitted before they are received. Half of them are even, the last one too.
 const BLOCK: usize = 64;
@@ -78,63 +71,33 @@ impl<S: Run<Item = u64>> Sums for Takes<S> {
     }
 }
 
-/// Makes both measurements.
-pub(crate) fn measure<R>(rt: &R, size: Size) -> Result<(), Fault>
-where
-    R: Clock + Print + AllocGlobal + RandomSource + Wait,
-{
-    let values = size.of(VALUES);
-    let blocks = values / BLOCK as u64;
-    let looks = figure("hot-looks", values, by_looks(rt, blocks)?);
-    report(rt, looks, sum_to(values), size)?;
-    // One more than each even number.
-    let evens = values / 2;
-    let total = sum_to(evens).wrapping_mul(2).wrapping_add(evens);
-    report(
-        rt,
-        figure("hot-takes", values, by_takes(rt, blocks)?),
-        total,
-        size,
-    )
-}
-
-fn figure(scenario: &'static str, values: u64, receipts: Receipts) -> Figure {
-    Figure {
-        subject: Subject::Shared,
-        scenario,
-        name: "value",
-        unit: Unit::Nanoseconds,
-        operations: values,
-        nanoseconds: receipts.nanoseconds,
-        total: receipts.total,
-    }
-}
-
 /// A flow for one emitter and one subscription, with room for a block.
 fn new_flow<R: AllocGlobal>(rt: &R) -> Result<SharedFlow<u64>, Fault> {
     let config = config_of(1, BLOCK as u64, Policy::Suspend);
     Ok(SharedFlow::<u64>::new(rt.alloc(), config)?)
 }
 
-fn by_looks<R>(rt: &R, blocks: u64) -> Result<Receipts, Fault>
+/// So many values, each looked for.
+pub(crate) fn by_looks<R>(rt: &R, values: u64) -> Result<Measured, Fault>
 where
     R: Clock + AllocGlobal + RandomSource + Wait,
 {
     let mut flow = new_flow(rt)?;
     let mut news = flow.subscribe(rt)?;
-    let receipts = timed(rt, &mut flow, &mut Looks { news: &mut news }, blocks);
+    let receipts = timed(rt, &mut flow, &mut Looks { news: &mut news }, values);
     news.cancel(rt);
     receipts
 }
 
-fn by_takes<R>(rt: &R, blocks: u64) -> Result<Receipts, Fault>
+/// So many values, taken through a chain.
+pub(crate) fn by_takes<R>(rt: &R, values: u64) -> Result<Measured, Fault>
 where
     R: Clock + AllocGlobal + RandomSource + Wait,
 {
     let mut flow = new_flow(rt)?;
     let mut news = flow.subscribe(rt)?;
     let source = receiving::<(), _, _>(&mut news, rt);
-    let receipts = by_takes_of(rt, &mut flow, source, blocks);
+    let receipts = by_takes_of(rt, &mut flow, source, values);
     news.cancel(rt);
     receipts
 }
@@ -144,8 +107,8 @@ fn by_takes_of<R, S>(
     rt: &R,
     flow: &mut SharedFlow<u64>,
     source: S,
-    blocks: u64,
-) -> Result<Receipts, Fault>
+    values: u64,
+) -> Result<Measured, Fault>
 where
     R: Clock + AllocGlobal + RandomSource + Wait,
     S: Run<Item = u64>,
@@ -158,16 +121,16 @@ where
         parker,
         taken,
     };
-    timed(rt, flow, &mut takes, blocks)
+    timed(rt, flow, &mut takes, values)
 }
 
-/// Emits so many blocks, each of which is received before the next one, from a new emitter to its close.
+/// Emits so many values by the block, each of which is received before the next one, from a new emitter to its close.
 fn timed<R, T>(
     rt: &R,
     flow: &mut SharedFlow<u64>,
     reader: &mut T,
-    blocks: u64,
-) -> Result<Receipts, Fault>
+    values: u64,
+) -> Result<Measured, Fault>
 where
     R: Clock + AllocGlobal + Wait,
     T: Sums,
@@ -175,9 +138,9 @@ where
     let block = places(rt, BLOCK)?;
     let start = now(rt);
     let mut emitter = ByBlock::of(IdleEmitter::of(flow)?, block);
-    let total = sum_of(rt, &mut emitter, reader, blocks);
+    let total = sum_of(rt, &mut emitter, reader, values / BLOCK as u64);
     close(rt, emitter);
-    Receipts::since(rt, start, Some(total))
+    Ok(Measured::since(rt, start, total))
 }
 
 // Kept apart, as each measured loop.

@@ -2,14 +2,14 @@
 //! take what is left.
 
 use crate::config::config_of;
-use crate::elapsed::{nanoseconds_since, now};
 use crate::fan_out::{Drains, Works, work_beside};
 use crate::fault::Fault;
 use crate::lane_ends::{LaneReader, LaneSequencer};
+use crate::measured::{Measured, nanoseconds_since, now};
 use crate::pause::Pause;
-use crate::report::{report, report_share};
+use crate::report::{Line, Report};
 use crate::sides::{Emits, admit_all, end_all};
-use bench_figures::{Figure, Portion, Size, Subject, Unit};
+use bench_figures::{Portion, Subject, Unit};
 use cold_flow::Policy;
 use shared_core::Config;
 use shared_lane::{Lane, Taken};
@@ -30,70 +30,70 @@ struct Counts {
     received: u64,
     /// What was received in rising order, and what was dropped.
     accounted: u64,
-    /// Of the emissions alone.
-    emission: u64,
+    /// The nanoseconds of the emissions alone. None, where the clock can't be read.
+    emission: Option<u64>,
     /// Until the last reader had ended.
-    nanoseconds: u64,
+    nanoseconds: Option<u64>,
 }
 
 /// Makes the measurement with 1, 2 and 4 readers.
-pub(crate) fn measure<R>(rt: &R, size: Size) -> Result<(), Fault>
+pub(crate) fn measure<R>(rt: &R, report: &mut Report)
 where
     R: Clock + Print + AllocGlobal + RandomSource + Threads + Wait + Sync,
 {
+    let values = report.count(VALUES);
     for (scenario, readers) in [("lossy-n1", 1), ("lossy-n2", 2), ("lossy-n4", 4)] {
-        losses(rt, scenario, readers, size)?;
-    }
-    Ok(())
-}
-
-/// Reports what the emissions cost, what was received, and which share that was.
-fn losses<R>(rt: &R, scenario: &'static str, readers: u32, size: Size) -> Result<(), Fault>
-where
-    R: Clock + Print + AllocGlobal + RandomSource + Threads + Wait + Sync,
-{
-    let values = size.of(VALUES);
-    let sent = values.wrapping_mul(u64::from(readers));
-    let config = config_of(readers, 1024, Policy::DropOldest);
-    let counts = measured(rt, config, values)?;
-    report(rt, emissions(scenario, counts), values, size)?;
-    report(rt, receipts(scenario, counts), sent, size)?;
-    report_share(rt, kept(scenario, counts, sent), sent, size)
-}
-
-fn emissions(scenario: &'static str, counts: Counts) -> Figure {
-    Figure {
-        subject: Subject::Lane,
-        scenario,
-        name: "emission",
-        unit: Unit::Nanoseconds,
-        operations: counts.emitted,
-        nanoseconds: counts.emission,
-        total: counts.emitted,
+        let config = config_of(readers, 1024, Policy::DropOldest);
+        if let Some(counts) = report.noted(measured(rt, config, values)) {
+            let sent = values.wrapping_mul(u64::from(readers));
+            counts.report(rt, report, scenario, (values, sent));
+        }
     }
 }
 
-fn receipts(scenario: &'static str, counts: Counts) -> Figure {
-    Figure {
-        subject: Subject::Lane,
-        scenario,
-        name: "receipts",
-        unit: Unit::MillionsASecond,
-        operations: counts.received,
-        nanoseconds: counts.nanoseconds,
-        total: counts.accounted,
+impl Counts {
+    /// Reports what the emissions cost, what was received, and which share that was.
+    fn report(
+        self,
+        rt: &impl Print,
+        report: &mut Report,
+        scenario: &'static str,
+        (values, sent): (u64, u64),
+    ) {
+        let emission = Measured {
+            total: self.emitted,
+            nanoseconds: self.emission,
+        };
+        let line = line_of(scenario, "emission", Unit::Nanoseconds);
+        report.figure(rt, line, self.emitted, emission, values);
+        let receipts = Measured {
+            total: self.accounted,
+            nanoseconds: self.nanoseconds,
+        };
+        let line = line_of(scenario, "receipts", Unit::MillionsASecond);
+        report.figure(rt, line, self.received, receipts, sent);
+        report.share(rt, self.kept(scenario, sent), sent);
+    }
+
+    fn kept(self, scenario: &'static str, sent: u64) -> Portion {
+        let tenths = self.received.wrapping_mul(1000).checked_div(sent);
+        Portion {
+            subject: Subject::Lane,
+            scenario,
+            name: "kept",
+            tenths: tenths.unwrap_or(0),
+            sent,
+            total: self.accounted,
+        }
     }
 }
 
-fn kept(scenario: &'static str, counts: Counts, sent: u64) -> Portion {
-    let tenths = counts.received.wrapping_mul(1000).checked_div(sent);
-    Portion {
+fn line_of(scenario: &'static str, name: &'static str, unit: Unit) -> Line {
+    Line {
         subject: Subject::Lane,
         scenario,
-        name: "kept",
-        tenths: tenths.unwrap_or(0),
-        sent,
-        total: counts.accounted,
+        name,
+        unit,
     }
 }
 
@@ -122,7 +122,7 @@ where
     let mut readers = admit_all(rt, sequencer, readers)?;
     let counts = run(rt, sequencer, &mut readers, values);
     end_all(rt, readers);
-    counts
+    Ok(counts)
 }
 
 impl Drains<&AtomicBool> for LaneReader<'_> {
@@ -137,13 +137,16 @@ struct Flooding<'a, 'l> {
     sequencer: &'a mut LaneSequencer<'l>,
     values: u64,
     over: &'a AtomicBool,
-    /// The nanoseconds of it.
-    took: Result<u64, Fault>,
+    /// The nanoseconds of it. None, where the clock can't be read.
+    took: Option<u64>,
 }
 
 impl Works for Flooding<'_, '_> {
     fn work<R: Clock + Wait>(&mut self, rt: &R) {
-        self.took = feed(rt, self.sequencer, self.values, self.over);
+        let start = now(rt);
+        emit_all(rt, self.sequencer, self.values);
+        self.over.store(true, Ordering::SeqCst);
+        self.took = nanoseconds_since(rt, start);
     }
 }
 
@@ -153,43 +156,30 @@ fn run<R>(
     sequencer: &mut LaneSequencer<'_>,
     readers: &mut Vec<LaneReader<'_>>,
     values: u64,
-) -> Result<Counts, Fault>
-where
-    R: Clock + Threads + Wait + Sync,
-{
-    let start = now(rt);
-    let emission = flood(rt, sequencer, readers, values);
-    let nanoseconds = nanoseconds_since(rt, start)?;
-    Ok(counts_of(sequencer, readers, emission?, nanoseconds))
-}
-
-/// Emits while the readers take. Gives the nanoseconds of the emissions.
-fn flood<R>(
-    rt: &R,
-    sequencer: &mut LaneSequencer<'_>,
-    readers: &mut Vec<LaneReader<'_>>,
-    values: u64,
-) -> Result<u64, Fault>
+) -> Counts
 where
     R: Clock + Threads + Wait + Sync,
 {
     let over = AtomicBool::new(false);
+    let start = now(rt);
     let mut flooding = Flooding {
         sequencer,
         values,
         over: &over,
-        took: Ok(0),
+        took: None,
     };
     work_beside(rt, &mut flooding, readers, &over);
-    flooding.took
+    let emission = flooding.took;
+    let nanoseconds = nanoseconds_since(rt, start);
+    counts_of(sequencer, readers, emission, nanoseconds)
 }
 
 /// What was emitted and taken, with the nanoseconds of the emissions and of all.
 fn counts_of(
     sequencer: &LaneSequencer<'_>,
     readers: &[LaneReader<'_>],
-    emission: u64,
-    nanoseconds: u64,
+    emission: Option<u64>,
+    nanoseconds: Option<u64>,
 ) -> Counts {
     let mut counts = Counts {
         emitted: sequencer.next_number(),
@@ -206,19 +196,7 @@ fn counts_of(
     counts
 }
 
-/// Emits the numbers from 1 to `values`, and then says that it is over. Gives the nanoseconds of it.
-fn feed<R: Clock + Wait>(
-    rt: &R,
-    sequencer: &mut LaneSequencer<'_>,
-    values: u64,
-    over: &AtomicBool,
-) -> Result<u64, Fault> {
-    let start = now(rt);
-    emit_all(rt, sequencer, values);
-    over.store(true, Ordering::SeqCst);
-    nanoseconds_since(rt, start)
-}
-
+/// Emits the numbers from 1 to `values`.
 #[inline(never)]
 fn emit_all<R: Wait>(rt: &R, sequencer: &mut LaneSequencer<'_>, values: u64) {
     let mut last: u64 = 0;

@@ -10,20 +10,21 @@ mod blocks;
 mod chains;
 mod config;
 mod core_receipts;
-mod elapsed;
 mod fan_out;
 mod fault;
 mod hot_chains;
+mod jobs;
 mod lane_ends;
-mod lane_fan_out;
+mod lane_jobs;
 mod lane_lossy;
-mod lane_receipts;
+mod measured;
 mod more_chains;
 mod pause;
 mod receipts;
 mod report;
 mod scenario;
 mod script_lines;
+mod series;
 mod shared_blocks;
 mod shared_ends;
 mod shared_fan_out;
@@ -38,6 +39,7 @@ mod text_receipts;
 use bench_figures::Size;
 use fault::Fault;
 use program_words::{Stop, WordsFault, plain_words, status_of, words_of};
+use report::Report;
 use scenario::Scenario;
 use std::alloc::{AllocGlobal, Global};
 use std::process::ExitCode;
@@ -68,13 +70,15 @@ fn scenarios_asked<R: Env + AllocGlobal>(rt: &R) -> Result<Vec<Scenario>, WordsF
     named(rt.alloc(), names.as_slice())
 }
 
-/// Makes the measurements of each scenario.
+/// Makes the measurements of each scenario, up to the first with a fault.
 fn measure_all<R>(rt: &R, scenarios: &[Scenario], size: Size) -> Result<(), Fault>
 where
     R: Clock + Print + AllocGlobal + RandomSource + Threads + Wait + Sync,
 {
+    let mut report = Report::new(size);
     for scenario in scenarios {
-        scenario.measure(rt, size)?;
+        scenario.measure(rt, &mut report);
+        report.end()?;
     }
     Ok(())
 }

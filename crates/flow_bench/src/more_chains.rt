@@ -3,18 +3,13 @@
 ghost use Rattle.std.specs.Prelude.{◌/◌, ◌%◌, ◌==◌, Some, None, nat_lt, if◌then◌else◌};
 
 use crate::chains::{Sum, folded};
-use crate::elapsed::{nanoseconds_since, now};
 use crate::fault::Fault;
-use crate::report::report;
-use bench_figures::{Figure, Size, Subject, Unit};
+use crate::measured::{Measured, now};
 use cold_flow::{Apply, Flow, range};
 use more_operators::{filter_map, scan, take_while};
 use std::alloc::AllocGlobal;
 use std::random::RandomSource;
 use std::rt::Clock;
-
-/// How many elements the source has: a multiple of 4,000.
-const ELEMENTS: u64 = 10_000_000;
 
 /// Half of an even number.
 #[derive(Clone, Copy)]
@@ -50,19 +45,9 @@ impl Apply<u64> for IsBelow {
     }
 }
 
-/// Makes both measurements.
-pub(crate) fn measure<R>(rt: &R, size: Size) -> Result<(), Fault>
-where
-    R: Clock + Print + AllocGlobal + RandomSource,
-{
-    let elements = size.of(ELEMENTS);
-    let total = total_of(elements);
-    report(rt, chain(rt, elements)?, total, size)?;
-    report(rt, by_hand(rt, elements)?, total, size)
-}
-
 /// Half of each sum of 0 to k that is even, for k from 0 to below `elements`: those of 4j and 4j + 3, together 8j(j + 1) + 3.
-fn total_of(elements: u64) -> u64 {
+/// So `elements` is a multiple of 4.
+pub(crate) fn total_of(elements: u64) -> u64 {
     let quarter = elements / 4;
     let below = quarter.saturating_sub(1);
     let cubes = below
@@ -77,51 +62,37 @@ fn limit_of(elements: u64) -> u64 {
     elements.saturating_mul(elements)
 }
 
-/// Half of each even state of a scan that adds up.
-fn chain<R>(rt: &R, elements: u64) -> Result<Figure, Fault>
+/// The sum of half of each even state of a scan that adds up.
+pub(crate) fn chain<R>(rt: &R, elements: u64) -> Result<Measured, Fault>
 where
     R: Clock + AllocGlobal + RandomSource,
 {
     halves_of(rt, scan(range::<u64>(0, elements), 0, Sum), elements)
 }
 
-/// Half of each of these states that is even.
-fn halves_of<R, F>(rt: &R, states: F, elements: u64) -> Result<Figure, Fault>
+/// The sum of half of each of these states that is even.
+fn halves_of<R, F>(rt: &R, states: F, elements: u64) -> Result<Measured, Fault>
 where
     R: Clock + AllocGlobal + RandomSource,
     F: Flow<Item = u64, Fault = u64>,
 {
-    below_limit(rt, filter_map(states, Half), elements)
+    below_limit(rt, filter_map(states, Half), limit_of(elements))
 }
 
-/// Those of these halves that are below the limit.
-fn below_limit<R, F>(rt: &R, halves: F, elements: u64) -> Result<Figure, Fault>
+/// The sum of those of these halves that are below the limit.
+fn below_limit<R, F>(rt: &R, halves: F, limit: u64) -> Result<Measured, Fault>
 where
     R: Clock + AllocGlobal + RandomSource,
     F: Flow<Item = u64, Fault = u64>,
 {
-    let limit = limit_of(elements);
-    folded(
-        rt,
-        "cold-more",
-        take_while(halves, IsBelow { limit }),
-        elements,
-    )
+    folded(rt, take_while(halves, IsBelow { limit }))
 }
 
 /// The same by a loop.
-fn by_hand<R: Clock>(rt: &R, elements: u64) -> Result<Figure, Fault> {
+pub(crate) fn by_hand<R: Clock>(rt: &R, elements: u64) -> Measured {
     let start = now(rt);
     let total = sum_by_hand(elements, limit_of(elements));
-    Ok(Figure {
-        subject: Subject::Cold,
-        scenario: "cold-by-hand",
-        name: "element",
-        unit: Unit::Nanoseconds,
-        operations: elements,
-        nanoseconds: nanoseconds_since(rt, start)?,
-        total,
-    })
+    Measured::since(rt, start, total)
 }
 
 // Kept apart, as each measured loop.

@@ -1,11 +1,11 @@
 //! The scenarios that can be measured.
 
-use crate::fault::Fault;
-use crate::{
-    chains, fan_out, hot_chains, lane_lossy, more_chains, receipts, script_lines, split_values,
-    state_alone, state_threads,
+use crate::report::Report;
+use crate::series::{
+    COLD, FAN_OUT_BY_BLOCK, FAN_OUT_BY_VALUE, HOT, RECEIPTS_BY_BLOCK, RECEIPTS_BY_VALUE, SPLIT,
+    STATE_ALONE, Series, TEXTS, measure_all,
 };
-use bench_figures::Size;
+use crate::{lane_lossy, script_lines, state_threads};
 use std::alloc::AllocGlobal;
 use std::random::RandomSource;
 use std::rt::Clock;
@@ -73,29 +73,33 @@ impl Scenario {
         }
     }
 
+    /// Those of its measurements that give one figure each.
+    fn series(self) -> &'static [Series] {
+        match self {
+            Scenario::Receipts => RECEIPTS_BY_VALUE,
+            Scenario::ReceiptsBy16 => RECEIPTS_BY_BLOCK,
+            Scenario::FanOut => FAN_OUT_BY_VALUE,
+            Scenario::FanOutBy64 => FAN_OUT_BY_BLOCK,
+            Scenario::State => STATE_ALONE,
+            Scenario::Split => SPLIT,
+            Scenario::Cold => COLD,
+            Scenario::Hot => HOT,
+            Scenario::Texts => TEXTS,
+            Scenario::Lossy | Scenario::Script => &[],
+        }
+    }
+
     /// Makes each measurement of the scenario once, and writes what it gave.
-    pub(crate) fn measure<R>(self, rt: &R, size: Size) -> Result<(), Fault>
+    pub(crate) fn measure<R>(self, rt: &R, report: &mut Report)
     where
         R: Clock + Print + AllocGlobal + RandomSource + Threads + Wait + Sync,
     {
+        measure_all(rt, self.series(), report);
         match self {
-            Scenario::Receipts => receipts::measure(rt, size),
-            Scenario::ReceiptsBy16 => receipts::measure_by_block(rt, size),
-            Scenario::FanOut => fan_out::measure(rt, size),
-            Scenario::FanOutBy64 => fan_out::measure_by_block(rt, size),
-            Scenario::Lossy => lane_lossy::measure(rt, size),
-            Scenario::State => {
-                state_alone::measure(rt, size)?;
-                state_threads::measure(rt, size)
-            }
-            Scenario::Split => split_values::measure(rt, size),
-            Scenario::Cold => {
-                chains::measure(rt, size)?;
-                more_chains::measure(rt, size)
-            }
-            Scenario::Hot => hot_chains::measure(rt, size),
-            Scenario::Script => script_lines::measure(rt, size),
-            Scenario::Texts => receipts::measure_texts(rt, size),
+            Scenario::Lossy => lane_lossy::measure(rt, report),
+            Scenario::State => state_threads::measure(rt, report),
+            Scenario::Script => script_lines::measure(rt, report),
+            _ => {}
         }
     }
 }

@@ -1,9 +1,9 @@
 //! Lines of a script, from its bytes in memory to its answers in memory.
 
-use crate::elapsed::{nanoseconds_since, now};
 use crate::fault::Fault;
-use crate::report::report;
-use bench_figures::{Figure, Size, Subject, Unit};
+use crate::measured::{Measured, now};
+use crate::report::{Line, Report};
+use bench_figures::{Subject, Unit};
 use flow_script::{Engine, run_script};
 use std::alloc::{AllocGlobal, Global};
 use std::fmt::Write as _;
@@ -26,16 +26,25 @@ struct Script {
 }
 
 /// Makes the measurement.
-pub(crate) fn measure<R>(rt: &R, size: Size) -> Result<(), Fault>
+pub(crate) fn measure<R>(rt: &R, report: &mut Report)
 where
     R: Clock + Print + AllocGlobal + RandomSource + Wait,
 {
-    let script = script_of(rt.alloc(), size.of(BYTES))?;
-    report(rt, lines(rt, &script)?, script.lines, size)
+    if let Some(script) = report.noted(script_of(rt.alloc(), report.count(BYTES)))
+        && let Some(lines) = report.noted(lines(rt, &script))
+    {
+        let line = Line {
+            subject: Subject::Runner,
+            scenario: "script",
+            name: "line",
+            unit: Unit::Nanoseconds,
+        };
+        report.figure(rt, line, script.lines, lines, script.lines);
+    }
 }
 
 /// Measures how long the answers to a script take. The total is the number of its lines, where each was answered as it should be.
-fn lines<R>(rt: &R, script: &Script) -> Result<Figure, Fault>
+fn lines<R>(rt: &R, script: &Script) -> Result<Measured, Fault>
 where
     R: Clock + AllocGlobal + RandomSource + Wait,
 {
@@ -43,17 +52,11 @@ where
     let mut rest = script.text.as_bytes();
     let start = now(rt);
     run_script(rt, &mut rest, &mut answers, Engine::Core)?;
-    let nanoseconds = nanoseconds_since(rt, start)?;
-    let is_right = answers.as_slice() == script.answers.as_bytes();
-    Ok(Figure {
-        subject: Subject::Runner,
-        scenario: "script",
-        name: "line",
-        unit: Unit::Nanoseconds,
-        operations: script.lines,
-        nanoseconds,
-        total: if is_right { script.lines } else { 0 },
-    })
+    let mut measured = Measured::since(rt, start, 0);
+    if answers.as_slice() == script.answers.as_bytes() {
+        measured.total = script.lines;
+    }
+    Ok(measured)
 }
 
 /// A script of at most so many bytes: a flow, two subscriptions, then rounds of a try and a receipt for each of them.

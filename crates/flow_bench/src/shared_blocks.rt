@@ -2,10 +2,11 @@
 //! there.
 
 use crate::blocks::{BlockReader, ByBlock, places};
-use crate::elapsed::now;
-use crate::fan_out::{self, FannedOut, ReadsBlocks, fan_out};
+use crate::fan_out::ReadsBlocks;
 use crate::fault::Fault;
-use crate::receipts::{self, Receipts, TakesBlocks, emit_and_take};
+use crate::jobs::Job;
+use crate::measured::Measured;
+use crate::receipts::TakesBlocks;
 use crate::shared_ends::IdleEmitter;
 use crate::sides::{Admits, Ends, admit_all, end_all};
 use shared_core::Config;
@@ -22,15 +23,10 @@ struct Sleeper {
     parker: Parker,
 }
 
-impl TakesBlocks<Subscription<u64>> for IdleEmitter {
+impl TakesBlocks<Sleeper> for IdleEmitter {
     #[inline]
-    fn take_block<R: Wait>(
-        &mut self,
-        _rt: &R,
-        reader: &mut Subscription<u64>,
-        block: &mut Vec<u64>,
-    ) {
-        let _taken = reader.try_next_all(block);
+    fn take_block<R: Wait>(&mut self, _rt: &R, reader: &mut Sleeper, block: &mut Vec<u64>) {
+        let _taken = reader.subscription.try_next_all(block);
     }
 }
 
@@ -63,65 +59,37 @@ impl Ends for Sleeper {
     }
 }
 
-/// The receipts of a new flow, by so many blocks.
-pub(crate) fn receipts<R>(rt: &R, config: Config, blocks: u64) -> Result<Receipts, Fault>
+/// Measures a new flow by blocks of so many values.
+pub(crate) fn on_flow<R>(rt: &R, config: Config, block: usize, job: Job) -> Result<Measured, Fault>
 where
-    R: Clock + AllocGlobal + RandomSource + Wait,
+    R: Clock + AllocGlobal + RandomSource + Threads + Wait + Sync,
 {
-    let flow = SharedFlow::<u64>::new(rt.alloc(), config)?;
-    let mut flow = ByBlock::of(flow, places(rt, receipts::BLOCK)?);
-    let mut readers = admit_all(rt, &mut flow, config.subscribers)?;
-    let receipts = take_each(rt, &mut flow.flow, &mut readers, blocks);
-    end_all(rt, readers);
-    receipts
+    let block = places(rt, block)?;
+    let mut flow = ByBlock::of(SharedFlow::<u64>::new(rt.alloc(), config)?, block);
+    let mut sleepers = admit_all(rt, &mut flow, config.subscribers)?;
+    let measured = by_emitter(rt, &mut flow, &mut sleepers, job);
+    end_all(rt, sleepers);
+    measured
 }
 
-/// Emits so many blocks, each of which all subscriptions take, from a new emitter to its close.
-fn take_each<R: Clock + AllocGlobal + Wait>(
+/// The same with its emitter and these readers.
+fn by_emitter<R>(
     rt: &R,
-    flow: &mut SharedFlow<u64>,
-    readers: &mut Vec<BlockReader<Subscription<u64>>>,
-    blocks: u64,
-) -> Result<Receipts, Fault> {
-    let block = places(rt, receipts::BLOCK)?;
-    let start = now(rt);
-    let mut emitter = ByBlock::of(IdleEmitter::of(flow)?, block);
-    let total = emit_and_take(rt, &mut emitter, readers, blocks);
+    flow: &mut ByBlock<SharedFlow<u64>>,
+    sleepers: &mut Vec<BlockReader<Sleeper>>,
+    job: Job,
+) -> Result<Measured, Fault>
+where
+    R: Clock + AllocGlobal + Threads + Wait + Sync,
+{
+    let block = places(rt, flow.block.len())?;
+    let mut emitter = ByBlock::of(IdleEmitter::of(&mut flow.flow)?, block);
+    let measured = job.measured(rt, &mut emitter, sleepers);
     close(rt, emitter);
-    Receipts::since(rt, start, total)
+    Ok(measured)
 }
 
 pub(crate) fn close<R: Wait>(rt: &R, emitter: ByBlock<IdleEmitter>) {
     let ByBlock { flow, block: _ } = emitter;
     flow.close(rt);
-}
-
-/// What came by the block to the listeners of a new flow.
-pub(crate) fn fanned_out<R>(rt: &R, config: Config, values: u64) -> Result<FannedOut, Fault>
-where
-    R: Clock + AllocGlobal + RandomSource + Threads + Wait + Sync,
-{
-    let flow = SharedFlow::<u64>::new(rt.alloc(), config)?;
-    let mut flow = ByBlock::of(flow, places(rt, fan_out::BLOCK)?);
-    let mut sleepers = admit_all(rt, &mut flow, config.subscribers)?;
-    let fanned_out = emit_to_all(rt, &mut flow.flow, &mut sleepers, values);
-    end_all(rt, sleepers);
-    fanned_out
-}
-
-/// What came from one emitter to all listeners.
-fn emit_to_all<R>(
-    rt: &R,
-    flow: &mut SharedFlow<u64>,
-    sleepers: &mut Vec<BlockReader<Sleeper>>,
-    values: u64,
-) -> Result<FannedOut, Fault>
-where
-    R: Clock + AllocGlobal + Threads + Wait + Sync,
-{
-    let block = places(rt, fan_out::BLOCK)?;
-    let mut emitter = ByBlock::of(IdleEmitter::of(flow)?, block);
-    let fanned_out = fan_out(rt, &mut emitter, sleepers, values);
-    close(rt, emitter);
-    fanned_out
 }

@@ -3,8 +3,9 @@
 ghost use Rattle.futures.specs.Poll.{OnPending};
 ghost use Rattle.futures.specs.Task.{IsArmed};
 
-use crate::fan_out::{Drains, FannedOut, InOrder, fan_out};
+use crate::fan_out::{Drains, InOrder, fan_out};
 use crate::fault::Fault;
+use crate::measured::Measured;
 use crate::shared_ends::IdleEmitter;
 use crate::sides::{Admits, Ends, admit_all, end_all};
 use futures::task::{Context, Doorbell, Poll, Queue};
@@ -35,7 +36,7 @@ struct Received {
 }
 
 /// What came to the listeners of a new flow.
-pub(crate) fn fanned_out<R>(rt: &R, config: Config, values: u64) -> Result<FannedOut, Fault>
+pub(crate) fn fanned_out<R>(rt: &R, config: Config, values: u64) -> Result<Measured, Fault>
 where
     R: Clock + AllocGlobal + RandomSource + Threads + Wait + Sync,
 {
@@ -52,14 +53,14 @@ fn emit_to_all<R>(
     flow: &mut SharedFlow<u64>,
     listeners: &mut Vec<Listener>,
     values: u64,
-) -> Result<FannedOut, Fault>
+) -> Result<Measured, Fault>
 where
     R: Clock + Threads + Wait + Sync,
 {
     let mut emitter = IdleEmitter::of(flow)?;
     let fanned_out = fan_out(rt, &mut emitter, listeners, values);
     emitter.close(rt);
-    fanned_out
+    Ok(fanned_out)
 }
 
 impl Admits<Listener> for SharedFlow<u64> {

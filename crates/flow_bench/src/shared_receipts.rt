@@ -1,8 +1,8 @@
 //! Receipts of a shared flow for threads, on one thread: what the emitter's lock adds to those of a lane.
 
-use crate::elapsed::now;
 use crate::fault::Fault;
-use crate::receipts::{Receipts, Received, Takes, emit_and_take};
+use crate::measured::Measured;
+use crate::receipts::{self, Received, Takes};
 use crate::shared_ends::IdleEmitter;
 use crate::sides::{Admits, Emits, admit_all, end_all};
 use futures::task::{Context, Doorbell, Poll, Solo};
@@ -59,7 +59,7 @@ impl Admits<Subscription<u64>> for SharedFlow<u64> {
 }
 
 /// The receipts of a new flow.
-pub(crate) fn receipts<R>(rt: &R, config: Config, values: u64) -> Result<Receipts, Fault>
+pub(crate) fn receipts<R>(rt: &R, config: Config, values: u64) -> Result<Measured, Fault>
 where
     R: Clock + AllocGlobal + RandomSource + Wait,
 {
@@ -71,20 +71,19 @@ where
     receipts
 }
 
-/// Emits so many values, each of which all subscriptions take, from a new emitter to its close.
+/// Emits so many values, each of which all subscriptions take.
 fn take_each<R: Clock + Wait>(
     rt: &R,
     task: &Solo,
     flow: &mut SharedFlow<u64>,
     readers: &mut Vec<Subscription<u64>>,
     values: u64,
-) -> Result<Receipts, Fault> {
-    let start = now(rt);
+) -> Result<Measured, Fault> {
     let mut polling = Polling {
         emitter: IdleEmitter::of(flow)?,
         cx: task.begin(),
     };
-    let total = emit_and_take(rt, &mut polling, readers, values);
+    let receipts = receipts::receipts(rt, &mut polling, readers, values);
     polling.end(rt);
-    Receipts::since(rt, start, total)
+    Ok(receipts)
 }

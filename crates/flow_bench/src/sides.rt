@@ -5,24 +5,6 @@ use std::alloc::AllocGlobal;
 use std::random::RandomSource;
 use std::sync::Wait;
 
-/// Who emits.
-pub(crate) trait Emits {
-    /// Emits a value: whether it was accepted.
-    fn emit<R: Wait>(&mut self, rt: &R, value: u64) -> bool;
-}
-
-/// Who emits by the block.
-pub(crate) trait EmitsBlocks {
-    /// Emits these values, from the first on: how many were accepted.
-    fn emit_block<R: Wait>(&mut self, rt: &R, block: &[u64]) -> u64;
-}
-
-/// Who emits numbers in their order.
-pub(crate) trait Feeds {
-    /// Emits the number `next`, or a block of numbers from it on, all below `end`: how many were accepted.
-    fn feed<R: Wait>(&mut self, rt: &R, next: u64, end: u64) -> u64;
-}
-
 /// A reader. It must be ended.
 pub(crate) trait Ends {
     fn end<R: Wait>(self, rt: &R);
@@ -59,4 +41,22 @@ pub(crate) fn end_all<R: Wait, L: Ends>(rt: &R, mut readers: Vec<L>) {
         reader.end(rt);
     }
     readers.destroy_empty();
+}
+
+/// Who emits.
+pub(crate) trait Emits {
+    /// Emits a value: whether it was accepted.
+    fn emit<R: Wait>(&mut self, rt: &R, value: u64) -> bool;
+}
+
+/// Who emits by the block.
+pub(crate) trait EmitsBlocks {
+    /// Emits these values, from the first on: how many were accepted.
+    fn emit_block<R: Wait>(&mut self, rt: &R, block: &[u64]) -> u64;
+}
+
+/// Who emits numbers in their order.
+pub(crate) trait Feeds {
+    /// Emits the number `next`, or a block of numbers from it on, all below `end`: how many were accepted.
+    fn feed<R: Wait>(&mut self, rt: &R, next: u64, end: u64) -> u64;
 }

@@ -1,10 +1,8 @@
 //! A buffer between two threads: one pumps a range in, the other takes it out, and nothing is dropped.
 
-use crate::elapsed::{nanoseconds_since, now};
 use crate::fault::Fault;
-use crate::report::report;
-use bench_figures::{Figure, Size, Subject, Unit};
-use cold_flow::{EndingRun, Event, Numbers, Policy, Run, range};
+use crate::measured::{Measured, now};
+use cold_flow::{EndingRun, Event, Numbers, Policy, Refusal, Run, range};
 use flow_buffer::{Drain, Feed, Fill, split};
 use futures::task::{Doorbell, Solo};
 use std::alloc::AllocGlobal;
@@ -14,56 +12,17 @@ use std::sync::Wait;
 use std::thread;
 use std::thread::Threads;
 
-/// Makes the measurement at capacities 4, 64 and 1,024. The smallest hands over fewer values, since its threads wait most.
-pub(crate) fn measure<R>(rt: &R, size: Size) -> Result<(), Fault>
-where
-    R: Clock + Print + AllocGlobal + RandomSource + Threads + Wait + Sync,
-{
-    for (scenario, capacity, values) in [
-        ("split-k4", 4, 500_000),
-        ("split-k64", 64, 5_000_000),
-        ("split-k1024", 1024, 5_000_000),
-    ] {
-        let values = size.of(values);
-        let figure = values_through(rt, scenario, capacity, values)?;
-        report(rt, figure, values, size)?;
-    }
-    Ok(())
-}
-
 /// Measures how long so many values take from one thread to the other. The total is the number of those that came in order.
-fn values_through<R>(
-    rt: &R,
-    scenario: &'static str,
-    capacity: u64,
-    values: u64,
-) -> Result<Figure, Fault>
-where
-    R: Clock + AllocGlobal + RandomSource + Threads + Wait + Sync,
-{
-    let (total, nanoseconds) = handed_over(rt, capacity, values)?;
-    Ok(Figure {
-        subject: Subject::Buffer,
-        scenario,
-        name: "value",
-        unit: Unit::Nanoseconds,
-        operations: values,
-        nanoseconds,
-        total,
-    })
-}
-
-/// The number of the values that came in order, and the nanoseconds of them.
-fn handed_over<R>(rt: &R, capacity: u64, values: u64) -> Result<(u64, u64), Fault>
+pub(crate) fn through<R>(rt: &R, capacity: u64, values: u64) -> Result<Measured, Fault>
 where
     R: Clock + AllocGlobal + RandomSource + Threads + Wait + Sync,
 {
     let task = Solo::new(rt, Doorbell::spinning())?;
-    through(rt, &task, capacity, values)
+    Ok(through_in(rt, &task, capacity, values)?)
 }
 
 /// The same in this task.
-fn through<R>(rt: &R, task: &Solo, capacity: u64, values: u64) -> Result<(u64, u64), Fault>
+fn through_in<R>(rt: &R, task: &Solo, capacity: u64, values: u64) -> Result<Measured, Refusal>
 where
     R: Clock + AllocGlobal + Threads + Wait + Sync,
 {
@@ -76,7 +35,7 @@ where
     )?;
     let total = hand_over(rt, task, &mut feed, &mut drain);
     feed.cancel(rt);
-    Ok((total, nanoseconds_since(rt, start)?))
+    Ok(Measured::since(rt, start, total))
 }
 
 /// One thread feeds, another drains.

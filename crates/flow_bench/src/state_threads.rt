@@ -1,12 +1,12 @@
 //! A state flow between threads: one sets without pause, and one or two others ask without pause.
 
-use crate::elapsed::{nanoseconds_since, now};
 use crate::fan_out::{Drains, Works, work_beside};
 use crate::fault::Fault;
-use crate::report::report;
+use crate::measured::{Measured, nanoseconds_since, now};
+use crate::report::{Line, Report};
 use crate::sides::{Admits, Ends, admit_all};
 use crate::state_alone::timed_sets;
-use bench_figures::{Figure, Size, Subject, Unit};
+use bench_figures::{Subject, Unit};
 use state_flow::{StateFlow, StateSeat};
 use std::alloc::AllocGlobal;
 use std::random::RandomSource;
@@ -17,13 +17,12 @@ use std::thread::Threads;
 /// How many values are set.
 const SETS: u64 = 2_000_000;
 
-/// What one thread did.
+/// What the asks of all collectors were.
 #[derive(Clone, Copy)]
-struct Work {
-    operations: u64,
-    nanoseconds: u64,
-    /// The last value that it set, or that it was given where each value was above the one before.
-    last: u64,
+struct Asked {
+    asks: u64,
+    /// The total is the last value that each was given, 0 where one wasn't above the one before.
+    measured: Measured,
 }
 
 /// What a collector was given so far.
@@ -39,7 +38,7 @@ struct Given {
 struct Writing<'a> {
     seat: &'a mut StateSeat<u64>,
     sets: u64,
-    set: Result<Work, Fault>,
+    set: Measured,
 }
 
 /// A collector's thread.
@@ -53,51 +52,58 @@ struct Asking {
 }
 
 /// Makes the measurement with one collector and with two.
-pub(crate) fn measure<R>(rt: &R, size: Size) -> Result<(), Fault>
+pub(crate) fn measure<R>(rt: &R, report: &mut Report)
 where
     R: Clock + Print + AllocGlobal + RandomSource + Threads + Wait + Sync,
 {
+    let sets = report.count(SETS);
     for (scenario, collectors) in [("state-c1", 1), ("state-c2", 2)] {
-        let (set, asked) = measured(rt, collectors, size.of(SETS))?;
-        report_both(rt, scenario, size, set, asked)?;
+        if let Some((set, asked)) = report.noted(measured(rt, collectors, sets)) {
+            // The last value of both is the number of the sets.
+            report.figure(rt, line_of(scenario, "set"), sets, set, sets);
+            report.figure(
+                rt,
+                line_of(scenario, "ask"),
+                asked.asks,
+                asked.measured,
+                sets,
+            );
+        }
     }
-    Ok(())
+}
+
+fn line_of(scenario: &'static str, name: &'static str) -> Line {
+    Line {
+        subject: Subject::State,
+        scenario,
+        name,
+        unit: Unit::Nanoseconds,
+    }
 }
 
 /// What one thread set, and so many others asked. The asks of all are one figure.
-fn measured<R>(rt: &R, collectors: u32, sets: u64) -> Result<(Work, Work), Fault>
+fn measured<R>(rt: &R, collectors: u32, sets: u64) -> Result<(Measured, Asked), Fault>
 where
     R: Clock + AllocGlobal + RandomSource + Threads + Wait + Sync,
 {
     // A seat for the thread that sets, too.
-    let mut writer = StateFlow::new(rt.alloc(), 0u64, collectors.saturating_add(1))?;
-    let mut asking = admit_all(rt, &mut writer, collectors)?;
-    let set = set_and_ask(rt, &mut writer, &mut asking, sets)?;
-    Ok((set, work_of(asking.as_slice(), collectors)?))
-}
-
-/// One thread sets, and the others ask. What was set.
-fn set_and_ask<R>(
-    rt: &R,
-    writer: &mut StateSeat<u64>,
-    asking: &mut Vec<Asking>,
-    sets: u64,
-) -> Result<Work, Fault>
-where
-    R: Clock + Threads + Wait + Sync,
-{
+    let mut seat = StateFlow::new(rt.alloc(), 0u64, collectors.saturating_add(1))?;
+    let mut asking = admit_all(rt, &mut seat, collectors)?;
     let mut writing = Writing {
-        seat: writer,
+        seat: &mut seat,
         sets,
-        set: Err(Fault::Host),
+        set: Measured {
+            total: 0,
+            nanoseconds: None,
+        },
     };
-    work_beside(rt, &mut writing, asking, sets);
-    writing.set
+    work_beside(rt, &mut writing, &mut asking, sets);
+    Ok((writing.set, asked_by(asking.as_slice(), collectors)))
 }
 
 impl Works for Writing<'_> {
     fn work<R: Clock + Wait>(&mut self, rt: &R) {
-        self.set = write(rt, self.seat, self.sets);
+        self.set = timed_sets(rt, self.seat, self.sets);
     }
 }
 
@@ -127,63 +133,34 @@ impl Drains<u64> for Asking {
         };
         let start = now(rt);
         self.given = ask_up_to(rt, seat, end);
-        self.nanoseconds = nanoseconds_since(rt, start).ok();
+        self.nanoseconds = nanoseconds_since(rt, start);
     }
 }
 
-/// The work of so many collectors, as one. Its last value is 0 where one of them was refused.
-fn work_of(asking: &[Asking], collectors: u32) -> Result<Work, Fault> {
-    let is_whole = asking.len() == collectors as usize;
-    let mut work = Work {
-        operations: 0,
-        nanoseconds: 0,
-        last: if is_whole { u64::MAX } else { 0 },
+/// The asks of so many collectors, as one. The last value is 0 where one of them was refused.
+fn asked_by(asking: &[Asking], collectors: u32) -> Asked {
+    let mut asks: u64 = 0;
+    let mut nanoseconds = Some(0u64);
+    let mut last = if asking.len() == collectors as usize {
+        u64::MAX
+    } else {
+        0
     };
     for one in asking {
-        let nanoseconds = one.nanoseconds.ok_or(Fault::Host)?;
-        work.operations = work.operations.wrapping_add(one.given.asks);
-        work.nanoseconds = work.nanoseconds.wrapping_add(nanoseconds);
-        work.last = work.last.min(one.given.last.unwrap_or(0));
+        asks = asks.wrapping_add(one.given.asks);
+        nanoseconds = match (nanoseconds, one.nanoseconds) {
+            (Some(before), Some(more)) => Some(before.wrapping_add(more)),
+            _ => None,
+        };
+        last = last.min(one.given.last.unwrap_or(0));
     }
-    Ok(work)
-}
-
-/// Reports what the one thread set, and what the others asked. The last value of both is the number of the sets.
-fn report_both<R>(
-    rt: &R,
-    scenario: &'static str,
-    size: Size,
-    set: Work,
-    asked: Work,
-) -> Result<(), Fault>
-where
-    R: Print,
-{
-    let sets = size.of(SETS);
-    report(rt, figure_of(scenario, "set", set), sets, size)?;
-    report(rt, figure_of(scenario, "ask", asked), sets, size)
-}
-
-fn figure_of(scenario: &'static str, name: &'static str, work: Work) -> Figure {
-    Figure {
-        subject: Subject::State,
-        scenario,
-        name,
-        unit: Unit::Nanoseconds,
-        operations: work.operations,
-        nanoseconds: work.nanoseconds,
-        total: work.last,
+    Asked {
+        asks,
+        measured: Measured {
+            total: last,
+            nanoseconds,
+        },
     }
-}
-
-/// Sets the numbers from 1 to `sets`.
-fn write(rt: &impl Clock, seat: &mut StateSeat<u64>, sets: u64) -> Result<Work, Fault> {
-    let (last, nanoseconds) = timed_sets(rt, seat, sets)?;
-    Ok(Work {
-        operations: sets,
-        nanoseconds,
-        last,
-    })
 }
 
 /// Asks until that value came, and looks whether each value is above the one before.

@@ -1,7 +1,8 @@
 //! Receipts of a shared flow of texts for threads, on one thread: each text is made for its emission, and cloned for each reader.
 
 use crate::fault::Fault;
-use crate::receipts::{Receipts, Received, Takes, receipts_of};
+use crate::measured::Measured;
+use crate::receipts::{Received, Takes, receipts_of};
 use crate::sides::{Admits, Emits, Ends};
 use std::alloc::AllocGlobal;
 use std::random::RandomSource;
@@ -71,7 +72,7 @@ impl Ends for Subscription<String> {
 }
 
 /// The receipts of a new flow with 64 places, which drops the oldest texts.
-pub(crate) fn receipts<R>(rt: &R, readers: u32, values: u64) -> Result<Receipts, Fault>
+pub(crate) fn receipts<R>(rt: &R, readers: u32, values: u64) -> Result<Measured, Fault>
 where
     R: Clock + AllocGlobal + RandomSource + Wait,
 {

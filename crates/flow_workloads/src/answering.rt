@@ -2,13 +2,13 @@
 
 use crate::acting::{Acts, both};
 use crate::course::{Course, Emitters};
-use crate::fault::Fault;
+use crate::tally::Tally;
 use cold_flow::Refusal;
 use state_waiting::{Collected, WatchedSeat, Watcher};
 use std::alloc::{AllocGlobal, Global};
+use std::random::RandomSource;
 use std::sync::Wait;
 use std::thread::Threads;
-use workload_inputs::Digest;
 
 /// Two seats at a new state.
 fn seats(alloc: Global) -> Result<(WatchedSeat<u64>, WatchedSeat<u64>), Refusal> {
@@ -39,7 +39,7 @@ impl Side {
         }
     }
 
-    fn end(self, digest: &mut Digest) {
+    fn end(self, tally: &mut Tally) {
         let Side {
             seat: _,
             watcher,
@@ -47,7 +47,7 @@ impl Side {
             values,
         } = self;
         drop(watcher.cancel());
-        values.told(digest, Emitters::One);
+        values.told(tally, Emitters::One);
     }
 }
 
@@ -78,17 +78,20 @@ fn answer(
 }
 
 /// Two threads answer each other so many times by two new states, after the second has said this value.
-pub(crate) fn run<R>(rt: &R, (value, turns): (u64, u64), digest: &mut Digest) -> Result<(), Fault>
+pub(crate) fn run<R>(rt: &R, (value, turns): (u64, u64), tally: &mut Tally)
 where
-    R: AllocGlobal + Threads + Wait + Sync,
+    R: AllocGlobal + RandomSource + Threads + Wait + Sync,
 {
-    let (seat, watched) = seats(rt.alloc())?;
-    let (other_seat, other_watched) = seats(rt.alloc())?;
-    let mut one = Side::new(seat, other_watched, turns);
-    let mut other = Side::new(other_seat, watched, turns);
-    other.seat.set(value);
-    both(rt, &mut one, &mut other);
-    one.end(digest);
-    other.end(digest);
-    Ok(())
+    let alloc = rt.alloc();
+    if let (Some((seat, watched)), Some((other_seat, other_watched))) = (
+        tally.noted(seats(alloc)),
+        tally.noted(seats(alloc)),
+    ) {
+        let mut one = Side::new(seat, other_watched, turns);
+        let mut other = Side::new(other_seat, watched, turns);
+        other.seat.set(value);
+        both(rt, &mut one, &mut other);
+        one.end(tally);
+        other.end(tally);
+    }
 }

@@ -1,5 +1,6 @@
 //! Numbers that come one after another, and what of them a schedule of threads can't change.
 
+use crate::tally::Tally;
 use workload_inputs::Digest;
 
 /// How many emit into a flow.
@@ -58,18 +59,18 @@ impl Course {
     }
 
     /// Takes in how many came, and all that so many emitters fix of what they were.
-    pub(crate) fn told(&self, digest: &mut Digest, emitters: Emitters) {
-        digest.number(self.count);
+    pub(crate) fn told(&self, tally: &mut Tally, emitters: Emitters) {
+        tally.number(self.count);
         match emitters {
-            Emitters::One => digest.number(self.ordered.value()),
-            Emitters::Two => digest.number(self.sum),
+            Emitters::One => tally.number(self.ordered.value()),
+            Emitters::Two => tally.number(self.sum),
         }
     }
 
     /// Takes in how many came of either, and the sum of all: what is fixed where the schedule deals them out.
-    pub(crate) fn told_with(&self, other: &Course, digest: &mut Digest) {
-        digest.number(self.count);
-        digest.number(other.count);
-        digest.number(self.sum.wrapping_add(other.sum));
+    pub(crate) fn told_with(&self, other: &Course, tally: &mut Tally) {
+        tally.number(self.count);
+        tally.number(other.count);
+        tally.number(self.sum.wrapping_add(other.sum));
     }
 }

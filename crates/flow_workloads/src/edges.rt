@@ -1,31 +1,26 @@
 //! Calls at the edges of what other workloads make: slow subscriptions among many, gaps, one place, none, nobody, emissions that
 //! sleep, subscriptions that come and go.
 
-use crate::edge_calls::attempt_all;
 use crate::edges::Work::{ForThreads, NewFlows, OneFlow, TextRows};
-use crate::fault::Fault;
 use crate::for_threads::Company;
+use crate::tallied::Tallied;
+use crate::tally::Tally;
 use crate::{laggards, lookups, narrow, rows};
 use shared_core::{Config, Policy, SharedState};
 use std::alloc::{AllocGlobal, Global};
 use std::random::RandomSource;
 use std::sync::Wait;
-use workload_inputs::{Digest, Scale};
+use workload_inputs::Scale;
 
-/// What is called once on a flow.
+/// What is called on a flow, once or in rounds.
 #[derive(Clone, Copy)]
-enum Once {
+enum Calls {
     /// One of many subscriptions is slow.
     Laggard,
     /// Two of them are.
     TwoLaggards,
     /// Places at the front of many, behind a gap.
     FrontGap,
-}
-
-/// What is called in rounds on one flow.
-#[derive(Clone, Copy)]
-enum Often {
     /// Nobody listens.
     Nobody,
     /// The oldest value makes way.
@@ -44,9 +39,9 @@ enum Often {
 #[derive(Clone, Copy)]
 enum Work {
     /// In each it makes these calls on a new flow.
-    NewFlows(Config, Once),
+    NewFlows(Config, Calls),
     /// It makes these on one flow.
-    OneFlow(Config, Often),
+    OneFlow(Config, Calls),
     /// It makes these on one flow for threads, from one thread.
     ForThreads(Config, Company),
     /// It draws a picture, with a row for each.
@@ -97,20 +92,20 @@ const CASES: usize = 22;
 
 /// Each case.
 const EDGES: [Edge; CASES] = [
-    edge!("laggard_1024": NewFlows(LARGEST, Once::Laggard), 7),
-    edge!("laggard_8": NewFlows(flow!(extra: 65_536, subscribers: 8), Once::Laggard), 100),
-    edge!("two_laggards": NewFlows(LARGEST, Once::TwoLaggards), 7),
-    edge!("nobody": OneFlow(flow!(extra: 64, subscribers: 8), Often::Nobody), 20_000_000),
-    edge!("oldest_1": OneFlow(flow!(extra: 64, policy: Policy::DropOldest), Often::Oldest), 10_000_000),
-    edge!("front_gap": NewFlows(LARGEST, Once::FrontGap), 40),
-    edge!("gaps": OneFlow(flow!(extra: 64, subscribers: 10), Often::Gaps), 3_000_000),
-    edge!("one_place_1": OneFlow(ONE_PLACE, Often::TakenByAll), 8_000_000),
-    edge!("one_place_2": OneFlow(flow!(subscribers: 2), Often::TakenByAll), 4_000_000),
-    edge!("one_place_8": OneFlow(flow!(subscribers: 8), Often::TakenByAll), 1_000_000),
-    edge!("one_place_1024": OneFlow(flow!(subscribers: 1024), Often::TakenByAll), 8_000),
-    edge!("hand_over_1": OneFlow(flow!(extra: 0), Often::HandOver), 4_000_000),
-    edge!("hand_over_8": OneFlow(flow!(extra: 0, subscribers: 8), Often::HandOver), 500_000),
-    edge!("front_tickets": OneFlow(flow!(emits: 1024), Often::FrontTickets), 20_000_000),
+    edge!("laggard_1024": NewFlows(LARGEST, Calls::Laggard), 7),
+    edge!("laggard_8": NewFlows(flow!(extra: 65_536, subscribers: 8), Calls::Laggard), 100),
+    edge!("two_laggards": NewFlows(LARGEST, Calls::TwoLaggards), 7),
+    edge!("nobody": OneFlow(flow!(extra: 64, subscribers: 8), Calls::Nobody), 20_000_000),
+    edge!("oldest_1": OneFlow(flow!(extra: 64, policy: Policy::DropOldest), Calls::Oldest), 10_000_000),
+    edge!("front_gap": NewFlows(LARGEST, Calls::FrontGap), 40),
+    edge!("gaps": OneFlow(flow!(extra: 64, subscribers: 10), Calls::Gaps), 3_000_000),
+    edge!("one_place_1": OneFlow(ONE_PLACE, Calls::TakenByAll), 8_000_000),
+    edge!("one_place_2": OneFlow(flow!(subscribers: 2), Calls::TakenByAll), 4_000_000),
+    edge!("one_place_8": OneFlow(flow!(subscribers: 8), Calls::TakenByAll), 1_000_000),
+    edge!("one_place_1024": OneFlow(flow!(subscribers: 1024), Calls::TakenByAll), 8_000),
+    edge!("hand_over_1": OneFlow(flow!(extra: 0), Calls::HandOver), 4_000_000),
+    edge!("hand_over_8": OneFlow(flow!(extra: 0, subscribers: 8), Calls::HandOver), 500_000),
+    edge!("front_tickets": OneFlow(flow!(emits: 1024), Calls::FrontTickets), 20_000_000),
     edge!("asleep_10": ForThreads(flow!(emits: 1024), Company::Emitters(10)), 1_000_000),
     edge!("asleep_100": ForThreads(flow!(emits: 1024), Company::Emitters(100)), 20_000),
     edge!("asleep_1000": ForThreads(flow!(emits: 1024), Company::Emitters(1000)), 500),
@@ -121,81 +116,47 @@ const EDGES: [Edge; CASES] = [
     edge!("text_rows": TextRows, 400_000),
 ];
 
-impl Once {
-    /// Makes its calls on a new flow that may have so many subscriptions, each emission with this value.
-    fn call(
+impl Calls {
+    /// Makes them on a new flow that may have so many subscriptions, each emission with this value.
+    fn make(
         self,
         alloc: Global,
-        flow: &mut SharedState<u64>,
-        (value, subscribers): (u64, u32),
-        digest: &mut Digest,
-    ) -> Result<(), Fault> {
+        calls: &mut Tallied,
+        subscribers: u32,
+        (value, rounds): (u64, u64),
+    ) {
         match self {
-            Once::Laggard => laggards::one(alloc, flow, (value, subscribers), digest),
-            Once::TwoLaggards => laggards::two(alloc, flow, (value, subscribers), digest),
-            Once::FrontGap => lookups::front_gap(alloc, flow, (value, subscribers), digest),
+            Calls::Laggard => laggards::one(alloc, calls, value, subscribers),
+            Calls::TwoLaggards => laggards::two(alloc, calls, value, subscribers),
+            Calls::FrontGap => lookups::front_gap(alloc, calls, value, subscribers),
+            Calls::Nobody => calls.attempt_all(value, rounds),
+            Calls::Oldest => narrow::oldest(calls, value, rounds),
+            Calls::Gaps => lookups::gaps(alloc, calls, value, rounds),
+            Calls::TakenByAll => narrow::taken_by_all(alloc, calls, subscribers, (value, rounds)),
+            Calls::HandOver => narrow::hand_over(alloc, calls, subscribers, (value, rounds)),
+            Calls::FrontTickets => lookups::front_tickets(alloc, calls, value, rounds),
         }
     }
 
-    /// Makes a flow, and calls on it.
-    fn on_flow(
-        self,
-        alloc: Global,
-        config: Config,
-        value: u64,
-        digest: &mut Digest,
-    ) -> Result<(), Fault> {
-        let mut flow = SharedState::new(alloc, config)?;
-        self.call(alloc, &mut flow, (value, config.subscribers), digest)
-    }
-
-    /// The same with so many flows, one after another.
+    /// Makes them on so many new flows, one after another.
     fn on_flows(
         self,
         alloc: Global,
         config: Config,
-        (value, flows): (u64, u64),
-        digest: &mut Digest,
-    ) -> Result<(), Fault> {
-        for _ in 0..flows {
-            self.on_flow(alloc, config, value, digest)?;
-        }
-        Ok(())
-    }
-}
-
-impl Often {
-    /// Makes its calls on a new flow that may have so many subscriptions, each emission with this value.
-    fn call(
-        self,
-        alloc: Global,
-        flow: &mut SharedState<u64>,
-        subscribers: u32,
-        (value, rounds): (u64, u64),
-        digest: &mut Digest,
-    ) -> Result<(), Fault> {
-        match self {
-            Often::Nobody => attempt_all(flow, value, digest, rounds),
-            Often::Oldest => narrow::oldest(flow, (value, rounds), digest),
-            Often::Gaps => lookups::gaps(alloc, flow, (value, rounds), digest),
-            Often::TakenByAll => {
-                narrow::taken_by_all(alloc, flow, subscribers, (value, rounds), digest)
-            }
-            Often::HandOver => narrow::hand_over(alloc, flow, subscribers, (value, rounds), digest),
-            Often::FrontTickets => lookups::front_tickets(alloc, flow, (value, rounds), digest),
-        }
-    }
-
-    /// Makes a flow, and calls on it.
-    fn on_flow(
-        self,
-        alloc: Global,
-        config: Config,
+        flows: u64,
         work: (u64, u64),
-        digest: &mut Digest,
-    ) -> Result<(), Fault> {
-        let mut flow = SharedState::new(alloc, config)?;
-        self.call(alloc, &mut flow, config.subscribers, work, digest)
+        tally: &mut Tally,
+    ) {
+        for _ in 0..flows {
+            if let Some(flow) = tally.noted(SharedState::new(alloc, config)) {
+                let mut calls = Tallied {
+                    flow,
+                    tally: *tally,
+                };
+                self.make(alloc, &mut calls, config.subscribers, work);
+                *tally = calls.tally;
+            }
+        }
     }
 }
 
@@ -222,40 +183,31 @@ impl Edge {
     }
 
     /// Makes its calls, each emission with this value.
-    pub(crate) fn run<R>(self, rt: &R, value: u64, scale: Scale) -> Result<Digest, Fault>
+    pub(crate) fn run<R>(self, rt: &R, value: u64, scale: Scale, tally: &mut Tally)
     where
         R: AllocGlobal + RandomSource + Wait,
     {
         let alloc = rt.alloc();
-        let mut digest = Digest::new();
         let rounds = scale.of(self.rounds);
         match self.work {
-            NewFlows(config, once) => {
-                once.on_flows(alloc, config, (value, rounds), &mut digest)?;
-            }
-            OneFlow(config, often) => {
-                often.on_flow(alloc, config, (value, rounds), &mut digest)?;
-            }
-            ForThreads(config, company) => {
-                company.on_flow(rt, config, (value, rounds), &mut digest)?;
-            }
-            TextRows => rows::text_rows(alloc, rounds, &mut digest)?,
+            NewFlows(config, calls) => calls.on_flows(alloc, config, rounds, (value, 1), tally),
+            OneFlow(config, calls) => calls.on_flows(alloc, config, 1, (value, rounds), tally),
+            ForThreads(config, company) => company.on_flow(rt, config, (value, rounds), tally),
+            TextRows => rows::text_rows(alloc, rounds, tally),
         }
-        Ok(digest)
     }
 }
 
 /// Runs each case.
-pub(crate) fn run<R>(rt: &R, value: u64, scale: Scale) -> Result<Digest, Fault>
+pub(crate) fn run<R>(rt: &R, value: u64, scale: Scale, tally: &mut Tally)
 where
     R: AllocGlobal + RandomSource + Wait,
 {
-    let mut digest = Digest::new();
     for place in 0..CASES {
-        let Some(edge) = Edge::at(place) else {
-            break;
-        };
-        digest.number(edge.run(rt, value, scale)?.value());
+        if let Some(edge) = Edge::at(place) {
+            let mut part = Tally::new();
+            edge.run(rt, value, scale, &mut part);
+            tally.part(part);
+        }
     }
-    Ok(digest)
 }

@@ -1,12 +1,12 @@
 //! Events to many on one thread: bursts of emissions, after which each subscription takes what is there.
 
 use crate::crowd::Crowd;
-use crate::fault::Fault;
-use crate::tally::tried;
+use crate::tallied::Tallied;
+use crate::tally::Tally;
 use crate::tickets;
 use shared_core::{Config, Policy, SharedState};
 use std::alloc::Global;
-use workload_inputs::{Digest, Random, Scale};
+use workload_inputs::{Random, Scale};
 
 /// What goes on on a flow.
 #[derive(Clone, Copy)]
@@ -109,94 +109,61 @@ fn config_of(subscribers: u32, emits: u32, policy: Policy) -> Config {
 }
 
 /// A burst of 1 to 50 emissions.
-fn burst(
-    flow: &mut SharedState<u64>,
-    random: &mut Random,
-    digest: &mut Digest,
-) -> Result<(), Fault> {
+fn burst(calls: &mut Tallied, random: &mut Random) {
     for _ in 0..1 + random.below(50) {
-        tried(digest, flow.try_emit(0, random.next())?);
+        calls.try_emit(random.next());
     }
-    Ok(())
 }
 
 /// Rounds of a burst, after which most take what is there. Now and then somebody comes in another's place, asks for what is kept, or
 /// empties it.
-fn rounds(
-    flow: &mut SharedState<u64>,
-    crowd: &mut Crowd,
-    random: &mut Random,
-    digest: &mut Digest,
-    count: u64,
-) -> Result<(), Fault> {
+fn rounds(calls: &mut Tallied, crowd: &mut Crowd, random: &mut Random, count: u64) {
     for _ in 0..count {
-        burst(flow, random, digest)?;
-        crowd.take_all(flow, random, digest, 64);
+        burst(calls, random);
+        crowd.take_all(calls, random, 64);
         match random.below(64) {
-            0..=3 => crowd.change(flow, random, digest)?,
-            4 => digest.number(flow.replay_len()),
-            5 => digest.number(u64::from(flow.subscription_count())),
-            6 => flow.reset_replay(),
+            0..=3 => crowd.change(calls, random),
+            4 => calls.tally.number(calls.flow.replay_len()),
+            5 => calls
+                .tally
+                .number(u64::from(calls.flow.subscription_count())),
+            6 => calls.flow.reset_replay(),
             _ => {}
         }
     }
-    Ok(())
 }
 
 impl Loop {
-    /// Its rounds, on a flow with this crowd.
-    fn play(
-        self,
-        alloc: Global,
-        flow: &mut SharedState<u64>,
-        crowd: &mut Crowd,
-        random: &mut Random,
-        digest: &mut Digest,
-        count: u64,
-    ) -> Result<(), Fault> {
+    /// Its subscriptions come, and so many rounds are made.
+    fn play(self, alloc: Global, calls: &mut Tallied, random: &mut Random, count: u64) {
+        let mut crowd = Crowd::of(alloc, calls, self.subscriptions);
         match self.plot {
-            Plot::Bursts => rounds(flow, crowd, random, digest, count),
+            Plot::Bursts => rounds(calls, &mut crowd, random, count),
             Plot::Thinned => {
-                crowd.thin_out(alloc, flow, digest)?;
-                rounds(flow, crowd, random, digest, count)
+                crowd.thin_out(alloc, calls);
+                rounds(calls, &mut crowd, random, count);
             }
-            Plot::Tickets => tickets::rounds(alloc, flow, crowd, random, digest, count),
+            Plot::Tickets => tickets::rounds(alloc, calls, &crowd, random, count),
         }
     }
 
-    /// Its subscriptions come, and its rounds are made.
-    fn begin(
-        self,
-        alloc: Global,
-        flow: &mut SharedState<u64>,
-        random: &mut Random,
-        digest: &mut Digest,
-        count: u64,
-    ) -> Result<(), Fault> {
-        let mut crowd = Crowd::of(alloc, flow, digest, self.subscriptions)?;
-        self.play(alloc, flow, &mut crowd, random, digest, count)
-    }
-
-    /// The same on a new flow.
-    fn run(
-        self,
-        alloc: Global,
-        random: &mut Random,
-        digest: &mut Digest,
-        scale: Scale,
-    ) -> Result<(), Fault> {
+    /// Its rounds on a new flow.
+    fn run(self, alloc: Global, random: &mut Random, scale: Scale, tally: &mut Tally) {
         let config = config_of(self.subscriptions, self.tickets, self.policy);
-        let mut flow = SharedState::new(alloc, config)?;
-        self.begin(alloc, &mut flow, random, digest, scale.of(self.rounds))
+        if let Some(flow) = tally.noted(SharedState::new(alloc, config)) {
+            let mut calls = Tallied {
+                flow,
+                tally: *tally,
+            };
+            self.play(alloc, &mut calls, random, scale.of(self.rounds));
+            *tally = calls.tally;
+        }
     }
 }
 
 /// Runs each loop.
-pub(crate) fn run(alloc: Global, seed: u64, scale: Scale) -> Result<Digest, Fault> {
-    let mut random = Random::new(seed);
-    let mut digest = Digest::new();
+pub(crate) fn run(alloc: Global, random: &mut Random, scale: Scale, tally: &mut Tally) {
     for each in LOOPS {
-        each.run(alloc, &mut random, &mut digest, scale)?;
+        each.run(alloc, random, scale, tally);
     }
-    Ok(digest)
 }

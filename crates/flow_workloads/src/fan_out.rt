@@ -2,16 +2,18 @@
 
 use crate::acting::all_of_both;
 use crate::course::Emitters;
+use crate::ending::end_all;
 use crate::fault::Fault;
-use crate::listeners::{Listener, cancel_all, listen, take_in};
-use crate::speakers::{Speech, close_all, hire};
+use crate::listeners::{Listener, listen, take_in};
+use crate::speakers::{Speech, hire, said_by};
+use crate::tally::Tally;
 use shared_core::{Config, Policy};
 use shared_flow::SharedFlow;
 use std::alloc::AllocGlobal;
 use std::random::RandomSource;
 use std::sync::Wait;
 use std::thread::Threads;
-use workload_inputs::{Digest, Random};
+use workload_inputs::Random;
 
 /// Who takes part: how many places there are, who emits, how many values each of them, and how many listen.
 #[derive(Clone, Copy)]
@@ -30,8 +32,8 @@ fn speak_to<R>(
     listeners: &mut Vec<Listener>,
     cast: Cast,
     seed: u64,
-    digest: &mut Digest,
-) -> Result<(), Fault>
+    tally: &mut Tally,
+)
 where
     R: AllocGlobal + RandomSource + Threads + Wait + Sync,
 {
@@ -40,19 +42,19 @@ where
         values: cast.values,
     };
     let count = cast.emitters.count();
-    let mut speakers = Vec::with_capacity(rt.alloc(), count as usize)?;
-    let hired = hire(rt, flow, &mut speakers, count, speech, digest);
-    if hired.is_ok() {
+    let mut speakers = hire(rt, flow, count, speech, tally);
+    // Where one is missing the listeners would wait for what it was to say.
+    if speakers.len() == count as usize {
         all_of_both(rt, &mut speakers, listeners);
+    } else {
+        tally.note(Fault::Otherwise);
     }
-    let said = close_all(rt, speakers, digest);
-    hired?;
-    let (numbers, also_numbers) = said?;
+    let (numbers, also_numbers) = said_by(&speakers);
+    end_all(rt, speakers, tally);
     match cast.emitters {
-        Emitters::One => numbers.told(digest, Emitters::One),
-        Emitters::Two => numbers.told_with(&also_numbers, digest),
+        Emitters::One => numbers.told(tally, Emitters::One),
+        Emitters::Two => numbers.told_with(&also_numbers, tally),
     }
-    Ok(())
 }
 
 /// What a flow is made with.
@@ -67,36 +69,16 @@ fn config_of(cast: Cast) -> Config {
     }
 }
 
-/// The values of a cast go through a flow that has no listener yet, and what came to each listener is taken in.
-fn run_over<R>(
-    rt: &R,
-    flow: &mut SharedFlow<u64>,
-    cast: Cast,
-    seed: u64,
-    digest: &mut Digest,
-) -> Result<(), Fault>
+/// The values of a cast go through a new flow, and what came to each listener is taken in.
+pub(crate) fn run<R>(rt: &R, cast: Cast, random: &mut Random, tally: &mut Tally)
 where
     R: AllocGlobal + RandomSource + Threads + Wait + Sync,
 {
-    let all = cast.emitters.together(cast.values);
-    let places = Vec::with_capacity(rt.alloc(), cast.listeners as usize)?;
-    let mut listeners = listen(rt, flow, places, cast.listeners, all);
-    let spoke = speak_to(rt, flow, &mut listeners, cast, seed, digest);
-    take_in(listeners.as_slice(), cast.emitters, digest);
-    cancel_all(rt, listeners);
-    spoke
-}
-
-/// The same through a new flow.
-pub(crate) fn run<R>(
-    rt: &R,
-    cast: Cast,
-    random: &mut Random,
-    digest: &mut Digest,
-) -> Result<(), Fault>
-where
-    R: AllocGlobal + RandomSource + Threads + Wait + Sync,
-{
-    let mut flow = SharedFlow::<u64>::new(rt.alloc(), config_of(cast))?;
-    run_over(rt, &mut flow, cast, random.next(), digest)
+    if let Some(mut flow) = tally.noted(SharedFlow::<u64>::new(rt.alloc(), config_of(cast))) {
+        let all = cast.emitters.together(cast.values);
+        let mut listeners = listen(rt, &mut flow, cast.listeners, all, tally);
+        speak_to(rt, &mut flow, &mut listeners, cast, random.next(), tally);
+        take_in(listeners.as_slice(), cast.emitters, tally);
+        end_all(rt, listeners, tally);
+    }
 }

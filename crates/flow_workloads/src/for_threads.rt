@@ -1,16 +1,15 @@
 //! Flows for threads of which one thread makes all calls: emissions that sleep, one subscription where many could be, and some that
 //! come and go beside others.
 
-use crate::fault::Fault;
-use crate::listeners::{cancel_all, listen};
-use crate::tally::given;
+use crate::ending::{Ends, end_all};
+use crate::listeners::listen;
+use crate::tally::Tally;
 use futures::task::{Context, Doorbell, Poll, Solo};
 use shared_core::{Begun, Config};
 use shared_flow::{Emitter, SharedFlow, Subscription};
 use std::alloc::AllocGlobal;
 use std::random::RandomSource;
 use std::sync::Wait;
-use workload_inputs::Digest;
 
 /// What is done with a flow for threads.
 #[derive(Clone, Copy)]
@@ -22,12 +21,11 @@ pub(crate) enum Company {
 }
 
 /// So many emitters, or fewer where there is no memory for one.
-fn emitters_of(
-    rt: &impl Wait,
-    flow: &mut SharedFlow<u64>,
-    mut emitters: Vec<Emitter<u64>>,
-    count: u32,
-) -> Vec<Emitter<u64>> {
+fn emitters_of<R>(rt: &R, flow: &mut SharedFlow<u64>, count: u32) -> Vec<Emitter<u64>>
+where
+    R: AllocGlobal + Wait,
+{
+    let mut emitters = Vec::new(rt.alloc());
     for id in 0..count {
         let Ok(emitter) = flow.emitter(id) else {
             break;
@@ -39,12 +37,10 @@ fn emitters_of(
     emitters
 }
 
-/// Each emitter is closed.
-fn close_all(rt: &impl Wait, mut emitters: Vec<Emitter<u64>>) {
-    while let Some(emitter) = emitters.pop() {
-        drop(emitter.close(rt));
+impl Ends for Emitter<u64> {
+    fn end<R: Wait>(self, rt: &R, _tally: &mut Tally) {
+        drop(self.close(rt));
     }
-    emitters.destroy_empty();
 }
 
 /// Ends an emission that is finished, and begins the next one, which sleeps where it has to wait.
@@ -54,22 +50,21 @@ fn go_on(
     emitter: &mut Emitter<u64>,
     cx: &mut Context<'_>,
     value: u64,
-    digest: &mut Digest,
-) -> Result<(), Fault> {
+    tally: &mut Tally,
+) {
     if emitter.in_flight()
         && let Poll::Ready(receipt) = emitter.poll_emit(rt, cx)
     {
-        digest.number(receipt.number());
+        tally.number(receipt.number());
     }
     if !emitter.in_flight()
-        && let Begun::Accepted(receipt) = emitter.start_emit(rt, value)?
+        && let Some(Begun::Accepted(receipt)) = tally.noted(emitter.start_emit(rt, value))
     {
-        digest.number(receipt.number());
+        tally.number(receipt.number());
     }
     if emitter.in_flight() {
         drop(emitter.poll_emit(rt, cx));
     }
-    Ok(())
 }
 
 /// Each emitter goes on.
@@ -78,12 +73,11 @@ fn begin_all(
     emitters: &mut Vec<Emitter<u64>>,
     cx: &mut Context<'_>,
     value: u64,
-    digest: &mut Digest,
-) -> Result<(), Fault> {
+    tally: &mut Tally,
+) {
     for emitter in emitters.iter_mut() {
-        go_on(rt, emitter, cx, value, digest)?;
+        go_on(rt, emitter, cx, value, tally);
     }
-    Ok(())
 }
 
 /// All emitters begin. Then the subscription takes a value so often, after which each time the emitter whose turn it is goes on.
@@ -93,17 +87,16 @@ fn take_turns(
     emitters: &mut Vec<Emitter<u64>>,
     cx: &mut Context<'_>,
     (value, turns): (u64, u64),
-    digest: &mut Digest,
-) -> Result<(), Fault> {
-    begin_all(rt, emitters, cx, value, digest)?;
+    tally: &mut Tally,
+) {
+    begin_all(rt, emitters, cx, value, tally);
     let count = emitters.len().max(1) as u64;
     for turn in 0..turns {
-        given(digest, subscription.next_now(rt));
+        tally.given(subscription.next_now(rt));
         if let Some(emitter) = emitters.get_mut((turn % count) as usize) {
-            go_on(rt, emitter, cx, value, digest)?;
+            go_on(rt, emitter, cx, value, tally);
         }
     }
-    Ok(())
 }
 
 /// One subscribes, and these emitters take turns so often.
@@ -113,12 +106,12 @@ fn with_reader(
     emitters: &mut Vec<Emitter<u64>>,
     cx: &mut Context<'_>,
     work: (u64, u64),
-    digest: &mut Digest,
-) -> Result<(), Fault> {
-    let mut subscription = flow.subscribe(rt)?;
-    let taken = take_turns(rt, &mut subscription, emitters, cx, work, digest);
-    subscription.cancel(rt);
-    taken
+    tally: &mut Tally,
+) {
+    if let Some(mut subscription) = tally.noted(flow.subscribe(rt)) {
+        take_turns(rt, &mut subscription, emitters, cx, work, tally);
+        subscription.cancel(rt);
+    }
 }
 
 /// So many emitters take turns so often, each emission with this value.
@@ -127,52 +120,39 @@ fn among_emitters<R>(
     flow: &mut SharedFlow<u64>,
     count: u32,
     work: (u64, u64),
-    digest: &mut Digest,
-) -> Result<(), Fault>
+    tally: &mut Tally,
+)
 where
     R: AllocGlobal + RandomSource + Wait,
 {
-    let task = Solo::new(rt, Doorbell::spinning())?;
-    let places = Vec::with_capacity(rt.alloc(), count as usize)?;
-    let mut emitters = emitters_of(rt, flow, places, count);
-    let mut cx = task.begin();
-    let gone = with_reader(rt, flow, &mut emitters, &mut cx, work, digest);
-    cx.cancel();
-    close_all(rt, emitters);
-    gone
-}
-
-/// A subscription comes and goes so often.
-fn come_and_go(
-    rt: &impl Wait,
-    flow: &mut SharedFlow<u64>,
-    rounds: u64,
-    digest: &mut Digest,
-) -> Result<(), Fault> {
-    for round in 0..rounds {
-        let subscription = flow.subscribe(rt)?;
-        subscription.cancel(rt);
-        digest.number(round);
+    if let Some(task) = tally.noted(Solo::new(rt, Doorbell::spinning())) {
+        let mut emitters = emitters_of(rt, flow, count);
+        let mut cx = task.begin();
+        with_reader(rt, flow, &mut emitters, &mut cx, work, tally);
+        cx.cancel();
+        end_all(rt, emitters, tally);
     }
-    Ok(())
 }
 
-/// One comes and goes so often beside so many others.
+/// A subscription comes and goes so often beside so many others.
 fn among_subscriptions<R>(
     rt: &R,
     flow: &mut SharedFlow<u64>,
     count: u32,
     rounds: u64,
-    digest: &mut Digest,
-) -> Result<(), Fault>
+    tally: &mut Tally,
+)
 where
     R: AllocGlobal + RandomSource + Wait,
 {
-    let places = Vec::with_capacity(rt.alloc(), count as usize)?;
-    let others = listen(rt, flow, places, count, 0);
-    let gone = come_and_go(rt, flow, rounds, digest);
-    cancel_all(rt, others);
-    gone
+    let others = listen(rt, flow, count, 0, tally);
+    for round in 0..rounds {
+        if let Some(subscription) = tally.noted(flow.subscribe(rt)) {
+            subscription.cancel(rt);
+            tally.number(round);
+        }
+    }
+    end_all(rt, others, tally);
 }
 
 impl Company {
@@ -182,23 +162,21 @@ impl Company {
         rt: &R,
         config: Config,
         (value, rounds): (u64, u64),
-        digest: &mut Digest,
-    ) -> Result<(), Fault>
+        tally: &mut Tally,
+    )
     where
         R: AllocGlobal + RandomSource + Wait,
     {
-        let mut flow = SharedFlow::<u64>::new(rt.alloc(), config)?;
+        let Some(mut flow) = tally.noted(SharedFlow::<u64>::new(rt.alloc(), config)) else {
+            return;
+        };
         match self {
-            Company::Emitters(count) => among_emitters(
-                rt,
-                &mut flow,
-                count,
-                (value, rounds),
-                digest,
-            ),
-            Company::Subscriptions(count) => among_subscriptions(
-                rt, &mut flow, count, rounds, digest,
-            ),
+            Company::Emitters(count) => {
+                among_emitters(rt, &mut flow, count, (value, rounds), tally);
+            }
+            Company::Subscriptions(count) => {
+                among_subscriptions(rt, &mut flow, count, rounds, tally);
+            }
         }
     }
 }

@@ -2,8 +2,7 @@
 
 use crate::acting::{Acts, both};
 use crate::actions::Adds;
-use crate::fault::Fault;
-use crate::tally::ended;
+use crate::tally::Tally;
 use cold_flow::{EndingRun, Event, Mapped, Numbers, Policy, Run, map, range};
 use flow_buffer::{Drain, Feed, Fill, split};
 use futures::task::{Doorbell, Solo};
@@ -11,7 +10,7 @@ use std::alloc::AllocGlobal;
 use std::random::RandomSource;
 use std::sync::Wait;
 use std::thread::Threads;
-use workload_inputs::{Digest, Random, Scale};
+use workload_inputs::{Random, Scale};
 
 /// Each capacity, with the number of values that go through.
 const BUFFERS: [(u64, u64); 4] = [(1, 30_000), (4, 150_000), (64, 800_000), (1024, 2_000_000)];
@@ -28,26 +27,23 @@ fn feed_all<U: Run>(rt: &impl Wait, task: &Solo, feed: &mut Feed<U>) {
     cx.cancel();
 }
 
-/// Takes until the end, and gives the digest of all, and of why it ended.
+/// Takes until the end, and gives the tally of all, and of why it ended.
 #[inline(never)]
-fn drain_all(rt: &impl Wait, drain: &mut Drain<u64, u64>) -> Digest {
-    let mut digest = Digest::new();
+fn drain_all(rt: &impl Wait, drain: &mut Drain<u64, u64>) -> Tally {
+    let mut tally = Tally::new();
     for _ in rt.forever() {
         match drain.next(rt) {
-            Event::Value(value) => digest.number(value),
+            Event::Value(value) => tally.number(value),
             Event::End(cause) => {
-                ended(&mut digest, cause);
+                tally.ended(cause);
                 break;
             }
         }
     }
-    digest
+    tally
 }
 
-/// What goes into a buffer: the numbers of a range, each with an amount added.
-type Numbered = Mapped<Numbers<u64>, Adds>;
-
-/// A run of it.
+/// A run of what goes into a buffer: the numbers of a range, each with an amount added.
 type NumberedRun = Mapped<EndingRun<Numbers<u64>, u64>, Adds>;
 
 /// The end that feeds, which must be cancelled.
@@ -56,11 +52,11 @@ struct Feeding<'a> {
     feed: Feed<NumberedRun>,
 }
 
-/// The end that drains, and the digest of all that it took.
+/// The end that drains, and the tally of all that it took.
 #[derive(Drop)]
 struct Draining {
     drain: Drain<u64, u64>,
-    taken: Digest,
+    taken: Tally,
 }
 
 impl Acts for Feeding<'_> {
@@ -75,53 +71,42 @@ impl Acts for Draining {
     }
 }
 
-/// What goes into a buffer of this capacity goes through. Gives the digest of all that was taken.
-fn hand_over<R>(rt: &R, task: &Solo, source: Numbered, capacity: u64) -> Result<Digest, Fault>
-where
-    R: AllocGlobal + RandomSource + Threads + Wait + Sync,
-{
-    let (feed, drain) = split(rt.alloc(), source, capacity, Policy::Suspend)?;
-    let mut feeding = Feeding { task, feed };
-    let mut draining = Draining {
-        drain,
-        taken: Digest::new(),
-    };
-    both(rt, &mut feeding, &mut draining);
-    let Feeding { task: _, feed } = feeding;
-    feed.cancel(rt);
-    Ok(draining.taken)
-}
-
-/// So many values go through a buffer of this capacity.
+/// So many values go through a buffer of this capacity, and what was taken is taken in.
 fn through<R>(
     rt: &R,
+    task: &Solo,
     (capacity, values): (u64, u64),
     random: &mut Random,
-    digest: &mut Digest,
-) -> Result<(), Fault>
+    tally: &mut Tally,
+)
 where
     R: AllocGlobal + RandomSource + Threads + Wait + Sync,
 {
-    let task = Solo::new(rt, Doorbell::spinning())?;
     let from = random.next() >> 20;
     let numbers = range::<u64>(from, from.saturating_add(values));
     let source = map(numbers, Adds(random.next()));
-    digest.number(hand_over(rt, &task, source, capacity)?.value());
-    Ok(())
+    let ends = split(rt.alloc(), source, capacity, Policy::Suspend);
+    if let Some((feed, drain)) = tally.noted(ends) {
+        let mut feeding = Feeding { task, feed };
+        let mut draining = Draining {
+            drain,
+            taken: Tally::new(),
+        };
+        both(rt, &mut feeding, &mut draining);
+        let Feeding { task: _, feed } = feeding;
+        feed.cancel(rt);
+        tally.part(draining.taken);
+    }
 }
 
 /// Runs each buffer.
-pub(crate) fn run<R>(
-    rt: &R,
-    random: &mut Random,
-    digest: &mut Digest,
-    scale: Scale,
-) -> Result<(), Fault>
+pub(crate) fn run<R>(rt: &R, random: &mut Random, scale: Scale, tally: &mut Tally)
 where
     R: AllocGlobal + RandomSource + Threads + Wait + Sync,
 {
-    for (capacity, values) in BUFFERS {
-        through(rt, (capacity, scale.of(values)), random, digest)?;
+    if let Some(task) = tally.noted(Solo::new(rt, Doorbell::spinning())) {
+        for (capacity, values) in BUFFERS {
+            through(rt, &task, (capacity, scale.of(values)), random, tally);
+        }
     }
-    Ok(())
 }

@@ -2,14 +2,14 @@
 
 use crate::acting::Acts;
 use crate::course::{Course, Emitters};
-use crate::fault::Fault;
+use crate::ending::Ends;
+use crate::tally::Tally;
 use shared_flow::{Parker, SharedFlow, Subscription};
 use std::alloc::AllocGlobal;
 use std::random::RandomSource;
 use std::sync::Wait;
-use workload_inputs::Digest;
 
-/// A subscription with what its thread sleeps by. It must be cancelled.
+/// A subscription with what its thread sleeps by. It must be ended.
 pub(crate) struct Listener {
     subscription: Subscription<u64>,
     parker: Parker,
@@ -21,13 +21,13 @@ pub(crate) struct Listener {
 }
 
 impl Listener {
-    fn new<R>(rt: &R, flow: &mut SharedFlow<u64>, values: u64) -> Result<Listener, Fault>
+    fn new<R>(rt: &R, flow: &mut SharedFlow<u64>, values: u64) -> Option<Listener>
     where
         R: AllocGlobal + RandomSource + Wait,
     {
-        let parker = Parker::new(rt)?;
-        let subscription = flow.subscribe(rt)?;
-        Ok(Listener {
+        let parker = Parker::new(rt).ok()?;
+        let subscription = flow.subscribe(rt).ok()?;
+        Some(Listener {
             subscription,
             parker,
             values,
@@ -46,8 +46,10 @@ impl Listener {
             self.received.number(value);
         }
     }
+}
 
-    fn cancel(self, rt: &impl Wait) {
+impl Ends for Listener {
+    fn end<R: Wait>(self, rt: &R, _tally: &mut Tally) {
         let Listener {
             subscription,
             parker: _,
@@ -70,35 +72,28 @@ impl Acts for Listener {
 pub(crate) fn listen<R>(
     rt: &R,
     flow: &mut SharedFlow<u64>,
-    mut listeners: Vec<Listener>,
     count: u32,
     values: u64,
+    tally: &mut Tally,
 ) -> Vec<Listener>
 where
     R: AllocGlobal + RandomSource + Wait,
 {
+    let mut listeners = Vec::new(rt.alloc());
     for _ in 0..count {
-        let Ok(listener) = Listener::new(rt, flow, values) else {
+        let Some(listener) = Listener::new(rt, flow, values) else {
             break;
         };
         if let Err(refused) = listeners.push(listener) {
-            refused.value.cancel(rt);
+            refused.value.end(rt, tally);
         }
     }
     listeners
 }
 
 /// What came to each listener is taken in, as far as so many emitters fix it.
-pub(crate) fn take_in(listeners: &[Listener], emitters: Emitters, digest: &mut Digest) {
+pub(crate) fn take_in(listeners: &[Listener], emitters: Emitters, tally: &mut Tally) {
     for listener in listeners {
-        listener.received.told(digest, emitters);
+        listener.received.told(tally, emitters);
     }
-}
-
-/// Each listener is cancelled.
-pub(crate) fn cancel_all(rt: &impl Wait, mut listeners: Vec<Listener>) {
-    while let Some(listener) = listeners.pop() {
-        listener.cancel(rt);
-    }
-    listeners.destroy_empty();
 }

@@ -1,14 +1,15 @@
 //! Flows of several sources.
 
 use crate::actions::{Adds, IsSeldom};
-use crate::fault::Fault;
+use crate::chains::numbers;
 use crate::repeated::Repeats;
+use crate::tally::Tally;
 use crate::values::{fold_all, fold_combined, fold_zipped};
 use cold_flow::{Flow, filter, map, range};
 use flow_merge::{flat_map_concat, flat_map_merge};
 use futures::task::Solo;
 use std::alloc::Global;
-use workload_inputs::{Digest, Random, Scale};
+use workload_inputs::{Random, Scale};
 
 /// How many values the longest source has.
 const VALUES: u64 = 5_000_000;
@@ -17,78 +18,43 @@ const VALUES: u64 = 5_000_000;
 const FLOWS: u64 = 5;
 
 /// The sums of a range's values and those of a filtered one, pair by pair.
-fn zipped(task: &Solo, random: &mut Random, digest: &mut Digest, values: u64) -> Result<(), Fault> {
-    let from = random.next() >> 20;
-    let left = range::<u64>(from, from.saturating_add(values));
-    fold_zipped_seldom(task, digest, left, range::<u64>(0, values))
+fn zipped(task: &Solo, random: &mut Random, tally: &mut Tally, values: u64) {
+    let left = numbers(random, values);
+    fold_zipped_seldom(task, tally, left, range::<u64>(0, values));
 }
 
 /// The sums of the one flow's values and those of the other that are seldom, pair by pair.
-pub(crate) fn fold_zipped_seldom<A, B>(
-    task: &Solo,
-    digest: &mut Digest,
-    left: A,
-    right: B,
-) -> Result<(), Fault>
+pub(crate) fn fold_zipped_seldom<A, B>(task: &Solo, tally: &mut Tally, left: A, right: B)
 where
     A: Flow<Item = u64, Fault = u64>,
     B: Flow<Item = u64, Fault = u64>,
 {
-    fold_zipped(task, digest, left, filter(right, IsSeldom))
+    fold_zipped(task, tally, left, filter(right, IsSeldom));
 }
 
 /// The sums of the latest values of two ranges.
-fn combined(
-    task: &Solo,
-    random: &mut Random,
-    digest: &mut Digest,
-    values: u64,
-) -> Result<(), Fault> {
-    let from = random.next() >> 20;
-    let left = range::<u64>(from, from.saturating_add(values));
+fn combined(task: &Solo, random: &mut Random, tally: &mut Tally, values: u64) {
+    let left = numbers(random, values);
     let right = map(range::<u64>(0, values / 2), Adds(random.next()));
-    fold_combined(task, digest, left, right)
-}
-
-/// Short inner flows, one after the other.
-fn concatenated(
-    task: &Solo,
-    random: &mut Random,
-    digest: &mut Digest,
-    values: u64,
-) -> Result<(), Fault> {
-    let from = random.next() >> 20;
-    let outer = range::<u64>(from, from.saturating_add(values));
-    fold_concatenated(task, digest, outer)
+    fold_combined(task, tally, left, right);
 }
 
 /// Folds the inner flows of these values, one after the other.
-fn fold_concatenated<F>(task: &Solo, digest: &mut Digest, outer: F) -> Result<(), Fault>
+fn fold_concatenated<F>(task: &Solo, tally: &mut Tally, outer: F)
 where
     F: Flow<Item = u64, Fault = u64>,
 {
-    fold_all(task, digest, flat_map_concat(outer, Repeats))
-}
-
-/// Short inner flows, some at once.
-fn merged(
-    alloc: Global,
-    task: &Solo,
-    random: &mut Random,
-    digest: &mut Digest,
-    values: u64,
-) -> Result<(), Fault> {
-    let from = random.next() >> 20;
-    let outer = range::<u64>(from, from.saturating_add(values));
-    fold_merged(alloc, task, digest, outer)
+    fold_all(task, tally, flat_map_concat(outer, Repeats));
 }
 
 /// Folds the inner flows of these values, some at once.
-fn fold_merged<F>(alloc: Global, task: &Solo, digest: &mut Digest, outer: F) -> Result<(), Fault>
+fn fold_merged<F>(alloc: Global, task: &Solo, tally: &mut Tally, outer: F)
 where
     F: Flow<Item = u64, Fault = u64>,
 {
-    fold_all(task, digest, flat_map_merge(alloc, outer, Repeats, 8)?)
+    if let Some(merged) = tally.noted(flat_map_merge(alloc, outer, Repeats, 8)) {
+        fold_all(task, tally, merged);
+    }
 }
 
 /// Runs each flow.
@@ -96,14 +62,13 @@ pub(crate) fn run(
     alloc: Global,
     task: &Solo,
     random: &mut Random,
-    digest: &mut Digest,
     scale: Scale,
-) -> Result<(), Fault> {
+    tally: &mut Tally,
+) {
     for _ in 0..FLOWS {
-        zipped(task, random, digest, scale.of(VALUES))?;
-        combined(task, random, digest, scale.of(VALUES))?;
-        concatenated(task, random, digest, scale.of(VALUES))?;
-        merged(alloc, task, random, digest, scale.of(VALUES / 10))?;
+        zipped(task, random, tally, scale.of(VALUES));
+        combined(task, random, tally, scale.of(VALUES));
+        fold_concatenated(task, tally, numbers(random, scale.of(VALUES)));
+        fold_merged(alloc, task, tally, numbers(random, scale.of(VALUES / 10)));
     }
-    Ok(())
 }

@@ -1,80 +1,46 @@
 //! Flows with one place, with none, and where the oldest value makes way.
 
-use crate::edge_calls::{ask, attempt, begin, subscribe, subscribe_all, take};
-use crate::fault::Fault;
-use shared_core::{SharedState, SubId};
+use crate::tallied::Tallied;
 use std::alloc::Global;
-use workload_inputs::Digest;
-
-/// Each of these takes each value.
-fn taken_by_each(
-    flow: &mut SharedState<u64>,
-    ids: &[SubId],
-    (value, rounds): (u64, u64),
-    digest: &mut Digest,
-) -> Result<(), Fault> {
-    for _ in 0..rounds {
-        attempt(flow, value, digest)?;
-        for id in ids {
-            take(flow, *id, digest);
-        }
-    }
-    Ok(())
-}
 
 /// So many subscriptions come, and each takes each value.
 pub(crate) fn taken_by_all(
     alloc: Global,
-    flow: &mut SharedState<u64>,
+    calls: &mut Tallied,
     subscribers: u32,
-    work: (u64, u64),
-    digest: &mut Digest,
-) -> Result<(), Fault> {
-    let ids = subscribe_all(alloc, flow, subscribers)?;
-    taken_by_each(flow, &ids, work, digest)
-}
-
-/// An emission is begun, each of these takes it, and it is done.
-fn handed_to_each(
-    flow: &mut SharedState<u64>,
-    ids: &[SubId],
     (value, rounds): (u64, u64),
-    digest: &mut Digest,
-) -> Result<(), Fault> {
+) {
+    let ids = calls.subscribe_all(alloc, subscribers);
     for _ in 0..rounds {
-        let waiting = begin(flow, value, digest)?;
-        for id in ids {
-            take(flow, *id, digest);
-        }
-        if let Some(ticket) = waiting {
-            ask(flow, ticket, digest);
-        }
+        calls.attempt(value);
+        calls.take_each(&ids);
     }
-    Ok(())
 }
 
-/// So many subscriptions come, and each emission is handed to each.
+/// So many subscriptions come. An emission is begun, each of them takes it, and it is done.
 pub(crate) fn hand_over(
     alloc: Global,
-    flow: &mut SharedState<u64>,
+    calls: &mut Tallied,
     subscribers: u32,
-    work: (u64, u64),
-    digest: &mut Digest,
-) -> Result<(), Fault> {
-    let ids = subscribe_all(alloc, flow, subscribers)?;
-    handed_to_each(flow, &ids, work, digest)
+    (value, rounds): (u64, u64),
+) {
+    let ids = calls.subscribe_all(alloc, subscribers);
+    for _ in 0..rounds {
+        let waiting = calls.begin(value);
+        calls.take_each(&ids);
+        if let Some(ticket) = waiting {
+            calls.ask(ticket);
+        }
+    }
 }
 
 /// One comes, and takes each value.
-pub(crate) fn oldest(
-    flow: &mut SharedState<u64>,
-    (value, rounds): (u64, u64),
-    digest: &mut Digest,
-) -> Result<(), Fault> {
-    let id = subscribe(flow)?;
+pub(crate) fn oldest(calls: &mut Tallied, value: u64, rounds: u64) {
+    let Some(id) = calls.subscribe() else {
+        return;
+    };
     for _ in 0..rounds {
-        attempt(flow, value, digest)?;
-        take(flow, id, digest);
+        calls.attempt(value);
+        calls.take(id);
     }
-    Ok(())
 }

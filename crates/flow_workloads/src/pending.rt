@@ -1,13 +1,13 @@
 //! Cold flows over sources that answer pending often.
 
 use crate::actions::Adds;
-use crate::fault::Fault;
 use crate::merges::fold_zipped_seldom;
+use crate::tally::Tally;
 use crate::values::{fold_combined, list_all};
 use cold_flow::{Finite, Flow, Step, Stepped, distinct, map, range, scripted};
 use futures::task::Solo;
 use std::alloc::Global;
-use workload_inputs::{Digest, Random, Scale};
+use workload_inputs::{Random, Scale};
 
 /// How many steps a source has.
 const STEPS: u64 = 400_000;
@@ -25,44 +25,22 @@ fn step(random: &mut Random) -> Step<u64, u64> {
     }
 }
 
-/// A source of so many steps that fails at its end where that is asked for.
-fn source(
-    alloc: Global,
-    random: &mut Random,
-    steps: u64,
-    fails: bool,
-) -> Result<Stepped<u64, u64>, Fault> {
-    let mut script = Vec::new(alloc);
-    for _ in 0..steps {
-        script.push(step(random))?;
-    }
-    if fails {
-        script.push(Step::Fail(random.next()))?;
-    }
-    Ok(scripted(script))
+/// Lists those of the values that differ from the one before.
+fn list_changes<F>(alloc: Global, task: &Solo, tally: &mut Tally, values: F)
+where
+    F: Flow<Item = u64, Fault = u64>,
+    F::Running: Finite,
+{
+    list_all(alloc, task, tally, distinct(values));
 }
 
 /// Lists those of the values after these that differ from the one before.
-fn list_changes_after<F>(
-    alloc: Global,
-    task: &Solo,
-    digest: &mut Digest,
-    values: F,
-) -> Result<(), Fault>
+fn list_changes_after<F>(alloc: Global, task: &Solo, tally: &mut Tally, values: F)
 where
     F: Flow<Item = u64, Fault = u64>,
     F::Running: Finite,
 {
-    list_changes(alloc, task, digest, map(values, Adds(5)))
-}
-
-/// Lists those of the values that differ from the one before.
-fn list_changes<F>(alloc: Global, task: &Solo, digest: &mut Digest, values: F) -> Result<(), Fault>
-where
-    F: Flow<Item = u64, Fault = u64>,
-    F::Running: Finite,
-{
-    list_all(alloc, task, digest, distinct(values))
+    list_changes(alloc, task, tally, map(values, Adds(5)));
 }
 
 /// What the sources of a flow are made of.
@@ -74,28 +52,35 @@ struct Sources<'a> {
 }
 
 impl Sources<'_> {
-    /// The next one, which fails at its end where that is asked for.
-    fn next(&mut self, fails: bool) -> Result<Stepped<u64, u64>, Fault> {
-        source(self.alloc, self.random, self.steps, fails)
+    /// The next one, of so many steps, which fails at its end where that is asked for.
+    fn next(&mut self, tally: &mut Tally, fails: bool) -> Stepped<u64, u64> {
+        let mut script = Vec::new(self.alloc);
+        for _ in 0..self.steps {
+            tally.noted(script.push(step(self.random)));
+        }
+        if fails {
+            tally.noted(script.push(Step::Fail(self.random.next())));
+        }
+        scripted(script)
     }
 
     /// One through two operators, listed.
-    fn listed(&mut self, task: &Solo, digest: &mut Digest) -> Result<(), Fault> {
-        let plain = self.next(true)?;
-        list_changes_after(self.alloc, task, digest, plain)
+    fn listed(&mut self, task: &Solo, tally: &mut Tally) {
+        let plain = self.next(tally, true);
+        list_changes_after(self.alloc, task, tally, plain);
     }
 
     /// One with a range, pair by pair.
-    fn zipped(&mut self, task: &Solo, digest: &mut Digest) -> Result<(), Fault> {
-        let left = self.next(false)?;
-        fold_zipped_seldom(task, digest, left, range::<u64>(0, self.steps))
+    fn zipped(&mut self, task: &Solo, tally: &mut Tally) {
+        let left = self.next(tally, false);
+        fold_zipped_seldom(task, tally, left, range::<u64>(0, self.steps));
     }
 
     /// The latest values of two.
-    fn combined(&mut self, task: &Solo, digest: &mut Digest) -> Result<(), Fault> {
-        let left = self.next(false)?;
-        let right = self.next(true)?;
-        fold_combined(task, digest, left, right)
+    fn combined(&mut self, task: &Solo, tally: &mut Tally) {
+        let left = self.next(tally, false);
+        let right = self.next(tally, true);
+        fold_combined(task, tally, left, right);
     }
 }
 
@@ -104,18 +89,17 @@ pub(crate) fn run(
     alloc: Global,
     task: &Solo,
     random: &mut Random,
-    digest: &mut Digest,
     scale: Scale,
-) -> Result<(), Fault> {
+    tally: &mut Tally,
+) {
     let mut sources = Sources {
         alloc,
         random,
         steps: scale.of(STEPS),
     };
     for _ in 0..FLOWS {
-        sources.listed(task, digest)?;
-        sources.zipped(task, digest)?;
-        sources.combined(task, digest)?;
+        sources.listed(task, tally);
+        sources.zipped(task, tally);
+        sources.combined(task, tally);
     }
-    Ok(())
 }

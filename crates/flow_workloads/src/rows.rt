@@ -1,10 +1,10 @@
 //! Pictures of marks that no script makes.
 
 use crate::fault::Fault;
+use crate::tally::Tally;
 use marble_marks::{Kind, Mark};
 use marble_pictures::text_picture;
 use std::alloc::Global;
-use workload_inputs::Digest;
 
 /// One mark for each of so many rows, in the order of the rows, in one strip.
 fn marks_of(alloc: Global, rows: u64) -> Result<Vec<Mark<'static>>, Fault> {
@@ -20,9 +20,15 @@ fn marks_of(alloc: Global, rows: u64) -> Result<Vec<Mark<'static>>, Fault> {
     Ok(marks)
 }
 
-/// The picture of very many rows is taken in.
-pub(crate) fn text_rows(alloc: Global, rows: u64, digest: &mut Digest) -> Result<(), Fault> {
+/// A picture of them.
+fn picture_of(alloc: Global, rows: u64) -> Result<String, Fault> {
     let mut marks = marks_of(alloc, rows)?;
-    digest.bytes(text_picture(alloc, &mut marks)?.as_bytes());
-    Ok(())
+    Ok(text_picture(alloc, &mut marks)?)
+}
+
+/// The picture of very many rows is taken in.
+pub(crate) fn text_rows(alloc: Global, rows: u64, tally: &mut Tally) {
+    if let Some(picture) = tally.noted(picture_of(alloc, rows)) {
+        tally.bytes(picture.as_bytes());
+    }
 }

@@ -1,15 +1,14 @@
 //! A cold flow that is shared among visitors who come and go, poll by poll at rising moments.
 
-use crate::fault::Fault;
-use crate::tally::{Rest, closed, given, overtaken, rested};
-use cold_flow::{Flow, Policy, Refusal, Step, Stepped, scripted};
+use crate::tally::{Rest, Tally};
+use cold_flow::{Flow, Policy, Step, Stepped, scripted};
 use flow_sharing::{Polled, Sharing, Started, share_in};
 use futures::task::{Context, Solo};
 use shared_core::Config;
 use shared_flow::{SharedFlow, Subscription, Taken};
 use std::alloc::{AllocGlobal, Global};
 use std::sync::Wait;
-use workload_inputs::{Digest, Random, Scale};
+use workload_inputs::{Random, Scale};
 
 /// How many visitors come.
 const VISITS: u64 = 6_000;
@@ -38,38 +37,38 @@ fn step(random: &mut Random) -> Step<u64, u64> {
 }
 
 /// A source of so many steps.
-fn source(alloc: Global, random: &mut Random, steps: u64) -> Result<Stepped<u64, u64>, Fault> {
+fn source(alloc: Global, random: &mut Random, tally: &mut Tally, steps: u64) -> Stepped<u64, u64> {
     let mut script = Vec::new(alloc);
     for _ in 0..steps {
-        script.push(step(random))?;
+        tally.noted(script.push(step(random)));
     }
-    Ok(scripted(script))
+    scripted(script)
 }
 
 /// What a subscription has received is taken in.
-fn take(subscription: &mut Subscription<u64>, digest: &mut Digest) {
+fn take(subscription: &mut Subscription<u64>, tally: &mut Tally) {
     let mut taken: u64 = 0;
     let mut rest = Rest::Enough;
     for _ in 0..64 {
         match subscription.try_next() {
-            Taken::Value(value) => given(digest, Some(value)),
+            Taken::Value(value) => tally.given(Some(value)),
             Taken::Nothing => {
                 rest = Rest::Nothing;
                 break;
             }
-            Taken::Overtaken => overtaken(digest),
+            Taken::Overtaken => tally.overtaken(),
         }
         taken = taken.wrapping_add(1);
     }
-    rested(digest, rest, taken);
+    tally.rested(rest, taken);
 }
 
 /// What a poll found, and what it came to, is taken in.
-fn polled(digest: &mut Digest, poll: Polled) {
-    digest.number(poll.now);
-    digest.number(u64::from(poll.count));
-    digest.number(u64::from(poll.on));
-    digest.number(u64::from(poll.reset));
+fn polled(tally: &mut Tally, poll: Polled) {
+    tally.number(poll.now);
+    tally.number(u64::from(poll.count));
+    tally.number(u64::from(poll.on));
+    tally.number(u64::from(poll.reset));
 }
 
 /// A poll, so much later.
@@ -80,127 +79,76 @@ fn poll<F: Flow<Item = u64, Fault = u64>>(
     cx: &mut Context<'_>,
     now: &mut u64,
     later: u64,
-    digest: &mut Digest,
-) -> Result<(), Refusal> {
+    tally: &mut Tally,
+) {
     *now = now.wrapping_add(later);
-    polled(digest, sharing.poll(rt, *now, cx)?);
-    Ok(())
-}
-
-/// A visitor receives for some polls.
-#[inline]
-fn stay<F: Flow<Item = u64, Fault = u64>>(
-    rt: &impl Wait,
-    subscription: &mut Subscription<u64>,
-    sharing: &mut Sharing<u64, F>,
-    cx: &mut Context<'_>,
-    now: &mut u64,
-    digest: &mut Digest,
-) -> Result<(), Refusal> {
-    let mut refused = Ok(());
-    for _ in 0..STAY {
-        if let Err(refusal) = poll(rt, sharing, cx, now, 7, digest) {
-            refused = Err(refusal);
-        }
-        take(subscription, digest);
+    if let Some(poll) = tally.noted(sharing.poll(rt, *now, cx)) {
+        polled(tally, poll);
     }
-    refused
 }
 
-/// A visitor comes, receives, and goes. Some polls later the next may come.
+/// A visitor comes, receives for some polls, and goes. Some polls later the next may come.
 fn visit<F: Flow<Item = u64, Fault = u64>>(
     rt: &impl Wait,
     flow: &mut SharedFlow<u64>,
     sharing: &mut Sharing<u64, F>,
     cx: &mut Context<'_>,
     now: &mut u64,
-    digest: &mut Digest,
-) -> Result<(), Refusal> {
-    let mut subscription = flow.subscribe(rt)?;
-    let stayed = stay(rt, &mut subscription, sharing, cx, now, digest);
-    subscription.cancel(rt);
-    for _ in 0..3 {
-        poll(rt, sharing, cx, now, 9, digest)?;
+    tally: &mut Tally,
+) {
+    if let Some(mut subscription) = tally.noted(flow.subscribe(rt)) {
+        for _ in 0..STAY {
+            poll(rt, sharing, cx, now, 7, tally);
+            take(&mut subscription, tally);
+        }
+        subscription.cancel(rt);
     }
-    stayed
+    for _ in 0..3 {
+        poll(rt, sharing, cx, now, 9, tally);
+    }
 }
 
-/// So many visits of one sharing.
+/// So many visits of one sharing, in one task.
 fn visits<F: Flow<Item = u64, Fault = u64>>(
     rt: &impl Wait,
+    task: &Solo,
     flow: &mut SharedFlow<u64>,
     sharing: &mut Sharing<u64, F>,
-    cx: &mut Context<'_>,
     count: u64,
-    digest: &mut Digest,
-) -> Result<(), Refusal> {
+    tally: &mut Tally,
+) {
+    let mut cx = task.begin();
     let mut now = 0;
     for _ in 0..count {
-        visit(rt, flow, sharing, cx, &mut now, digest)?;
+        visit(rt, flow, sharing, &mut cx, &mut now, tally);
     }
-    Ok(())
-}
-
-/// So many visits in one task.
-fn visits_in<F: Flow<Item = u64, Fault = u64>>(
-    rt: &impl Wait,
-    task: &Solo,
-    flow: &mut SharedFlow<u64>,
-    sharing: &mut Sharing<u64, F>,
-    count: u64,
-    digest: &mut Digest,
-) -> Result<(), Refusal> {
-    let mut cx = task.begin();
-    let visited = visits(rt, flow, sharing, &mut cx, count, digest);
     cx.cancel();
-    visited
 }
 
-/// A source shared into a flow.
+/// A source shared into a new flow.
 fn share<R>(
     rt: &R,
-    flow: &mut SharedFlow<u64>,
     task: &Solo,
     started: Started,
     random: &mut Random,
-    digest: &mut Digest,
+    tally: &mut Tally,
     count: u64,
-) -> Result<(), Fault>
+)
 where
     R: AllocGlobal + Wait,
 {
-    let upstream = source(rt.alloc(), random, 3000)?;
-    let mut sharing = share_in(flow, upstream, started)?;
-    let visited = visits_in(rt, task, flow, &mut sharing, count, digest);
-    closed(digest, sharing.close(rt));
-    visited?;
-    Ok(())
-}
-
-/// The same with a new flow.
-fn shared<R>(
-    rt: &R,
-    task: &Solo,
-    random: &mut Random,
-    digest: &mut Digest,
-    started: Started,
-    count: u64,
-) -> Result<(), Fault>
-where
-    R: AllocGlobal + Wait,
-{
-    let mut flow = SharedFlow::new(rt.alloc(), PLACES)?;
-    share(rt, &mut flow, task, started, random, digest, count)
+    let Some(mut flow) = tally.noted(SharedFlow::new(rt.alloc(), PLACES)) else {
+        return;
+    };
+    let upstream = source(rt.alloc(), random, tally, 3000);
+    if let Some(mut sharing) = tally.noted(share_in(&mut flow, upstream, started)) {
+        visits(rt, task, &mut flow, &mut sharing, count, tally);
+        tally.closed(sharing.close(rt));
+    }
 }
 
 /// Shares sources by each kind of start.
-pub(crate) fn run<R>(
-    rt: &R,
-    task: &Solo,
-    random: &mut Random,
-    digest: &mut Digest,
-    scale: Scale,
-) -> Result<(), Fault>
+pub(crate) fn run<R>(rt: &R, task: &Solo, random: &mut Random, scale: Scale, tally: &mut Tally)
 where
     R: AllocGlobal + Wait,
 {
@@ -218,7 +166,6 @@ where
         Started::Eagerly,
         Started::Lazily,
     ] {
-        shared(rt, task, random, digest, started, scale.of(VISITS))?;
+        share(rt, task, started, random, tally, scale.of(VISITS));
     }
-    Ok(())
 }

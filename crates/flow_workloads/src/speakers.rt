@@ -4,14 +4,15 @@ ghost use Rattle.std.specs.Prelude.{◌≡◌, None};
 
 use crate::acting::Acts;
 use crate::course::Course;
+use crate::ending::Ends;
 use crate::fault::Fault;
-use crate::tally::closed;
+use crate::tally::Tally;
 use shared_core::Refusal;
 use shared_flow::{Emitter, Parker, SharedFlow};
-use std::alloc::{AllocError, AllocGlobal};
+use std::alloc::AllocGlobal;
 use std::random::RandomSource;
 use std::sync::Wait;
-use workload_inputs::{Digest, Random};
+use workload_inputs::Random;
 
 /// What an emitter says: so many numbers that follow from a seed.
 #[derive(Clone, Copy)]
@@ -20,13 +21,15 @@ pub(crate) struct Speech {
     pub(crate) values: u64,
 }
 
-/// An emitter that has nothing in flight, with what its thread sleeps by. It must be closed.
+/// An emitter that has nothing in flight, with what its thread sleeps by. It must be ended.
 pub(crate) struct Speaker {
     emitter: Emitter<u64>,
     parker: Parker,
     speech: Speech,
     /// The numbers of what was accepted.
-    said: Result<Course, Refusal>,
+    said: Course,
+    /// Why it said no more.
+    refused: Option<Refusal>,
     // Between two speakers in a list, so that those of two threads share no cache line.
     _apart: [u64; 16],
     ghost idle: { emitter.ticket ≡ None },
@@ -43,94 +46,91 @@ impl Speaker {
             emitter,
             parker,
             speech,
-            said: Ok(Course::new()),
+            said: Course::new(),
+            refused: None,
             _apart: [0; 16],
         })
     }
+}
 
-    /// It ends, which is taken in. Gives what it said.
-    fn close(self, rt: &impl Wait, digest: &mut Digest) -> Result<Course, Refusal> {
+impl Ends for Speaker {
+    fn end<R: Wait>(self, rt: &R, tally: &mut Tally) {
         let Speaker {
             emitter,
             parker: _,
             speech: _,
-            said,
+            said: _,
+            refused,
             _apart: _,
         } = self;
-        closed(digest, emitter.close(rt));
-        said
+        if let Some(refusal) = refused {
+            tally.note(Fault::Refused(refusal));
+        }
+        tally.closed(emitter.close(rt));
     }
 }
 
 impl Acts for Speaker {
     fn act<R: Wait>(&mut self, rt: &R) {
-        self.said = speak(rt, &mut self.emitter, &mut self.parker, self.speech);
+        let (said, refused) = speak(rt, &mut self.emitter, &mut self.parker, self.speech);
+        self.said = said;
+        self.refused = refused;
     }
 }
 
-/// Emits what is to be said, and sleeps where there is no room. It gives the numbers of what was accepted.
+/// Emits what is to be said, and sleeps where there is no room. It gives the numbers of what was accepted, and a refusal.
 #[inline(never)]
 fn speak(
     rt: &impl Wait,
     emitter: &mut Emitter<u64>,
     parker: &mut Parker,
     speech: Speech,
-) -> Result<Course, Refusal>
+) -> (Course, Option<Refusal>)
     requires { emitter.old.ticket ≡ None }
     ensures { emitter.new.ticket ≡ None }
 {
     let mut random = Random::new(speech.seed);
     let mut numbers = Course::new();
     for _ in 0..speech.values {
-        if let Some(receipt) = emitter.emit(rt, parker, random.next())? {
-            numbers.number(receipt.number());
+        match emitter.emit(rt, parker, random.next()) {
+            Ok(Some(receipt)) => numbers.number(receipt.number()),
+            Ok(None) => {}
+            Err(refusal) => return (numbers, Some(refusal)),
         }
     }
-    Ok(numbers)
+    (numbers, None)
 }
 
-/// So many speakers, the first with this speech, each later one with that of the next seed.
+/// So many speakers, or fewer where one is refused: the first with this speech, each later one with that of the next seed.
 pub(crate) fn hire<R>(
     rt: &R,
     flow: &mut SharedFlow<u64>,
-    speakers: &mut Vec<Speaker>,
     count: u32,
     speech: Speech,
-    digest: &mut Digest,
-) -> Result<(), Fault>
+    tally: &mut Tally,
+) -> Vec<Speaker>
 where
     R: AllocGlobal + RandomSource + Wait,
 {
+    let mut speakers = Vec::new(rt.alloc());
     for id in 0..count {
         let seed = speech.seed.wrapping_add(u64::from(id));
-        let speaker = Speaker::new(rt, flow, id, Speech { seed, ..speech })?;
+        let Some(speaker) = tally.noted(Speaker::new(rt, flow, id, Speech { seed, ..speech }))
+        else {
+            break;
+        };
         if let Err(refused) = speakers.push(speaker) {
-            let _nothing = refused.value.close(rt, digest);
-            return Err(Fault::NoMemory(AllocError));
+            refused.value.end(rt, tally);
         }
     }
-    Ok(())
+    speakers
 }
 
-/// Each speaker is closed, the last one first. Gives what the first and the second said.
-pub(crate) fn close_all(
-    rt: &impl Wait,
-    mut speakers: Vec<Speaker>,
-    digest: &mut Digest,
-) -> Result<(Course, Course), Refusal> {
-    let mut said = Ok((Course::new(), Course::new()));
-    while let Some(speaker) = speakers.pop() {
-        said = before(speaker.close(rt, digest), said);
+/// What the first and the second of these said.
+pub(crate) fn said_by(speakers: &[Speaker]) -> (Course, Course) {
+    match speakers {
+        [] => (Course::new(), Course::new()),
+        [one] => (one.said, Course::new()),
+        [one, other, ..] => (one.said, other.said),
     }
-    speakers.destroy_empty();
-    said
-}
-
-/// What one said, and after it the first of these.
-fn before(
-    one: Result<Course, Refusal>,
-    others: Result<(Course, Course), Refusal>,
-) -> Result<(Course, Course), Refusal> {
-    let (other, _) = others?;
-    Ok((one?, other))
 }

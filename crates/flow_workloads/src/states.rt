@@ -1,13 +1,15 @@
 //! States: bursts of sets that collectors ask for now and then, and two threads that count up one state.
 
 use crate::acting::{Acts, both};
-use crate::fault::Fault;
-use crate::tally::given;
+use crate::ending::{Ends, end_all};
+use crate::tally::Tally;
+use cold_flow::Refusal;
 use state_flow::{Collector, StateFlow, StateSeat};
 use std::alloc::{AllocGlobal, Global};
+use std::random::RandomSource;
 use std::sync::Wait;
 use std::thread::Threads;
-use workload_inputs::{Digest, Random, Scale};
+use workload_inputs::{Random, Scale};
 
 /// How many bursts there are.
 const BURSTS: u64 = 200_000;
@@ -19,11 +21,8 @@ const COUNTS: u64 = 400_000;
 const COLLECTORS: u32 = 8;
 
 /// So many collectors of a state, or fewer where one is refused.
-fn collect_all(
-    seat: &mut StateSeat<u64>,
-    mut collectors: Vec<Collector<u64>>,
-    count: u32,
-) -> Vec<Collector<u64>> {
+fn collect_all(alloc: Global, seat: &mut StateSeat<u64>, count: u32) -> Vec<Collector<u64>> {
+    let mut collectors = Vec::new(alloc);
     for _ in 0..count {
         let Ok(taken) = seat.take_seat(0) else {
             break;
@@ -35,21 +34,19 @@ fn collect_all(
     collectors
 }
 
-/// Each collector is cancelled.
-fn cancel_all(mut collectors: Vec<Collector<u64>>) {
-    while let Some(collector) = collectors.pop() {
-        drop(collector.cancel());
+impl Ends for Collector<u64> {
+    fn end<R: Wait>(self, _rt: &R, _tally: &mut Tally) {
+        drop(self.cancel());
     }
-    collectors.destroy_empty();
 }
 
 /// Each collector but a few asks, and what it is given is taken in.
-fn ask_all(collectors: &mut Vec<Collector<u64>>, random: &mut Random, digest: &mut Digest) {
+fn ask_all(collectors: &mut Vec<Collector<u64>>, random: &mut Random, tally: &mut Tally) {
     for collector in collectors.iter_mut() {
         if random.is_one_of(1, 4) {
             continue;
         }
-        given(digest, collector.try_next());
+        tally.given(collector.try_next());
     }
 }
 
@@ -58,7 +55,7 @@ fn bursts(
     seat: &mut StateSeat<u64>,
     collectors: &mut Vec<Collector<u64>>,
     random: &mut Random,
-    digest: &mut Digest,
+    tally: &mut Tally,
     count: u64,
 ) {
     for _ in 0..count {
@@ -66,9 +63,9 @@ fn bursts(
             seat.set(random.below(6));
         }
         let swapped = seat.compare_and_set(random.below(6), random.below(6));
-        digest.number(u64::from(swapped));
-        digest.number(seat.value());
-        ask_all(collectors, random, digest);
+        tally.number(u64::from(swapped));
+        tally.number(seat.value());
+        ask_all(collectors, random, tally);
     }
 }
 
@@ -101,9 +98,9 @@ impl Acts for Counter {
 }
 
 /// Two threads count up one state that begins at a number.
-fn counted<R>(rt: &R, from: u64, counts: u64) -> Result<u64, Fault>
+fn counted<R>(rt: &R, from: u64, counts: u64) -> Result<u64, Refusal>
 where
-    R: AllocGlobal + Threads + Wait + Sync,
+    R: AllocGlobal + RandomSource + Threads + Wait + Sync,
 {
     let mut seat = StateFlow::new(rt.alloc(), from, 2)?;
     let other_seat = seat.take_seat(0)?;
@@ -117,33 +114,26 @@ where
 }
 
 /// Bursts on a new state.
-fn run_bursts(
-    alloc: Global,
-    random: &mut Random,
-    digest: &mut Digest,
-    count: u64,
-) -> Result<(), Fault> {
-    let mut seat = StateFlow::new(alloc, 0u64, COLLECTORS + 1)?;
-    let places = Vec::with_capacity(alloc, COLLECTORS as usize)?;
-    let mut collectors = collect_all(&mut seat, places, COLLECTORS);
-    bursts(&mut seat, &mut collectors, random, digest, count);
-    cancel_all(collectors);
-    Ok(())
+fn run_bursts<R>(rt: &R, random: &mut Random, tally: &mut Tally, count: u64)
+where
+    R: AllocGlobal + Wait,
+{
+    if let Some(mut seat) = tally.noted(StateFlow::new(rt.alloc(), 0u64, COLLECTORS + 1)) {
+        let mut collectors = collect_all(rt.alloc(), &mut seat, COLLECTORS);
+        bursts(&mut seat, &mut collectors, random, tally, count);
+        end_all(rt, collectors, tally);
+    }
 }
 
 /// Runs both.
-pub(crate) fn run<R>(
-    rt: &R,
-    random: &mut Random,
-    digest: &mut Digest,
-    scale: Scale,
-) -> Result<(), Fault>
+pub(crate) fn run<R>(rt: &R, random: &mut Random, scale: Scale, tally: &mut Tally)
 where
-    R: AllocGlobal + Threads + Wait + Sync,
+    R: AllocGlobal + RandomSource + Threads + Wait + Sync,
 {
-    run_bursts(rt.alloc(), random, digest, scale.of(BURSTS))?;
+    run_bursts(rt, random, tally, scale.of(BURSTS));
     // A copy, so that what comes after has the same numbers whether or not this takes one.
     let mut ahead = *random;
-    digest.number(counted(rt, ahead.next(), scale.of(COUNTS))?);
-    Ok(())
+    if let Some(value) = tally.noted(counted(rt, ahead.next(), scale.of(COUNTS))) {
+        tally.number(value);
+    }
 }

@@ -1,5 +1,6 @@
-//! What calls on flows answered, taken into a digest: each kind of answer with a number of its own.
+//! What calls on flows answered, taken into a digest, each kind of answer with a number of its own; and the first fault.
 
+use crate::fault::Fault;
 use cold_flow::Cause;
 use shared_core::{Begun, Emit, SubId, Ticket, Tried, Withdrawn};
 use shared_flow::Receipt;
@@ -54,98 +55,177 @@ pub(crate) enum Rest {
     Closed,
 }
 
-/// Takes in an answer of this kind, and the number in it.
-#[inline]
-fn answer(digest: &mut Digest, kind: u64, number: u64) {
-    digest.number(number.rotate_left(8) ^ kind);
+/// What calls answered. After a fault the calls go on, and the run ends with it: so no call that is timed hands it on.
+#[derive(Clone, Copy)]
+pub(crate) struct Tally {
+    digest: Digest,
+    /// The first one.
+    fault: Option<Fault>,
 }
 
-/// Takes in what a try answered.
-#[inline]
-pub(crate) fn tried(digest: &mut Digest, tried: Tried<u64>) {
-    match tried {
-        Tried::Accepted(number) => answer(digest, ACCEPTED, number),
-        Tried::Dropped => answer(digest, DROPPED, 0),
-        Tried::Full => answer(digest, FULL, 0),
+impl Tally {
+    /// Of nothing.
+    pub(crate) fn new() -> Tally {
+        Tally {
+            digest: Digest::new(),
+            fault: None,
+        }
     }
-}
 
-/// Takes in what the start of an emission answered.
-pub(crate) fn begun(digest: &mut Digest, begun: Begun<u64, Ticket>) {
-    match begun {
-        Begun::Accepted(number) => answer(digest, ACCEPTED, number),
-        Begun::Dropped => answer(digest, DROPPED, 0),
-        Begun::Waiting(ticket) => answer(digest, WAITING, ticket.0),
+    /// The digest of all, where there was no fault.
+    pub(crate) fn end(self) -> Result<Digest, Fault> {
+        match self.fault {
+            None => Ok(self.digest),
+            Some(fault) => Err(fault),
+        }
     }
-}
 
-/// Takes in where an emission stands.
-pub(crate) fn polled(digest: &mut Digest, emit: Emit) {
-    match emit {
-        Emit::Done(number) => answer(digest, DONE, number),
-        Emit::Waiting => answer(digest, WAITING, 0),
-        Emit::Gone => answer(digest, GONE, 0),
+    /// A fault is noted, where it is the first.
+    #[cold]
+    pub(crate) fn note(&mut self, fault: Fault) {
+        if self.fault.is_none() {
+            self.fault = Some(fault);
+        }
     }
-}
 
-/// Takes in what became of an emission that was given up.
-pub(crate) fn withdrawn(digest: &mut Digest, withdrawn: Withdrawn<u64>) {
-    match withdrawn {
-        Withdrawn::Removed => answer(digest, REMOVED, 0),
-        Withdrawn::Left(number) => answer(digest, LEFT, number),
-        Withdrawn::Gone => answer(digest, GONE, 0),
+    /// What a call gave, unless it was refused, which is noted.
+    #[inline]
+    pub(crate) fn noted<T, E: Into<Fault>>(&mut self, given: Result<T, E>) -> Option<T> {
+        match given {
+            Ok(given) => Some(given),
+            Err(refused) => {
+                self.note(refused.into());
+                None
+            }
+        }
     }
-}
 
-/// Takes in what an end of an emitter, or of a sharing, answered.
-pub(crate) fn closed(digest: &mut Digest, closed: Withdrawn<Receipt>) {
-    match closed {
-        Withdrawn::Removed => withdrawn(digest, Withdrawn::Removed),
-        Withdrawn::Left(receipt) => withdrawn(digest, Withdrawn::Left(receipt.number())),
-        Withdrawn::Gone => withdrawn(digest, Withdrawn::Gone),
+    /// Takes a number in.
+    #[inline]
+    pub(crate) fn number(&mut self, number: u64) {
+        self.digest.number(number);
     }
-}
 
-/// Takes in who came.
-pub(crate) fn subscribed(digest: &mut Digest, id: SubId) {
-    answer(digest, SUBSCRIBED, id.0);
-}
-
-/// Takes in whether one that was cancelled was live.
-pub(crate) fn cancelled(digest: &mut Digest, was_live: bool) {
-    answer(digest, CANCELLED, u64::from(was_live));
-}
-
-/// Takes in how a subscription came to take no more, and how many it took.
-#[inline]
-pub(crate) fn rested(digest: &mut Digest, rest: Rest, taken: u64) {
-    match rest {
-        Rest::Enough => answer(digest, ENOUGH, taken),
-        Rest::Nothing => answer(digest, NOTHING, taken),
-        Rest::Closed => answer(digest, CLOSED, taken),
+    /// Takes bytes in.
+    pub(crate) fn bytes(&mut self, bytes: &[u8]) {
+        self.digest.bytes(bytes);
     }
-}
 
-/// Takes in what one was given that may get nothing.
-#[inline]
-pub(crate) fn given(digest: &mut Digest, value: Option<u64>) {
-    match value {
-        Some(value) => answer(digest, VALUE, value),
-        None => answer(digest, NOTHING, 0),
+    /// Takes in the digest of a part that has ended.
+    pub(crate) fn part(&mut self, part: Tally) {
+        if let Some(digest) = self.noted(part.end()) {
+            self.number(digest.value());
+        }
     }
-}
 
-/// Takes in that a value was overtaken.
-pub(crate) fn overtaken(digest: &mut Digest) {
-    answer(digest, OVERTAKEN, 0);
-}
+    /// Takes in an answer of this kind, and the number in it.
+    #[inline]
+    fn answer(&mut self, kind: u64, number: u64) {
+        self.digest.number(number.rotate_left(8) ^ kind);
+    }
 
-/// Takes in why a flow ended.
-pub(crate) fn ended(digest: &mut Digest, cause: Cause<u64>) {
-    match cause {
-        Cause::Finished => answer(digest, FINISHED, 0),
-        Cause::Failed(fault) => answer(digest, FAILED, fault),
-        Cause::Cancelled => answer(digest, STOPPED, 0),
-        Cause::Refused(refusal) => answer(digest, REFUSED, u64::from(refusal.number())),
+    /// Takes in what a try answered.
+    #[inline]
+    pub(crate) fn tried(&mut self, tried: Tried<u64>) {
+        match tried {
+            Tried::Accepted(number) => self.answer(ACCEPTED, number),
+            Tried::Dropped => self.answer(DROPPED, 0),
+            Tried::Full => self.answer(FULL, 0),
+        }
+    }
+
+    /// Takes in what the start of an emission answered. Gives its ticket, where it waits.
+    pub(crate) fn begun(&mut self, begun: Begun<u64, Ticket>) -> Option<Ticket> {
+        match begun {
+            Begun::Accepted(number) => {
+                self.answer(ACCEPTED, number);
+                None
+            }
+            Begun::Dropped => {
+                self.answer(DROPPED, 0);
+                None
+            }
+            Begun::Waiting(ticket) => {
+                self.answer(WAITING, ticket.0);
+                Some(ticket)
+            }
+        }
+    }
+
+    /// Takes in where an emission stands.
+    pub(crate) fn polled(&mut self, emit: Emit) {
+        match emit {
+            Emit::Done(number) => self.answer(DONE, number),
+            Emit::Waiting => self.answer(WAITING, 0),
+            Emit::Gone => self.answer(GONE, 0),
+        }
+    }
+
+    /// Takes in what became of an emission that was given up.
+    pub(crate) fn withdrawn(&mut self, withdrawn: Withdrawn<u64>) {
+        match withdrawn {
+            Withdrawn::Removed => self.answer(REMOVED, 0),
+            Withdrawn::Left(number) => self.answer(LEFT, number),
+            Withdrawn::Gone => self.answer(GONE, 0),
+        }
+    }
+
+    /// Takes in what an end of an emitter, or of a sharing, answered.
+    pub(crate) fn closed(&mut self, closed: Withdrawn<Receipt>) {
+        match closed {
+            Withdrawn::Removed => self.answer(REMOVED, 0),
+            Withdrawn::Left(receipt) => self.answer(LEFT, receipt.number()),
+            Withdrawn::Gone => self.answer(GONE, 0),
+        }
+    }
+
+    /// Takes in who came.
+    pub(crate) fn subscribed(&mut self, id: SubId) {
+        self.answer(SUBSCRIBED, id.0);
+    }
+
+    /// Takes in whether one that was cancelled was live.
+    pub(crate) fn cancelled(&mut self, was_live: bool) {
+        self.answer(CANCELLED, u64::from(was_live));
+    }
+
+    /// Takes in how a subscription came to take no more, and how many it took.
+    #[inline]
+    pub(crate) fn rested(&mut self, rest: Rest, taken: u64) {
+        match rest {
+            Rest::Enough => self.answer(ENOUGH, taken),
+            Rest::Nothing => self.answer(NOTHING, taken),
+            Rest::Closed => self.answer(CLOSED, taken),
+        }
+    }
+
+    /// Takes in what one was given that may get nothing.
+    #[inline]
+    pub(crate) fn given(&mut self, value: Option<u64>) {
+        match value {
+            Some(value) => self.answer(VALUE, value),
+            None => self.answer(NOTHING, 0),
+        }
+    }
+
+    /// Takes in that a value was overtaken.
+    pub(crate) fn overtaken(&mut self) {
+        self.answer(OVERTAKEN, 0);
+    }
+
+    /// Takes in why a flow ended. A fault, unless that was its own end.
+    pub(crate) fn ended(&mut self, cause: Cause<u64>) {
+        match cause {
+            Cause::Finished => self.answer(FINISHED, 0),
+            Cause::Failed(fault) => self.answer(FAILED, fault),
+            Cause::Cancelled => {
+                self.answer(STOPPED, 0);
+                self.note(Fault::Ended);
+            }
+            Cause::Refused(refusal) => {
+                self.answer(REFUSED, u64::from(refusal.number()));
+                self.note(Fault::Ended);
+            }
+        }
     }
 }

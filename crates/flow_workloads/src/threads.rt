@@ -2,13 +2,13 @@
 
 use crate::course::Emitters;
 use crate::fan_out::Cast;
-use crate::fault::Fault;
+use crate::tally::Tally;
 use crate::{fan_out, halves, states};
 use std::alloc::AllocGlobal;
 use std::random::RandomSource;
 use std::sync::Wait;
 use std::thread::Threads;
-use workload_inputs::{Digest, Random, Scale};
+use workload_inputs::{Random, Scale};
 
 const CASTS: [Cast; 6] = [
     Cast {
@@ -50,17 +50,14 @@ const CASTS: [Cast; 6] = [
 ];
 
 /// Runs each cast, and then states and buffers.
-pub(crate) fn run<R>(rt: &R, seed: u64, scale: Scale) -> Result<Digest, Fault>
+pub(crate) fn run<R>(rt: &R, random: &mut Random, scale: Scale, tally: &mut Tally)
 where
     R: AllocGlobal + RandomSource + Threads + Wait + Sync,
 {
-    let mut random = Random::new(seed);
-    let mut digest = Digest::new();
     for cast in CASTS {
         let values = scale.of(cast.values);
-        fan_out::run(rt, Cast { values, ..cast }, &mut random, &mut digest)?;
+        fan_out::run(rt, Cast { values, ..cast }, random, tally);
     }
-    states::run(rt, &mut random, &mut digest, scale)?;
-    halves::run(rt, &mut random, &mut digest, scale)?;
-    Ok(digest)
+    states::run(rt, random, scale, tally);
+    halves::run(rt, random, scale, tally);
 }

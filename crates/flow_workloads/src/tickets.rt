@@ -1,12 +1,10 @@
 //! A slow subscription, for whose sake hundreds of emissions wait, each of which is polled.
 
 use crate::crowd::Crowd;
-use crate::edge_calls::start;
-use crate::fault::Fault;
-use crate::tally::{polled, withdrawn};
-use shared_core::{Emit, SharedState, Ticket};
+use crate::tallied::Tallied;
+use shared_core::{Emit, Ticket};
 use std::alloc::Global;
-use workload_inputs::{Digest, Random};
+use workload_inputs::Random;
 
 /// How many tickets may be out.
 pub(crate) const TICKETS: u32 = 512;
@@ -15,70 +13,61 @@ pub(crate) const TICKETS: u32 = 512;
 pub(crate) const SUBSCRIPTIONS: u32 = 32;
 
 /// Starts emissions until so many tickets are out.
-fn fill_up(
-    flow: &mut SharedState<u64>,
-    tickets: &mut Vec<Ticket>,
-    random: &mut Random,
-    digest: &mut Digest,
-) -> Result<(), Fault> {
+fn fill_up(calls: &mut Tallied, tickets: &mut Vec<Ticket>, random: &mut Random) {
     for _ in 0..2 * TICKETS {
         if tickets.len() >= TICKETS as usize {
             break;
         }
-        if let Some(ticket) = start(flow, random.next(), digest)? {
-            tickets.push(ticket)?;
+        if let Some(ticket) = calls.start(random.next()) {
+            calls.tally.noted(tickets.push(ticket));
         }
     }
-    Ok(())
 }
 
-/// Asks for each ticket, gives a few up, and keeps those that wait.
+/// Asks for each ticket, gives a few up, and gives those that wait.
 fn poll_all(
     alloc: Global,
-    flow: &mut SharedState<u64>,
-    tickets: &mut Vec<Ticket>,
+    calls: &mut Tallied,
+    tickets: &[Ticket],
     random: &mut Random,
-    digest: &mut Digest,
-) -> Result<(), Fault> {
-    let mut left = Vec::with_capacity(alloc, tickets.len())?;
-    for ticket in tickets.iter() {
+) -> Vec<Ticket> {
+    let mut left = Vec::new(alloc);
+    calls.tally.noted(left.reserve(tickets.len()));
+    for ticket in tickets {
         if random.is_one_of(1, 64) {
-            withdrawn(digest, flow.cancel_emit(*ticket));
+            calls.withdraw(*ticket);
             continue;
         }
-        let emit = flow.poll_emit(*ticket);
-        polled(digest, emit);
+        let emit = calls.flow.poll_emit(*ticket);
+        calls.tally.polled(emit);
         if emit == Emit::Waiting {
-            left.push(*ticket)?;
+            calls.tally.noted(left.push(*ticket));
         }
     }
-    *tickets = left;
-    Ok(())
+    left
 }
 
 /// All but the slow one take what is there, and before them it takes some.
-fn take_all(flow: &mut SharedState<u64>, crowd: &Crowd, random: &mut Random, digest: &mut Digest) {
+fn take_all(calls: &mut Tallied, crowd: &Crowd, random: &mut Random) {
     let slow = 1 + random.below(64);
-    crowd.take_at(flow, digest, (0, slow));
+    crowd.take_at(calls, 0, slow);
     for place in 1..SUBSCRIPTIONS {
-        crowd.take_at(flow, digest, (place as usize, 64));
+        crowd.take_at(calls, place as usize, 64);
     }
 }
 
 /// Rounds of emissions until no ticket is left, after which the subscriptions take what is there.
 pub(crate) fn rounds(
     alloc: Global,
-    flow: &mut SharedState<u64>,
+    calls: &mut Tallied,
     crowd: &Crowd,
     random: &mut Random,
-    digest: &mut Digest,
     count: u64,
-) -> Result<(), Fault> {
-    let mut tickets = Vec::with_capacity(alloc, TICKETS as usize)?;
+) {
+    let mut tickets = Vec::new(alloc);
     for _ in 0..count {
-        fill_up(flow, &mut tickets, random, digest)?;
-        take_all(flow, crowd, random, digest);
-        poll_all(alloc, flow, &mut tickets, random, digest)?;
+        fill_up(calls, &mut tickets, random);
+        take_all(calls, crowd, random);
+        tickets = poll_all(alloc, calls, &tickets, random);
     }
-    Ok(())
 }

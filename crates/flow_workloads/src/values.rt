@@ -2,12 +2,11 @@
 
 use crate::actions::{Mixes, Sum};
 use crate::fault::Fault;
-use crate::tally;
+use crate::tally::Tally;
 use cold_flow::{Cause, Collected, Finite, Flow, Folding, Refusal, Run, fold, to_list};
 use flow_merge::{combine, zip};
 use futures::task::{Poll, Solo};
 use std::alloc::Global;
-use workload_inputs::Digest;
 
 /// Polls until the fold is ready, and gives what it came to.
 #[inline(never)]
@@ -27,54 +26,39 @@ fn folded<U: Run<Item = u64, Fault = u64>>(
     found
 }
 
-/// Takes in how a flow ended.
-fn ended(digest: &mut Digest, cause: Cause<u64>) -> Result<(), Fault> {
-    tally::ended(digest, cause);
-    match cause {
-        Cause::Finished | Cause::Failed(_) => Ok(()),
-        Cause::Cancelled | Cause::Refused(_) => Err(Fault::Ended),
-    }
-}
-
 /// Starts a flow, folds its values, and takes in what that came to.
-pub(crate) fn fold_all<F>(task: &Solo, digest: &mut Digest, flow: F) -> Result<(), Fault>
+pub(crate) fn fold_all<F>(task: &Solo, tally: &mut Tally, flow: F)
 where
     F: Flow<Item = u64, Fault = u64>,
 {
-    let folding = fold(flow.start()?, 0, Mixes);
-    let Some((value, cause)) = folded(task, folding) else {
-        return Err(Fault::Ended);
+    let Some(run) = tally.noted(flow.start()) else {
+        return;
     };
-    digest.number(value);
-    ended(digest, cause)
+    match folded(task, fold(run, 0, Mixes)) {
+        Some((value, cause)) => {
+            tally.number(value);
+            tally.ended(cause);
+        }
+        None => tally.note(Fault::Ended),
+    }
 }
 
 /// Folds the sums of two flows, pair by pair.
-pub(crate) fn fold_zipped<A, B>(
-    task: &Solo,
-    digest: &mut Digest,
-    left: A,
-    right: B,
-) -> Result<(), Fault>
+pub(crate) fn fold_zipped<A, B>(task: &Solo, tally: &mut Tally, left: A, right: B)
 where
     A: Flow<Item = u64, Fault = u64>,
     B: Flow<Item = u64, Fault = u64>,
 {
-    fold_all(task, digest, zip(left, right, Sum))
+    fold_all(task, tally, zip(left, right, Sum));
 }
 
 /// Folds the sums of the latest values of two flows.
-pub(crate) fn fold_combined<A, B>(
-    task: &Solo,
-    digest: &mut Digest,
-    left: A,
-    right: B,
-) -> Result<(), Fault>
+pub(crate) fn fold_combined<A, B>(task: &Solo, tally: &mut Tally, left: A, right: B)
 where
     A: Flow<Item = u64, Fault = u64>,
     B: Flow<Item = u64, Fault = u64>,
 {
-    fold_all(task, digest, combine(left, right, Sum))
+    fold_all(task, tally, combine(left, right, Sum));
 }
 
 /// What a flow gives, listed, and how it ended.
@@ -91,19 +75,15 @@ where
 }
 
 /// Starts a flow, lists its values, and takes them in.
-pub(crate) fn list_all<F>(
-    alloc: Global,
-    task: &Solo,
-    digest: &mut Digest,
-    flow: F,
-) -> Result<(), Fault>
+pub(crate) fn list_all<F>(alloc: Global, task: &Solo, tally: &mut Tally, flow: F)
 where
     F: Flow<Item = u64, Fault = u64>,
     F::Running: Finite,
 {
-    let list = listed(alloc, task, flow)?;
-    for value in &list.values {
-        digest.number(*value);
+    if let Some(list) = tally.noted(listed(alloc, task, flow)) {
+        for value in &list.values {
+            tally.number(*value);
+        }
+        tally.ended(list.cause);
     }
-    ended(digest, list.cause)
 }

@@ -3,7 +3,7 @@
 
 use crate::course::Emitters;
 use crate::fan_out::Cast;
-use crate::fault::Fault;
+use crate::tally::Tally;
 use crate::{answering, fan_out};
 use std::alloc::AllocGlobal;
 use std::random::RandomSource;
@@ -11,7 +11,7 @@ use std::sync::Wait;
 use std::sync::atomic::{AtomicBool, Ordering};
 use std::thread;
 use std::thread::{Threads, available_parallelism, for_each_mut};
-use workload_inputs::{Digest, Random, Scale};
+use workload_inputs::{Random, Scale};
 
 /// How many values go through flows of how many places, and how often two threads answer each other by two states.
 #[derive(Clone, Copy)]
@@ -37,13 +37,7 @@ const PROCESSORS: usize = 4;
 
 impl Errand {
     /// Does it.
-    fn run<R>(
-        self,
-        rt: &R,
-        random: &mut Random,
-        digest: &mut Digest,
-        scale: Scale,
-    ) -> Result<(), Fault>
+    fn run<R>(self, rt: &R, random: &mut Random, scale: Scale, tally: &mut Tally)
     where
         R: AllocGlobal + RandomSource + Threads + Wait + Sync,
     {
@@ -54,9 +48,9 @@ impl Errand {
                 values: scale.of(values),
                 listeners: 1,
             };
-            fan_out::run(rt, cast, random, digest)?;
+            fan_out::run(rt, cast, random, tally);
         }
-        answering::run(rt, (random.next(), scale.of(self.turns)), digest)
+        answering::run(rt, (random.next(), scale.of(self.turns)), tally);
     }
 }
 
@@ -94,37 +88,28 @@ fn processors(rt: &impl Threads) -> usize {
 }
 
 /// Does an errand beside busy threads, which end with it.
-fn beside_busy<R>(
-    rt: &R,
-    random: &mut Random,
-    digest: &mut Digest,
-    scale: Scale,
-) -> Result<(), Fault>
+fn beside_busy<R>(rt: &R, random: &mut Random, scale: Scale, tally: &mut Tally)
 where
     R: AllocGlobal + RandomSource + Threads + Wait + Sync,
 {
-    let mut counts = Vec::from_elem(rt.alloc(), 0u64, processors(rt))?;
     let is_over = AtomicBool::new(false);
-    let (done, ()) = thread::join(
-        rt,
-        || {
-            let done = BUSY.run(rt, random, digest, scale);
-            is_over.store(true, Ordering::SeqCst);
-            done
-        },
-        || count_all(rt, &is_over, counts.as_mut_slice()),
-    );
-    done
+    if let Some(mut counts) = tally.noted(Vec::from_elem(rt.alloc(), 0u64, processors(rt))) {
+        thread::join(
+            rt,
+            || {
+                BUSY.run(rt, random, scale, tally);
+                is_over.store(true, Ordering::SeqCst);
+            },
+            || count_all(rt, &is_over, counts.as_mut_slice()),
+        );
+    }
 }
 
 /// Does both.
-pub(crate) fn run<R>(rt: &R, seed: u64, scale: Scale) -> Result<Digest, Fault>
+pub(crate) fn run<R>(rt: &R, random: &mut Random, scale: Scale, tally: &mut Tally)
 where
     R: AllocGlobal + RandomSource + Threads + Wait + Sync,
 {
-    let mut random = Random::new(seed);
-    let mut digest = Digest::new();
-    FREE.run(rt, &mut random, &mut digest, scale)?;
-    beside_busy(rt, &mut random, &mut digest, scale)?;
-    Ok(digest)
+    FREE.run(rt, random, scale, tally);
+    beside_busy(rt, random, scale, tally);
 }

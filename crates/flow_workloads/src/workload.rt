@@ -2,12 +2,13 @@
 
 use crate::edges::Edge;
 use crate::fault::Fault;
+use crate::tally::Tally;
 use crate::{chains, edges, events, threads, waits};
 use std::alloc::AllocGlobal;
 use std::random::RandomSource;
 use std::sync::Wait;
 use std::thread::Threads;
-use workload_inputs::{Digest, Scale, seed_in};
+use workload_inputs::{Digest, Random, Scale, seed_in};
 
 /// A workload.
 #[derive(Clone, Copy)]
@@ -72,14 +73,17 @@ impl Workload {
     where
         R: AllocGlobal + RandomSource + Threads + Wait + Sync,
     {
+        let mut random = Random::new(seed);
+        let mut tally = Tally::new();
         match self {
-            Workload::Events => events::run(rt.alloc(), seed, scale),
-            Workload::Threads => threads::run(rt, seed, scale),
-            Workload::Chains => chains::run(rt, seed, scale),
-            Workload::Waits => waits::run(rt, seed, scale),
-            Workload::Edges => edges::run(rt, seed, scale),
-            Workload::Edge(edge) => edge.run(rt, seed, scale),
+            Workload::Events => events::run(rt.alloc(), &mut random, scale, &mut tally),
+            Workload::Threads => threads::run(rt, &mut random, scale, &mut tally),
+            Workload::Chains => chains::run(rt, &mut random, scale, &mut tally),
+            Workload::Waits => waits::run(rt, &mut random, scale, &mut tally),
+            Workload::Edges => edges::run(rt, seed, scale, &mut tally),
+            Workload::Edge(edge) => edge.run(rt, seed, scale, &mut tally),
         }
+        tally.end()
     }
 }
 

@@ -1,11 +1,13 @@
-//! A fan-out of a lane, whose readers look again and again.
+//! Receipts and a fan-out of a lane, whose readers look again and again.
 
 use crate::blocks::{ByBlock, places};
-use crate::fan_out::{BLOCK, Drains, FannedOut, InOrder, fan_out};
+use crate::fan_out::{Drains, ReadsBlocks};
 use crate::fault::Fault;
+use crate::jobs::Job;
 use crate::lane_ends::{LaneReader, LaneSequencer};
+use crate::measured::Measured;
 use crate::pause::Pause;
-use crate::sides::{Admits, Ends, Feeds, admit_all, end_all};
+use crate::receipts::{Received, Takes, TakesBlocks};
 use shared_core::Config;
 use shared_lane::{Lane, Taken};
 use std::alloc::AllocGlobal;
@@ -14,14 +16,36 @@ use std::rt::Clock;
 use std::sync::Wait;
 use std::thread::Threads;
 
+impl<'a> Takes<LaneReader<'a>> for LaneSequencer<'a> {
+    #[inline]
+    fn take<R: Wait>(
+        &mut self,
+        _rt: &R,
+        reader: &mut LaneReader<'a>,
+        taken: Received,
+    ) -> Option<Received> {
+        match reader.try_next() {
+            Taken::Value(value) => Some(taken.with(value)),
+            Taken::Nothing | Taken::Overtaken => None,
+        }
+    }
+}
+
+impl<'a> TakesBlocks<LaneReader<'a>> for LaneSequencer<'a> {
+    #[inline]
+    fn take_block<R: Wait>(&mut self, rt: &R, reader: &mut LaneReader<'a>, block: &mut Vec<u64>) {
+        reader.read_block(rt, block);
+    }
+}
+
 impl Drains<u64> for LaneReader<'_> {
     fn drain<R: Clock + Wait>(&mut self, rt: &R, end: u64) {
         self.in_order = drain(rt, self, end);
     }
 }
 
-/// What came to the readers of a new lane.
-pub(crate) fn fanned_out<R>(rt: &R, config: Config, values: u64) -> Result<FannedOut, Fault>
+/// Measures a new lane.
+pub(crate) fn on_lane<R>(rt: &R, config: Config, job: Job) -> Result<Measured, Fault>
 where
     R: Clock + AllocGlobal + RandomSource + Threads + Wait + Sync,
 {
@@ -29,36 +53,24 @@ where
     // Not beside the sequencer, which each emission changes.
     let lane = Box::new(rt.alloc(), lane)?;
     let mut sequencer = LaneSequencer::of(&lane, sequencer);
-    taken_by(rt, &mut sequencer, config.subscribers, values)
+    job.on(rt, &mut sequencer, config.subscribers)
 }
 
-/// The same by the block.
-pub(crate) fn fanned_out_by_block<R>(
+/// The same by blocks of so many values.
+pub(crate) fn on_lane_by_block<R>(
     rt: &R,
     config: Config,
-    values: u64,
-) -> Result<FannedOut, Fault>
+    block: usize,
+    job: Job,
+) -> Result<Measured, Fault>
 where
     R: Clock + AllocGlobal + RandomSource + Threads + Wait + Sync,
 {
+    let block = places(rt, block)?;
     let (lane, sequencer) = Lane::new(rt.alloc(), config)?;
     let lane = Box::new(rt.alloc(), lane)?;
-    let sequencer = LaneSequencer::of(&lane, sequencer);
-    let mut sequencer = ByBlock::of(sequencer, places(rt, BLOCK)?);
-    taken_by(rt, &mut sequencer, config.subscribers, values)
-}
-
-/// The same with so many readers of a lane that has none.
-fn taken_by<R, F, L>(rt: &R, sequencer: &mut F, count: u32, values: u64) -> Result<FannedOut, Fault>
-where
-    R: Clock + AllocGlobal + RandomSource + Threads + Wait + Sync,
-    F: Admits<L> + Feeds + Send,
-    L: Drains<u64> + InOrder + Ends + Send,
-{
-    let mut readers = admit_all(rt, sequencer, count)?;
-    let fanned_out = fan_out(rt, sequencer, &mut readers, values);
-    end_all(rt, readers);
-    fanned_out
+    let mut sequencer = ByBlock::of(LaneSequencer::of(&lane, sequencer), block);
+    job.on(rt, &mut sequencer, config.subscribers)
 }
 
 /// Takes so many values, and gives their number, if each was one above the one before.
